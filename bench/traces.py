@@ -19,7 +19,9 @@ READ, WRITE = (["addi a0, zero, 0", f"addi a7, zero, {call}", "ecall", "addi a7,
 GUEST = counted("reads and writes", READ + WRITE, 16).named("reads and writes", 8, 1)
 COMMANDS = ("trace rounds.trc", "stale rounds.trc", "who rounds.trc 0", "who rounds.trc 0 0", "who rounds.trc 0 524288",
             "diff rounds.trc rounds.trc", "diff rounds.trc later.trc", "why rounds.trc 7 131071", "view --json rounds.trc", "view --chrome rounds.trc",
-            "view --around 3 65536 rounds.trc", "stale rounds.trc --image g.img")
+            "view --around 3 65536 rounds.trc", "stale rounds.trc --image g.img", "who rounds.trc 0 --image g.img",
+            "who rounds.trc 0 524288 --image g.img", "who rounds.trc 0 --word 0 --image g.img", "why rounds.trc 7 131071 --image g.img",
+            "view --json rounds.trc --image g.img", "view --chrome rounds.trc --image g.img", "view --around 3 65536 rounds.trc --image g.img")
 
 
 def measured(program, arguments, folder):

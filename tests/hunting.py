@@ -22,6 +22,8 @@ REFUSED = [
     ("hunt lost.img h.trc --seeds 0..9 --until never", 2, "--until: 'never' is no condition"),
     ("hunt lost.img h.trc --seeds 0..9 --until fault --until 'word 0 0'", 2, "--until: 'word 0 0' is no condition"),
     ("hunt lost.img h.trc --seeds 0..9 --until 'end 0 15'", 2, "--until: 'end 0 15' is no condition"),
+    ("hunt lost.img h.trc --seeds 0..9 --until 'stale 0'", 2, "--until: 'stale 0' is no condition"),
+    ("hunt lost.img h.trc --seeds 0..9 --until stale --until '!stale'", 2, "--until: 'stale' and '!stale' exclude each other"),
     ("hunt lost.img h.trc --seeds 0..9 --until fault --by pct:0", 2, "--by: 'pct:0' is none of mix, walk and pct:D, D from 1 to 1000"),
     ("hunt lost.img h.trc --seeds 0..9 --until fault --by run", 2, "--by: 'run' is none of mix, walk and pct:D, D from 1 to 1000"),
     ("hunt lost.img h.trc --seeds 0..9 --until 'end 2 1'", 3, "end 2 1: the image has no such thread, object or word"),
@@ -36,6 +38,9 @@ REFUSED = [
 
 # How many seeds that show a fault are looked at, each way.
 FOUND_EACH = 20
+
+# How many seeds are asked for a stale write.
+STALE_SEEDS = 20
 
 FOUND = re.compile(rb"found seed (\d+) order ([0-9x,]+)\n")
 
@@ -97,6 +102,22 @@ def conditions(folder):
     wants("both", (both.returncode, both.stdout), (5, b"none 0..20\n"))
 
 
+def stale_writes(folder):
+    """A seed is found exactly where `ir stale` with the image lists a write of its run, or exactly where it lists none; and with another condition."""
+    for seed in range(STALE_SEEDS):
+        run(f"record lost.img s.trc --chaos {seed}", folder)
+        listed = run("stale s.trc --image lost.img", folder).stdout.splitlines()[0] != b"stale 0 of 2"
+        for condition, wanted in (("stale", listed), ("!stale", not listed), ("!!stale", listed)):
+            ended = run(["hunt", "lost.img", "h.trc", "--seeds", f"{seed}+1", "--until", condition], folder)
+            wants(f"{condition}, seed {seed}", (ended.returncode, ended.stderr), (0 if wanted else 5, b""))
+            if wanted:
+                wants(f"{condition}, seed {seed}: the trace", (folder / "h.trc").read_bytes(), (folder / "s.trc").read_bytes())
+    (folder / "h.trc").unlink()
+    for others, status in (("--until 'word 0 0 1'", 0), ("--until 'word 0 0 2'", 5), ("--until stale", 0)):
+        arguments = f"hunt lost.img s.trc --seeds 0+100 --until stale {others}"
+        wants(arguments, run(arguments, folder).returncode, status)
+
+
 def last_seeds(folder):
     """The greatest seed ends a hunt."""
     last = 2**64 - 1
@@ -134,7 +155,7 @@ def all_of_it(folder):
     """All tests of hunts, in a folder of their own."""
     assembled(folder, "lost", examples()["lost_update"])
     (folder / "folder").mkdir(exist_ok=True)
-    for test in (refused, reported_first, recorded_again, conditions, last_seeds, kept, on_many_machines):
+    for test in (refused, reported_first, recorded_again, conditions, stale_writes, last_seeds, kept, on_many_machines):
         test(folder)
     assembled(folder, "account", (TOP / "docs/guide/account.s").read_text())
     found("hunt account.img account.trc --seeds 0+1000 --until 'word 0 0 0xffffff9c'", folder)

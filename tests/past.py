@@ -71,6 +71,11 @@ read thread 0 event 0 step 2
 read thread 1 event 0 step 2
 overwritten by thread 1 event 1 step 13
 """
+# The second write put the word that was there.
+WHO_WORD = b"""object 0 versions 3
+version 0 by first words word 0 00000000
+version 1 by thread 1 event 1 step 18 word 0 00000001
+"""
 WHY_STEPS = b"""thread 1 event 1 step 13 write 0 version 0 readers 2
 needs thread 0 event 0 read 0 version 0 left at step 10
 past 1 1
@@ -119,6 +124,9 @@ ANSWERS = (
     ("who bad.trc 0 --image lost.img", WHO_STEPS),
     ("who bad.trc 0 0 --image lost.img", WHO_STEPS_0),
     ("who --image lost.img bad.trc 0 2", b"version 2 by thread 0 event 1 step 21 readers 0\nlast\n"),
+    ("who bad.trc 0 --word 0 --image lost.img", WHO_WORD),
+    ("who --word 00 --image lost.img good.trc 0", WHO_WORD.replace(b"1 by thread 1", b"1 by thread 0") + b"version 2 by thread 1 event 1 step 18 word 0 00000002\n"),
+    ("who bad.trc 0 --image lost.img --word 7", b"object 0 versions 3\nversion 0 by first words word 7 00000000\n"),
     ("why bad.trc 1 1 --image lost.img", WHY_STEPS),
     ("why bad.trc 1 1 --image lost.img --at 7,13", WHY_STEPS.replace(b"step 10\npast", b"step 10 open\npast")),
     ("why bad.trc 1 1 --image lost.img --at 11,0", WHY_STEPS.replace(b"step 10\npast", b"step 10 met\npast")),
@@ -143,6 +151,7 @@ NO_FILE = "ir: none.trc can't be read: no such file or folder\n"
 LACKING = "ir: the following required arguments were not provided: {}\n"
 NO_THREAD, NO_EVENT = "ir: the trace has no thread of this number\n", "ir: the thread has no event of this number\n"
 NO_OBJECT, NO_VERSION = "ir: the trace has no object of this number\n", "ir: the object has no version of this number\n"
+NO_WORD = "ir: the object has no word of this number\n"
 
 # Each row: the arguments, the exit status, what is written, and what standard error says.
 REFUSED = (
@@ -166,7 +175,7 @@ REFUSED = (
     *((f"why bad.trc {thread} 0", 2, "", NO_NUMBER.format("T", thread)) for thread in ("x", "0x0", "+1", "4294967296")),
     *((f"why bad.trc 0 {event}", 2, "", NO_NUMBER.format("E", event)) for event in ("x", "0x0", "+1", "4294967296")),
     *((f"why bad.trc 0 0 --lines {lines}", 2, "", NO_NUMBER.format("--lines", lines)) for lines in ("x", "+1", "4294967296")),
-    *((f"{words} --image {image}", status, line, "") for words in ("who {} 0", "who {} 9", "why {} 0 0", "why {} 9 9", "view {}", "view {} --json", "view {} --chrome")
+    *((f"{words} --image {image}", status, line, "") for words in ("who {} 0", "who {} 9", "who {} 0 --word 0", "who {} 9 --word 99", "why {} 0 0", "why {} 9 9", "view {}", "view {} --json", "view {} --chrome")
       for words, image, status, line in (
         (words.format("bad.trc"), "bad.trc", 3, "image refused 2\n"), (words.format("cut.trc"), "lost.img", 3, "trace refused 1\n"),
         (words.format("hello.trc"), "lost.img", 4, "header differs 1\n"))),
@@ -177,6 +186,12 @@ REFUSED = (
     ("why bad.trc 1 1 --at 0,0", 2, "", LACKING.format("--image <IMAGE>")),
     ("who bad.trc 0 3 --image lost.img", 2, "", NO_VERSION),
     ("who bad.trc 1 --image lost.img", 2, "", NO_OBJECT),
+    *((f"who bad.trc 0 --word {word} --image lost.img", 2, "", NO_WORD) for word in (8, 256, 4294967295)),
+    *((f"who bad.trc {object_} --word 9 --image lost.img", 2, "", NO_OBJECT) for object_ in (1, 256, 4294967295)),
+    *((f"who bad.trc 0 --word {word} --image lost.img", 2, "", NO_NUMBER.format("--word", word)) for word in ("x", "0x0", "+1", "-1", "4294967296")),
+    ("who bad.trc 0 --word 0", 2, "", LACKING.format("--image <IMAGE>")),
+    ("who bad.trc 0 0 --word 0 --image lost.img", 2, "", "ir: the argument '[V]' cannot be used with '--word <K>'\n"),
+    ("who none.trc 0 --word 0 --image lost.img", 1, "", NO_FILE),
     ("why bad.trc 2 0 --image lost.img", 2, "", NO_THREAD),
     ("why bad.trc 1 2 --image lost.img", 2, "", NO_EVENT),
     ("who bad.trc 1", 2, "", NO_OBJECT),
@@ -469,6 +484,67 @@ def read_alike(folder):
             before = trace
 
 
+PUT = 11
+
+
+def words_said(lines):
+    """The words of an object, off its lines in a session."""
+    return next(line for line in lines if line.startswith("words ")).split()[1:]
+
+
+def puts_word(asked, object_, index):
+    """Whether a step puts the word, off the lines of `next` and `regs` before it."""
+    registers = dict(pair.split("=") for line in asked for pair in line.split() if "=" in pair)
+    numbers = [int(registers[name], 16) for name in ("a7", "a0", "a1")]
+    return asked[-1].endswith(" ecall") and numbers == [PUT, object_, index]
+
+
+def word_lines(folder, object_, index):
+    """The lines of `ir who --word` for g.img and g.trc: what sessions show where each version's maker leaves the object, and before each of its
+    steps there."""
+    entries = {tuple(line.split()[1:4:2]): int(line.split()[5]) for line in written("events g.img g.trc", folder)}
+    head, first, *rows = written(f"who g.trc {object_} --image g.img", folder)
+    assert first.startswith("version 0 by first words ")
+    spans = [(words[4], words[6], entries[words[4], words[6]] + 1, int(words[8])) for words in (row.split() for row in rows)]
+    asked = [f"obj {object_}"]
+    for thread, _, start, leave in spans:
+        for step in range(start, leave):
+            asked += [f"goto {thread} {step}", f"regs {thread}", f"next {thread}"]
+        asked += [f"goto {thread} {leave}", f"obj {object_}"]
+    answers = said(folder, "g", asked).decode().splitlines()[1:]
+    moves = [at for at, line in enumerate(answers) if line.startswith("at ")] + [len(answers)]
+    before, at = words_said(answers[:moves[0]])[index], 0
+    lines = [head, f"version 0 by first words word {index} {before}"]
+    for version, (thread, event, start, leave) in enumerate(spans, 1):
+        put = ""
+        for step in range(start, leave):
+            put = f" step {step}" if puts_word(answers[moves[at]:moves[at + 1]], object_, index) else put
+            at += 1
+        word = words_said(answers[moves[at]:moves[at + 1]])[index]
+        at += 1
+        lines += [f"version {version} by thread {thread} event {event}{put} word {index} {word}"] if word != before else []
+        before = word
+    return lines
+
+
+def words_read(folder):
+    """Over a hundred recordings in random orders: the changes of a word are those that sessions show."""
+    numbers, listed = random.Random(2), 0
+    guests = [guest for guest, _ in [*WRONG.values(), *LISTED.values(), *CLEAN.values(), (TWICE, None)]]
+    for turn in range(100):
+        guest = guests[turn % len(guests)]
+        profile = made(folder, "g", guest)
+        way = f"--chaos {numbers.getrandbits(64)} --budget {numbers.choice((60, 200, 500))}"
+        wants(way, run(f"record g.img g.trc --profile {profile} {way}", folder).returncode, 0)
+        objects = trace_of(folder, "g").objects
+        for object_ in numbers.sample(range(objects), min(2, objects)):
+            index = numbers.choice((0, 0, 1, 7))
+            lines = word_lines(folder, object_, index)
+            wants(f"{way}: who {object_} --word {index}", written(f"who g.trc {object_} --word {index} --image g.img", folder), lines)
+            listed += len(lines) - 2
+    wants("changes in a hundred recordings", listed > 200, True)
+
+
 def row_of(folder, guest, wrong):
     """Of recordings by forty seeds: in how many a stale write is listed and how many there are in all, the same of those that rest on what was read,
     in how many the result is wrong, and in how many of these a stale write is listed, without the image and with it."""
@@ -548,8 +624,8 @@ def refused(folder):
 
 def not_written(folder):
     """A full device, a closed output and a pipe that no process reads are reported."""
-    for arguments in ("stale bad.trc", "stale bad.trc --image lost.img", "stale odd.trc", "stale lost.img", "who bad.trc 0", "who bad.trc 0 0", "why bad.trc 0 1", "diff bad.trc good.trc",
-                      "diff bad.trc counter.trc"):
+    for arguments in ("stale bad.trc", "stale bad.trc --image lost.img", "stale odd.trc", "stale lost.img", "who bad.trc 0", "who bad.trc 0 0",
+                      "who bad.trc 0 --word 0 --image lost.img", "why bad.trc 0 1", "diff bad.trc good.trc", "diff bad.trc counter.trc"):
         for to in (">/dev/full", ">&-"):
             ended = shell(f"./ir {arguments} {to}", folder)
             wants(f"{arguments} {to}", (ended.returncode, ended.stdout, ended.stderr), (1, b"", FULL))
@@ -565,5 +641,5 @@ def not_written(folder):
 def all_of_it(folder):
     """All tests of what a trace says of its past, in a folder of their own."""
     prepare(folder)
-    for test in (answered, refused, not_written, read_alike, stale_table):
+    for test in (answered, refused, not_written, read_alike, words_read, stale_table):
         test(folder)

@@ -97,6 +97,7 @@ RUNS = (
     ("ir stale with the image", "stale lost_update.trc --image lost_update.img", ()),
     ("ir who", "who lost_update.trc 0", ()),
     ("ir who of a version", "who lost_update.trc 0 0", ()),
+    ("ir who of a word", "who lost_update.trc 0 --word 0 --image lost_update.img", ()),
     ("ir why", "why lost_update.trc 0 1", ()),
     ("ir diff", "diff lost_update.trc two_counters.trc", ()),
     ("ir view", "view lost_update.trc", ()),

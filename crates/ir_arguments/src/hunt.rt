@@ -31,6 +31,7 @@ COND is one argument, and `!` before it denies it. Numbers are decimal, or hexad
    out T TEXT    TEXT, all that follows one blank, occurs in what thread T printed
    fault         some thread didn't end by END
    budget        some thread's budget is spent, which is how a guest that waits forever ends
+   stale         `ir stale` with the image lists a write: it rests on a read that was written over
 CLOCK, RANDOM, FILE, P and PREFIX are those of `ir record` with LIST. Ctrl-C ends a hunt, and nothing is written.
 Exit status: 0 found, 1 a file that can't be read or written or is too long, 2 bad arguments, 3 a refused image, a guest with
 more threads or objects than P allows, or a COND about what the guest hasn't, 5 none was found.
@@ -47,8 +48,10 @@ pub struct HuntArguments {
     pub seeds: Seeds,
     /// How a seed chooses which thread goes on.
     pub way: Way,
-    /// The conditions, as they are written.
+    /// The conditions, as they are written, but for those on stale writes.
     pub until: Vec<String>,
+    /// Whether a stale write of the run has to rest on what was read, or none; `None` if nothing is asked of them.
+    pub stale: Option<bool>,
     /// How the guest is recorded, by whatever order.
     pub options: RecordingOptions,
 }
@@ -67,7 +70,7 @@ fn until_arg<'a>(alloc: Global) -> Arg<'a> {
         .value_name("COND")
         .required(true)
         .action(ArgAction::Append)
-        .help("What has to hold of what a run came to; given more than once, all of it")
+        .help("What has to hold of a run; given more than once, all of it")
 }
 
 /// The command with its arguments.
@@ -81,13 +84,42 @@ pub fn with_arguments<'a>(alloc: Global, command: Command<'a>) -> Result<Command
     with_options(alloc, command)
 }
 
-// The conditions as they are written, or the first that is none.
+// Whether a condition asks for a stale write that rests on what was read, or for none; nothing, if it is another condition.
+fn stale_of(text: &str) -> Option<bool> {
+    let name = text.trim_start_matches('!');
+    (name == "stale").then_some((text.len() - name.len()) % 2 == 0)
+}
+
+// What is asked of stale writes, by the conditions that are about them, or that these exclude each other.
+fn stale_by(
+    alloc: Global,
+    matches: &ArgMatches<'_>,
+) -> Result<Result<Option<bool>, String>, AllocError> {
+    let mut asked = None;
+    for text in matches.get_strs(UNTIL).unwrap_or_default() {
+        let Some(stale) = stale_of(text) else {
+            continue;
+        };
+        if asked == Some(!stale) {
+            return Ok(Err(format!(in alloc;
+                "--{UNTIL}: 'stale' and '!stale' exclude each other"
+            )?));
+        }
+        asked = Some(stale);
+    }
+    Ok(Ok(asked))
+}
+
+// The other conditions as they are written, or the first that is none.
 fn conditions_of(
     alloc: Global,
     matches: &ArgMatches<'_>,
 ) -> Result<Result<Vec<String>, String>, AllocError> {
     let mut conditions = Vec::new(alloc);
     for text in matches.get_strs(UNTIL).unwrap_or_default() {
+        if stale_of(text).is_some() {
+            continue;
+        }
         if condition_of(text.as_bytes()).is_none() {
             return Ok(Err(format!(in alloc; "--{UNTIL}: '{text}' is no condition")?));
         }
@@ -114,12 +146,17 @@ pub fn asked(alloc: Global, matches: &ArgMatches<'_>) -> Result<Asked, AllocErro
         Ok(until) => until,
         Err(why) => return Ok(Asked::Nothing(why)),
     };
+    let stale = match stale_by(alloc, matches)? {
+        Ok(stale) => stale,
+        Err(why) => return Ok(Asked::Nothing(why)),
+    };
     Ok(Asked::Hunt(HuntArguments {
         image: text_of(alloc, matches, IMAGE)?,
         trace: text_of(alloc, matches, TRACE)?,
         seeds,
         way,
         until,
+        stale,
         options,
     }))
 }

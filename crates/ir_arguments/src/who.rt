@@ -14,11 +14,14 @@ pub const WHO_AFTER: &str =
 With V there is the line of that version. Then come its read entries, by rising thread and event, and who wrote over it:
   read thread T event E                          event E of thread T read it
   overwritten by thread T event E                event E of thread T wrote over it; or `last`, if no thread did
+With --word K the lines are those of version 0 and of each version in which word K is another than in the version before:
+  version V by thread T event E step S word K W  W is the word in hexadecimal, and S how many steps thread T takes before the last
+                                                 PUT of word K between event E and its leave
 Events are numbered as in `ir trace`. With --image each has ` step S` behind it, how many steps its thread takes before it;
 behind `by` before it leaves the object, from when on the version is there.
 What is refused has the lines that `ir stale` has.
-Exit status: 0 printed, 1 a file that can't be read or standard output that can't be written, 2 bad arguments, or an object or a
-version that isn't there, 3 a refused image or trace, 4 an incoherent trace, or one of no run of the image.
+Exit status: 0 printed, 1 a file that can't be read or standard output that can't be written, 2 bad arguments, or an object, a
+version or a word that isn't there, 3 a refused image or trace, 4 an incoherent trace, or one of no run of the image.
 ";
 
 /// The number of the object.
@@ -26,6 +29,9 @@ const OBJECT: &str = "O";
 
 /// The version.
 const VERSION: &str = "V";
+
+/// The number of the word.
+const WORD: &str = "word";
 
 /// The object whose versions are printed, or the version that is.
 #[derive(Drop)]
@@ -36,8 +42,18 @@ pub struct WhoArguments {
     pub object: u32,
     /// The version, if one is asked about.
     pub version: Option<u32>,
+    /// The word, if its changes are asked about.
+    pub word: Option<u32>,
     /// The file of the image, if steps are told too.
     pub image: Option<String>,
+}
+
+fn word_arg<'a>(alloc: Global) -> Arg<'a> {
+    Arg::new(alloc, WORD)
+        .long(WORD)
+        .value_name("K")
+        .allow_negative_numbers(true)
+        .help("The number of a word of the object: the versions in which it is another than before")
 }
 
 /// The command with its arguments.
@@ -48,7 +64,12 @@ pub fn with_arguments<'a>(alloc: Global, command: Command<'a>) -> Result<Command
         .arg(Arg::new(alloc, VERSION).help(
             "The number of the version; without it all versions are printed",
         ))?
-        .arg(from_image_arg(alloc, "The file with the image: the steps of the events"))
+        .arg(from_image_arg(alloc, "The file with the image: the steps of the events"))?
+        .arg(
+            word_arg(alloc)
+                .requires_arg(FROM_IMAGE)?
+                .conflicts_with(VERSION)?,
+        )
 }
 
 // The number of an argument, if it is given, or else what is wrong with it.
@@ -75,10 +96,15 @@ pub fn asked(alloc: Global, matches: &ArgMatches<'_>) -> Result<Asked, AllocErro
         Ok(version) => version,
         Err(why) => return Ok(Asked::Nothing(why)),
     };
+    let word = match given_number(alloc, matches, WORD, "--word")? {
+        Ok(word) => word,
+        Err(why) => return Ok(Asked::Nothing(why)),
+    };
     Ok(Asked::Print(Print::Who(WhoArguments {
         trace: text_of(alloc, matches, TRACE)?,
         object,
         version,
+        word,
         image: given_text(alloc, matches, FROM_IMAGE)?,
     })))
 }

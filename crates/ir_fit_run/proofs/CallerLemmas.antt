@@ -7,3 +7,5 @@ pub use Rattle.ir_fit_run.proofs.Shown.{refusal_shown, refusal_not, not_failed}
 pub use Rattle.ir_fit_run.proofs.Leaves.{inside, event_inside, entry_fits, leave_past, leave_within, leave_fits}
 -- lists whose elements belong to those of another, made one element after the other
 pub use Rattle.ir_fit_run.proofs.Paired.{at_index, ArePairedTo, none_paired, next_paired, all_paired}
+-- what an event enters its thread leaves
+pub use Rattle.ir_fit_run.proofs.Left.{event_left}

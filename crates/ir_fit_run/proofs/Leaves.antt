@@ -1,10 +1,9 @@
 -- The first step by which a thread leaves what it entered.
-use Rattle.std.proofs.Common.{◌≡◌, ◌⊎◌, ◌+◌, ◌<◌, ◌≤◌, ◌^◌, ℕ, List, length, sym, ap, ◌∙◌, subst, arith, inl, inr}
-use Rattle.std.specs.Prelude.{Option, Some, None}
-use Rattle.std.specs.List.{slice_index_or}
+use Rattle.std.proofs.Common.{◌≡◌, ◌+◌, ◌<◌, ◌≤◌, ◌^◌, ℕ, true, false, ltb, ltb-true, ltb-false, List, get_or, length, refl, sym, ap, subst, arith, inl, inr}
+use Rattle.std.specs.Prelude.{Option, Some, None, IfSome, IfNone}
+use Rattle.std.specs.List.Sorted.{IsNonDecreasingBy, IsPartitionPoint}
 use Rattle.std.proofs.lemmas.Bool.{cases_lt}
-use Rattle.std.proofs.lemmas.Option.{slice_get_within}
-use Rattle.std.proofs.lemmas.List.{get_or_default}
+use Rattle.std.proofs.lemmas.Option.{slice_get_within, none-some}
 use Rattle.ir_runs.specs.Labels.{Label, Out}
 use Rattle.ir_runs.specs.Run.{trail}
 use Rattle.ir_runs.specs.Cuts.{At, Emits}
@@ -17,90 +16,176 @@ use Rattle.ir_trace.specs.Recorded.{Recorded}
 use Rattle.ir_trace.specs.TraceOf.{recorded_thread}
 use Rattle.ir_coherence.proofs.CallerLemmas.{thread_fits}
 use Rattle.ir_fit.specs.Fit.{FittedTrace, HasRun, IsFitted}
-use Rattle.ir_fit.specs.Visits.{OnlyLeaves, AllLeaves}
-use Rattle.ir_fit.specs.declared.place.Place.{Place}
-use Rattle.ir_fit.proofs.CallerLemmas.{entries_long, entry_within, get_at}
+use Rattle.ir_fit.specs.Places.{placed_at}
+use Rattle.ir_fit.specs.declared.leave.Leave.{Leave}
+use Rattle.ir_fit.proofs.CallerLemmas.{entries_long, entry_within, get_at, leave_emits, leave_of, leaves_rise}
 use Rattle.ir_cut.specs.Positions.{EachRun, machine_of, start_of}
 use Rattle.ir_cut.proofs.CallerLemmas.{same_trail}
-use Rattle.ir_past.specs.Past.{event_at}
+use Rattle.ir_past.specs.Past.{event_at, entered}
 use Rattle.ir_past.proofs.CallerLemmas.{of_thread}
 use Rattle.ir_events.specs.Events.{entry_of}
-use Rattle.ir_fit_run.specs.Positions.{IsInside, LeavesFrom, EntryLeaves, LeavesAfter}
-use Rattle.ir_fit_run.specs.declared.positions.Stay.{Stay}
-
--- so a thread leaves what it entered
-abbrev pub StayLeaves : FittedTrace → Stay → ℕ → ℕ → Type 0
-StayLeaves f s from k = LeavesFrom f s.thread from s.object s.access s.version k
-
--- the lowest position, at `from` or past it, of a leave among the first n steps
-pub record IsLowest (f : FittedTrace) (s : Stay) (from : ℕ) (ps : List Place) (n : ℕ) (first : Option ℕ) : Type 0 where
-  pub leaves : (k : ℕ) → first ≡ Some k → StayLeaves f s from k
-  pub lowest : (i : ℕ) (d : Place) → i < n → i < length ps → (slice_index_or ps i d).thread ≡ s.thread
-      → from ≤ (slice_index_or ps i d).position → (j : ℕ) × (first ≡ Some j) × (j ≤ (slice_index_or ps i d).position)
-
-pub none_lowest : (f : FittedTrace) (s : Stay) (from : ℕ) (ps : List Place) → IsLowest f s from ps 0 None
-none_lowest f s from ps = record { leaves = λ k e. absurd (cc e); lowest = λ i d l. absurd (omega (arith, l)) }
+use Rattle.ir_fit_run.specs.Positions.{IsInside, LeavesFrom, EntryLeaves, LeavesAfter, IsLeaveOf, Enters, IsOf, NoneIsOf, IsFirstOf}
 
 -- a step of one run is one of each
-in_each : (f : FittedTrace) (h : HasRun f) (t k : ℕ) (a : Label) → Emits (machine_of f) (start_of f) h.run t k a
+pub in_each : (f : FittedTrace) (h : HasRun f) (t k : ℕ) (a : Label) → Emits (machine_of f) (start_of f) h.run t k a
     → EachRun f (λ run. Emits (machine_of f) (start_of f) run t k a)
 in_each f h t k a emitted run of = (
   emitted.0,
   subst (λ (steps : List (thread.State × Label)). At steps k (emitted.0, a)) (same_trail f h.run run h.whole of t) emitted.1,
 )
 
--- a step that is listed is one of each run
-leave_there : (f : FittedTrace) → HasRun f → (s : Stay) (ps : List Place) → OnlyLeaves f s.object s.access s.version ps → (i : ℕ) (d : Place)
-    → i < length ps → (slice_index_or ps i d).thread ≡ s.thread
-    → EachRun f (λ run. Emits (machine_of f) (start_of f) run s.thread (slice_index_or ps i d).position (Out s.object s.access s.version))
-leave_there f h s ps only i d l own =
-    in_each f h s.thread (slice_index_or ps i d).position (Out s.object s.access s.version)
-    (subst (λ t. Emits (machine_of f) (start_of f) h.run t (slice_index_or ps i d).position (Out s.object s.access s.version)) own
-    (only h (slice_index_or ps i d) (i, l, get_or_default ps i (slice_index_or ps i d) d l)).1)
+-- its leaves are in the order of their positions
+pub in_order : (f : FittedTrace) → HasRun f → (t : ℕ) → t < length f.guest.entries
+    → IsNonDecreasingBy (λ (l : Leave). l.position) (placed_at f.placed t).leaves
+in_order f h t l i j d le lj = elim (cases_lt i j) [
+  | inl less ↦ let up = leaves_rise f h t l i j d less lj in omega (arith, up)
+  | inr past ↦
+      let same : i ≡ j = omega (arith, le, past) in
+      let equal = ap (λ k. (get_or (placed_at f.placed t).leaves k d).position) same in omega (arith, equal)
+]
 
--- one step more
-pub next_lowest : (f : FittedTrace) → HasRun f → (s : Stay) (ps : List Place) (n from : ℕ) (d : Place) (first new : Option ℕ)
-    → OnlyLeaves f s.object s.access s.version ps → n < length ps → IsLowest f s from ps n first
-    → ((k : ℕ) → first ≡ Some k → (j : ℕ) × (new ≡ Some j) × (j ≤ k))
-    → ((slice_index_or ps n d).thread ≡ s.thread → from ≤ (slice_index_or ps n d).position
-    → (j : ℕ) × (new ≡ Some j) × (j ≤ (slice_index_or ps n d).position))
-    → ((j : ℕ) → new ≡ Some j → (first ≡ Some j) ⊎ (((slice_index_or ps n d).thread ≡ s.thread) × (from ≤ (slice_index_or ps n d).position)
-    × ((slice_index_or ps n d).position ≡ j)))
-    → IsLowest f s from ps (n + 1) new
-next_lowest f h s ps n from d first new only l k kept taken one = record {
-  leaves = λ j e. elim (one j e) [
-    | inl same ↦ k.leaves j same
-    | inr here ↦ (
-      (let a = here.1 in let b = here.2 in omega (arith, a, b)),
-      subst (λ p. EachRun f (λ run. Emits (machine_of f) (start_of f) run s.thread p (Out s.object s.access s.version))) here.2
-          (leave_there f h s ps only n d l here.0),
+-- where a search found that those at `from` or past it begin
+pub below_tested : (xs : List Leave) (from i : ℕ)
+    → IsPartitionPoint (λ (y : Leave). ltb y.position from ≡ true) (λ y. ltb y.position from ≡ false) xs i
+    → IsPartitionPoint (λ (y : Leave). y.position < from) (λ y. from ≤ y.position) xs i
+below_tested xs from i h = (λ k d low lt. ltb-true _ from (h.0 k d low lt), λ k d low lt. ltb-false _ from (h.1 k d low lt))
+
+-- none so far, and one more that isn't so
+pub none_more : (ls : List Leave) (start n o : ℕ) (a : Access) (v : ℕ) → NoneIsOf ls start n o a v
+    → ((d : Leave) → IsOf (get_or ls n d) o a v → ⊥) → NoneIsOf ls start (n + 1) o a v
+none_more ls start n o a v none last j d from less = elim (cases_lt j n) [
+  | inl before ↦ none j d from before
+  | inr after ↦
+      let same : n ≡ j = omega (arith, after, less) in
+      subst (λ k. IsOf (get_or ls k d) o a v → ⊥) same (last d)
+]
+
+-- the leaves of thread t, and where those at `from` or past it begin
+pub record AreFrom (f : FittedTrace) (t from : ℕ) (ls : List Leave) (start : ℕ) : Type 0 where
+  pub leaves : ls ≡ (placed_at f.placed t).leaves
+  pub point : IsPartitionPoint (λ (l : Leave). l.position < from) (λ l. from ≤ l.position) ls start
+
+leave_like : (k o : ℕ) (a : Access) (v : ℕ) (l : Leave) → IsOf l o a v → l.position ≡ k
+    → l ≡ record { position = k; object = o; access = a; version = v }
+leave_like k o a v l of at = λ i. record { position = at i; object = of.0 i; access = of.1 i; version = of.2 i }
+
+-- a step that leaves is one of them
+listed_from : (f : FittedTrace) (h : HasRun f) (t from : ℕ) (ls : List Leave) (start o : ℕ) (a : Access) (v k : ℕ) → AreFrom f t from ls start
+    → LeavesFrom f t from o a v k
+    → (i : ℕ) × (start ≤ i) × (i < length ls) × ((d : Leave) → get_or ls i d ≡ record { position = k; object = o; access = a; version = v })
+listed_from f h t from ls start o a v k x at =
+    let found = leave_of f h t k o a v (at.1 h.run h.whole) in
+    let same = x.leaves in
+    let p : Leave = record { position = k; object = o; access = a; version = v } in
+    let within : found.0 < length ls = subst (λ (z : List Leave). found.0 < length z) (sym same) found.1 in
+    let is : (d : Leave) → get_or ls found.0 d ≡ p = λ d. subst (λ (z : List Leave). get_or z found.0 d ≡ p) (sym same) (found.2 d) in (
+      found.0,
+      elim (cases_lt found.0 start) [
+        | inl low ↦ absurd (let below = x.point.0 found.0 p (omega arith) low in
+            let here = ap (λ (l : Leave). l.position) (is p) in let past = at.0 in omega (arith, below, here, past))
+        | inr from_there ↦ from_there
+      ],
+      within,
+      is,
     )
-  ];
-  lowest = λ i e li there own past. elim (cases_lt i n) [
-    | inl before ↦
-        let low = k.lowest i e before there own past in
-        let lower = kept low.0 low.1 in
-        (lower.0, lower.1, (let a = low.2 in let b = lower.2 in omega (arith, a, b)))
-    | inr after ↦
-        let at : i ≡ n = omega (arith, after, li) in
-        let same : slice_index_or ps n d ≡ slice_index_or ps i e = get_or_default ps n d e l ∙ ap (λ j. slice_index_or ps j e) (sym at) in
-        let low = taken (ap (λ (p : Place). p.thread) same ∙ own)
-        (let a = ap (λ (p : Place). p.position) same in omega (arith, past, a)) in
-        (low.0, low.1, (let a = ap (λ (p : Place). p.position) same in let b = low.2 in omega (arith, a, b)))
-  ];
-}
 
--- all steps were looked at
-pub all_lowest : (f : FittedTrace) → HasRun f → (s : Stay) (ps : List Place) (n from : ℕ) (first : Option ℕ)
-    → AllLeaves f s.object s.access s.version ps → length ps ≤ n → IsLowest f s from ps n first
-    → (k : ℕ) → StayLeaves f s from k → (j : ℕ) × (first ≡ Some j) × (j ≤ k)
-all_lowest f h s ps n from first all done low k at =
-    let there = all h s.thread k (at.1 h.run h.whole) in
-    let p : Place = record { position = k; version = s.version; thread = s.thread } in
-    let same : slice_index_or ps there.0 p ≡ p = there.2 in
-    let found = low.lowest there.0 p (let a = there.1 in omega (arith, a, done)) there.1 (ap (λ (q : Place). q.thread) same)
-    (let a = at.0 in let b = ap (λ (q : Place). q.position) same in omega (arith, a, b)) in
-    (found.0, found.1, (let b = ap (λ (q : Place). q.position) same in let c = found.2 in omega (arith, b, c)))
+-- the first that is of what was entered
+pub first_leaves : (f : FittedTrace) → HasRun f → (t from : ℕ) (ls : List Leave) (start o : ℕ) (a : Access) (v k : ℕ) → t < length f.guest.entries
+    → AreFrom f t from ls start → IsFirstOf ls start o a v k
+    → LeavesFrom f t from o a v k × ((n : ℕ) → LeavesFrom f t from o a v n → k ≤ n)
+first_leaves f h t from ls start o a v k l x first = (
+  (
+    (let past = x.point.1 first.number p first.from first.within in let here = first.there p in omega (arith, past, here)),
+    in_each f h t k (Out o a v) emitted,
+  ),
+  λ n at.
+      let other = listed_from f h t from ls start o a v n x at in
+      let there : (get_or ls other.0 p).position ≡ n = ap (λ (z : Leave). z.position) (other.3 p) in
+      elim (cases_lt other.0 first.number) [
+        | inl before ↦ absurd (first.before other.0 p other.1 before
+            (subst (λ (z : Leave). IsOf z o a v) (sym (other.3 p)) (refl, refl, refl)))
+        | inr after ↦
+            let up = subst (λ (z : List Leave). IsNonDecreasingBy (λ (y : Leave). y.position) z) (sym x.leaves) (in_order f h t l) in
+            let low = up first.number other.0 p (omega (arith, after)) other.2 in
+            let here = first.there p in omega (arith, low, here, there)
+      ],
+)
+  where
+    p : Leave
+    p = record { position = k; object = o; access = a; version = v }
+
+    is : get_or ls first.number p ≡ p
+    is = leave_like k o a v (get_or ls first.number p) (first.is p) (first.there p)
+
+    emitted : Emits (machine_of f) (start_of f) h.run t k (Out o a v)
+    emitted =
+        let at : get_or (placed_at f.placed t).leaves first.number p ≡ p = subst (λ (z : List Leave). get_or z first.number p ≡ p) x.leaves is in
+        let within : first.number < length (placed_at f.placed t).leaves = subst (λ (z : List Leave). first.number < length z) x.leaves first.within in
+        subst (λ (z : Leave). Emits (machine_of f) (start_of f) h.run t z.position (Out z.object z.access z.version)) at
+        (leave_emits f h t l first.number p within)
+
+-- and where none is, no step leaves
+pub none_leaves : (f : FittedTrace) → HasRun f → (t from : ℕ) (ls : List Leave) (start o : ℕ) (a : Access) (v : ℕ) → AreFrom f t from ls start
+    → NoneIsOf ls start (length ls) o a v → (k : ℕ) → LeavesFrom f t from o a v k → ⊥
+none_leaves f h t from ls start o a v x none k at =
+    let other = listed_from f h t from ls start o a v k x at in
+    let p : Leave = record { position = k; object = o; access = a; version = v } in
+    none other.0 p other.1 other.2 (subst (λ (z : Leave). IsOf z o a v) (sym (other.3 p)) (refl, refl, refl))
+
+-- so of an event
+pub entry_first : (f : FittedTrace) → HasRun f → (t from : ℕ) (ls : List Leave) (start o : ℕ) (a : Access) (v k : ℕ) (e : Event)
+    → t < length f.guest.entries → AreFrom f t from ls start → Enters e o a v → IsFirstOf ls start o a v k
+    → EntryLeaves f t from (Some e) k × ((n : ℕ) → EntryLeaves f t from (Some e) n → k ≤ n)
+entry_first f h t from ls start o a v k (Answer kind value) l x enters first = absurd enters
+entry_first f h t from ls start o a v k (Read p w) l x enters first = first_leaves f h t from ls start p Reading w k l x
+    (subst (λ (z : ℕ × Access × ℕ). IsFirstOf ls start z.0 z.1 z.2 k) (λ i. (enters.0 i, enters.1 i, enters.2 i)) first)
+entry_first f h t from ls start o a v k (Write p w readers) l x enters first = first_leaves f h t from ls start p Writing w k l x
+    (subst (λ (z : ℕ × Access × ℕ). IsFirstOf ls start z.0 z.1 z.2 k) (λ i. (enters.0 i, enters.1 i, enters.2 i)) first)
+entry_first f h t from ls start o a v k (Try p) l x enters first = absurd enters
+
+pub entry_none : (f : FittedTrace) → HasRun f → (t from : ℕ) (ls : List Leave) (start o : ℕ) (a : Access) (v : ℕ) (e : Event)
+    → AreFrom f t from ls start → Enters e o a v → NoneIsOf ls start (length ls) o a v → (k : ℕ) → EntryLeaves f t from (Some e) k → ⊥
+entry_none f h t from ls start o a v (Answer kind value) x enters none k at = absurd enters
+entry_none f h t from ls start o a v (Read p w) x enters none k at = none_leaves f h t from ls start p Reading w x
+    (subst (λ (z : ℕ × Access × ℕ). NoneIsOf ls start (length ls) z.0 z.1 z.2) (λ i. (enters.0 i, enters.1 i, enters.2 i)) none) k at
+entry_none f h t from ls start o a v (Write p w readers) x enters none k at = none_leaves f h t from ls start p Writing w x
+    (subst (λ (z : ℕ × Access × ℕ). NoneIsOf ls start (length ls) z.0 z.1 z.2) (λ i. (enters.0 i, enters.1 i, enters.2 i)) none) k at
+entry_none f h t from ls start o a v (Try p) x enters none k at = absurd enters
+
+-- an event of a thread, what it enters, and the leaves from behind it on
+pub record IsSought (f : FittedTrace) (t i from : ℕ) (ls : List Leave) (start o : ℕ) (a : Access) (v : ℕ) : Type 0 where
+  pub event : Event
+  pub there : event_at f.recorded t i ≡ Some event
+  pub behind : from ≡ entry_of f t i + 1
+  pub enters : Enters event o a v
+  pub leaves : AreFrom f t from ls start
+
+pub leave_found : (f : FittedTrace) → HasRun f → (t i from : ℕ) (ls : List Leave) (start o : ℕ) (a : Access) (v : ℕ) (found : Option ℕ)
+    → t < length f.guest.entries → IsSought f t i from ls start o a v → IfSome found (IsFirstOf ls start o a v) → IfSome found (IsLeaveOf f t i)
+leave_found f h t i from ls start o a v None l x first = tt
+leave_found f h t i from ls start o a v (Some k) l x first =
+    let y = entry_first f h t from ls start o a v k x.event l x.leaves x.enters first in
+    let moved : EntryLeaves f t from (Some x.event) k × ((n : ℕ) → EntryLeaves f t from (Some x.event) n → k ≤ n) = y in
+    let at : EntryLeaves f t (entry_of f t i + 1) (Some x.event) k × ((n : ℕ) → EntryLeaves f t (entry_of f t i + 1) (Some x.event) n → k ≤ n) =
+    subst (λ b. EntryLeaves f t b (Some x.event) k × ((n : ℕ) → EntryLeaves f t b (Some x.event) n → k ≤ n)) x.behind moved in
+    record {
+      leaves = subst (λ z. EntryLeaves f t (entry_of f t i + 1) z k) (sym x.there) at.0;
+      first = λ n other. at.1 n (subst (λ z. EntryLeaves f t (entry_of f t i + 1) z n) x.there other);
+    }
+
+pub leave_none : (f : FittedTrace) → HasRun f → (t i from : ℕ) (ls : List Leave) (start o : ℕ) (a : Access) (v : ℕ) (found : Option ℕ)
+    → IsSought f t i from ls start o a v → IfNone found (NoneIsOf ls start (length ls) o a v) → IfNone found ((k : ℕ) → LeavesAfter f t i k → ⊥)
+leave_none f h t i from ls start o a v (Some k) x none = tt
+leave_none f h t i from ls start o a v None x none = λ k at.
+    entry_none f h t from ls start o a v x.event x.leaves x.enters none k
+    (subst (λ b. EntryLeaves f t b (Some x.event) k) (sym x.behind) (subst (λ z. EntryLeaves f t (entry_of f t i + 1) z k) x.there at))
+
+-- an event that is no entry leaves nothing
+pub no_entry_leaves : (f : FittedTrace) (t from k : ℕ) (e : Event) → entered e ≡ None → EntryLeaves f t from (Some e) k → ⊥
+no_entry_leaves f t from k (Answer kind value) none at = at
+no_entry_leaves f t from k (Read p w) none at = none-some p (sym none)
+no_entry_leaves f t from k (Write p w readers) none at = none-some p (sym none)
+no_entry_leaves f t from k (Try p) none at = at
 
 -- ---- within a thread
 

@@ -1,5 +1,6 @@
 mod Coherent
 mod Leaves
+mod Left
 mod Paired
 mod Shown
 pub mod CallerLemmas

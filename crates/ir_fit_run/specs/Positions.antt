@@ -1,14 +1,16 @@
 -- Where the events of a trace are among the steps of its run, and where the threads leave what they entered.
-use Rattle.std.specs.Prelude.{◌<◌, ◌+◌, ◌≤◌, ℕ, List, [], ◌++◌, codes, decimal, length, Option, Some, None}
+use Rattle.std.specs.Prelude.{◌≡◌, ◌<◌, ◌+◌, ◌≤◌, ℕ, List, [], ◌++◌, codes, decimal, length, Option, Some, None}
+use Rattle.std.specs.List.{slice_index_or}
 use Rattle.ir_runs.specs.Labels.{Out}
 use Rattle.ir_runs.specs.Cuts.{Emits}
 use Rattle.ir_runs.specs.declared.access.Access.{Access}
 use Rattle.ir_runs.specs.declared.access.Access.TheVariants.{Reading, Writing}
 use Rattle.ir_log.specs.declared.event.Event.{Event}
 use Rattle.ir_log.specs.declared.event.Event.TheVariants.{Answer, Read, Write, Try}
-use Rattle.ir_fit.specs.Fit.{FittedTrace}
+use Rattle.ir_fit.specs.Fit.{FittedTrace, HasRun}
+use Rattle.ir_fit.specs.declared.leave.Leave.{Leave}
 use Rattle.ir_cut.specs.Positions.{EachRun, machine_of, start_of}
-use Rattle.ir_past.specs.Past.{event_at}
+use Rattle.ir_past.specs.Past.{event_at, entered}
 use Rattle.ir_events.specs.Events.{entries_of, entry_of}
 
 -- thread t of the guest has an event i
@@ -36,6 +38,35 @@ LeavesAfter f t i k = EntryLeaves f t (entry_of f t i + 1) (event_at f.recorded 
 pub record IsLeaveOf (f : FittedTrace) (t i k : ℕ) : Type 0 where
   pub leaves : LeavesAfter f t i k
   pub first : (j : ℕ) → LeavesAfter f t i j → k ≤ j
+
+-- an event enters object o so, at version v
+abbrev pub Enters : Event → ℕ → Access → ℕ → Type 0
+Enters (Answer kind value) o a v = ⊥
+Enters (Read p w) o a v = (o ≡ p) × (a ≡ Reading) × (v ≡ w)
+Enters (Write p w readers) o a v = (o ≡ p) × (a ≡ Writing) × (v ≡ w)
+Enters (Try p) o a v = ⊥
+
+-- a leave is of object o after such access at version v
+abbrev pub IsOf : Leave → ℕ → Access → ℕ → Type 0
+IsOf l o a v = (l.object ≡ o) × (l.access ≡ a) × (l.version ≡ v)
+
+-- none of these leaves from number `start` to below number n is so
+abbrev pub NoneIsOf : List Leave → ℕ → ℕ → ℕ → Access → ℕ → Type 0
+NoneIsOf ls start n o a v = (j : ℕ) (d : Leave) → start ≤ j → j < n → IsOf (slice_index_or ls j d) o a v → ⊥
+
+-- the first of them from there on that is so is at position k
+pub record IsFirstOf (ls : List Leave) (start o : ℕ) (a : Access) (v k : ℕ) : Type 0 where
+  pub number : ℕ
+  pub from : start ≤ number
+  pub within : number < length ls
+  pub is : (d : Leave) → IsOf (slice_index_or ls number d) o a v
+  pub there : (d : Leave) → (slice_index_or ls number d).position ≡ k
+  pub before : NoneIsOf ls start number o a v
+
+-- the law: what an event of a run's trace enters its thread leaves
+abbrev pub EventsLeft : Type 0
+EventsLeft = (f : FittedTrace) → HasRun f → (t i o : ℕ) (e : Event) → event_at f.recorded t i ≡ Some e → entered e ≡ Some o
+    → (k : ℕ) × IsLeaveOf f t i k
 
 -- so of a step, if there is one; none, if no step does
 abbrev pub IsLeft : FittedTrace → ℕ → ℕ → Option ℕ → Type 0

@@ -1,20 +1,22 @@
 //! Where the events of a trace are among the steps of its run, and where the threads leave what they entered.
 
-ghost use Rattle.std.specs.Prelude.{◌≡◌, ◌⊎◌, ◌≤◌, ℕ, Some, IfSome, IfNone, IfOk};
+ghost use Rattle.std.specs.Prelude.{◌≡◌, ◌<◌, ◌≤◌, ◌↔◌, ℕ, None, length, IsTrue, IfSome, IfNone, MatchOption, IfOk};
+ghost use Rattle.std.specs.List.Sorted.{IsNonDecreasingBy, IsPartitionPoint};
 ghost use Rattle.std.specs.String.{string_bytes};
 ghost use Rattle.ir_events.specs.Events.{entry_of};
-ghost use Rattle.ir_fit_run.specs.Positions.{IsInside, LeavesFrom, EntryLeaves, LeavesAfter, IsLeaveOf, step_if};
+ghost use Rattle.ir_fit.specs.declared.leave.Leave.{Leave};
+ghost use Rattle.ir_past.specs.Past.{entered};
+ghost use Rattle.ir_fit_run.specs.Positions.{IsInside, Enters, IsOf, IsFirstOf, NoneIsOf, LeavesAfter, IsLeaveOf, step_if};
 
-use ir_fit::{Fitted, Place as Step};
+use ir_fit::{Fitted, Leave};
 use ir_log::Event;
 use ir_past::{Place, event_of};
 use ir_runs::Access;
 use std::alloc::{AllocError, Global};
 
-// What a thread entered: an object, for such access, at such a version.
+// What was entered: an object, for such access, at such a version.
 #[derive(Clone, Copy)]
 struct Stay {
-    thread: u8,
     object: u8,
     access: Access,
     version: u32,
@@ -28,83 +30,70 @@ pub fn step_of(fitted: &Fitted, place: Place) -> u64
     fitted.entries(place.thread as usize)[place.event as usize]
 }
 
-// The lower of a position that was found before, if there is one, and that of the next step, if it is this thread's and at `from` or past it.
-fn lower(found: Option<u64>, step: &Step, thread: u8, from: u64) -> Option<u64>
-    ensures kept { (k : ℕ) → found ≡ Some k → (j : ℕ) × (result ≡ Some j) × (j ≤ k) }
-    ensures taken { step.now.thread ≡ thread → from ≤ step.now.position → (j : ℕ) × (result ≡ Some j) × (j ≤ step.now.position) }
-    ensures one { (j : ℕ) → result ≡ Some j → (found ≡ Some j) ⊎ ((step.now.thread ≡ thread) × (from ≤ step.now.position) × (step.now.position ≡ j)) }
-{
-    if step.thread != thread || step.position < from {
-        return found;
-    }
-    match found {
-        Some(earlier) if earlier <= step.position => Some(earlier),
-        _ => Some(step.position),
-    }
-}
-
-// The first position, at `from` or past it, at which a thread leaves what it entered.
-fn first_leave(fitted: &Fitted, stay: Stay, from: u64) -> Option<u64>
-    ensures leaves { (k : ℕ) → result ≡ Some k → LeavesFrom fitted.now stay.thread from stay.object stay.access stay.version k }
-    ensures first { (k : ℕ) → LeavesFrom fitted.now stay.thread from stay.object stay.access stay.version k → (j : ℕ) × (result ≡ Some j) × (j ≤ k) }
-{
-    fitted.known();
-    let mut first = None;
-    for step in fitted.leaves_at(stay.object, stay.access, stay.version) {
-        first = lower(first, step, stay.thread, from);
-    }
-    first
-}
-
-// The first position, at `from` or past it, at which a thread leaves what an event entered.
-fn first_leave_of(fitted: &Fitted, thread: u8, event: Event, from: u64) -> Option<u64>
-    ensures leaves { (k : ℕ) → result ≡ Some k → EntryLeaves fitted.now thread from (Some event) k }
-    ensures first { (k : ℕ) → EntryLeaves fitted.now thread from (Some event) k → (j : ℕ) × (result ≡ Some j) × (j ≤ k) }
+// What an event enters; none, if it is no entry.
+fn stay_of(event: Event) -> Option<Stay>
+    ensures { MatchOption result (entered event ≡ None) (λ s. Enters event s.object s.access s.version) }
 {
     match event {
-        Event::Read { object, version } => {
-            let access = Access::Reading;
-            first_leave(
-                fitted,
-                Stay {
-                    thread,
-                    object,
-                    access,
-                    version,
-                },
-                from,
-            )
-        }
+        Event::Read { object, version } => Some(Stay {
+            object,
+            access: Access::Reading,
+            version,
+        }),
         Event::Write {
             object,
             version,
             ..
-        } => {
-            let access = Access::Writing;
-            first_leave(
-                fitted,
-                Stay {
-                    thread,
-                    object,
-                    access,
-                    version,
-                },
-                from,
-            )
-        }
+        } => Some(Stay {
+            object,
+            access: Access::Writing,
+            version,
+        }),
         Event::Answer(_, _) | Event::Try { .. } => None,
     }
 }
 
+// How many of a thread's leaves are at positions below this one.
+fn count_below(leaves: &[Leave], from: u64) -> usize
+    requires { IsNonDecreasingBy (λ (l : Leave). l.position) leaves.now }
+    ensures bound { result ≤ length leaves.now }
+    ensures point { IsPartitionPoint (λ (l : Leave). l.position < from) (λ l. from ≤ l.position) leaves.now result }
+{
+    leaves.partition_point(|leave| leave.position < from)
+}
+
+// Whether a leave is of what was entered.
+fn is_of(leave: &Leave, stay: Stay) -> bool
+    ensures { IsTrue result ↔ IsOf leave.now stay.object stay.access stay.version }
+{
+    leave.object == stay.object && leave.access == stay.access && leave.version == stay.version
+}
+
+// The position of the first of these leaves, from one of them on, that is of what was entered.
+fn first_of(leaves: &[Leave], start: usize, stay: Stay) -> Option<u64>
+    ensures found { IfSome result (IsFirstOf leaves.now start stay.object stay.access stay.version) }
+    ensures none { IfNone result (NoneIsOf leaves.now start (length leaves.now) stay.object stay.access stay.version) }
+{
+    for number in start..leaves.len() {
+        if is_of(&leaves[number], stay) {
+            return Some(leaves[number].position);
+        }
+    }
+    None
+}
+
 /// How many steps the thread of an entry took before the one by which it left the object. There is none for an event that is no entry.
+/// Time is logarithmic in the leaves of the thread, and linear in those that come before this one behind the entry.
 pub fn leave_of(fitted: &Fitted, place: Place) -> Option<u64>
     requires { IsInside fitted.now place.thread place.event }
     ensures found { IfSome result (IsLeaveOf fitted.now place.thread place.event) }
     ensures none { IfNone result ((k : ℕ) → LeavesAfter fitted.now place.thread place.event k → ⊥) }
 {
     fitted.known();
-    let event = event_of(fitted.trace(), place);
-    first_leave_of(fitted, place.thread, event, step_of(fitted, place) + 1)
+    let stay = stay_of(event_of(fitted.trace(), place))?;
+    let leaves = fitted.leaves(place.thread as usize);
+    let start = count_below(leaves, step_of(fitted, place) + 1);
+    first_of(leaves, start, stay)
 }
 
 /// How many steps come before one, in words behind what is said of it; nothing, if there is none.

@@ -1,5 +1,5 @@
 -- What was found, and what is recorded of it.
-use Rattle.std.proofs.Common.{◌≡◌, ◌<◌, ◌≤◌, ℕ, zero, suc, List, [], ◌++◌, length, get_or, true, sym, ap, ◌∙◌, subst, refl}
+use Rattle.std.proofs.Common.{◌≡◌, ◌<◌, ◌≤◌, ℕ, zero, suc, List, [], ◌++◌, length, get_or, Bool, Option, Some, None, true, sym, ap, ◌∙◌, subst, refl}
 use Rattle.std.specs.Prelude.{◌≢◌, replicate}
 use Rattle.std.specs.List.{list_all, AllByRecursion}
 use Rattle.ir_image.specs.Guest.{Guest}
@@ -26,6 +26,7 @@ use Rattle.ir_chaos.specs.declared.chooser.Chooser.{Chooser}
 use Rattle.ir_chaos.specs.declared.way.Way.{Way}
 use Rattle.ir_hunt.specs.Finding.{has_tries, first, FulfilsEach, IsFound, IsFoundIn, IsFinding, by_list}
 use Rattle.ir_hunt.specs.Seeking.{RanBy}
+use Rattle.ir_hunt.specs.Stale.{IsWanted, FulfilsStale}
 
 -- no world had answered
 none_before : (n t : ℕ) → get_or {A = List Answered} (replicate n []) t [] ≡ []
@@ -76,13 +77,19 @@ pub some_turns : (guest : Guest) (plan : Plan) (chooser : Chooser) (b : Moment) 
 some_turns guest plan chooser b some h none = complete_runs guest plan.budget plan.profile h.run some h.schedule.done
     (sym h.gained.order ∙ none)
 
--- the list of a seed's turns, where what its run came to fulfils each condition
-pub found_by : (guest : Guest) (plan : Plan) (way : Way) (seed choices : ℕ) (conditions : List Condition) (b : Moment) (list : List ℕ)
+-- a run by an order whose runs have what is wanted of them has it
+as_wanted : (guest : Guest) (plan : Plan) (order : List ℕ) (wanted : Option Bool) (run : List Step) → IsWanted guest plan order wanted true
+    → IsPlanned guest plan order run → FulfilsStale guest plan wanted run
+as_wanted guest plan order None run h planned = tt
+as_wanted guest plan order (Some has) run h planned = h run planned
+
+-- the list of a seed's turns, where what its run came to fulfils each condition, and the run has what is wanted of its stale writes
+pub found_by : (guest : Guest) (plan : Plan) (way : Way) (seed choices : ℕ) (conditions : List Condition) (wanted : Option Bool) (b : Moment) (list : List ℕ)
     → RanBy guest plan (chooser_of way seed (length guest.entries) choices) b
     → ((t : ℕ) → t < length guest.entries → IsAnswered (origin_of true plan.random plan.input t) (answers_at b.answers t))
-    → list_all (λ c. fulfils c (outcome_of b.flat)) conditions ≡ true → Spells list (order_of_turns b.turns)
-    → IsFound guest plan way seed conditions list
-found_by guest plan way seed choices conditions b list h answered holds spells =
+    → list_all (λ c. fulfils c (outcome_of b.flat)) conditions ≡ true → IsWanted guest plan (order_of_turns b.turns) wanted true
+    → Spells list (order_of_turns b.turns) → IsFound guest plan way seed conditions wanted list
+found_by guest plan way seed choices conditions wanted b list h answered holds stale spells =
     let chooser = chooser_of way seed (length guest.entries) choices in
     let r = found_run guest plan conditions chooser b h answered holds in
     record {
@@ -93,13 +100,14 @@ found_by guest plan way seed choices conditions b list h answered holds spells =
       of_seed = h.schedule;
       planned = r.0;
       fulfilled = r.1;
+      stale = as_wanted guest plan (order_of_turns b.turns) wanted h.run stale r.0;
     }
 
 -- a recording by the list is of the run that was found
-pub finding : (image : List ℕ) (plan : Plan) (way : Way) (seed : ℕ) (conditions : List Condition) (list : List ℕ) (trace : Recorded)
-    (outputs : List (List ℕ)) → IsFoundIn image plan way seed conditions list → IsRecordedOf image (by_list plan list) trace outputs
-    → IsFinding image plan way seed conditions list trace outputs
-finding image plan way seed conditions list trace outputs found r = record {
+pub finding : (image : List ℕ) (plan : Plan) (way : Way) (seed : ℕ) (conditions : List Condition) (wanted : Option Bool) (list : List ℕ)
+    (trace : Recorded) (outputs : List (List ℕ)) → IsFoundIn image plan way seed conditions wanted list → IsRecordedOf image (by_list plan list) trace outputs
+    → IsFinding image plan way seed conditions wanted list trace outputs
+finding image plan way seed conditions wanted list trace outputs found r = record {
   guest = found.guest;
   is = found.is;
   found = found.found;

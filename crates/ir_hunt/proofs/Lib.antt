@@ -1,5 +1,6 @@
 mod Found
 mod Lowest
+mod Recorded
 mod Restarting
 mod Seeking
 mod Stopping

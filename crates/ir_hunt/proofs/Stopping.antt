@@ -1,8 +1,7 @@
 -- What is left where a hunt has no recording.
-use Rattle.std.proofs.Common.{◌≡◌, ℕ, true, false, List, map, refl, sym, ap, ◌∙◌, subst, inl, inr}
+use Rattle.std.proofs.Common.{◌≡◌, ℕ, Bool, true, false, List, inl, inr}
 use Rattle.std.specs.Prelude.{Option, Some, None, Result, Ok, Err, OnOk, OnErr, IfSome, MatchOption}
 use Rattle.std.specs.Result.{is_err}
-use Rattle.std.specs.String.{string_bytes}
 use Rattle.ir_record_run.specs.Plan.{Plan}
 use Rattle.ir_chaos.specs.Conditions.{Condition}
 use Rattle.ir_chaos.specs.declared.way.Way.{Way}
@@ -21,9 +20,9 @@ on_ok (Err x) P h e = absurd cc
 
 -- the line of what was found, or of nothing
 pub line_is : {F : Type 0} (seed_of : F → ℕ) (list_of : F → List ℕ) (image : List ℕ) (plan : Plan) (way : Way) (seeds : Seeds)
-    (conditions : List Condition) (found : Option F) (line : List ℕ)
-    → IfSome found (λ f. IsFoundIn image plan way (seed_of f) conditions (list_of f))
+    (conditions : List Condition) (wanted : Option Bool) (found : Option F) (line : List ℕ)
+    → IfSome found (λ f. IsFoundIn image plan way (seed_of f) conditions wanted (list_of f))
     → MatchOption found (line ≡ none_line seeds.first seeds.last) (λ f. line ≡ found_line (seed_of f) (list_of f))
-    → IsHuntLine image plan way seeds conditions line
-line_is seed_of list_of image plan way seeds conditions None line h e = inr e
-line_is seed_of list_of image plan way seeds conditions (Some f) line h e = inl (seed_of f, list_of f, h, e)
+    → IsHuntLine image plan way seeds conditions wanted line
+line_is seed_of list_of image plan way seeds conditions wanted None line h e = inr e
+line_is seed_of list_of image plan way seeds conditions wanted (Some f) line h e = inl (seed_of f, list_of f, h, e)

@@ -1,5 +1,5 @@
 -- What a hunt finds.
-use Rattle.std.specs.Prelude.{Bool, false, ◌≡◌, ℕ, List, length, true, Some, Ok}
+use Rattle.std.specs.Prelude.{Bool, false, ◌≡◌, ℕ, List, length, true, Option, Some, Ok}
 use Rattle.std.specs.List.{list_all}
 use Rattle.ir_image.specs.Guest.{Guest}
 use Rattle.ir_image.specs.Reading.{guest_at}
@@ -15,6 +15,7 @@ use Rattle.ir_chaos.specs.Choices.{chooser_of}
 use Rattle.ir_chaos.specs.Schedules.{IsSchedule}
 use Rattle.ir_chaos.specs.declared.way.Way.{Way}
 use Rattle.ir_chaos.specs.Conditions.{Condition, fulfils, outcome_of}
+use Rattle.ir_hunt.specs.Stale.{FulfilsStale}
 
 -- the guest before its first step
 abbrev pub first : Guest → Plan → Flat
@@ -42,8 +43,8 @@ abbrev pub IsOfSeed : Guest → Plan → Way → ℕ → ℕ → List Step → T
 IsOfSeed guest plan way seed choices run = IsSchedule (has_tries plan.profile) (machine (first guest plan)) (length (first guest plan).threads)
     (tables (first guest plan)) (chooser_of way seed (length guest.entries) choices) run
 
--- a list spells the order of the run of the guest by a seed, which fulfils each condition
-pub record IsFound (guest : Guest) (plan : Plan) (way : Way) (seed : ℕ) (conditions : List Condition) (list : List ℕ) : Type 0 where
+-- a list spells the order of the run of the guest by a seed, which fulfils each condition and has what is wanted of its stale writes
+pub record IsFound (guest : Guest) (plan : Plan) (way : Way) (seed : ℕ) (conditions : List Condition) (wanted : Option Bool) (list : List ℕ) : Type 0 where
   pub order : List ℕ
   pub spelled : order_of (length guest.entries) list ≡ Some order
   pub run : List Step
@@ -51,19 +52,20 @@ pub record IsFound (guest : Guest) (plan : Plan) (way : Way) (seed : ℕ) (condi
   pub of_seed : IsOfSeed guest plan way seed choices run
   pub planned : IsPlanned guest plan order run
   pub fulfilled : FulfilsEach guest plan conditions run
+  pub stale : FulfilsStale guest plan wanted run
 
 -- the same of an image's guest
-pub record IsFoundIn (image : List ℕ) (plan : Plan) (way : Way) (seed : ℕ) (conditions : List Condition) (list : List ℕ) : Type 0 where
+pub record IsFoundIn (image : List ℕ) (plan : Plan) (way : Way) (seed : ℕ) (conditions : List Condition) (wanted : Option Bool) (list : List ℕ) : Type 0 where
   pub guest : Guest
   pub is : guest_at image ≡ Ok guest
-  pub found : IsFound guest plan way seed conditions list
+  pub found : IsFound guest plan way seed conditions wanted list
 
 -- the trace of that run, and what its threads printed
-pub record IsFinding (image : List ℕ) (plan : Plan) (way : Way) (seed : ℕ) (conditions : List Condition) (list : List ℕ) (trace : Recorded)
-    (outputs : List (List ℕ)) : Type 0 where
+pub record IsFinding (image : List ℕ) (plan : Plan) (way : Way) (seed : ℕ) (conditions : List Condition) (wanted : Option Bool) (list : List ℕ)
+    (trace : Recorded) (outputs : List (List ℕ)) : Type 0 where
   pub guest : Guest
   pub is : guest_at image ≡ Ok guest
-  pub found : IsFound guest plan way seed conditions list
+  pub found : IsFound guest plan way seed conditions wanted list
   pub recorded : IsOfRun guest plan.budget plan.profile found.run trace outputs
 
 -- how what was found is recorded

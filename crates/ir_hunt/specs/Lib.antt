@@ -2,4 +2,5 @@ pub mod Finding
 pub mod Lines
 pub mod Seeds
 pub mod Seeking
+pub mod Stale
 pub mod Stopping

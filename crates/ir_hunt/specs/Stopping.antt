@@ -1,8 +1,7 @@
 -- How a hunt ends without a recording.
-use Rattle.std.specs.Prelude.{◌≡◌, ◌≢◌, ℕ, List, ◌⊎◌}
-use Rattle.ir_files.specs.Writers.{Writer, Took, Failed, Reports, fault_text}
-use Rattle.ir_files.specs.Outputs.{OutputWriter}
-use Rattle.ir_record_run.specs.Faults.{fault_words, Refuses, Stops, IsReported, Unwritten}
+use Rattle.std.specs.Prelude.{◌≡◌, ◌≢◌, ℕ, Bool, List, Option, ◌⊎◌}
+use Rattle.ir_files.specs.Writers.{Writer, Reports, fault_text}
+use Rattle.ir_record_run.specs.Faults.{fault_words, Refuses}
 use Rattle.ir_record_run.specs.Plan.{Plan}
 use Rattle.ir_record_run.specs.declared.record_fault.RecordFault.{RecordFault}
 use Rattle.ir_record_run.specs.declared.record_fault.RecordFault.TheVariants.{Clock, Order}
@@ -23,7 +22,7 @@ abbrev pub IsTold : RecordFault → Writer → Type 0
 IsTold e faults = Reports faults (fault_text (fault_words e))
 
 -- the line of a hunt: of a seed that was found, or that there is none among these
-abbrev pub IsHuntLine : List ℕ → Plan → Way → Seeds → List Condition → List ℕ → Type 0
-IsHuntLine image plan way seeds conditions line =
-    ((seed : ℕ) × (list : List ℕ) × IsFoundIn image plan way seed conditions list × (line ≡ found_line seed list))
+abbrev pub IsHuntLine : List ℕ → Plan → Way → Seeds → List Condition → Option Bool → List ℕ → Type 0
+IsHuntLine image plan way seeds conditions wanted line =
+    ((seed : ℕ) × (list : List ℕ) × IsFoundIn image plan way seed conditions wanted list × (line ≡ found_line seed list))
     ⊎ (line ≡ none_line seeds.first seeds.last)

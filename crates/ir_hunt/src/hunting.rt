@@ -33,7 +33,7 @@ use std::sync::Wait;
 use std::thread::Threads;
 use std::time::Clock;
 
-// A seed whose run fulfils each condition, and the list that spells its order.
+// A seed whose run fulfils each condition and has what is wanted of its stale writes, and the list that spells its order.
 #[derive(Drop)]
 struct Found {
     seed: u64,
@@ -51,7 +51,7 @@ fn list_of_seed<C: Clock>(
 ) -> Result<Option<String>, RecordFault>
     requires allowed { IsAllowed plan.now.record.profile image.now }
     requires choices { 0 < choices }
-    ensures found { IfOk result (λ o. IfSome o (λ list. IsFound image.now plan.now.record plan.now.way seed (map as_condition plan.now.conditions.now) (string_bytes list))) }
+    ensures found { IfOk result (λ o. IfSome o (λ list. IsFound image.now plan.now.record plan.now.way seed (map as_condition plan.now.conditions.now) plan.now.stale (string_bytes list))) }
     ensures err { IfErr result (λ e. e ≡ NoMem) }
 {
     let mut seeker = Seeker::new(alloc, clock, image, plan)?;
@@ -75,7 +75,7 @@ pub fn order_of_seed<C: Clock>(
     way: Way,
     seed: u64,
 ) -> Result<Option<String>, RecordFault>
-    ensures found { IfOk result (λ o. IfSome o (λ list. IsFoundIn image.now how.entry way seed [] (string_bytes list))) }
+    ensures found { IfOk result (λ o. IfSome o (λ list. IsFoundIn image.now how.entry way seed [] None (string_bytes list))) }
     ensures refused { IfErr result (λ e. RefusesHunt e image.now how.entry) }
 {
     let guest = image.allowed(&how)?;
@@ -87,6 +87,7 @@ pub fn order_of_seed<C: Clock>(
             last: seed,
         },
         conditions: &[],
+        stale: None,
         is_shown: false,
     };
     let choices = Seeker::new(alloc, clock, guest, &plan)?.choices()?;
@@ -109,7 +110,7 @@ fn found_by<R: Threads + Clock + Sync + Eprint>(
     plan: &HuntPlan<'_>,
 ) -> Result<(Option<Found>, u64), RecordFault>
     requires { IsAllowed plan.now.record.profile image.now }
-    ensures found { IfOk result (λ r. IfSome r.0 (λ f. IsFound image.now plan.now.record plan.now.way f.seed (map as_condition plan.now.conditions.now) (string_bytes f.list))) }
+    ensures found { IfOk result (λ r. IfSome r.0 (λ f. IsFound image.now plan.now.record plan.now.way f.seed (map as_condition plan.now.conditions.now) plan.now.stale (string_bytes f.list))) }
     ensures err { IfErr result (λ e. e ≡ NoMem) }
 {
     let Search {
@@ -144,7 +145,7 @@ fn hunted<R: Threads + Clock + Sync + Eprint>(
     image: &ParsedImage<'_>,
     plan: &HuntPlan<'_>,
 ) -> Result<Sought, RecordFault>
-    ensures found { IfOk result (λ s. IfSome s.found (λ f. IsFoundIn image.now plan.now.record plan.now.way f.seed (map as_condition plan.now.conditions.now) (string_bytes f.list))) }
+    ensures found { IfOk result (λ s. IfSome s.found (λ f. IsFoundIn image.now plan.now.record plan.now.way f.seed (map as_condition plan.now.conditions.now) plan.now.stale (string_bytes f.list))) }
     ensures line { IfOk result (λ s. MatchOption s.found (string_bytes s.line ≡ none_line plan.now.seeds.first plan.now.seeds.last)
         (λ f. string_bytes s.line ≡ found_line f.seed (string_bytes f.list))) }
     ensures refused { IfErr result (λ e. RefusesHunt e image.now plan.now.record) }
@@ -227,7 +228,7 @@ where
     ensures done { IfOk result (λ o. MatchOption o
         ((trace.new ≡ trace.old) × (outputs.new ≡ outputs.old) × Appends (O.written out.old) (O.written out.new) (none_line plan.now.seeds.first plan.now.seeds.last))
         (λ recorded. (seed : ℕ) × (list : List ℕ) × (printed : List (List ℕ))
-        × IsFinding image.now plan.now.record plan.now.way seed (map as_condition plan.now.conditions.now) list recorded printed
+        × IsFinding image.now plan.now.record plan.now.way seed (map as_condition plan.now.conditions.now) plan.now.stale list recorded printed
         × Appends (W.written trace.old) (W.written trace.new) (encoding recorded)
         × TookEach (output_writer_of (P.taken outputs.old) (P.taken outputs.new) (P.broken outputs.new)) printed
         × Appends (O.written out.old) (O.written out.new) (found_line seed list ++ lines_of recorded))) }
@@ -237,11 +238,11 @@ where
     ensures stopped { IfErr result (λ status. (e : RecordFault) × (status ≡ fault_status e) × (
         (RefusesHunt e image.now plan.now.record × (trace.new ≡ trace.old) × (outputs.new ≡ outputs.old) × (out.new ≡ out.old)
         × IsTold e (writer_of (E.written faults.old) (E.written faults.new) (E.broken faults.new)))
-        ⊎ (((line : List ℕ) × (e ≡ Lines) × IsHuntLine image.now plan.now.record plan.now.way plan.now.seeds (map as_condition plan.now.conditions.now) line
+        ⊎ (((line : List ℕ) × (e ≡ Lines) × IsHuntLine image.now plan.now.record plan.now.way plan.now.seeds (map as_condition plan.now.conditions.now) plan.now.stale line
         × Failed (writer_of (O.written out.old) (O.written out.new) (O.broken out.new)) line × (trace.new ≡ trace.old) × (outputs.new ≡ outputs.old)
         × IsTold e (writer_of (E.written faults.old) (E.written faults.new) (E.broken faults.new)))
         ⊎ ((seed : ℕ) × (list : List ℕ) × (said : O)
-        × IsFoundIn image.now plan.now.record plan.now.way seed (map as_condition plan.now.conditions.now) list
+        × IsFoundIn image.now plan.now.record plan.now.way seed (map as_condition plan.now.conditions.now) plan.now.stale list
         × Appends (O.written out.old) (O.written said) (found_line seed list)
         × IsReported e image.now (by_list plan.now.record list) (unwritten_of (W.called trace.new) (W.cause trace.new)) (unwritten_of (P.called outputs.new) (P.cause outputs.new))
         (writer_of (E.written faults.old) (E.written faults.new) (E.broken faults.new))

@@ -1,12 +1,14 @@
 //! What `ir hunt` does: seeds are tried until one leads to a run that fulfils conditions, which is then recorded.
 #![tactic(auto)]
 
+mod dealing;
 mod hunting;
 mod plan;
 mod report;
 mod search;
 mod seeker;
 mod shown;
+mod stale;
 mod stretches;
 
 pub use hunting::{hunt_run, order_of_seed};

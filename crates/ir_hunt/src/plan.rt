@@ -23,6 +23,8 @@ pub struct HuntPlan<'a> {
     pub seeds: Seeds,
     /// What has to hold of what a run came to, all of it.
     pub conditions: &'a [Condition<'a>],
+    /// Whether a stale write of a run has to rest on what was read, by the image: one, or none; if it is `None`, nothing is asked of them.
+    pub stale: Option<bool>,
     /// Whether it is shown on standard error, once a second, how many seeds were tried.
     pub is_shown: bool,
 }

@@ -4,10 +4,12 @@ ghost use Rattle.std.specs.Prelude.{◌≡◌, ◌<◌, IfOk, map};
 ghost use Rattle.ir_hunt.specs.Seeds.{lower, IsLowest};
 ghost use Rattle.ir_thread.specs.Allowed.{IsAllowed};
 
+use crate::dealing::Dealer;
 use crate::plan::{HuntPlan, Seeds};
 use crate::seeker::{Lost, Seeker};
 use crate::shown::Shown;
 use crate::stretches::Stretches;
+use crossbeam_utils::CachePadded;
 use ir_image::Image;
 use std::alloc::{AllocError, Global};
 use std::thread::{self, Threads};
@@ -26,6 +28,8 @@ struct Worker<'a, C> {
     // How many runs weren't followed to their ends.
     left_out: u64,
     failed: bool,
+    // Aligned, so that no two workers write to one line of the processor's memory.
+    apart: CachePadded<()>,
     ghost some: { 0 < choices },
 }
 
@@ -44,16 +48,26 @@ impl<C: Clock> Worker<'_, C> {
         true
     }
 
-    // Tries each seed of a stretch from one on, by as many as there are workers, until one fulfils.
-    fn seek(&mut self, stretch: Seeds, place: u64, workers: u64)
-        requires { 0 < workers }
-    {
-        let mut next = stretch.first.checked_add(place);
-        'seeds: while let Some(seed) = next {
-            if seed > stretch.last || self.try_seed(seed) {
+    // Tries each seed of a hand, until one is the end of its stretch: whether one is.
+    fn try_hand(&mut self, hand: Seeds) -> bool {
+        for seed in hand.first..=hand.last {
+            if self.try_seed(seed) {
+                return true;
+            }
+        }
+        false
+    }
+
+    // Tries each hand that it is dealt, until a seed is the end of the stretch.
+    fn seek(&mut self, dealer: &Dealer) {
+        for _ in 0..dealer.hands() {
+            let Some(hand) = dealer.next() else {
+                return;
+            };
+            if self.try_hand(hand) {
+                dealer.close();
                 return;
             }
-            next = seed.checked_add(workers);
         }
     }
 }
@@ -111,6 +125,7 @@ fn workers<'a, R: Threads + Clock>(
             found: None,
             left_out: 0,
             failed: false,
+            apart: CachePadded::new(()),
         })?;
     }
     Ok(workers)
@@ -160,11 +175,12 @@ pub fn lowest_seed<R: Threads + Clock + Sync + Eprint>(
     let mut shown = Shown::new(rt, plan.is_shown);
     let mut found = None;
     'stretches: while let Some(stretch) = stretches.next() {
+        let dealer = Dealer::new(stretch, count as u64);
         thread::for_each_mut(
             rt,
             workers.as_mut_slice(),
             count,
-            &|place, worker| { worker.seek(stretch, place as u64, count as u64) },
+            &|_, worker| { worker.seek(&dealer) },
         );
         if has_failed(workers.as_slice()) {
             return Err(AllocError);

@@ -1,6 +1,6 @@
 //! What runs a guest by one seed after another.
 
-ghost use Rattle.std.specs.Prelude.{◌≡◌, ◌≢◌, ◌<◌, [], length, map, replicate, true, false, IfOk, OnOk};
+ghost use Rattle.std.specs.Prelude.{◌≡◌, ◌≢◌, ◌<◌, ◌⊎◌, [], length, map, replicate, true, false, IfOk, OnOk};
 ghost use Rattle.std.specs.List.{list_all};
 ghost use Rattle.ir_thread.specs.Allowed.{IsAllowed};
 ghost use Rattle.ir_record.specs.Turns.{order_of_turns};
@@ -11,8 +11,10 @@ ghost use Rattle.ir_chaos.specs.Conditions.{as_condition, fulfils, outcome_of};
 ghost use Rattle.ir_chaos.specs.Moments.{moment_of};
 ghost use Rattle.ir_hunt.specs.Finding.{has_tries};
 ghost use Rattle.ir_hunt.specs.Seeking.{fresh, RanBy};
+ghost use Rattle.ir_hunt.specs.Stale.{IsWanted};
 
 use crate::plan::HuntPlan;
+use crate::stale::is_wanted;
 use ir_chaos::{Chooser, Runner, Stop};
 use ir_flat::Flat;
 use ir_image::Image;
@@ -50,6 +52,7 @@ impl From<Stop> for Lost {
 #[derive(Drop)]
 pub struct Seeker<'a, C> {
     alloc: Global,
+    clock: &'a C,
     image: &'a Image,
     plan: &'a HuntPlan<'a>,
     runner: Runner<'a, ProgramWorld<'a, C>>,
@@ -107,6 +110,7 @@ impl<'a, C: Clock> Seeker<'a, C> {
         let turns = Vec::with_capacity(alloc, MOST_TURNS)?;
         Ok(Seeker {
             alloc,
+            clock,
             image,
             plan,
             runner: Runner {
@@ -173,7 +177,23 @@ impl<'a, C: Clock> Seeker<'a, C> {
             .all(|condition| condition.holds(flat))
     }
 
-    /// Whether the run of a seed fulfils each condition.
+    // Whether the last run has what is wanted of its stale writes.
+    fn is_wanted(&self) -> Result<bool, AllocError>
+        ensures { IfOk result (IsWanted self.now.image.now self.now.plan.now.record (order_of_turns self.now.runner.turns.items) self.now.plan.now.stale) }
+    {
+        let turns = self.runner.turns.as_slice();
+        is_wanted(
+            self.alloc,
+            self.clock,
+            self.image,
+            &self.plan.record,
+            turns,
+            self.plan.stale,
+        )
+    }
+
+    /// Whether the run of a seed fulfils each condition, and has what is wanted of its stale writes. These are asked only where it
+    /// fulfils each condition.
     ///
     /// # Errors
     /// It wasn't followed to its end.
@@ -183,12 +203,19 @@ impl<'a, C: Clock> Seeker<'a, C> {
         ensures plan { self.new.plan ≡ self.old.plan }
         ensures ran { OnOk result (RanBy self.old.image.now self.old.plan.now.record (chooser_of self.old.plan.now.way seed (length self.old.image.now.entries) choices) (moment_of (λ w. w.answers.items) self.new.runner)) }
         ensures some { OnOk result (order_of_turns self.new.runner.turns.items ≢ []) }
-        ensures each { IfOk result (λ b. b ≡ list_all (λ c. fulfils (as_condition c) (outcome_of self.new.runner.flat)) self.old.plan.now.conditions.now) }
+        ensures each { IfOk result (λ b. b ≡ true → list_all (λ c. fulfils (as_condition c) (outcome_of self.new.runner.flat)) self.old.plan.now.conditions.now ≡ true) }
+        ensures wanted { IfOk result (λ b. b ≡ true → IsWanted self.old.image.now self.old.plan.now.record (order_of_turns self.new.runner.turns.items) self.old.plan.now.stale true) }
+        ensures other { IfOk result (λ b. b ≡ false → (list_all (λ c. fulfils (as_condition c) (outcome_of self.new.runner.flat)) self.old.plan.now.conditions.now ≡ false)
+            ⊎ IsWanted self.old.image.now self.old.plan.now.record (order_of_turns self.new.runner.turns.items) self.old.plan.now.stale false) }
     {
         let threads = self.image.entries().len();
         let mut chooser = Chooser::of_seed(self.alloc, self.plan.way, seed, threads, choices)?;
         self.run(&mut chooser)?;
-        Ok(self.holds())
+        if self.holds() {
+            Ok(self.is_wanted()?)
+        } else {
+            Ok(false)
+        }
     }
 
     /// The turns of the last run.

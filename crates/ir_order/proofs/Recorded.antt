@@ -87,6 +87,14 @@ of_recording guest plan list order run trace outputs answers is x r answered =
     (one_run_by_order guest plan.budget plan.profile order (origin_of true plan.random plan.input) run r.run (λ t l. refl) x
     (recorded_planned guest plan list order trace outputs answers is r answered)) r.of
 
+-- what is recorded in turns is of each run that the guest makes by their order with the same answers
+pub of_turns : (guest : Guest) (plan : Plan) (order : List ℕ) (run : List Step) (trace : Recorded) (outputs : List (List ℕ)) (answers : List (List Answered))
+    → IsPlanned guest plan order run → IsRecording guest plan.budget plan.profile order (unasked guest) trace outputs answers
+    → ((t : ℕ) → t < length guest.entries → IsAnswered (origin_of true plan.random plan.input t) (get_or answers t []))
+    → IsOfRun guest plan.budget plan.profile run trace outputs
+of_turns guest plan order run trace outputs answers x r answered =
+    of_recording guest (record plan { order = Some [] }) [] order run trace outputs answers refl x r answered
+
 -- the same of a recording by the list
 of_list : (guest : Guest) (plan : Plan) (list order : List ℕ) (run : List Step) (trace : Recorded) (outputs : List (List ℕ)) (answers : List (List Answered))
     → plan.order ≡ Some list → order_of (length guest.entries) list ≡ Some order → IsPlanned guest plan order run

@@ -11,3 +11,5 @@ pub use Rattle.ir_past.proofs.Noted.{one_writer, noted_one}
 pub use Rattle.ir_past.proofs.Shown.{answered, not_begun, stopped, refusal_shown, refusal_not}
 -- steps of a run: what they log, and what they do to an object that they enter, leave or pass by
 pub use Rattle.ir_past.proofs.Returning.{Enters, one_logged, log_own, log_other, object_after, object_stays, IsEntering, entering, exit_inside, entry_inside, own_step, other_step}
+-- what a thread enters it leaves
+pub use Rattle.ir_past.proofs.Leaving.{entries_left}

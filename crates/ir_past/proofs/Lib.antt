@@ -8,4 +8,5 @@ mod Shown
 mod Reading
 mod ReadTables
 mod Returning
+mod Leaving
 pub mod CallerLemmas

@@ -343,12 +343,12 @@ leaves_other m s e run t j o v w other c = record {
   version = c.version;
 }
 
--- while a thread reads, no other leaves after writing
-none_written : {T : Type 0} (m : Machine T) → IsLawful m → (s : State T) → Good m s → (e : Step) (t o : ℕ) → (e.0 ≡ t → ⊥)
-    → (s.objects o).inside t ≡ Some Reading → leaves_one t o e.0 (label m s e) ≡ 0
-none_written m law s good e t o other reads = elim (leaves_cases (act m s e) (s.objects (target (act m s e))) e.0 t o) [
+-- while a thread is inside, no other leaves after writing
+pub none_written : {T : Type 0} (m : Machine T) → IsLawful m → (s : State T) → Good m s → (e : Step) (t o : ℕ) (a : Access) → (e.0 ≡ t → ⊥)
+    → (s.objects o).inside t ≡ Some a → leaves_one t o e.0 (label m s e) ≡ 0
+none_written m law s good e t o a other inside = elim (leaves_cases (act m s e) (s.objects (target (act m s e))) e.0 t o) [
   | inl none ↦ none
-  | inr h ↦ absurd (none-some Reading (sym (good.exclusive o e.0 t other (exit_inside m law s good e o Writing h.0)) ∙ reads))
+  | inr h ↦ absurd (none-some a (sym (good.exclusive o e.0 t other (exit_inside m law s good e o Writing h.0)) ∙ inside))
 ]
 
 -- the reader leaves
@@ -383,7 +383,7 @@ leave_and_come m law s good (e ∷ run) ok t j o v w l reads version h = elim (c
       (next_by (label m s e) (log m (after m s e) run t) j o w l
       (subst (λ (ks : List Label). IsNext ks j o w l) (log_own m s e run t own) h))
   | inr other ↦ let step = other_step m s e t o other in
-      let none = none_written m law s good e t o other reads in
+      let none = none_written m law s good e t o Reading other reads in
       leaves_other m s e run t j o v w other
       (leave_and_come m law (after m s e) (stays_good m law s good e ok.0) run ok.1 t j o v w l (step.1 ∙ reads)
       (let same = step.0 in omega (arith, same, none, version))

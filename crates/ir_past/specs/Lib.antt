@@ -5,3 +5,4 @@ pub mod Answers
 pub mod Naming
 pub mod Lines
 pub mod Returning
+pub mod Leaving

@@ -22,7 +22,7 @@ mod stale_write;
 
 pub use answer::{Answer, line_answer, put_answer};
 pub use counts::write_count;
-pub use laws::returns_counted;
+pub use laws::{entries_left, returns_counted};
 pub use logs::{event_of, events_of, thread_count};
 pub use made::makers_of;
 pub use makers::Makers;

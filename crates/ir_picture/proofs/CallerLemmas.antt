@@ -7,3 +7,5 @@ pub use Rattle.ir_picture.proofs.OfTrace.{picture_is_of}
 pub use Rattle.ir_picture.proofs.Texts.{put, put_two, all_put, three_put, four_put, next_row, no_row}
 -- a trace of a run has no circle
 pub use Rattle.ir_picture.proofs.Unrolled.{no_circle}
+-- answers that are answers of another kind, and one that was put or stopped
+pub use Rattle.ir_picture.proofs.ViewAnswers.{answered_as, not_answered_as, put_shown}

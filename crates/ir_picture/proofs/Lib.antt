@@ -20,6 +20,7 @@ mod Reached
 mod Filtered
 mod Seen
 mod Texts
+mod InPieces
 mod Folded
 mod StaleReads
 mod OfTrace

@@ -1,11 +1,14 @@
 -- Texts that are put one after the other.
-use Rattle.std.proofs.Common.{◌≡◌, ℕ, suc, ◌+◌, ◌<◌, ◌≤◌, List, [], ◌∷◌, ◌++◌, codes, decimal, length, drop, flat_map, get_or, refl, sym, ap, ◌∙◌, append_assoc, append-nil, arith}
+use Rattle.std.proofs.Common.{◌≡◌, ℕ, suc, ◌+◌, ◌<◌, ◌≤◌, List, [], ◌∷◌, ◌++◌, codes, length, drop, flat_map, get_or, refl, sym, ap, ◌∙◌, append_assoc, append-nil, arith}
 use Rattle.std.proofs.lemmas.List.{at_drop_more, at_drop_all}
-use Rattle.ir_trace.specs.Recorded.{RecordedThread}
+use Rattle.ir_trace.specs.Recorded.{Recorded, RecordedThread}
 use Rattle.ir_picture.specs.Numbers.{row_start, rows_from, with_commas, thread_row, thread_rows}
-use Rattle.ir_picture.specs.Chrome.{row_number, arrow_end, arrow_lines, all_arrows, thread_lines, all_threads}
-use Rattle.ir_picture.specs.Progress.{arrow_front, arrow_back, name_line, order_line}
+use Rattle.ir_past.specs.declared.stale_write.StaleWrite.{StaleWrite}
+use Rattle.ir_picture.specs.Chrome.{box_line, arrow_lines, all_arrows, thread_lines, all_threads, chrome_text}
+use Rattle.ir_picture.specs.Progress.{chrome_start, chrome_end}
+use Rattle.ir_picture.specs.declared.picture.Picture.{Picture}
 use Rattle.ir_picture.specs.declared.placed_box.Point.{Point}
+use Rattle.ir_picture.specs.declared.placed_box.PlacedBox.{PlacedBox}
 use Rattle.ir_picture.specs.declared.sights.Sight.{Sight}
 
 -- of what is left to put, the first text was put
@@ -89,17 +92,6 @@ no_thread k n ts ps all same = at_drop_all (λ (x : List RecordedThread). thread
 
 -- ---- arrows
 
--- one end of an arrow, by its two parts
-pub arrow_parts : (object number time thread : ℕ) (phase front back : List ℕ) → front ≡ arrow_front object phase
-    → back ≡ arrow_back number time thread → front ++ back ≡ arrow_end object phase number time thread
-arrow_parts object number time thread phase front back one two =
-    ap (λ (x : List ℕ). x ++ back) one
-    ∙ ap (λ (x : List ℕ). arrow_front object phase ++ x) two ∙ whole
-  where
-    whole : arrow_front object phase ++ arrow_back number time thread ≡ arrow_end object phase number time thread
-    whole = ap (λ (x : List ℕ). codes ",\n{\"name\":\"object " ++ x)
-        (append_assoc (decimal object) (codes "\",\"cat\":\"sees\",\"ph\":" ++ phase) (arrow_back number time thread))
-
 arrow_next : (k n : ℕ) (xs : List Sight) (x : Sight) → n < length xs
     → all_arrows k (drop n xs) ≡ arrow_lines k (get_or xs n x) ++ all_arrows (suc k) (drop (n + 1) xs)
 unfolding all_arrows
@@ -141,6 +133,11 @@ four_put old a b c d one two three four x y z w = w ∙ ap (λ (v : List ℕ). v
     ∙ append_assoc old (a ++ (b ++ c)) d
     ∙ ap (λ (v : List ℕ). old ++ v) (append_assoc a (b ++ c) d ∙ ap (λ (v : List ℕ). a ++ v) (append_assoc b c d))
 
+pub five_put : (old a b c d e one two three four five : List ℕ) → one ≡ old ++ a → two ≡ one ++ b → three ≡ two ++ c → four ≡ three ++ d
+    → five ≡ four ++ e → five ≡ old ++ (a ++ (b ++ (c ++ (d ++ e))))
+five_put old a b c d e one two three four five x y z w v =
+    four_put old a b c (d ++ e) one two three five x y z (v ∙ ap (λ (u : List ℕ). u ++ e) w ∙ append_assoc three d e)
+
 -- the text of the next element comes first in what is left
 pub next_mapped : {A : Type 0} (f : A → List ℕ) (n : ℕ) (xs : List A) (x : A) (line : List ℕ) → n < length xs → line ≡ f (get_or xs n x)
     → flat_map f (drop n xs) ≡ line ++ flat_map f (drop (n + 1) xs)
@@ -149,12 +146,17 @@ next_mapped f n xs x line some same = at_drop_more (flat_map f) xs n x some ∙ 
 pub none_mapped : {A : Type 0} (f : A → List ℕ) (n : ℕ) (xs : List A) → length xs ≤ n → flat_map f (drop n xs) ≡ []
 none_mapped f n xs all = at_drop_all (flat_map f) xs n all
 
--- the lines of a thread, by its two parts
-pub thread_parts : (t : ℕ) (one two : List ℕ) → one ≡ name_line t → two ≡ order_line t → one ++ two ≡ thread_lines t
-thread_parts t one two same next = ap (λ (x : List ℕ). x ++ two) same ∙ ap (λ (x : List ℕ). name_line t ++ x) next ∙ whole
-  where
-    whole : name_line t ++ order_line t ≡ thread_lines t
-    whole = ap (λ (x : List ℕ). codes ",\n{\"name\":\"thread_name\",\"ph\":\"M\",\"pid\":1,\"tid\":" ++ x)
-        (append_assoc (decimal (row_number t)) (codes ",\"args\":{\"name\":\"thread " ++ (decimal t ++ codes "\"}}")) (order_line t)
-        ∙ ap (λ (x : List ℕ). decimal (row_number t) ++ (codes ",\"args\":{\"name\":\"thread " ++ x))
-        (append_assoc (decimal t) (codes "\"}}") (order_line t)))
+-- ---- the events for other viewers
+
+-- their four parts
+pub chrome_parts : (r : Recorded) (p : Picture) (sights : List Sight) (n : ℕ) (first last : List ℕ) (boxes : List PlacedBox) (stale : List StaleWrite)
+    → first ≡ chrome_start n → n ≡ length r.threads → boxes ≡ p.boxes.items → stale ≡ p.stale.items → last ≡ chrome_end
+    → ((first ++ flat_map (box_line r stale) boxes) ++ all_arrows 0 sights) ++ last ≡ chrome_text r p sights
+chrome_parts r p sights n first last boxes stale begins count same_boxes same_stale ends =
+    append_assoc (first ++ flat_map (box_line r stale) boxes) (all_arrows 0 sights) last
+    ∙ append_assoc first (flat_map (box_line r stale) boxes) (all_arrows 0 sights ++ last)
+    ∙ ap (λ (x : List ℕ). x ++ (flat_map (box_line r stale) boxes ++ (all_arrows 0 sights ++ last))) (begins ∙ ap chrome_start count)
+    ∙ ap (λ (bs : List PlacedBox). chrome_start (length r.threads) ++ (flat_map (box_line r stale) bs ++ (all_arrows 0 sights ++ last))) same_boxes
+    ∙ ap (λ (ss : List StaleWrite). chrome_start (length r.threads) ++ (flat_map (box_line r ss) p.boxes.items ++ (all_arrows 0 sights ++ last)))
+    same_stale
+    ∙ ap (λ (x : List ℕ). chrome_start (length r.threads) ++ (flat_map (box_line r p.stale.items) p.boxes.items ++ (all_arrows 0 sights ++ x))) ends

@@ -1,13 +1,19 @@
 -- What is answered about a coherent trace.
-use Rattle.std.proofs.Common.{ℕ, inl, List, Ok, refl}
+use Rattle.std.proofs.Common.{◌≡◌, ℕ, inl, inr, Bool, false, List, Option, Result, Ok, Err, IfOk, OnOk, IfErr, refl, sym, subst}
+use Rattle.std.specs.Io.KnownBytes.{Appends}
 use Rattle.ir_trace.specs.Recorded.{Recorded}
-use Rattle.ir_files.specs.Writers.{Writer}
+use Rattle.ir_files.specs.Writers.{Writer, writer_of}
 use Rattle.ir_files.specs.declared.exit_status.ExitStatus.{ExitStatus}
-use Rattle.ir_past.specs.Answers.{AreCoherent, NotAnswered, Stops}
+use Rattle.ir_files.specs.declared.exit_status.ExitStatus.TheVariants as status
+use Rattle.ir_past.specs.Answers.{AreCoherent, Answered, NotAnswered, Stops}
 use Rattle.ir_past.specs.declared.past_err.PastErr.{PastErr}
-use Rattle.ir_past.proofs.CallerLemmas.{stopped}
+use Rattle.ir_past.proofs.CallerLemmas.{answered, stopped}
 use Rattle.ir_picture.specs.Answers.{IsThere, IsTraceAnswer, IsViewAnswer}
+use Rattle.ir_picture.specs.Chrome.{AreSights, chrome_text, IsChromeAnswer}
 use Rattle.ir_picture.specs.declared.asked.Asked.{Asked}
+use Rattle.ir_picture.specs.declared.picture.Picture.{Picture}
+use Rattle.ir_picture.specs.declared.placed_box.PlacedBox.{PlacedBox}
+use Rattle.ir_picture.specs.declared.sights.Sight.{Sight}
 
 -- the answer about a coherent trace is one about its bytes
 pub is_view : (asked : Asked) (r : Recorded) (s : ExitStatus) (text : List ℕ) → AreCoherent r → IsThere r asked.around
@@ -19,3 +25,36 @@ pub view_stopped : (asked : Asked) (r : Recorded) (s : ExitStatus) (text : List 
     → IsThere r asked.around → IsTraceAnswer asked r s text → Stops e w text → NotAnswered (IsViewAnswer asked (Ok r)) e w
 view_stopped asked r s text e w coherent there is stops =
     stopped (IsViewAnswer asked (Ok r)) s text e w (is_view asked r s text coherent there is) stops
+
+-- ---- answers that are answers of another kind
+
+pub answered_as : (P Q : ExitStatus → List ℕ → Type 0) (s : ExitStatus) (w : Writer) → ((text : List ℕ) → P s text → Q s text) → Answered P s w
+    → Answered Q s w
+answered_as P Q s w as_other a = record { text = a.text; is = as_other a.text a.is; took = a.took; works = a.works }
+
+pub not_answered_as : (P Q : ExitStatus → List ℕ → Type 0) (e : PastErr) (w : Writer)
+    → ((s : ExitStatus) (text : List ℕ) → P s text → Q s text) → NotAnswered P e w → NotAnswered Q e w
+not_answered_as P Q e w as_other (inl h) = inl h
+not_answered_as P Q e w as_other (inr h) =
+    inr (record { answered = h.answered; text = h.text; is = as_other h.answered h.text h.is; stops = h.stops })
+
+-- an answer was put, or was stopped
+pub put_shown : (P : ExitStatus → List ℕ → Type 0) (result : Result ExitStatus PastErr) (s : ExitStatus) (text : List ℕ) (a b : Option (List ℕ))
+    (failed : Bool) → P s text → IfOk result (λ x. x ≡ s) → OnOk result (Appends a b text) → OnOk result (failed ≡ false)
+    → IfErr result (λ e. Stops e (writer_of a b failed) text)
+    → IfOk result (λ x. Answered P x (writer_of a b failed)) × IfErr result (λ e. NotAnswered P e (writer_of a b failed))
+put_shown P (Ok x) s text a b failed is same took works stops =
+    (answered P x a b failed text (subst (λ (z : ExitStatus). P z text) (sym same) is) took works, tt)
+put_shown P (Err e) s text a b failed is same took works stops = (tt, stopped P s text e (writer_of a b failed) is stops)
+
+-- the events for other viewers are the answer that they are
+pub is_chrome : (r : Recorded) (p : Picture) (boxes : List PlacedBox) (found sights : List Sight) → boxes ≡ p.boxes.items → sights ≡ found
+    → AreSights r boxes found → IsChromeAnswer r p status.Done (chrome_text r p sights)
+is_chrome r p boxes found sights same_boxes same all = (
+  refl,
+  record {
+    sights = sights;
+    all = subst (λ (bs : List PlacedBox). AreSights r bs sights) same_boxes (subst (λ (ss : List Sight). AreSights r boxes ss) (sym same) all);
+    lines = refl;
+  },
+)

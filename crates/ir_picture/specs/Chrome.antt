@@ -6,6 +6,8 @@ use Rattle.ir_log.specs.declared.event.Event.{Event}
 use Rattle.ir_log.specs.declared.event.Event.TheVariants.{Answer, Read, Write, Try}
 use Rattle.ir_text.specs.Texts.{event_text}
 use Rattle.ir_trace.specs.Recorded.{Recorded}
+use Rattle.ir_files.specs.declared.exit_status.ExitStatus.{ExitStatus}
+use Rattle.ir_files.specs.declared.exit_status.ExitStatus.TheVariants.{Done}
 use Rattle.ir_past.specs.Past.{event_at, entered}
 use Rattle.ir_past.specs.declared.stale_write.StaleWrite.{StaleWrite}
 use Rattle.ir_picture.specs.Needs.{IsEntryAt, IsMakerOf}
@@ -125,10 +127,19 @@ unfoldable pub all_threads : ℕ → List ℕ
 all_threads zero = []
 all_threads (suc t) = all_threads t ++ thread_lines t
 
+-- the rows, the boxes, and the arrows of what is seen
+abbrev pub chrome_text : Recorded → Picture → List Sight → List ℕ
+chrome_text r p sights =
+    codes "{\"traceEvents\":[\n" ++ (process_line ++ (all_threads (length r.threads)
+    ++ (flat_map (box_line r p.stale.items) p.boxes.items ++ (all_arrows 0 sights
+    ++ codes "\n],\"displayTimeUnit\":\"ns\",\"otherData\":{\"source\":\"ir view\"}}\n"))))
+
 -- the events for other viewers: the rows, the boxes, the arrows
 pub record IsChrome (r : Recorded) (p : Picture) (text : List ℕ) : Type 0 where
   pub sights : List Sight
   pub all : AreSights r p.boxes.items sights
-  pub lines : text ≡ codes "{\"traceEvents\":[\n" ++ (process_line ++ (all_threads (length r.threads)
-      ++ (flat_map (box_line r p.stale.items) p.boxes.items ++ (all_arrows 0 sights
-      ++ codes "\n],\"displayTimeUnit\":\"ns\",\"otherData\":{\"source\":\"ir view\"}}\n"))))
+  pub lines : text ≡ chrome_text r p sights
+
+-- the answer that is the events for other viewers
+abbrev pub IsChromeAnswer : Recorded → Picture → ExitStatus → List ℕ → Type 0
+IsChromeAnswer r p answered text = (answered ≡ Done) × IsChrome r p text

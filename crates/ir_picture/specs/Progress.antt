@@ -1,14 +1,13 @@
 -- What the texts of a picture need, and their parts.
-use Rattle.std.specs.Prelude.{◌≡◌, ℕ, ◌-◌, ◌==◌, ◌&&◌, ◌||◌, nat_lt, Bool, List, ◌++◌, codes, decimal, length, Option, Some}
+use Rattle.std.specs.Prelude.{◌≡◌, ℕ, ◌==◌, ◌&&◌, ◌||◌, nat_lt, Bool, List, ◌++◌, codes, decimal, length, Option, Some}
 use Rattle.std.specs.List.{slice_get}
-use Rattle.ir_log.specs.declared.event.Event.{Event}
 use Rattle.ir_trace.specs.Recorded.{Recorded}
 use Rattle.ir_past.specs.Past.{IsRising}
 use Rattle.ir_past.specs.declared.stale_write.StaleWrite.{StaleWrite}
 use Rattle.ir_picture.specs.Boxes.{IsBox}
 use Rattle.ir_picture.specs.Boxing.{AreSomeBoxes}
 use Rattle.ir_picture.specs.Placing.{events_of_all}
-use Rattle.ir_picture.specs.Chrome.{row_number, time_of, drawn_as, stale_argument}
+use Rattle.ir_picture.specs.Chrome.{row_number, time_of, stale_argument, process_line, all_threads}
 use Rattle.ir_picture.specs.declared.placed_box.Point.{Point}
 use Rattle.ir_picture.specs.declared.placed_box.PlacedBox.{PlacedBox}
 use Rattle.ir_picture.specs.declared.picture.Picture.{Picture}
@@ -39,31 +38,23 @@ abbrev pub point_part : ℕ → Point → List ℕ
 point_part events p =
     codes ",\"events\":" ++ (decimal events ++ (codes ",\"x\":" ++ (decimal p.x ++ (codes ",\"u\":" ++ (decimal p.u ++ codes "}")))))
 
--- the line of a box after its name
-abbrev pub slice_end : List Event → Option ℕ → PlacedBox → List ℕ
-slice_end es read b =
-    codes "\"," ++ (drawn_as es (time_of (b.end.x - b.start.x)) ++ (codes ",\"ts\":" ++ (decimal (time_of b.start.x)
-    ++ (codes ",\"pid\":1,\"tid\":" ++ (decimal (row_number b.events.thread) ++ (codes ",\"args\":{\"event\":" ++ (decimal b.events.event
-    ++ (codes ",\"events\":" ++ (decimal b.events.count ++ (stale_argument read ++ codes "}}"))))))))))
+-- the line of a box after what it is drawn as
+abbrev pub slice_place : Option ℕ → PlacedBox → List ℕ
+slice_place read b =
+    codes ",\"ts\":" ++ (decimal (time_of b.start.x) ++ (codes ",\"pid\":1,\"tid\":" ++ (decimal (row_number b.events.thread)
+    ++ (codes ",\"args\":{\"event\":" ++ (decimal b.events.event ++ (codes ",\"events\":" ++ (decimal b.events.count
+    ++ (stale_argument read ++ codes "}}"))))))))
 
--- what names a thread's row
-abbrev pub name_line : ℕ → List ℕ
-name_line t =
-    codes ",\n{\"name\":\"thread_name\",\"ph\":\"M\",\"pid\":1,\"tid\":" ++ (decimal (row_number t) ++ (codes ",\"args\":{\"name\":\"thread " ++ (decimal t
-    ++ codes "\"}}")))
+-- one end of the arrow of a number, at a time in a thread's row, with these words before the number
+abbrev pub arrow_with : ℕ → List ℕ → ℕ → ℕ → ℕ → List ℕ
+arrow_with object words number time thread =
+    codes ",\n{\"name\":\"object " ++ (decimal object ++ (words ++ (decimal number ++ (codes ",\"ts\":" ++ (decimal time
+    ++ (codes ",\"pid\":1,\"tid\":" ++ (decimal (row_number thread) ++ codes "}")))))))
 
--- what sets its place
-abbrev pub order_line : ℕ → List ℕ
-order_line t =
-    codes ",\n{\"name\":\"thread_sort_index\",\"ph\":\"M\",\"pid\":1,\"tid\":" ++ (decimal (row_number t) ++ (codes ",\"args\":{\"sort_index\":"
-    ++ (decimal (row_number t) ++ codes "}}")))
+-- what comes before the lines of boxes, for this many threads
+abbrev pub chrome_start : ℕ → List ℕ
+chrome_start threads = codes "{\"traceEvents\":[\n" ++ (process_line ++ all_threads threads)
 
--- of which object an arrow is, and which end this is
-abbrev pub arrow_front : ℕ → List ℕ → List ℕ
-arrow_front object phase = codes ",\n{\"name\":\"object " ++ (decimal object ++ (codes "\",\"cat\":\"sees\",\"ph\":" ++ phase))
-
--- the number of an arrow, and where this end is
-abbrev pub arrow_back : ℕ → ℕ → ℕ → List ℕ
-arrow_back number time thread =
-    codes ",\"id\":" ++ (decimal number ++ (codes ",\"ts\":" ++ (decimal time ++ (codes ",\"pid\":1,\"tid\":"
-    ++ (decimal (row_number thread) ++ codes "}")))))
+-- what comes after the lines of arrows
+abbrev pub chrome_end : List ℕ
+chrome_end = codes "\n],\"displayTimeUnit\":\"ns\",\"otherData\":{\"source\":\"ir view\"}}\n"

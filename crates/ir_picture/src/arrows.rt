@@ -1,93 +1,91 @@
 //! The lines of arrows, for other viewers.
 
-ghost use Rattle.std.specs.Prelude.{◌≡◌, ◌-◌, ◌++◌, IfOk, OnOk, codes};
-ghost use Rattle.std.specs.String.{string_bytes};
+ghost use Rattle.std.specs.Prelude.{◌≡◌, ◌-◌, ◌++◌, OnOk, IfErr, codes, false};
+ghost use Rattle.ir_files.specs.Writers.{writer_of};
+ghost use Rattle.ir_text.specs.Buffered.{Buffered};
+ghost use Rattle.ir_past.specs.Answers.{Stops};
 ghost use Rattle.ir_picture.specs.Chrome.{time_of, arrow_end, arrow_lines, all_arrows};
-ghost use Rattle.ir_picture.specs.Progress.{arrow_front, arrow_back};
+ghost use Rattle.ir_picture.specs.Progress.{arrow_with};
 
+use crate::pieces::{push_number, push_words, write_piece};
 use crate::sights::Sight;
-use crate::slices::{row_number, time_of};
-use std::alloc::{AllocError, Global};
+use crate::slices::{push_row, time_of};
+use ir_past::PastErr;
+use ir_stream::Sink;
+use std::alloc::AllocError;
 
-// Of which object an arrow is, and which end this is.
-fn arrow_front(alloc: Global, object: u8, phase: &str) -> Result<String, AllocError>
-    ensures { IfOk result (λ s. string_bytes s ≡ arrow_front object phase.now) }
-{
-    format!(in alloc; ",\n{{\"name\":\"object {object}\",\"cat\":\"sees\",\"ph\":{phase}")
-}
-
-// The number of an arrow, and where this end is.
-fn arrow_back(alloc: Global, number: usize, time: u128, thread: u8) -> Result<String, AllocError>
-    ensures { IfOk result (λ s. string_bytes s ≡ arrow_back number time thread) }
-{
-    let row = row_number(thread);
-    format!(in alloc; ",\"id\":{number},\"ts\":{time},\"pid\":1,\"tid\":{row}}}")
-}
-
-// One end of the arrow of a number, at a time in a thread's row.
-fn arrow_end(
-    alloc: Global,
+// Adds one end of the arrow of a number, at a time in a thread's row. The words are those before the number.
+fn push_end(
+    text: &mut Vec<u8>,
     object: u8,
-    phase: &str,
+    words: &[u8],
     number: usize,
     time: u128,
     thread: u8,
-) -> Result<String, AllocError>
-    ensures { IfOk result (λ s. string_bytes s ≡ arrow_end object phase.now number time thread) }
+) -> Result<(), AllocError>
+    ensures { OnOk result (text.new.items ≡ text.old.items ++ arrow_with object words.now number time thread) }
 {
-    let front = arrow_front(alloc, object, phase)?;
-    let back = arrow_back(alloc, number, time, thread)?;
-    format!(in alloc; "{front}{back}")
+    push_number(text, b",\n{\"name\":\"object ", object)?;
+    push_number(text, words, number)?;
+    push_number(text, b",\"ts\":", time)?;
+    push_row(text, b",\"pid\":1,\"tid\":", thread)?;
+    push_words(text, b"}")
 }
 
-// Where the arrow of a number leaves: the last time in the maker's slice.
-fn leaves(alloc: Global, number: usize, sight: &Sight) -> Result<String, AllocError>
-    ensures { IfOk result (λ s. string_bytes s ≡ arrow_end (sight.now).object (codes "\"s\"") number (time_of (sight.now).maker.end.x - 1) (sight.now).maker.events.thread) }
+// Adds where the arrow of a number leaves: the last time in the maker's slice.
+fn push_start(text: &mut Vec<u8>, number: usize, sight: &Sight) -> Result<(), AllocError>
+    ensures { OnOk result (text.new.items ≡ text.old.items ++ arrow_end (sight.now).object (codes "\"s\"") number (time_of (sight.now).maker.end.x - 1) (sight.now).maker.events.thread) }
 {
     let time = time_of(sight.maker.end.x).saturating_sub(1);
-    arrow_end(
-        alloc,
+    push_end(
+        text,
         sight.object,
-        "\"s\"",
+        b"\",\"cat\":\"sees\",\"ph\":\"s\",\"id\":",
         number,
         time,
         sight.maker.events.thread,
     )
 }
 
-// Where it arrives.
-fn arrives(alloc: Global, number: usize, sight: &Sight) -> Result<String, AllocError>
-    ensures { IfOk result (λ s. string_bytes s ≡ arrow_end (sight.now).object (codes "\"f\",\"bp\":\"e\"") number (time_of (sight.now).seer.start.x) (sight.now).seer.events.thread) }
+// Adds where it arrives.
+fn push_arrival(text: &mut Vec<u8>, number: usize, sight: &Sight) -> Result<(), AllocError>
+    ensures { OnOk result (text.new.items ≡ text.old.items ++ arrow_end (sight.now).object (codes "\"f\",\"bp\":\"e\"") number (time_of (sight.now).seer.start.x) (sight.now).seer.events.thread) }
 {
-    arrow_end(
-        alloc,
+    push_end(
+        text,
         sight.object,
-        "\"f\",\"bp\":\"e\"",
+        b"\",\"cat\":\"sees\",\"ph\":\"f\",\"bp\":\"e\",\"id\":",
         number,
         time_of(sight.seer.start.x),
         sight.seer.events.thread,
     )
 }
 
-// The lines of the arrow of a number.
-fn arrow_lines(alloc: Global, number: usize, sight: &Sight) -> Result<String, AllocError>
-    ensures { IfOk result (λ s. string_bytes s ≡ arrow_lines number sight.now) }
+// Adds the lines of the arrow of a number.
+fn push_arrow(text: &mut Vec<u8>, number: usize, sight: &Sight) -> Result<(), AllocError>
+    ensures { OnOk result (text.new.items ≡ text.old.items ++ arrow_lines number sight.now) }
 {
-    let start = leaves(alloc, number, sight)?;
-    let end = arrives(alloc, number, sight)?;
-    format!(in alloc; "{start}{end}")
+    push_start(text, number, sight)?;
+    push_arrival(text, number, sight)
 }
 
-/// The lines of arrows.
+/// Adds the lines of arrows to a text that is written in pieces.
 ///
 /// # Errors
-/// Out of memory.
-pub fn all_arrows(alloc: Global, sights: &[Sight]) -> Result<String, AllocError>
-    ensures { IfOk result (λ s. string_bytes s ≡ all_arrows 0 sights.now) }
+/// Out of memory, or the writer failed; then a prefix was written.
+pub fn write_arrows<O: Sink>(
+    text: &mut Vec<u8>,
+    sights: &[Sight],
+    out: &mut O,
+) -> Result<(), PastErr>
+    requires { O.broken out.old ≡ false }
+    ensures ok { OnOk result (Buffered (O.written out.old) (O.written out.new) text.new.items (text.old.items ++ all_arrows 0 sights.now)) }
+    ensures works { OnOk result (O.broken out.new ≡ false) }
+    ensures fails { IfErr result (λ e. Stops e (writer_of (O.written out.old) (O.written out.new) (O.broken out.new)) (text.old.items ++ all_arrows 0 sights.now)) }
 {
-    let mut text = String::new(alloc);
     for (number, sight) in sights.iter().enumerate() {
-        text.push_str(arrow_lines(alloc, number, sight)?.as_str())?;
+        write_piece(text, out)?;
+        push_arrow(text, number, sight)?;
     }
-    Ok(text)
+    Ok(())
 }

@@ -1,18 +1,24 @@
 //! A picture as events for other viewers.
 
-ghost use Rattle.std.specs.Prelude.{◌≡◌, ◌++◌, IfOk, OnOk, flat_map};
-ghost use Rattle.std.specs.String.{string_bytes};
+ghost use Rattle.std.specs.Prelude.{◌≡◌, ◌++◌, IfOk, IfErr, OnOk, flat_map, false};
+ghost use Rattle.std.specs.Io.KnownBytes.{Appends};
+ghost use Rattle.ir_files.specs.Writers.{writer_of};
+ghost use Rattle.ir_text.specs.Buffered.{Buffered};
 ghost use Rattle.ir_past.specs.Past.{IsRising};
-ghost use Rattle.ir_past.specs.Answers.{AreCoherent};
-ghost use Rattle.ir_picture.specs.Chrome.{box_line, thread_lines, all_threads, IsChrome};
-ghost use Rattle.ir_picture.specs.Progress.{name_line, order_line, AreBoxesOf, IsOf};
+ghost use Rattle.ir_past.specs.Answers.{AreCoherent, Answered, NotAnswered, Stops};
+ghost use Rattle.ir_picture.specs.Chrome.{box_line, thread_lines, all_threads, chrome_text, IsChromeAnswer};
+ghost use Rattle.ir_picture.specs.Progress.{chrome_start, AreBoxesOf, IsOf};
 
-use crate::arrows::all_arrows;
+use crate::arrows::write_arrows;
 use crate::picture::Picture;
+use crate::pieces::{empty_text, push_number, push_words, write_last, write_piece};
 use crate::placed_box::PlacedBox;
 use crate::sighting::sights_of;
-use crate::slices::{box_line, row_number};
-use ir_past::{StaleWrite, thread_count};
+use crate::sights::Sight;
+use crate::slices::{push_box, push_row};
+use ir_files::ExitStatus;
+use ir_past::{PastErr, StaleWrite, thread_count};
+use ir_stream::Sink;
 use ir_trace::Trace;
 use std::alloc::{AllocError, Global};
 
@@ -23,78 +29,104 @@ const END: &str = "
 ],\"displayTimeUnit\":\"ns\",\"otherData\":{\"source\":\"ir view\"}}
 ";
 
-// What names a thread's row.
-fn name_line(alloc: Global, thread: u8) -> Result<String, AllocError>
-    ensures { IfOk result (λ s. string_bytes s ≡ name_line thread) }
+// Adds what names a thread's row, and what sets its place.
+fn push_thread(text: &mut Vec<u8>, thread: u8) -> Result<(), AllocError>
+    ensures { OnOk result (text.new.items ≡ text.old.items ++ thread_lines thread) }
 {
-    let row = row_number(thread);
-    format!(in alloc;
-        ",\n{{\"name\":\"thread_name\",\"ph\":\"M\",\"pid\":1,\"tid\":{row},\"args\":{{\"name\":\"thread {thread}\"}}}}"
-    )
-}
-
-// What sets its place.
-fn order_line(alloc: Global, thread: u8) -> Result<String, AllocError>
-    ensures { IfOk result (λ s. string_bytes s ≡ order_line thread) }
-{
-    let row = row_number(thread);
-    format!(in alloc;
-        ",\n{{\"name\":\"thread_sort_index\",\"ph\":\"M\",\"pid\":1,\"tid\":{row},\"args\":{{\"sort_index\":{row}}}}}"
-    )
-}
-
-// Both.
-fn thread_lines(alloc: Global, thread: u8) -> Result<String, AllocError>
-    ensures { IfOk result (λ s. string_bytes s ≡ thread_lines thread) }
-{
-    let name = name_line(alloc, thread)?;
-    let order = order_line(alloc, thread)?;
-    format!(in alloc; "{name}{order}")
+    push_row(
+        text,
+        b",\n{\"name\":\"thread_name\",\"ph\":\"M\",\"pid\":1,\"tid\":",
+        thread,
+    )?;
+    push_number(text, b",\"args\":{\"name\":\"thread ", thread)?;
+    push_row(
+        text,
+        b"\"}},\n{\"name\":\"thread_sort_index\",\"ph\":\"M\",\"pid\":1,\"tid\":",
+        thread,
+    )?;
+    push_row(text, b",\"args\":{\"sort_index\":", thread)?;
+    push_words(text, b"}}")
 }
 
 // Adds the lines of the threads.
-fn push_threads(alloc: Global, text: &mut Vec<u8>, threads: u8) -> Result<(), AllocError>
+fn push_threads(text: &mut Vec<u8>, threads: u8) -> Result<(), AllocError>
     ensures { OnOk result (text.new.items ≡ text.old.items ++ all_threads threads) }
 {
     for thread in 0..threads {
-        text.extend_from_slice(thread_lines(alloc, thread)?.as_bytes())?;
+        push_thread(text, thread)?;
     }
     Ok(())
 }
 
-// Adds the lines of boxes.
-fn push_slices(
-    alloc: Global,
+// The lines before those of boxes.
+fn first_lines(alloc: Global, threads: u8) -> Result<Vec<u8>, AllocError>
+    ensures { IfOk result (λ v. v.items ≡ chrome_start threads) }
+{
+    let mut text = empty_text(alloc)?;
+    push_words(&mut text, START.as_bytes())?;
+    push_threads(&mut text, threads)?;
+    Ok(text)
+}
+
+// Adds the lines of boxes to a text that is written in pieces.
+fn write_slices<O: Sink>(
     text: &mut Vec<u8>,
     trace: &Trace,
     boxes: &[PlacedBox],
     stale: &[StaleWrite],
-) -> Result<(), AllocError>
+    out: &mut O,
+) -> Result<(), PastErr>
+    requires works { O.broken out.old ≡ false }
     requires boxes { AreBoxesOf trace.now boxes.now }
     requires rising { IsRising stale.now }
-    ensures { OnOk result (text.new.items ≡ text.old.items ++ flat_map (box_line trace.now stale.now) boxes.now) }
+    ensures ok { OnOk result (Buffered (O.written out.old) (O.written out.new) text.new.items (text.old.items ++ flat_map (box_line trace.now stale.now) boxes.now)) }
+    ensures works { OnOk result (O.broken out.new ≡ false) }
+    ensures fails { IfErr result (λ e. Stops e (writer_of (O.written out.old) (O.written out.new) (O.broken out.new)) (text.old.items ++ flat_map (box_line trace.now stale.now) boxes.now)) }
 {
     for own in boxes {
-        text.extend_from_slice(&box_line(alloc, trace, stale, own)?)?;
+        write_piece(text, out)?;
+        push_box(text, trace, stale, own)?;
     }
     Ok(())
 }
 
-/// The events for other viewers.
+// Writes the lines of a picture of which all that boxes see is known.
+fn write_lines<O: Sink>(
+    alloc: Global,
+    trace: &Trace,
+    picture: &Picture,
+    sights: &[Sight],
+    out: &mut O,
+) -> Result<(), PastErr>
+    requires works { O.broken out.old ≡ false }
+    requires of_trace { IsOf trace.now picture.now }
+    ensures ok { OnOk result (Appends (O.written out.old) (O.written out.new) (chrome_text trace.now picture.now sights.now)) }
+    ensures works { OnOk result (O.broken out.new ≡ false) }
+    ensures fails { IfErr result (λ e. Stops e (writer_of (O.written out.old) (O.written out.new) (O.broken out.new)) (chrome_text trace.now picture.now sights.now)) }
+{
+    let mut text = first_lines(alloc, thread_count(trace))?;
+    write_slices(&mut text, trace, &picture.boxes, &picture.stale, out)?;
+    write_arrows(&mut text, sights, out)?;
+    write_last(&mut text, END.as_bytes(), out)
+}
+
+/// Writes the events for other viewers, 64 KiB and a line at a time at most. All that is in them is found before the first are written.
 ///
 /// # Errors
-/// Out of memory.
-pub fn chrome_text(alloc: Global, trace: &Trace, picture: &Picture) -> Result<Vec<u8>, AllocError>
+/// Out of memory, or the writer failed; then a prefix was written at most.
+pub fn write_chrome<O: Sink>(
+    alloc: Global,
+    trace: &Trace,
+    picture: &Picture,
+    out: &mut O,
+) -> Result<ExitStatus, PastErr>
+    requires works { O.broken out.old ≡ false }
     requires coherent { AreCoherent trace.now }
     requires of_trace { IsOf trace.now picture.now }
-    ensures { IfOk result (λ v. IsChrome trace.now picture.now v.items) }
+    ensures ok { IfOk result (λ answered. Answered (IsChromeAnswer trace.now picture.now) answered (writer_of (O.written out.old) (O.written out.new) (O.broken out.new))) }
+    ensures fails { IfErr result (λ e. NotAnswered (IsChromeAnswer trace.now picture.now) e (writer_of (O.written out.old) (O.written out.new) (O.broken out.new))) }
 {
     let sights = sights_of(alloc, trace, &picture.boxes)?;
-    let arrows = all_arrows(alloc, &sights)?;
-    let mut text = Vec::from_slice(alloc, START.as_bytes())?;
-    push_threads(alloc, &mut text, thread_count(trace))?;
-    push_slices(alloc, &mut text, trace, &picture.boxes, &picture.stale)?;
-    text.extend_from_slice(arrows.as_bytes())?;
-    text.extend_from_slice(END.as_bytes())?;
-    Ok(text)
+    write_lines(alloc, trace, picture, &sights, out)?;
+    Ok(ExitStatus::Done)
 }

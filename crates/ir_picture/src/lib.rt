@@ -16,6 +16,7 @@ mod limits;
 mod page;
 mod picture;
 mod pictures;
+mod pieces;
 mod placed_box;
 mod placing;
 mod repeats;
@@ -30,7 +31,7 @@ mod view_err;
 
 pub use around::{is_shown, is_there};
 pub use asked::{Around, Asked, Form};
-pub use chrome::chrome_text;
+pub use chrome::write_chrome;
 pub use circle::Circle;
 pub use data::{data_start, push_threads};
 pub use event_box::EventBox;

@@ -1,19 +1,20 @@
 //! `ir view`: the bytes of a trace in, a picture of it out.
 
-ghost use Rattle.std.specs.Prelude.{◌≡◌, ◌≢◌, ◌⊎◌, ◌++◌, Ok, IfOk, IfErr, OnOk, false};
+ghost use Rattle.std.specs.Prelude.{◌≡◌, ◌≢◌, ◌⊎◌, ◌++◌, Ok, IfOk, IfErr, OnOk, MatchResult, false};
 ghost use Rattle.std.specs.String.{string_bytes};
 ghost use Rattle.ir_trace.specs.Reading.{recorded_at};
 ghost use Rattle.ir_files.specs.Writers.{writer_of, Reports, fault_text};
 ghost use Rattle.ir_files.specs.declared.exit_status.ExitStatus.TheVariants as status;
-ghost use Rattle.ir_past.specs.Answers.{AreCoherent, Answered};
+ghost use Rattle.ir_past.specs.Answers.{AreCoherent, Answered, NotAnswered};
+ghost use Rattle.ir_picture.specs.Needs.{HasNoCircle, IsCircleAt};
 ghost use Rattle.ir_picture.specs.Progress.{IsOf};
-ghost use Rattle.ir_picture.specs.Answers.{IsForm, IsThere, IsTraceAnswer, IsViewAnswer, IsUnsaid, IsUnanswered, page_head, page_tail, page_of, page_text, circle_line, many_line, status_of, fault_words};
+ghost use Rattle.ir_picture.specs.Answers.{IsPicture, IsForm, IsThere, IsViewAnswer, IsUnsaid, IsUnanswered, page_head, page_tail, page_of, page_text, circle_line, many_line, status_of, fault_words};
 ghost use Rattle.ir_picture.specs.declared.asked.Form.TheVariants as form;
 ghost use Rattle.ir_picture.specs.declared.view_err.ViewErr.{ViewErr};
 
 use crate::around::is_there;
 use crate::asked::{Around, Asked, Form};
-use crate::chrome::chrome_text;
+use crate::chrome::write_chrome;
 use crate::circle::Circle;
 use crate::data::data_text;
 use crate::limits::MOST_BOXES;
@@ -22,7 +23,7 @@ use crate::picture::Picture;
 use crate::pictures::picture_of;
 use crate::view_err::ViewErr;
 use ir_files::{ExitStatus, tell};
-use ir_past::{Answer, Opened, line_answer, open_trace, put_answer, refuse};
+use ir_past::{Answer, Opened, PastErr, line_answer, open_trace, put_answer, refuse};
 use ir_stream::Sink;
 use ir_trace::Trace;
 use std::alloc::{AllocError, Global};
@@ -144,39 +145,36 @@ fn data_answer(
     line_answer(alloc, ExitStatus::Done, &data)
 }
 
-// A picture in the form that is asked for.
-fn picture_answer(
+// Writes a picture in the form that is asked for.
+fn show_picture<O: Sink>(
     alloc: Global,
     trace: &Trace,
     asked: &Asked,
     picture: &Picture,
-) -> Result<Answer, AllocError>
+    out: &mut O,
+) -> Result<ExitStatus, PastErr>
+    requires works { O.broken out.old ≡ false }
     requires coherent { AreCoherent trace.now }
     requires of_trace { IsOf trace.now picture.now }
-    ensures { IfOk result (λ a. IsForm (asked.now).form trace.now (asked.now).around picture.now a.status a.text.items) }
+    ensures ok { IfOk result (λ answered. Answered (IsForm (asked.now).form trace.now (asked.now).around picture.now) answered (writer_of (O.written out.old) (O.written out.new) (O.broken out.new))) }
+    ensures fails { IfErr result (λ e. NotAnswered (IsForm (asked.now).form trace.now (asked.now).around picture.now) e (writer_of (O.written out.old) (O.written out.new) (O.broken out.new))) }
 {
     match asked.form {
-        Form::Page => page_answer(alloc, trace, &asked.around, picture),
-        Form::Data => data_answer(alloc, trace, &asked.around, picture),
-        Form::Chrome => Ok(Answer {
-            status: ExitStatus::Done,
-            text: chrome_text(alloc, trace, picture)?,
-        }),
+        Form::Page => put_answer(&page_answer(alloc, trace, &asked.around, picture)?, out),
+        Form::Data => put_answer(&data_answer(alloc, trace, &asked.around, picture)?, out),
+        Form::Chrome => write_chrome(alloc, trace, picture, out),
     }
 }
 
-// The answer about a coherent trace.
-fn answer_of(alloc: Global, trace: &Trace, asked: &Asked) -> Result<Answer, ViewErr>
+// The picture of a coherent trace, or the circle that its events go in.
+fn judged(alloc: Global, trace: &Trace, asked: &Asked) -> Result<Result<Picture, Circle>, ViewErr>
     requires { AreCoherent trace.now }
-    ensures ok { IfOk result (λ a. IsTraceAnswer asked.now trace.now a.status a.text.items) }
+    ensures ok { IfOk result (λ x. MatchResult x (λ p. HasNoCircle trace.now × IsPicture trace.now (asked.now).around p) (λ c. IsCircleAt trace.now c.thread c.event)) }
     ensures there { OnOk result (IsThere trace.now (asked.now).around) }
     ensures fails { IfErr result (IsUnsaid asked.now trace.now) }
 {
     is_there(trace, &asked.around)?;
-    match picture_of(alloc, trace, &asked.around)? {
-        Err(circle) => Ok(circle_answer(alloc, &circle)?),
-        Ok(picture) => Ok(picture_answer(alloc, trace, asked, &picture)?),
-    }
+    Ok(picture_of(alloc, trace, &asked.around)?)
 }
 
 // Writes the answer about a coherent trace.
@@ -191,8 +189,10 @@ fn show_trace<O: Sink>(
     ensures ok { IfOk result (λ answered. Answered (IsViewAnswer asked.now (Ok trace.now)) answered (writer_of (O.written out.old) (O.written out.new) (O.broken out.new))) }
     ensures fails { IfErr result (λ e. IsUnanswered asked.now (Ok trace.now) e (writer_of (O.written out.old) (O.written out.new) (O.broken out.new))) }
 {
-    let answer = answer_of(alloc, trace, asked)?;
-    Ok(put_answer(&answer, out)?)
+    match judged(alloc, trace, asked)? {
+        Err(circle) => Ok(put_answer(&circle_answer(alloc, &circle)?, out)?),
+        Ok(picture) => Ok(show_picture(alloc, trace, asked, &picture, out)?),
+    }
 }
 
 // Writes the answer about bytes.

@@ -1,30 +1,33 @@
 //! The lines of boxes, for other viewers.
 
-ghost use Rattle.std.specs.Prelude.{◌≡◌, ◌<◌, ◌≤◌, ℕ, [], ◌∷◌, length, slice_get, Some, IfOk};
-ghost use Rattle.std.specs.String.{string_bytes};
+ghost use Rattle.std.specs.Prelude.{◌≡◌, ◌-◌, ◌<◌, ◌≤◌, ℕ, [], ◌∷◌, ◌++◌, codes, decimal, length, slice_get, Some, OnOk};
 ghost use Rattle.ir_log.specs.Logging.{label_of};
 ghost use Rattle.ir_text.specs.Texts.{event_text};
 ghost use Rattle.ir_coherence.specs.Breaking.{IsBefore};
 ghost use Rattle.ir_past.specs.Past.{IsRising};
 ghost use Rattle.ir_past.specs.declared.stale_write.StaleWrite.{StaleWrite};
 ghost use Rattle.ir_picture.specs.Boxes.{IsBox};
-ghost use Rattle.ir_picture.specs.Chrome.{row_number, time_of, box_name, phase, drawn_as, stale_argument, read_of, slice_line, box_line};
-ghost use Rattle.ir_picture.specs.Progress.{slice_end, comes_before};
+ghost use Rattle.ir_picture.specs.Chrome.{row_number, time_of, box_name, drawn_as, stale_argument, read_of, slice_line, box_line};
+ghost use Rattle.ir_picture.specs.Progress.{slice_place, comes_before};
 
 use crate::event_box::EventBox;
+use crate::pieces::{push_number, push_words};
 use crate::placed_box::PlacedBox;
 use crate::threads::events_in;
 use ir_log::Event;
 use ir_past::StaleWrite;
 use ir_text::{Text, put_event_text};
 use ir_trace::Trace;
-use std::alloc::{AllocError, Global};
+use std::alloc::AllocError;
 
-/// The number of a thread's row: other viewers want slices of a row to nest, so each thread has room for 64 rows.
-pub fn row_number(thread: u8) -> u32
-    ensures { result ≡ row_number thread }
+/// Adds words and the number of a thread's row: other viewers want slices of a row to nest, so each thread has room for 64 rows.
+///
+/// # Errors
+/// Out of memory.
+pub fn push_row(text: &mut Vec<u8>, words: &[u8], thread: u8) -> Result<(), AllocError>
+    ensures { OnOk result (text.new.items ≡ text.old.items ++ (words.now ++ decimal (row_number thread))) }
 {
-    thread as u32 * 64
+    push_number(text, words, thread as u32 * 64)
 }
 
 /// The time at a place.
@@ -34,96 +37,86 @@ pub fn time_of(x: u64) -> u128
     x as u128 * 10
 }
 
-// What an event says.
-fn event_name(alloc: Global, event: Event) -> Result<Vec<u8>, AllocError>
-    ensures { IfOk result (λ v. v.items ≡ event_text (label_of event)) }
+// Adds what an event says.
+fn push_event(text: &mut Vec<u8>, event: Event) -> Result<(), AllocError>
+    ensures { OnOk result (text.new.items ≡ text.old.items ++ event_text (label_of event)) }
 {
-    let mut text = Text::new();
-    put_event_text(&mut text, event);
-    Vec::from_slice(alloc, text.as_slice())
+    let mut said = Text::new();
+    put_event_text(&mut said, event);
+    push_words(text, said.as_slice())
 }
 
-// The name of a box with these events.
-fn box_name(alloc: Global, events: &[Event]) -> Result<Vec<u8>, AllocError>
+// Adds the name of a box with these events.
+fn push_name(text: &mut Vec<u8>, events: &[Event]) -> Result<(), AllocError>
     requires { 1 ≤ length events.now }
-    ensures { IfOk result (λ v. v.items ≡ box_name events.now) }
+    ensures { OnOk result (text.new.items ≡ text.old.items ++ box_name events.now) }
 {
     let count = events.len();
     if count == 1 {
-        return event_name(alloc, events[0]);
+        return push_event(text, events[0]);
     }
-    Vec::from_slice(alloc, format!(in alloc; "again x{count}")?.as_bytes())
+    push_number(text, b"again x", count)
 }
 
-// What an event is, and what it is drawn as: an answer as an instant, all else as a slice of this length.
-fn event_drawn(alloc: Global, event: Event, long: u128) -> Result<String, AllocError>
-    ensures { IfOk result (λ s. string_bytes s ≡ drawn_as (event ∷ []) long) }
+// Adds what an event is, and what it is drawn as: an answer as an instant, all else as a slice of this length.
+fn push_event_drawn(text: &mut Vec<u8>, event: Event, long: u128) -> Result<(), AllocError>
+    ensures { OnOk result (text.new.items ≡ text.old.items ++ drawn_as (event ∷ []) long) }
 {
     match event {
-        Event::Answer(..) => format!(in alloc; "\"cat\":\"call\",\"ph\":\"i\",\"s\":\"t\""),
-        Event::Read { .. } => format!(in alloc; "\"cat\":\"read\",\"ph\":\"X\",\"dur\":{long}"),
-        Event::Write { .. } => format!(in alloc; "\"cat\":\"write\",\"ph\":\"X\",\"dur\":{long}"),
-        Event::Try { .. } => format!(in alloc; "\"cat\":\"try\",\"ph\":\"X\",\"dur\":{long}"),
+        Event::Answer(..) => push_words(text, b"\"cat\":\"call\",\"ph\":\"i\",\"s\":\"t\""),
+        Event::Read { .. } => push_number(text, b"\"cat\":\"read\",\"ph\":\"X\",\"dur\":", long),
+        Event::Write { .. } => {
+            push_number(text, b"\"cat\":\"write\",\"ph\":\"X\",\"dur\":", long)
+        }
+        Event::Try { .. } => push_number(text, b"\"cat\":\"try\",\"ph\":\"X\",\"dur\":", long),
     }
 }
 
-// The same of the first of these events.
-fn drawn_as(alloc: Global, events: &[Event], long: u128) -> Result<String, AllocError>
+// Adds the same of the first of a box's events.
+fn push_drawn(text: &mut Vec<u8>, events: &[Event], own: &PlacedBox) -> Result<(), AllocError>
     requires { 1 ≤ length events.now }
-    ensures { IfOk result (λ s. string_bytes s ≡ drawn_as events.now long) }
+    ensures { OnOk result (text.new.items ≡ text.old.items ++ drawn_as events.now (time_of ((own.now).end.x - (own.now).start.x))) }
 {
-    event_drawn(alloc, events[0], long)
-}
-
-// What is said of a stale write.
-fn stale_argument(alloc: Global, read: Option<u32>) -> Result<String, AllocError>
-    ensures { IfOk result (λ s. string_bytes s ≡ stale_argument read) }
-{
-    match read {
-        None => Ok(String::new(alloc)),
-        Some(event) => format!(in alloc; ",\"read_at_event\":{event}"),
-    }
-}
-
-// The line of a box after its name.
-fn slice_end(
-    alloc: Global,
-    events: &[Event],
-    read: Option<u32>,
-    own: &PlacedBox,
-) -> Result<String, AllocError>
-    requires { 1 ≤ length events.now }
-    ensures { IfOk result (λ s. string_bytes s ≡ slice_end events.now read own.now) }
-{
-    let EventBox {
-        thread,
-        event,
-        count,
-    } = own.events;
     let long = time_of(own.end.x.saturating_sub(own.start.x));
-    let drawn = drawn_as(alloc, events, long)?;
-    let time = time_of(own.start.x);
-    let row = row_number(thread);
-    let stale = stale_argument(alloc, read)?;
-    format!(in alloc;
-        "\",{drawn},\"ts\":{time},\"pid\":1,\"tid\":{row},\"args\":{{\"event\":{event},\"events\":{count}{stale}}}}}"
-    )
+    push_event_drawn(text, events[0], long)
 }
 
-// The line of a box with these events, with the event that it had read if it is a stale write.
-fn slice_line(
-    alloc: Global,
+// Adds what is said of a stale write, and the end of a box's line.
+fn push_stale(text: &mut Vec<u8>, read: Option<u32>) -> Result<(), AllocError>
+    ensures { OnOk result (text.new.items ≡ text.old.items ++ (stale_argument read ++ codes "}}")) }
+{
+    if let Some(event) = read {
+        push_number(text, b",\"read_at_event\":", event)?;
+    }
+    push_words(text, b"}}")
+}
+
+// Adds the line of a box after what it is drawn as.
+fn push_place(text: &mut Vec<u8>, read: Option<u32>, own: &PlacedBox) -> Result<(), AllocError>
+    ensures { OnOk result (text.new.items ≡ text.old.items ++ slice_place read own.now) }
+{
+    push_number(text, b",\"ts\":", time_of(own.start.x))?;
+    push_row(text, b",\"pid\":1,\"tid\":", own.events.thread)?;
+    push_number(text, b",\"args\":{\"event\":", own.events.event)?;
+    push_number(text, b",\"events\":", own.events.count)?;
+    push_stale(text, read)
+}
+
+// Adds the line of a box with these events, with the event that it had read if it is a stale write.
+fn push_slice(
+    text: &mut Vec<u8>,
     events: &[Event],
     read: Option<u32>,
     own: &PlacedBox,
-) -> Result<Vec<u8>, AllocError>
+) -> Result<(), AllocError>
     requires { 1 ≤ length events.now }
-    ensures { IfOk result (λ v. v.items ≡ slice_line events.now read own.now) }
+    ensures { OnOk result (text.new.items ≡ text.old.items ++ slice_line events.now read own.now) }
 {
-    let mut line = Vec::from_slice(alloc, b",\n{\"name\":\"")?;
-    line.extend_from_slice(&box_name(alloc, events)?)?;
-    line.extend_from_slice(slice_end(alloc, events, read, own)?.as_bytes())?;
-    Ok(line)
+    push_words(text, b",\n{\"name\":\"")?;
+    push_name(text, events)?;
+    push_words(text, b"\",")?;
+    push_drawn(text, events, own)?;
+    push_place(text, read, own)
 }
 
 // Whether a stale write comes before the first event of a box.
@@ -165,20 +158,20 @@ fn read_of(stale: &[StaleWrite], own: &EventBox) -> Option<u32>
     }
 }
 
-/// The line of a box of a trace with these stale writes. Time is logarithmic in the stale writes.
+/// Adds the line of a box of a trace with these stale writes. Time is logarithmic in the stale writes.
 ///
 /// # Errors
 /// Out of memory.
-pub fn box_line(
-    alloc: Global,
+pub fn push_box(
+    text: &mut Vec<u8>,
     trace: &Trace,
     stale: &[StaleWrite],
     own: &PlacedBox,
-) -> Result<Vec<u8>, AllocError>
+) -> Result<(), AllocError>
     requires box_of { IsBox trace.now (own.now).events }
     requires rising { IsRising stale.now }
-    ensures { IfOk result (λ v. v.items ≡ box_line trace.now stale.now own.now) }
+    ensures { OnOk result (text.new.items ≡ text.old.items ++ box_line trace.now stale.now own.now) }
 {
     let events = events_in(trace, &own.events);
-    slice_line(alloc, events, read_of(stale, &own.events), own)
+    push_slice(text, events, read_of(stale, &own.events), own)
 }

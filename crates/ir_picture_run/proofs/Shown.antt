@@ -1,12 +1,7 @@
 -- What the bytes of an image and of a trace are answered.
-use Rattle.std.proofs.Common.{◌≡◌, ℕ, inl, List, Option, Result, Ok, Err, IfOk, length, sym, ap, ◌∙◌, subst}
+use Rattle.std.proofs.Common.{◌≡◌, ℕ, inl, List, Option, length, sym, ap, ◌∙◌, subst}
 use Rattle.ir_fit.specs.Fit.{FittedTrace}
-use Rattle.ir_files.specs.Writers.{Writer}
 use Rattle.ir_files.specs.declared.exit_status.ExitStatus.{ExitStatus}
-use Rattle.ir_past.specs.Answers.{NotAnswered, Stops}
-use Rattle.ir_past.specs.declared.answer.Answer.{Answer}
-use Rattle.ir_past.specs.declared.past_err.PastErr.{PastErr}
-use Rattle.ir_past.proofs.CallerLemmas.{stopped}
 use Rattle.ir_fit_run.specs.Opened.{IsFit}
 use Rattle.ir_past.specs.Past.{IsRising, AreStaleWrites}
 use Rattle.ir_past.specs.declared.stale_write.StaleWrite.{StaleWrite}
@@ -34,18 +29,10 @@ pub is_view : (asked : Asked) (f : FittedTrace) (s : ExitStatus) (text image tra
     → IsRunAnswer asked f s text → IsViewAnswer asked image trace s text
 is_view asked f s text image trace fits there answer = inl (record { fitted = f; fits = fits; there = there; answer = answer })
 
--- it was stopped
-pub view_stopped : (asked : Asked) (f : FittedTrace) (s : ExitStatus) (text image trace : List ℕ) (e : PastErr) (w : Writer) → IsFit image trace f
-    → IsThere f.recorded asked.around → IsRunAnswer asked f s text → Stops e w text → NotAnswered (IsViewAnswer asked image trace) e w
-view_stopped asked f s text image trace e w fits there answer stops =
-    stopped (IsViewAnswer asked image trace) s text e w (is_view asked f s text image trace fits there answer) stops
-
 -- a form of its picture is one
-pub run_answer : {E : Type 0} (asked : Asked) (f : FittedTrace) (p : Picture) (kept : List Resting) (res : Result Answer E)
-    → IsRunPicture f asked.around p kept
-    → IfOk res (λ a. IsForm asked.form f asked.around p kept a.status a.text.items) → IfOk res (λ a. IsRunAnswer asked f a.status a.text.items)
-run_answer asked f p kept (Ok a) drawn is = record { picture = p; kept = kept; drawn = drawn; form = is }
-run_answer asked f p kept (Err e) drawn is = tt
+pub run_answer : (asked : Asked) (f : FittedTrace) (s : ExitStatus) (text : List ℕ) (p : Picture) (kept : List Resting)
+    → IsRunPicture f asked.around p kept → IsForm asked.form f asked.around p kept s text → IsRunAnswer asked f s text
+run_answer asked f s text p kept drawn is = record { picture = p; kept = kept; drawn = drawn; form = is }
 
 -- the picture of the trace with the stale writes that rest on their reads
 pub run_picture : (f : FittedTrace) (near : Option Around) (p q : Picture) (rows : List StaleWrite) (rests : List (Option Rest)) (kept : List Resting)

@@ -15,7 +15,7 @@ use Rattle.ir_rests.specs.Rests.{AreRests}
 use Rattle.ir_rests.specs.declared.rest.Rest.{Rest}
 use Rattle.ir_picture.specs.Places.{ArePlaced}
 use Rattle.ir_picture.specs.Shown.{AreShown}
-use Rattle.ir_picture.specs.Chrome.{IsChrome}
+use Rattle.ir_picture.specs.Chrome.{IsChromeAnswer}
 use Rattle.ir_picture.specs.Answers.{IsThere, IsAbsent, page_of, many_line}
 use Rattle.ir_picture.specs.declared.asked.Around.{Around}
 use Rattle.ir_picture.specs.declared.asked.Form.{Form}
@@ -64,7 +64,7 @@ IsForm form.Page f near p kept answered text =
     ⊎ ((MOST_BOXES < length p.boxes.items) × (answered ≡ status.NotFit) × (text ≡ many_line (length p.boxes.items)))
 IsForm form.Data f near p kept answered text =
     (answered ≡ status.Done) × ((lines : List ℕ) × IsData f near p kept lines × (text ≡ lines ++ 10 ∷ []))
-IsForm form.Chrome f near p kept answered text = (answered ≡ status.Done) × IsChrome f.recorded p text
+IsForm form.Chrome f near p kept answered text = IsChromeAnswer f.recorded p answered text
 
 -- the answer about a run: its picture
 pub record IsRunAnswer (asked : Asked) (f : FittedTrace) (answered : ExitStatus) (text : List ℕ) : Type 0 where

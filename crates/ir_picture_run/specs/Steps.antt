@@ -6,14 +6,9 @@ use Rattle.ir_log.specs.declared.event.Event.TheVariants.{Answer, Read, Write, T
 use Rattle.ir_fit.specs.Fit.{FittedTrace}
 use Rattle.ir_past.specs.Past.{event_at}
 use Rattle.ir_events.specs.Events.{entry_of}
-use Rattle.ir_fit_run.specs.Positions.{LeavesAfter, IsLeaveOf}
+use Rattle.ir_fit_run.specs.Positions.{IsLeft}
 use Rattle.ir_picture.specs.declared.placed_box.PlacedBox.{PlacedBox}
 use Rattle.ir_picture_run.specs.declared.drawn.Drawn.{Drawn}
-
--- the position before the step by which thread t leaves what its event i entered; none, if it never leaves
-abbrev pub IsLeft : FittedTrace → ℕ → ℕ → Option ℕ → Type 0
-IsLeft f t i None = (k : ℕ) → LeavesAfter f t i k → ⊥
-IsLeft f t i (Some k) = IsLeaveOf f t i k
 
 -- the position before the last step of event i of thread t, which is this event: of an entry the step that leaves, of another event its own
 abbrev pub IsLastStep : FittedTrace → ℕ → ℕ → Option Event → Option ℕ → Type 0

@@ -5,10 +5,13 @@ mod data;
 mod drawing;
 mod drawn;
 mod keeping;
+mod pictures;
 mod resting;
 mod rows;
 mod run;
+mod run_picture;
 
 pub use drawn::Drawn;
 pub use resting::Resting;
 pub use run::view_fit_run;
+pub use run_picture::RunPicture;

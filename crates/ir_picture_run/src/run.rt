@@ -1,28 +1,27 @@
 //! `ir view` with an image: the bytes of an image and of a trace in, a picture of the run out.
 
-ghost use Rattle.std.specs.Prelude.{◌≡◌, ◌≢◌, ◌⊎◌, ℕ, List, IfOk, IfErr, OnOk, false};
+ghost use Rattle.std.specs.Prelude.{◌≡◌, ◌≢◌, ◌⊎◌, ℕ, List, IfOk, IfErr, false};
 ghost use Rattle.ir_files.specs.Writers.{writer_of, Reports, fault_text};
 ghost use Rattle.ir_files.specs.declared.exit_status.ExitStatus.TheVariants as status;
-ghost use Rattle.ir_past.specs.Answers.{AreCoherent, Answered};
+ghost use Rattle.ir_past.specs.Answers.{AreCoherent, Answered, NotAnswered};
 ghost use Rattle.ir_fit_run.specs.Opened.{IsFit};
 ghost use Rattle.ir_picture.specs.Progress.{IsOf};
-ghost use Rattle.ir_picture.specs.Answers.{IsThere, IsPicture, status_of, fault_words};
+ghost use Rattle.ir_picture.specs.Answers.{status_of, fault_words};
 ghost use Rattle.ir_picture.specs.declared.asked.Form.TheVariants as form;
 ghost use Rattle.ir_picture.specs.declared.view_err.ViewErr.{ViewErr};
-ghost use Rattle.ir_picture_run.specs.Answers.{IsRunPicture, IsForm, IsRunAnswer, IsViewAnswer, IsUnsaid, IsUnanswered};
+ghost use Rattle.ir_picture_run.specs.Answers.{IsForm, IsViewAnswer, IsUnanswered};
 
 use crate::data::data_text;
-use crate::keeping::{resting_writes, writes_of};
+use crate::pictures::run_picture_of;
 use crate::resting::Resting;
+use crate::run_picture::RunPicture;
 use ir_files::{ExitStatus, tell};
 use ir_fit::Fitted;
 use ir_fit_run::{Opened, open_fit, refuse};
-use ir_past::{Answer, line_answer, put_answer, stale_writes};
+use ir_past::{Answer, PastErr, line_answer, put_answer};
 use ir_picture::{
-    Around, Asked, Form, MOST_BOXES, Picture, ViewErr, chrome_text, circle_answer, is_there,
-    many_answer, page_of, picture_of,
+    Around, Asked, Form, MOST_BOXES, Picture, ViewErr, many_answer, page_of, write_chrome,
 };
-use ir_rests::rests;
 use ir_stream::Sink;
 use std::alloc::{AllocError, Global};
 
@@ -63,59 +62,31 @@ fn data_answer(
     line_answer(alloc, ExitStatus::Done, &data)
 }
 
-// A picture in the form that is asked for.
-fn picture_answer(
+// Writes a picture of a run in the form that is asked for.
+fn show_picture<O: Sink>(
     alloc: Global,
     fitted: &Fitted,
     asked: &Asked,
-    picture: &Picture,
-    kept: &[Resting],
-) -> Result<Answer, AllocError>
+    shown: &RunPicture,
+    out: &mut O,
+) -> Result<ExitStatus, PastErr>
+    requires works { O.broken out.old ≡ false }
     requires coherent { AreCoherent fitted.now.recorded }
-    requires of_trace { IsOf fitted.now.recorded picture.now }
-    ensures { IfOk result (λ a. IsForm (asked.now).form fitted.now (asked.now).around picture.now kept.now a.status a.text.items) }
+    requires of_trace { IsOf fitted.now.recorded (shown.now).picture }
+    ensures ok { IfOk result (λ s. Answered (IsForm (asked.now).form fitted.now (asked.now).around (shown.now).picture (shown.now).kept.items) s (writer_of (O.written out.old) (O.written out.new) (O.broken out.new))) }
+    ensures fails { IfErr result (λ e. NotAnswered (IsForm (asked.now).form fitted.now (asked.now).around (shown.now).picture (shown.now).kept.items) e (writer_of (O.written out.old) (O.written out.new) (O.broken out.new))) }
 {
+    let RunPicture { picture, kept } = shown;
     match asked.form {
-        Form::Page => page_answer(alloc, fitted, &asked.around, picture, kept),
-        Form::Data => data_answer(alloc, fitted, &asked.around, picture, kept),
-        Form::Chrome => Ok(Answer {
-            status: ExitStatus::Done,
-            text: chrome_text(alloc, fitted.trace(), picture)?,
-        }),
-    }
-}
-
-// The answer about a run whose trace has this picture.
-fn drawn_answer(
-    alloc: Global,
-    fitted: &Fitted,
-    asked: &Asked,
-    picture: Picture,
-) -> Result<Answer, AllocError>
-    requires coherent { AreCoherent fitted.now.recorded }
-    requires drawn { IsPicture fitted.now.recorded (asked.now).around picture }
-    ensures { IfOk result (λ a. IsRunAnswer asked.now fitted.now a.status a.text.items) }
-{
-    let rows = stale_writes(alloc, fitted.trace())?;
-    let found = rests(alloc, fitted, &rows)?;
-    let kept = resting_writes(alloc, &picture.boxes, &rows, &found)?;
-    let stale = writes_of(alloc, &kept)?;
-    let Picture { boxes, ends, .. } = picture;
-    let picture = Picture { boxes, ends, stale };
-    picture_answer(alloc, fitted, asked, &picture, &kept)
-}
-
-// The answer about a run.
-fn answer_of(alloc: Global, fitted: &Fitted, asked: &Asked) -> Result<Answer, ViewErr>
-    ensures ok { IfOk result (λ a. IsRunAnswer asked.now fitted.now a.status a.text.items) }
-    ensures there { OnOk result (IsThere fitted.now.recorded (asked.now).around) }
-    ensures fails { IfErr result (IsUnsaid asked.now fitted.now) }
-{
-    fitted.known();
-    is_there(fitted.trace(), &asked.around)?;
-    match picture_of(alloc, fitted.trace(), &asked.around)? {
-        Ok(picture) => Ok(drawn_answer(alloc, fitted, asked, picture)?),
-        Err(circle) => Ok(circle_answer(alloc, &circle)?),
+        Form::Page => put_answer(
+            &page_answer(alloc, fitted, &asked.around, picture, kept)?,
+            out,
+        ),
+        Form::Data => put_answer(
+            &data_answer(alloc, fitted, &asked.around, picture, kept)?,
+            out,
+        ),
+        Form::Chrome => write_chrome(alloc, fitted.trace(), picture, out),
     }
 }
 
@@ -130,8 +101,9 @@ fn show_run<O: Sink>(
     ensures ok { IfOk result (λ s. (i t : List ℕ) → IsFit i t fitted.now → Answered (IsViewAnswer asked.now i t) s (writer_of (O.written out.old) (O.written out.new) (O.broken out.new))) }
     ensures fails { IfErr result (λ e. (i t : List ℕ) → IsFit i t fitted.now → IsUnanswered asked.now i t e (writer_of (O.written out.old) (O.written out.new) (O.broken out.new))) }
 {
-    let answer = answer_of(alloc, fitted, asked)?;
-    Ok(put_answer(&answer, out)?)
+    fitted.known();
+    let shown = run_picture_of(alloc, fitted, asked)?;
+    Ok(show_picture(alloc, fitted, asked, &shown, out)?)
 }
 
 // Writes the answer about the bytes of an image and of a trace.

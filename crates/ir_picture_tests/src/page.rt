@@ -9,7 +9,7 @@ use ir_stream::{DeviceErr, Sink};
 pub struct Page {
     pub bytes: Vec<u8>,
     most: usize,
-    calls_left: u64,
+    pub calls_left: u64,
     pub failed: bool,
 }
 

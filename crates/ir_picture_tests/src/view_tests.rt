@@ -3,6 +3,7 @@
 use crate::page::{ENDLESS, Page, empty_page};
 use crate::traces::{CIRCLE, FOLDS, FOLDS_DATA, LOST, LOST_DATA};
 use ir_picture::{Around, Asked, Form, view_run};
+use std::alloc::{AllocError, Global};
 
 const PART: &str =
     "{\"ir_view\":1,\"steps\":false,\"objects\":1,\"profile\":1,\"around\":[1,1,1],\"threads\":[
@@ -88,6 +89,40 @@ fn a_page_has_its_data(rt: HostRuntime) {
 #[test]
 fn events_for_other_viewers(rt: HostRuntime) {
     assert!(rt; has(&rt, &LOST, whole(Form::Chrome), 0, CHROME));
+}
+
+// The trace of a thread that enters an object for writing 1,000 times.
+fn many_writes(alloc: Global) -> Result<Vec<u8>, AllocError> {
+    let mut trace = Vec::from_slice(alloc, b"IRT1\x01\x01\0\0\xe8\x03\0\0\0\0\0\0")?;
+    trace.extend_from_slice(b"\x90\x01\0\0\0\0\0\0\x01\0\0\0\0\xe8\x03\0\0")?;
+    for version in 0..1000u32 {
+        trace.extend_from_slice(b"\x05\0")?;
+        trace.extend_from_slice(&version.to_le_bytes())?;
+        trace.extend_from_slice(&[0; 4])?;
+    }
+    Ok(trace)
+}
+
+// Of some 135 KB of events for other viewers, pieces of at most 64 KiB and a line are written; a writer that fails at the second has the first.
+#[test]
+fn events_for_other_viewers_are_written_in_pieces(rt: HostRuntime) {
+    let Ok(trace) = many_writes(rt.alloc()) else {
+        return;
+    };
+    let (status, whole_text, faults) = view(&rt, &trace, whole(Form::Chrome), ENDLESS);
+    assert_eq!(rt; status, 0);
+    assert!(rt; faults.bytes.is_empty());
+    assert_eq!(rt; whole_text.calls_left, ENDLESS - 3);
+    let lines = whole_text
+        .bytes
+        .iter()
+        .filter(|byte| **byte == b'\n')
+        .count();
+    assert_eq!(rt; lines, 1005);
+    let (status, first, _) = view(&rt, &trace, whole(Form::Chrome), 1);
+    assert_eq!(rt; status, 1);
+    assert!(rt; first.bytes.len() >= 65_536 && first.bytes.len() <= 65_536 + 1024);
+    assert!(rt; whole_text.bytes.starts_with(&first.bytes));
 }
 
 #[test]

@@ -30,4 +30,6 @@ mod view_tests;
 #[cfg(test)]
 mod why_tests;
 #[cfg(test)]
+mod word_tests;
+#[cfg(test)]
 mod world_tests;

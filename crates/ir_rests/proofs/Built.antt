@@ -2,11 +2,9 @@
 use Rattle.std.proofs.Common.{◌≡◌, ◌+◌, ◌<◌, ◌≤◌, ℕ, List, [], ◌∷◌, ◌++◌, length, length-append, set, length-set, get_or-set_same, get_or-set_other, sym, ap, ◌∙◌, subst, arith, inl, inr}
 use Rattle.std.specs.Prelude.{Option, Some, None, slice_get}
 use Rattle.std.specs.List.{slice_index_or}
-use Rattle.std.specs.List.Sorted.{IsPermutation, IsNonDecreasingBy}
+use Rattle.std.specs.List.Sorted.{IsNonDecreasingBy}
 use Rattle.std.proofs.lemmas.Bool.{cases_lt, cases_eq}
-use Rattle.std.proofs.lemmas.List.{get_or_default}
 use Rattle.std.proofs.lemmas.Option.{slice_get_within}
-use Rattle.std.proofs.lemmas.List.Sorted.{Contains-permutation, IsPermutation-sym}
 use Rattle.std.proofs.Math.ListN.{get_or-append}
 use Rattle.std.proofs.Math.Seq.{get_or-append_seam}
 use Rattle.ir_fit.specs.Fit.{FittedTrace}
@@ -18,7 +16,7 @@ use Rattle.ir_rests.specs.declared.rest.Rest.{Rest}
 use Rattle.ir_rests.specs.declared.span.Span.{Span}
 use Rattle.ir_rests.specs.declared.kept.Open.{Open}
 use Rattle.ir_rests.specs.declared.watch.Watch.{Watch}
-use Rattle.ir_rests.proofs.OpenRows.{each_more}
+use Rattle.ir_walk.proofs.CallerLemmas.{each_more, each_same, some_same}
 
 same_row : (x y : StaleWrite) → Some x ≡ Some y → x ≡ y
 same_row x y e = cc e
@@ -100,34 +98,16 @@ same_built f rows n ws x are there none t d l = passed_built f rows n t (slice_i
 
 -- ---- before the first step
 
-each_same : (P : Span → Type 0) (xs ys : List Span) → IsPermutation xs ys → ((i : ℕ) (d : Span) → i < length xs → P (slice_index_or xs i d))
-    → (i : ℕ) (d : Span) → i < length ys → P (slice_index_or ys i d)
-each_same P xs ys same each i d l =
-    let y : Span = slice_index_or ys i d in
-    let there = Contains-permutation ys xs y (IsPermutation-sym xs ys same) (i, l, get_or_default ys i y d l) in
-    subst P there.2 (each there.0 y there.1)
-
-some_same : (xs ys : List Span) → IsPermutation xs ys → (r i : ℕ) → i < length xs → ((d : Span) → (slice_index_or xs i d).row ≡ r)
-    → (j : ℕ) × (j < length ys) × ((d : Span) → (slice_index_or ys j d).row ≡ r)
-some_same xs ys same r i l row =
-    let any : Span = record { row = 0; object = 0; read = 0; write = 0; end = 0 } in
-    let x : Span = slice_index_or xs i any in
-    let there = Contains-permutation xs ys x same (i, l, get_or_default xs i x any l) in (
-      there.0,
-      there.1,
-      λ d. ap (λ (s : Span). s.row) (get_or_default ys there.0 d x there.1 ∙ there.2) ∙ row any,
-    )
-
 -- the rows of a thread in another order
 pub sorted_built : (f : FittedTrace) (rows : List StaleWrite) (n t : ℕ) (old new : Watch) → IsBuilt f rows n t old → IsSorted old new → IsBuilt f rows n t new
-sorted_built f rows n t old new is sorted = record {
+sorted_built f rows n t old new is sorted = let none : Span = record { row = 0; object = 0; read = 0; write = 0; end = 0 } in record {
   next = sorted.next ∙ is.next;
   opened = sorted.opened ∙ is.opened;
   spans = each_same (IsSpanOf f rows t) old.spans.items new.spans.items sorted.same is.spans;
   covered = λ r x l there own. elim (is.covered r x l there own) [
     | inr never ↦ inr never
     | inl p ↦
-        let q = some_same old.spans.items new.spans.items sorted.same r p.0 p.2 p.3 in
+        let q = some_same (λ (s : Span). s.row) none old.spans.items new.spans.items sorted.same r p.0 p.2 p.3 in
         inl (q.0, (let a = sorted.next in let b = is.next in omega (arith, a, b)), q.1, q.2)
   ];
 }

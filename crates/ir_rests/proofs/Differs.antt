@@ -9,10 +9,10 @@ use Rattle.ir_thread.specs.declared.ask.Ask.{Ask}
 use Rattle.ir_thread.specs.declared.ask.Ask.TheVariants as ask
 use Rattle.ir_thread.specs.declared.ask.Reply.{Reply}
 use Rattle.ir_thread.specs.declared.ask.Reply.TheVariants.{Value}
-use Rattle.ir_rests.specs.Calls.{AllSuit}
+use Rattle.ir_walk.specs.Calls.{AllSuit}
 use Rattle.ir_rests.proofs.Same.{suits_same}
 use Rattle.ir_rests.specs.WhatIf.{hold_after, answer, answer_by, same_call, difference, is_other_value, is_writing, is_private, or_later, what_if}
-use Rattle.ir_rests.specs.declared.exchange.Exchange.{Exchange}
+use Rattle.ir_walk.specs.declared.exchange.Exchange.{Exchange}
 use Rattle.ir_rests.specs.declared.hold.Hold.{Hold}
 use Rattle.ir_rests.specs.declared.hold.Hold.TheVariants.{Reading, Between, Writing}
 use Rattle.ir_rests.specs.declared.reason.Reason.{Reason}

@@ -1,9 +1,7 @@
 mod Looked
 mod Same
 mod Differs
-mod Still
 mod Leaving
-mod Taken
 mod Entered
 mod Opened
 mod OpenRows

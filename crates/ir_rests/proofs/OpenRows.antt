@@ -7,6 +7,7 @@ use Rattle.std.proofs.lemmas.Bool.{cases_lt, cases_eq}
 use Rattle.std.proofs.Math.ListN.{get_or-append}
 use Rattle.std.proofs.Math.Seq.{get_or-append_seam}
 use Rattle.ir_fit.specs.Fit.{FittedTrace}
+use Rattle.ir_walk.proofs.CallerLemmas.{each_more}
 use Rattle.ir_past.specs.declared.stale_write.StaleWrite.{StaleWrite}
 use Rattle.ir_rests.specs.Rests.{IsRestOf}
 use Rattle.ir_rests.specs.Watch.{IsWithout, IsSpanOf, IsOpenAt, IsWatched, IsWatch, NoneDue, AddsRests}
@@ -16,18 +17,6 @@ use Rattle.ir_rests.specs.declared.kept.Open.{Open}
 use Rattle.ir_rests.specs.declared.watch.Watch.{Watch}
 
 -- ---- one more is open
-
--- each of a list and one more
-pub each_more : {X : Type 0} (P : X → Type 0) (xs ys : List X) (x : X) → ((i : ℕ) (d : X) → i < length xs → P (slice_index_or xs i d)) → P x
-    → ys ≡ xs ++ x ∷ [] → (i : ℕ) (d : X) → i < length ys → P (slice_index_or ys i d)
-each_more P xs ys x each last e i d l = subst (λ zs. P (slice_index_or zs i d)) (sym e) (elim (cases_lt i (length xs)) [
-  | inl before ↦ subst P (sym (get_or-append xs (x ∷ []) d i before)) (each i d before)
-  | inr past ↦
-      let n = length-append xs (x ∷ []) in
-      let size : length ys ≡ length xs + 1 = ap length e ∙ n in
-      let at : i ≡ length xs = omega (arith, past, l, size) in
-      subst (λ j. P (slice_index_or (xs ++ x ∷ []) j d)) (sym at) (subst P (sym (get_or-append_seam xs x [] d)) last)
-])
 
 pub opened_one : (f : FittedTrace) (rows : List StaleWrite) (t k : ℕ) (w new : Watch) (o : Open) → IsWatch f rows t k w → w.next < length w.spans.items
     → IsOpenAt f rows t k o → new.spans ≡ w.spans → new.next ≡ w.next + 1 → new.opened.items ≡ w.opened.items ++ o ∷ [] → IsWatch f rows t k new

@@ -11,16 +11,17 @@ use Rattle.ir_weave.specs.Standing.{Standing, StandsAt, flat_in}
 use Rattle.ir_weave.specs.States.{positions}
 use Rattle.ir_past.specs.declared.stale_write.StaleWrite.{StaleWrite}
 use Rattle.ir_fit_run.proofs.CallerLemmas.{leave_past}
-use Rattle.ir_rests.specs.Calls.{calls_in, AllSuit}
+use Rattle.ir_walk.specs.Calls.{calls_in, AllSuit, AreCalls}
+use Rattle.ir_walk.specs.Words.{AreWordsAt}
 use Rattle.ir_rests.specs.WhatIf.{rest_of}
-use Rattle.ir_rests.specs.Rests.{behind_read, behind_write, AreWordsAt, IsRestOf}
-use Rattle.ir_rests.specs.Watch.{IsSpan, IsSpanOf, IsOpenAt, IsCallMore, AreCalls}
-use Rattle.ir_rests.specs.declared.exchange.Exchange.{Exchange}
+use Rattle.ir_rests.specs.Rests.{behind_read, behind_write, IsRestOf}
+use Rattle.ir_rests.specs.Watch.{IsSpan, IsSpanOf, IsOpenAt, IsCallMore}
+use Rattle.ir_walk.specs.declared.exchange.Exchange.{Exchange}
 use Rattle.ir_rests.specs.declared.rest.Rest.{Rest}
 use Rattle.ir_rests.specs.declared.span.Span.{Span}
 use Rattle.ir_rests.specs.declared.kept.Open.{Open}
-use Rattle.ir_rests.proofs.Taken.{calls_then, suit_both}
-use Rattle.ir_rests.proofs.Entered.{holds_read, holds_write, words_there}
+use Rattle.ir_walk.proofs.CallerLemmas.{calls_then, suit_both, words_there}
+use Rattle.ir_rests.proofs.Entered.{holds_read, holds_write}
 
 -- ---- behind its read entry
 

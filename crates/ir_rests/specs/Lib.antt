@@ -1,5 +1,5 @@
-pub mod Calls
 pub mod WhatIf
 pub mod Rests
 pub mod Watch
 pub mod Lines
+pub mod Stale

@@ -1,14 +1,14 @@
 -- Which stale writes of a recorded run rest on what was read.
-use Rattle.std.specs.Prelude.{◌≡◌, ◌⊎◌, ℕ, ◌+◌, ◌-◌, List, length, slice_get, slice_index, Option, Some, None}
+use Rattle.std.specs.Prelude.{◌≡◌, ◌⊎◌, ℕ, ◌+◌, ◌-◌, List, length, slice_get, Option, Some, None}
 use Rattle.std.specs.List.{slice_index_or}
-use Rattle.ir_runs.specs.Cuts.{Cut, IsCut, Consistent, object_at}
 use Rattle.ir_fit.specs.Fit.{FittedTrace}
-use Rattle.ir_cut.specs.Positions.{EachRun, machine_of, start_of}
+use Rattle.ir_cut.specs.Positions.{EachRun}
 use Rattle.ir_weave.specs.Ahead.{thread_at}
 use Rattle.ir_past.specs.declared.stale_write.StaleWrite.{StaleWrite}
 use Rattle.ir_events.specs.Events.{entry_of}
 use Rattle.ir_fit_run.specs.Positions.{LeavesAfter, IsLeaveOf}
-use Rattle.ir_rests.specs.Calls.{calls_in}
+use Rattle.ir_walk.specs.Words.{AreWordsAt}
+use Rattle.ir_walk.specs.Calls.{calls_in}
 use Rattle.ir_rests.specs.WhatIf.{rest_of, more_steps}
 use Rattle.ir_rests.specs.declared.rest.Rest.{Rest}
 
@@ -19,12 +19,6 @@ behind_read f x = entry_of f x.thread x.read + 1
 -- and behind its write entry
 abbrev pub behind_write : FittedTrace → StaleWrite → ℕ
 behind_write f x = entry_of f x.thread x.event + 1
-
--- the words of object o at each consistent cut of the run that has thread t at position k
-abbrev pub AreWordsAt : FittedTrace → ℕ → ℕ → ℕ → List ℕ → Type 0
-AreWordsAt f t k o words = EachRun f (λ run. (p : Cut) → IsCut (machine_of f) (start_of f) run p
-    → Consistent (machine_of f) (start_of f) run p → p t ≡ k
-    → (object_at (machine_of f) (start_of f) run p o).words ≡ slice_index words)
 
 -- how a row's write rests on its read, if it does, in each run with the trace: by what its thread would have done from behind the read
 -- entry to the leave after the write entry, had it read the words that are there behind the write entry

@@ -11,22 +11,22 @@ use Rattle.ir_weave.specs.Standing.{Standing, flat_in}
 use Rattle.ir_weave.specs.States.{positions}
 use Rattle.ir_past.specs.Past.{IsRow, AreStaleWrites}
 use Rattle.ir_past.specs.declared.stale_write.StaleWrite.{StaleWrite}
-use Rattle.ir_events.specs.Walk.{AreEnds}
-use Rattle.ir_rests.specs.Calls.{calls_in, AllSuit}
+use Rattle.ir_walk.specs.Route.{IsRoute}
+use Rattle.ir_walk.specs.Words.{AreWordsAt}
+use Rattle.ir_walk.specs.Calls.{calls_in, AllSuit}
 use Rattle.ir_fit_run.specs.Positions.{LeavesAfter, IsLeaveOf}
-use Rattle.ir_rests.specs.Rests.{behind_read, behind_write, AreWordsAt, IsRestOf}
-use Rattle.ir_rests.specs.declared.exchange.Exchange.{Exchange}
+use Rattle.ir_rests.specs.Rests.{behind_read, behind_write, IsRestOf}
+use Rattle.ir_walk.specs.declared.exchange.Exchange.{Exchange}
 use Rattle.ir_rests.specs.declared.rest.Rest.{Rest}
 use Rattle.ir_rests.specs.declared.span.Span.{Span}
 use Rattle.ir_rests.specs.declared.kept.Kept.{Kept}
 use Rattle.ir_rests.specs.declared.kept.Open.{Open}
 use Rattle.ir_rests.specs.declared.watch.Watch.{Watch}
 
--- the rows are the stale writes of the trace, the ends are those of its threads, and the code is the guest's
+-- the rows are the stale writes of the trace, and the run is this one
 pub record IsGuide (f : FittedTrace) (rows : List StaleWrite) (ends : List ℕ) (code : Marked) : Type 0 where
   pub stale : AreStaleWrites f.recorded rows
-  pub last : AreEnds f ends
-  pub words : code.words ≡ f.guest.code
+  pub route : IsRoute f ends code
 
 -- the positions of a row: behind its entries, and behind the leave after the write entry
 pub record IsSpan (f : FittedTrace) (x : StaleWrite) (s : Span) : Type 0 where
@@ -117,11 +117,6 @@ pub record AddsRests (f : FittedTrace) (rows : List StaleWrite) (old new : List 
   pub size : length new ≡ length old
   pub each : (r : ℕ) (x : StaleWrite) → slice_get rows r ≡ Some x → (slice_index_or new r None ≡ slice_index_or old r None)
       ⊎ IsRestOf f x (slice_index_or new r None)
-
--- the calls of n steps of thread t from position k on
-pub record AreCalls (f : FittedTrace) (t k n : ℕ) (calls : List Exchange) : Type 0 where
-  pub same : EachRun f (λ run. calls ≡ calls_in f.guest.code (thread_at f run t) k n)
-  pub suit : AllSuit calls
 
 -- a list without its element at i, whose place the last one takes
 pub record IsWithout {X : Type 0} (xs ys : List X) (i : ℕ) : Type 0 where

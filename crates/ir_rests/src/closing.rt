@@ -17,15 +17,15 @@ use crate::watch::Watch;
 const MORE_STEPS: u64 = 65_536;
 
 // How a row rests on its read whose thread, at position k, has left the object.
-fn judged(guide: Guide<'_>, t: usize, k: u64, opened: Open) -> Option<Rest>
-    requires guide { IsGuide guide.fitted.now guide.rows.now guide.ends.now guide.code.now }
-    requires opened { IsOpenAt guide.fitted.now guide.rows.now t k opened }
+fn judged(guide: Guide<'_, '_>, t: usize, k: u64, opened: Open) -> Option<Rest>
+    requires guide { IsGuide guide.route.fitted.now guide.rows.now guide.route.ends.now guide.route.code.now }
+    requires opened { IsOpenAt guide.route.fitted.now guide.rows.now t k opened }
     requires here { opened.span.end ≡ k }
     requires bound { k ≤ most_steps }
-    ensures { (x : StaleWrite) → slice_get guide.entry.rows.now opened.span.row ≡ Some x → IsRestOf guide.entry.fitted.now x result }
+    ensures { (x : StaleWrite) → slice_get guide.entry.rows.now opened.span.row ≡ Some x → IsRestOf guide.entry.route.fitted.now x result }
 {
     let Open { span, kept } = opened;
-    rest_of(guide.code.code(), kept, k - span.read + MORE_STEPS)
+    rest_of(guide.route.code.code(), kept, k - span.read + MORE_STEPS)
 }
 
 // Keeps what is found of a row.
@@ -59,16 +59,22 @@ fn take_out(opened: &mut Vec<Open>, i: usize) -> Open
 }
 
 // Closes the open rows of thread t that end at position k, where it is, and keeps what is found of them.
-pub fn close_due(guide: Guide<'_>, t: usize, k: u64, watch: &mut Watch, rests: &mut [Option<Rest>])
-    requires guide { IsGuide guide.fitted.now guide.rows.now guide.ends.now guide.code.now }
-    requires watch { IsWatch guide.fitted.now guide.rows.now t k watch.old }
+pub fn close_due(
+    guide: Guide<'_, '_>,
+    t: usize,
+    k: u64,
+    watch: &mut Watch,
+    rests: &mut [Option<Rest>],
+)
+    requires guide { IsGuide guide.route.fitted.now guide.rows.now guide.route.ends.now guide.route.code.now }
+    requires watch { IsWatch guide.route.fitted.now guide.rows.now t k watch.old }
     requires size { length rests.old ≡ length guide.rows.now }
     requires bound { k ≤ most_steps }
-    ensures watch { IsWatch guide.entry.fitted.now guide.entry.rows.now t k watch.new }
+    ensures watch { IsWatch guide.entry.route.fitted.now guide.entry.rows.now t k watch.new }
     ensures ends { NoneEnds k watch.new.opened.items }
     ensures same { (watch.new.spans ≡ watch.old.spans) × (watch.new.next ≡ watch.old.next) }
-    ensures adds { AddsRests guide.entry.fitted.now guide.entry.rows.now rests.old rests.new }
-    ensures found { (r : ℕ) (x : StaleWrite) → slice_get guide.entry.rows.now r ≡ Some x → IsWatched watch.old r → IsWatched watch.new r ⊎ IsRestOf guide.entry.fitted.now x (slice_index_or rests.new r None) }
+    ensures adds { AddsRests guide.entry.route.fitted.now guide.entry.rows.now rests.old rests.new }
+    ensures found { (r : ℕ) (x : StaleWrite) → slice_get guide.entry.rows.now r ≡ Some x → IsWatched watch.old r → IsWatched watch.new r ⊎ IsRestOf guide.entry.route.fitted.now x (slice_index_or rests.new r None) }
 {
     let mut i = 0;
     'opened: while let Some(ends) = ends_at(&watch.opened, i, k) {

@@ -3,10 +3,9 @@
 ghost use Rattle.std.specs.Prelude.{◌≡◌};
 ghost use Rattle.ir_rests.specs.WhatIf.{leaves, enters, hold_after, answer};
 
-use crate::exchange::Exchange;
 use crate::hold::Hold;
-use crate::words::word_of;
 use ir_thread::{Ask, Reply};
+use ir_walk::{Exchange, word_of};
 
 // Whether a call leaves the object.
 fn leaves(object: u8, asked: Ask) -> bool

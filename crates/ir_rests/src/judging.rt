@@ -1,14 +1,15 @@
 //! Whether a write rests on a read.
 
 ghost use Rattle.std.specs.Prelude.{◌≡◌};
-ghost use Rattle.ir_rests.specs.Calls.{AllSuit};
+ghost use Rattle.ir_walk.specs.Calls.{AllSuit};
 ghost use Rattle.ir_rests.specs.WhatIf.{rest_of};
 
 use crate::kept::Kept;
 use crate::rest::Rest;
 use crate::what_if::what_if;
-use crate::words::{changed_word, puts, word_of};
+use crate::words::{changed_word, puts};
 use ir_image::Code;
+use ir_walk::word_of;
 
 // How the write rests on the read, if it does; the thread may take `fuel` steps.
 pub fn rest_of(code: &Code, kept: Kept, fuel: u64) -> Option<Rest>

@@ -3,7 +3,6 @@
 
 mod closing;
 mod differences;
-mod exchange;
 mod guide;
 mod hold;
 mod holding;
@@ -17,7 +16,7 @@ mod rest;
 mod run;
 mod span;
 mod spans;
-mod stepping;
+mod stale;
 mod stops;
 mod visit;
 mod walk;
@@ -26,9 +25,9 @@ mod watches;
 mod what_if;
 mod words;
 
-pub use exchange::Exchange;
 pub use hold::Hold;
 pub use reason::Reason;
 pub use rest::Rest;
 pub use run::rests_run;
+pub use stale::has_rests;
 pub use walk::rests;

@@ -170,8 +170,8 @@ fn one_if(rest: &Option<Rest>) -> usize
     }
 }
 
-// How many rows rest on their reads.
-fn kept_of(rests: &[Option<Rest>]) -> usize
+/// How many rows rest on their reads.
+pub fn kept_of(rests: &[Option<Rest>]) -> usize
     ensures count { result ≡ kept_of rests.now (length rests.now) }
     ensures few { result ≤ length rests.now }
 {

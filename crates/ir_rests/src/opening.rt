@@ -1,7 +1,6 @@
 //! Rows whose read entry a thread has passed.
 
 ghost use Rattle.std.specs.Prelude.{◌≡◌, ◌≢◌, ◌<◌, ℕ, true, false, length, slice_index_or, OnOk, IfOk};
-ghost use Rattle.ir_flat.specs.Flat.{idle, empty};
 ghost use Rattle.ir_weave.specs.Standing.{flat_in};
 ghost use Rattle.ir_weave.specs.States.{positions};
 ghost use Rattle.ir_events.specs.Walk.{IsOnWay};
@@ -13,43 +12,25 @@ use crate::kept::{Kept, Open};
 use crate::span::Span;
 use crate::watch::Watch;
 use ir_replay::State;
-use ir_thread::Thread;
+use ir_walk::{thread_of, words_of};
 use std::alloc::{AllocError, Global};
 
-// Thread t.
-pub fn thread_of(state: &State, t: usize) -> &Thread
-    requires { t < length state.now.threads }
-    ensures { result.now ≡ slice_index_or state.now.threads t idle }
-{
-    &state.threads()[t]
-}
-
-// The words of an object.
-pub fn words_of(alloc: Global, state: &State, object: u8) -> Result<Vec<u32>, AllocError>
-    ensures { IfOk result (λ words. words.items ≡ (slice_index_or state.now.objects object empty).words) }
-{
-    match state.objects().get(object as usize) {
-        Some(object) => Vec::from_slice(alloc, object.contents()),
-        None => Ok(Vec::new(alloc)),
-    }
-}
-
 // What is kept of a row of thread t, which is behind its read entry.
-fn open_one(guide: Guide<'_>, state: &State, t: usize, span: Span) -> Result<Open, AllocError>
-    requires guide { IsGuide guide.fitted.now guide.rows.now guide.ends.now guide.code.now }
-    requires way { IsOnWay guide.fitted.now guide.ends.now state.now }
-    requires thread { t < length guide.fitted.now.guest.entries }
-    requires span { IsSpanOf guide.fitted.now guide.rows.now t span }
-    requires here { span.read ≡ positions (flat_in guide.fitted.now state.now) t }
-    ensures open { IfOk result (IsOpenAt guide.entry.fitted.now guide.entry.rows.now t span.read) }
+fn open_one(guide: Guide<'_, '_>, state: &State, t: usize, span: Span) -> Result<Open, AllocError>
+    requires guide { IsGuide guide.route.fitted.now guide.rows.now guide.route.ends.now guide.route.code.now }
+    requires way { IsOnWay guide.route.fitted.now guide.route.ends.now state.now }
+    requires thread { t < length guide.route.fitted.now.guest.entries }
+    requires span { IsSpanOf guide.route.fitted.now guide.rows.now t span }
+    requires here { span.read ≡ positions (flat_in guide.route.fitted.now state.now) t }
+    ensures open { IfOk result (IsOpenAt guide.entry.route.fitted.now guide.entry.rows.now t span.read) }
     ensures row { IfOk result (λ o. o.span ≡ span) }
 {
     let kept = Kept {
         thread: thread_of(state, t).copy()?,
         object: span.object,
-        was: words_of(guide.alloc, state, span.object)?,
-        now: Vec::new(guide.alloc),
-        calls: Vec::new(guide.alloc),
+        was: words_of(guide.route.alloc, state, span.object)?,
+        now: Vec::new(guide.route.alloc),
+        calls: Vec::new(guide.route.alloc),
     };
     Ok(Open { span, kept })
 }
@@ -67,18 +48,18 @@ fn is_due(watch: &Watch, k: u64) -> bool
 
 // Opens the rows of thread t whose read entry it has just passed.
 pub fn open_due(
-    guide: Guide<'_>,
+    guide: Guide<'_, '_>,
     state: &State,
     t: usize,
     watch: &mut Watch,
 ) -> Result<(), AllocError>
-    requires guide { IsGuide guide.fitted.now guide.rows.now guide.ends.now guide.code.now }
-    requires way { IsOnWay guide.fitted.now guide.ends.now state.now }
-    requires thread { t < length guide.fitted.now.guest.entries }
-    requires watch { IsWatch guide.fitted.now guide.rows.now t (positions (flat_in guide.fitted.now state.now) t) watch.old }
-    ensures watch { OnOk result (IsWatch guide.entry.fitted.now guide.entry.rows.now t (positions (flat_in guide.entry.fitted.now state.now) t) watch.new) }
+    requires guide { IsGuide guide.route.fitted.now guide.rows.now guide.route.ends.now guide.route.code.now }
+    requires way { IsOnWay guide.route.fitted.now guide.route.ends.now state.now }
+    requires thread { t < length guide.route.fitted.now.guest.entries }
+    requires watch { IsWatch guide.route.fitted.now guide.rows.now t (positions (flat_in guide.route.fitted.now state.now) t) watch.old }
+    ensures watch { OnOk result (IsWatch guide.entry.route.fitted.now guide.entry.rows.now t (positions (flat_in guide.entry.route.fitted.now state.now) t) watch.new) }
     ensures watched { OnOk result ((r : ℕ) → IsWatched watch.old r → IsWatched watch.new r) }
-    ensures due { OnOk result (NoneDue (positions (flat_in guide.entry.fitted.now state.now) t) watch.new) }
+    ensures due { OnOk result (NoneDue (positions (flat_in guide.entry.route.fitted.now state.now) t) watch.new) }
 {
     let k = thread_of(state, t).steps();
     'due: while is_due(watch, k) {

@@ -12,64 +12,64 @@ ghost use Rattle.ir_rests.specs.Watch.{IsGuide, IsWatch, IsWatched, AddsRests};
 use crate::closing::close_due;
 use crate::guide::Guide;
 use crate::noting::note;
-use crate::opening::{open_due, thread_of};
+use crate::opening::open_due;
 use crate::rest::Rest;
-use crate::stepping::take_steps;
 use crate::stops::next_stop;
 use crate::watch::Watch;
 use ir_replay::State;
+use ir_walk::{take_steps, thread_of};
 use std::alloc::AllocError;
 
 // Takes thread t on by itself, by at most one call where a row is open. Whether it took a step.
 fn stretch(
-    guide: Guide<'_>,
+    guide: Guide<'_, '_>,
     state: State,
     t: usize,
     watch: &mut Watch,
     rests: &mut [Option<Rest>],
 ) -> Result<(State, bool), AllocError>
-    requires guide { IsGuide guide.fitted.now guide.rows.now guide.ends.now guide.code.now }
-    requires way { IsOnWay guide.fitted.now guide.ends.now state }
-    requires thread { t < length guide.fitted.now.guest.entries }
-    requires watch { IsWatch guide.fitted.now guide.rows.now t (positions (flat_in guide.fitted.now state) t) watch.old }
+    requires guide { IsGuide guide.route.fitted.now guide.rows.now guide.route.ends.now guide.route.code.now }
+    requires way { IsOnWay guide.route.fitted.now guide.route.ends.now state }
+    requires thread { t < length guide.route.fitted.now.guest.entries }
+    requires watch { IsWatch guide.route.fitted.now guide.rows.now t (positions (flat_in guide.route.fitted.now state) t) watch.old }
     requires size { length rests.old ≡ length guide.rows.now }
-    ensures way { IfOk result (λ r. IsOnWay guide.entry.fitted.now guide.entry.ends.now r.0) }
-    ensures further { IfOk result (λ r. IsFurther guide.entry.fitted.now t state r.0) }
-    ensures watch { IfOk result (λ r. IsWatch guide.entry.fitted.now guide.entry.rows.now t (positions (flat_in guide.entry.fitted.now r.0) t) watch.new) }
-    ensures adds { OnOk result (AddsRests guide.entry.fitted.now guide.entry.rows.now rests.old rests.new) }
-    ensures found { OnOk result ((r : ℕ) (x : StaleWrite) → slice_get guide.entry.rows.now r ≡ Some x → IsWatched watch.old r → IsWatched watch.new r ⊎ IsRestOf guide.entry.fitted.now x (slice_index_or rests.new r None)) }
-    ensures moved { IfOk result (λ r. r.1 ≡ true → positions (flat_in guide.entry.fitted.now state) t < positions (flat_in guide.entry.fitted.now r.0) t) }
-    ensures rests { IfOk result (λ r. r.1 ≡ false → Rests guide.entry.fitted.now guide.entry.ends.now (flat_in guide.entry.fitted.now r.0) t) }
+    ensures way { IfOk result (λ r. IsOnWay guide.entry.route.fitted.now guide.entry.route.ends.now r.0) }
+    ensures further { IfOk result (λ r. IsFurther guide.entry.route.fitted.now t state r.0) }
+    ensures watch { IfOk result (λ r. IsWatch guide.entry.route.fitted.now guide.entry.rows.now t (positions (flat_in guide.entry.route.fitted.now r.0) t) watch.new) }
+    ensures adds { OnOk result (AddsRests guide.entry.route.fitted.now guide.entry.rows.now rests.old rests.new) }
+    ensures found { OnOk result ((r : ℕ) (x : StaleWrite) → slice_get guide.entry.rows.now r ≡ Some x → IsWatched watch.old r → IsWatched watch.new r ⊎ IsRestOf guide.entry.route.fitted.now x (slice_index_or rests.new r None)) }
+    ensures moved { IfOk result (λ r. r.1 ≡ true → positions (flat_in guide.entry.route.fitted.now state) t < positions (flat_in guide.entry.route.fitted.now r.0) t) }
+    ensures rests { IfOk result (λ r. r.1 ≡ false → Rests guide.entry.route.fitted.now guide.entry.route.ends.now (flat_in guide.entry.route.fitted.now r.0) t) }
 {
     open_due(guide, &state, t, watch)?;
     let from = thread_of(&state, t).steps();
     close_due(guide, t, from, watch, rests);
-    let most = next_stop(watch, from, guide.ends.position(t)) - from;
+    let most = next_stop(watch, from, guide.route.ends.position(t)) - from;
     let keeps = !watch.opened.is_empty();
-    let (state, taken) = take_steps(guide, state, t, most, keeps);
+    let (state, taken) = take_steps(guide.route, state, t, most, keeps);
     note(guide, &state, t, from, taken.call, &mut watch.opened)?;
     Ok((state, taken.steps > 0))
 }
 
 // Takes thread t on by itself as far as it can.
 pub fn visit_thread(
-    guide: Guide<'_>,
+    guide: Guide<'_, '_>,
     state: State,
     t: usize,
     watch: &mut Watch,
     rests: &mut [Option<Rest>],
 ) -> Result<State, AllocError>
-    requires guide { IsGuide guide.fitted.now guide.rows.now guide.ends.now guide.code.now }
-    requires way { IsOnWay guide.fitted.now guide.ends.now state }
-    requires thread { t < length guide.fitted.now.guest.entries }
-    requires watch { IsWatch guide.fitted.now guide.rows.now t (positions (flat_in guide.fitted.now state) t) watch.old }
+    requires guide { IsGuide guide.route.fitted.now guide.rows.now guide.route.ends.now guide.route.code.now }
+    requires way { IsOnWay guide.route.fitted.now guide.route.ends.now state }
+    requires thread { t < length guide.route.fitted.now.guest.entries }
+    requires watch { IsWatch guide.route.fitted.now guide.rows.now t (positions (flat_in guide.route.fitted.now state) t) watch.old }
     requires size { length rests.old ≡ length guide.rows.now }
-    ensures way { IfOk result (IsOnWay guide.entry.fitted.now guide.entry.ends.now) }
-    ensures further { IfOk result (IsFurther guide.entry.fitted.now t state) }
-    ensures watch { IfOk result (λ s. IsWatch guide.entry.fitted.now guide.entry.rows.now t (positions (flat_in guide.entry.fitted.now s) t) watch.new) }
-    ensures adds { OnOk result (AddsRests guide.entry.fitted.now guide.entry.rows.now rests.old rests.new) }
-    ensures found { OnOk result ((r : ℕ) (x : StaleWrite) → slice_get guide.entry.rows.now r ≡ Some x → IsWatched watch.old r → IsWatched watch.new r ⊎ IsRestOf guide.entry.fitted.now x (slice_index_or rests.new r None)) }
-    ensures rests { IfOk result (λ s. Rests guide.entry.fitted.now guide.entry.ends.now (flat_in guide.entry.fitted.now s) t) }
+    ensures way { IfOk result (IsOnWay guide.entry.route.fitted.now guide.entry.route.ends.now) }
+    ensures further { IfOk result (IsFurther guide.entry.route.fitted.now t state) }
+    ensures watch { IfOk result (λ s. IsWatch guide.entry.route.fitted.now guide.entry.rows.now t (positions (flat_in guide.entry.route.fitted.now s) t) watch.new) }
+    ensures adds { OnOk result (AddsRests guide.entry.route.fitted.now guide.entry.rows.now rests.old rests.new) }
+    ensures found { OnOk result ((r : ℕ) (x : StaleWrite) → slice_get guide.entry.rows.now r ≡ Some x → IsWatched watch.old r → IsWatched watch.new r ⊎ IsRestOf guide.entry.route.fitted.now x (slice_index_or rests.new r None)) }
+    ensures rests { IfOk result (λ s. Rests guide.entry.route.fitted.now guide.entry.route.ends.now (flat_in guide.entry.route.fitted.now s) t) }
 {
     let mut state = state;
     'stretches: loop {

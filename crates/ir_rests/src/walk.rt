@@ -11,35 +11,33 @@ ghost use Rattle.ir_rests.specs.Watch.{IsGuide, AreWatched};
 
 use crate::closing::close_due;
 use crate::guide::Guide;
-use crate::opening::thread_of;
 use crate::rest::Rest;
 use crate::visit::visit_thread;
 use crate::watch::Watch;
 use crate::watches::watches;
 use ir_events::{are_done, ends_of};
 use ir_fit::Fitted;
-use ir_image::Code;
-use ir_mach::MarkedCode;
 use ir_past::StaleWrite;
 use ir_replay::State;
+use ir_walk::{Route, thread_of, unmarked};
 use std::alloc::{AllocError, Global};
 
 // Takes each thread in turn as far as it can go by itself.
 fn pass(
-    guide: Guide<'_>,
+    guide: Guide<'_, '_>,
     state: State,
     watches: &mut [Watch],
     rests: &mut [Option<Rest>],
 ) -> Result<State, AllocError>
-    requires guide { IsGuide guide.fitted.now guide.rows.now guide.ends.now guide.code.now }
-    requires way { IsOnWay guide.fitted.now guide.ends.now state }
-    requires watches { length watches.old ≡ length guide.fitted.now.guest.entries }
+    requires guide { IsGuide guide.route.fitted.now guide.rows.now guide.route.ends.now guide.route.code.now }
+    requires way { IsOnWay guide.route.fitted.now guide.route.ends.now state }
+    requires watches { length watches.old ≡ length guide.route.fitted.now.guest.entries }
     requires size { length rests.old ≡ length guide.rows.now }
-    requires watched { AreWatched guide.fitted.now guide.rows.now state watches.old rests.old }
-    ensures passed { IfOk result (IsPass guide.entry.fitted.now guide.entry.ends.now (length watches.old) state) }
+    requires watched { AreWatched guide.route.fitted.now guide.rows.now state watches.old rests.old }
+    ensures passed { IfOk result (IsPass guide.entry.route.fitted.now guide.entry.route.ends.now (length watches.old) state) }
     ensures watches { length watches.new ≡ length watches.old }
     ensures size { OnOk result (length rests.new ≡ length rests.old) }
-    ensures watched { IfOk result (λ s. AreWatched guide.entry.fitted.now guide.entry.rows.now s watches.new rests.new) }
+    ensures watched { IfOk result (λ s. AreWatched guide.entry.route.fitted.now guide.entry.rows.now s watches.new rests.new) }
 {
     let mut state = state;
     for t in 0..watches.len() {
@@ -49,14 +47,14 @@ fn pass(
 }
 
 // Closes the rows that end where the threads do, at whose ends the state is.
-fn close_all(guide: Guide<'_>, state: &State, watches: &mut [Watch], rests: &mut [Option<Rest>])
-    requires guide { IsGuide guide.fitted.now guide.rows.now guide.ends.now guide.code.now }
-    requires way { IsOnWay guide.fitted.now guide.ends.now state.now }
+fn close_all(guide: Guide<'_, '_>, state: &State, watches: &mut [Watch], rests: &mut [Option<Rest>])
+    requires guide { IsGuide guide.route.fitted.now guide.rows.now guide.route.ends.now guide.route.code.now }
+    requires way { IsOnWay guide.route.fitted.now guide.route.ends.now state.now }
     requires size { length rests.old ≡ length guide.rows.now }
-    requires watches { length watches.old ≡ length guide.fitted.now.guest.entries }
-    requires watched { AreWatched guide.fitted.now guide.rows.now state.now watches.old rests.old }
-    requires ended { (t : ℕ) → t < length guide.fitted.now.guest.entries → (recorded_thread guide.fitted.now.recorded t).steps ≤ positions (flat_in guide.fitted.now state.now) t }
-    ensures { AreRests guide.entry.fitted.now guide.entry.rows.now rests.new }
+    requires watches { length watches.old ≡ length guide.route.fitted.now.guest.entries }
+    requires watched { AreWatched guide.route.fitted.now guide.rows.now state.now watches.old rests.old }
+    requires ended { (t : ℕ) → t < length guide.route.fitted.now.guest.entries → (recorded_thread guide.route.fitted.now.recorded t).steps ≤ positions (flat_in guide.route.fitted.now state.now) t }
+    ensures { AreRests guide.entry.route.fitted.now guide.entry.rows.now rests.new }
 {
     for t in 0..watches.len() {
         let k = thread_of(state, t).steps();
@@ -66,20 +64,20 @@ fn close_all(guide: Guide<'_>, state: &State, watches: &mut [Watch], rests: &mut
 
 // Takes all threads to their ends.
 fn walk(
-    guide: Guide<'_>,
+    guide: Guide<'_, '_>,
     state: State,
     watches: &mut [Watch],
     rests: &mut [Option<Rest>],
 ) -> Result<(), AllocError>
-    requires guide { IsGuide guide.fitted.now guide.rows.now guide.ends.now guide.code.now }
-    requires way { IsOnWay guide.fitted.now guide.ends.now state }
-    requires watches { length watches.old ≡ length guide.fitted.now.guest.entries }
+    requires guide { IsGuide guide.route.fitted.now guide.rows.now guide.route.ends.now guide.route.code.now }
+    requires way { IsOnWay guide.route.fitted.now guide.route.ends.now state }
+    requires watches { length watches.old ≡ length guide.route.fitted.now.guest.entries }
     requires size { length rests.old ≡ length guide.rows.now }
-    requires watched { AreWatched guide.fitted.now guide.rows.now state watches.old rests.old }
-    ensures { OnOk result (AreRests guide.entry.fitted.now guide.entry.rows.now rests.new) }
+    requires watched { AreWatched guide.route.fitted.now guide.rows.now state watches.old rests.old }
+    ensures { OnOk result (AreRests guide.entry.route.fitted.now guide.entry.rows.now rests.new) }
 {
     let mut state = state;
-    'passes: while !are_done(state.threads(), guide.ends) {
+    'passes: while !are_done(state.threads(), guide.route.ends) {
         state = pass(guide, state, watches, rests)?;
     }
     close_all(guide, &state, watches, rests);
@@ -92,14 +90,6 @@ fn none_found(alloc: Global, rows: usize) -> Result<Vec<Option<Rest>>, AllocErro
     ensures none { IfOk result (λ v. (r : ℕ) → slice_index_or v.items r None ≡ None) }
 {
     vec![in alloc; None; rows]
-}
-
-// The code, with no mark at any of its words.
-fn unmarked<'a>(alloc: Global, code: &'a Code) -> Result<MarkedCode<'a>, AllocError>
-    ensures { IfOk result (λ m. m.words ≡ code.now) }
-{
-    let marks = vec![in alloc; false; code.words().len()]?;
-    MarkedCode::new(alloc, code, marks)
 }
 
 /// How each of a fitted trace's stale writes, which `ir_past::stale_writes` lists, rests on its read, if it does. Walks over the run once,
@@ -118,13 +108,13 @@ pub fn rests(
 {
     let ends = ends_of(alloc, fitted)?;
     let code = unmarked(alloc, fitted.image().code())?;
-    let guide = Guide {
+    let route = Route {
         alloc,
         fitted,
-        rows,
         ends: &ends,
         code: &code,
     };
+    let guide = Guide { route, rows };
     let mut found = none_found(alloc, rows.len())?;
     let mut watches = watches(guide)?;
     let state = State::start(alloc, fitted)?;

@@ -42,30 +42,30 @@ fn sort(watch: &mut Watch) -> Result<(), AllocError>
 }
 
 // Adds a row to those of its thread, if its write entry is left.
-fn add_row(guide: Guide<'_>, watches: &mut [Watch], row: usize) -> Result<(), AllocError>
-    requires guide { IsGuide guide.fitted.now guide.rows.now guide.ends.now guide.code.now }
-    requires size { length watches.old ≡ length guide.fitted.now.guest.entries }
+fn add_row(guide: Guide<'_, '_>, watches: &mut [Watch], row: usize) -> Result<(), AllocError>
+    requires guide { IsGuide guide.route.fitted.now guide.rows.now guide.route.ends.now guide.route.code.now }
+    requires size { length watches.old ≡ length guide.route.fitted.now.guest.entries }
     requires row { row < length guide.rows.now }
-    requires built { AreBuilt guide.fitted.now guide.rows.now row watches.old }
+    requires built { AreBuilt guide.route.fitted.now guide.rows.now row watches.old }
     ensures size { length watches.new ≡ length watches.old }
-    ensures built { OnOk result (AreBuilt guide.entry.fitted.now guide.entry.rows.now (row + 1) watches.new) }
+    ensures built { OnOk result (AreBuilt guide.entry.route.fitted.now guide.entry.rows.now (row + 1) watches.new) }
 {
     let stale = guide.rows[row];
-    match span_of(guide.fitted, row, &stale) {
+    match span_of(guide.route.fitted, row, &stale) {
         Some(span) => add_span(&mut watches[stale.thread as usize], span),
         None => Ok(()),
     }
 }
 
 // Each thread without rows.
-fn empty_watches(guide: Guide<'_>) -> Result<Vec<Watch>, AllocError>
-    ensures size { IfOk result (λ v. length v.items ≡ length guide.entry.fitted.now.guest.entries) }
-    ensures built { IfOk result (λ v. AreBuilt guide.entry.fitted.now guide.entry.rows.now 0 v.items) }
+fn empty_watches(guide: Guide<'_, '_>) -> Result<Vec<Watch>, AllocError>
+    ensures size { IfOk result (λ v. length v.items ≡ length guide.entry.route.fitted.now.guest.entries) }
+    ensures built { IfOk result (λ v. AreBuilt guide.entry.route.fitted.now guide.entry.rows.now 0 v.items) }
 {
-    let threads = guide.fitted.image().entries().len();
-    let mut watches = Vec::with_capacity(guide.alloc, threads)?;
+    let threads = guide.route.fitted.image().entries().len();
+    let mut watches = Vec::with_capacity(guide.route.alloc, threads)?;
     for _ in 0..threads {
-        watches.push(empty_watch(guide.alloc))?;
+        watches.push(empty_watch(guide.route.alloc))?;
     }
     Ok(watches)
 }
@@ -82,10 +82,10 @@ fn sort_all(watches: &mut [Watch]) -> Result<(), AllocError>
 }
 
 /// The rows of each thread, in the order of their read entries.
-pub fn watches(guide: Guide<'_>) -> Result<Vec<Watch>, AllocError>
-    requires guide { IsGuide guide.fitted.now guide.rows.now guide.ends.now guide.code.now }
-    ensures size { IfOk result (λ v. length v.items ≡ length guide.entry.fitted.now.guest.entries) }
-    ensures built { IfOk result (λ v. AreBuilt guide.entry.fitted.now guide.entry.rows.now (length guide.entry.rows.now) v.items) }
+pub fn watches(guide: Guide<'_, '_>) -> Result<Vec<Watch>, AllocError>
+    requires guide { IsGuide guide.route.fitted.now guide.rows.now guide.route.ends.now guide.route.code.now }
+    ensures size { IfOk result (λ v. length v.items ≡ length guide.entry.route.fitted.now.guest.entries) }
+    ensures built { IfOk result (λ v. AreBuilt guide.entry.route.fitted.now guide.entry.rows.now (length guide.entry.rows.now) v.items) }
     ensures sorted { IfOk result (λ v. (t : ℕ) (d : Watch) → t < length v.items → IsNonDecreasingBy (λ (s : Span). s.read) (slice_index_or v.items t d).spans.items) }
 {
     let mut watches = empty_watches(guide)?;

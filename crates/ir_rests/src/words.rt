@@ -1,24 +1,14 @@
 //! Which words of an object were got and are others, and whether any was put.
 
-ghost use Rattle.std.specs.Prelude.{◌≡◌, ◌&&◌, slice_index};
+ghost use Rattle.std.specs.Prelude.{◌≡◌, ◌&&◌};
 ghost use Rattle.ir_rests.specs.WhatIf.{is_reading, is_get, gets, is_writing, is_put, puts, is_changed, changed_word};
 ghost use Rattle.ir_rests.specs.declared.hold.Hold.TheVariants.{Reading};
 
-use crate::exchange::Exchange;
 use crate::hold::Hold;
 use crate::holding::hold_after;
 use ir_image::MOST_OBJECT_WORDS;
 use ir_thread::Ask;
-
-// The word of an index; 0 past the last.
-pub fn word_of(words: &[u32], index: u8) -> u32
-    ensures { result ≡ slice_index words.now index }
-{
-    match words.get(index as usize) {
-        Some(word) => *word,
-        None => 0,
-    }
-}
+use ir_walk::{Exchange, word_of};
 
 // Whether a call gets this word of the object, in the read's hold.
 fn gets_now(object: u8, index: u8, hold: Hold, asked: Ask) -> bool

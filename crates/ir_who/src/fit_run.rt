@@ -111,8 +111,11 @@ fn answer(alloc: Global, fitted: &Fitted, asked: &Question) -> Result<String, Wh
     }
 }
 
-// Writes a text.
-fn put_bytes<O: Sink>(text: &[u8], out: &mut O) -> Result<(), PastErr>
+/// Writes bytes.
+///
+/// # Errors
+/// The writer failed; then a prefix of them was written.
+pub fn put_bytes<O: Sink>(text: &[u8], out: &mut O) -> Result<(), PastErr>
     requires { O.broken out.old ≡ false }
     ensures ok { OnOk result (Appends (O.written out.old) (O.written out.new) text.now) }
     ensures works { OnOk result (O.broken out.new ≡ false) }

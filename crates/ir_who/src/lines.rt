@@ -18,6 +18,9 @@ pub fn version_line(alloc: Global, number: usize, version: &Version) -> Result<S
 }
 
 /// The first line of an object's versions: how many there are.
+///
+/// # Errors
+/// Out of memory.
 pub fn object_line(alloc: Global, object: u8, count: usize) -> Result<String, AllocError>
     ensures { IfOk result (λ s. string_bytes s ≡ object_line object count) }
 {

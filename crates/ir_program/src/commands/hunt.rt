@@ -141,6 +141,7 @@ where
         way: arguments.way,
         seeds: arguments.seeds,
         conditions: conditions.as_slice(),
+        stale: arguments.stale,
         is_shown: explains,
     };
     let places = outputs.as_ref().map(|each| each.as_slice());

@@ -14,6 +14,7 @@ use ir_rests::rests_run;
 use ir_stream::Sink;
 use ir_who::{Question, who_fit_run, who_run};
 use ir_why::{FitQuestion, why_fit_run, why_run};
+use ir_word::word_fit_run;
 use std::alloc::Global;
 
 // The bytes of the file of a trace, and of that of an image if one is named.
@@ -81,7 +82,39 @@ pub fn stale_file<D: Folder, O: Sink, E: Sink>(
     status
 }
 
-// Prints the versions of an object of the trace in a file, with an image their steps too.
+// Prints what is asked about the versions of an object of a run.
+fn print_versions<O: Sink, E: Sink>(
+    alloc: Global,
+    image: &[u8],
+    trace: &[u8],
+    arguments: &WhoArguments,
+    out: &mut O,
+    faults: &mut E,
+) -> ExitStatus
+    requires writes { O.broken out.old ≡ false }
+    requires reports { E.broken faults.old ≡ false }
+{
+    let object = arguments.object;
+    match arguments.word {
+        Some(word) => {
+            let asked = ir_word::Question { object, word };
+            word_fit_run(alloc, image, trace, &asked, out, faults)
+        }
+        None => {
+            let version = arguments.version;
+            who_fit_run(
+                alloc,
+                image,
+                trace,
+                &Question { object, version },
+                out,
+                faults,
+            )
+        }
+    }
+}
+
+// Prints the versions of an object of the trace in a file, with an image their steps too, or those in which a word of it changed.
 pub fn who_file<D: Folder, O: Sink, E: Sink>(
     alloc: Global,
     folder: &D,
@@ -93,18 +126,18 @@ pub fn who_file<D: Folder, O: Sink, E: Sink>(
     requires writes { O.broken out.old ≡ false }
     requires reports { E.broken faults.old ≡ false }
 {
-    let asked = Question {
-        object: arguments.object,
-        version: arguments.version,
-    };
     let Some(given) = files_of(alloc, folder, faults, &arguments.trace, &arguments.image) else {
         return ExitStatus::Failed;
     };
     let trace = given.trace.as_slice();
     let Some(image) = given.image() else {
+        let asked = Question {
+            object: arguments.object,
+            version: arguments.version,
+        };
         return who_run(alloc, trace, &asked, out, faults);
     };
-    let status = who_fit_run(alloc, image, trace, &asked, out, faults);
+    let status = print_versions(alloc, image, trace, arguments, out, faults);
     if explains {
         explain_files(alloc, image, trace, status, faults);
     }

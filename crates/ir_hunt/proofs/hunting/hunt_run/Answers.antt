@@ -1,4 +1,4 @@
-use Rattle.std.proofs.Common.{List, ℕ, map, refl, sym, ap, ◌∙◌, subst, inl, inr}
+use Rattle.std.proofs.Common.{List, ℕ, map, refl, sym, ◌∙◌, subst, inl, inr}
 use Rattle.std.specs.String.{string_bytes}
 use Rattle.std.specs.Io.KnownBytes.{Appends}
 use Rattle.std.proofs.KnownBytes.{Appends-trans}
@@ -22,7 +22,7 @@ returns-then-is_err-clause-stopped g c =
         line,
         refl,
         line_is (λ f. f.seed) (λ f. string_bytes f.list) c.args.image.now c.args.plan.now.record c.args.plan.now.way c.args.plan.now.seeds
-            (map as_condition c.args.plan.now.conditions.now) c.in-Ok.sought.found line c.in-Ok.ensures.found c.in-Ok.ensures.line,
+            (map as_condition c.args.plan.now.conditions.now) c.args.plan.now.stale c.in-Ok.sought.found line c.in-Ok.ensures.found c.in-Ok.ensures.line,
         (
           subst (λ (bytes : List ℕ). AppendsPrefix (g.O.Sink.written c.args.out.now) (g.O.Sink.written c.write_all.new.writer) bytes)
               c.as_bytes.ensures.value prefix,
@@ -63,7 +63,7 @@ returns-clause-done g c =
       c.in-Some.found.seed,
       list,
       done.0,
-      finding c.args.image.now c.args.plan.now.record c.args.plan.now.way c.in-Some.found.seed (map as_condition c.args.plan.now.conditions.now) list c.in_ok-recorded.recorded
+      finding c.args.image.now c.args.plan.now.record c.args.plan.now.way c.in-Some.found.seed (map as_condition c.args.plan.now.conditions.now) c.args.plan.now.stale list c.in_ok-recorded.recorded
           done.0 (rw c.in-Some.is at c.in-Ok.ensures.found) done.1,
       done.2,
       done.3,

@@ -1,4 +1,4 @@
-use Rattle.std.proofs.Common.{List, [], length, map, true, sym, ◌∙◌, subst}
+use Rattle.std.proofs.Common.{List, [], length, map, true, ◌∙◌, subst}
 use Rattle.std.specs.Prelude.{◌≢◌}
 use Rattle.std.specs.String.{string_bytes}
 use Rattle.std.proofs.lemmas.List.Folds.{list_all-map}
@@ -21,13 +21,13 @@ returns-in-Ok-true-clause-found g c =
     let made = f.origins ∙ (λ i. origins true (c.in-Ok-true.ensures.plan i).now.record.random (c.in-Ok-true.ensures.plan i).now.record.input
     (length (c.in-Ok-true.ensures.image i).now.entries)) in
     let holds = list_all-map (λ x. fulfils x (outcome_of f.runner.flat)) as_condition s.plan.now.conditions.now
-    ∙ sym c.in-Ok-true.ensures.each ∙ c.in-Ok-true.field-0-test in
+    ∙ c.in-Ok-true.ensures.each c.in-Ok-true.field-0-test in
     let spells = subst (λ (ts : List Turns). order_of_turns ts ≢ [] → Spells list (order_of_turns ts)) c.turns.ensures
     c.in_ok-list_of-in-Ok-true.ensures.spelled c.in-Ok-true.ensures.some in
-    let found : IsFound s.image.now s.plan.now.record s.plan.now.way c.args.seed (map as_condition s.plan.now.conditions.now) list =
-    found_by s.image.now s.plan.now.record s.plan.now.way c.args.seed c.args.choices (map as_condition s.plan.now.conditions.now)
+    let found : IsFound s.image.now s.plan.now.record s.plan.now.way c.args.seed (map as_condition s.plan.now.conditions.now) s.plan.now.stale list =
+    found_by s.image.now s.plan.now.record s.plan.now.way c.args.seed c.args.choices (map as_condition s.plan.now.conditions.now) s.plan.now.stale
     (moment_of (λ w. w.answers.items) f.runner) list c.in-Ok-true.ensures.ran
     (answered_by (λ w. made_with w.time w.seed w.file.now) (λ w. w.answers.items) (λ w. (w.sources, w.gave)) true
-    s.plan.now.record.random s.plan.now.record.input f.runner.worlds.items (length s.image.now.entries) made) holds spells in
-    subst (λ i. IsFound i c.args.plan.now.record c.args.plan.now.way c.args.seed (map as_condition c.args.plan.now.conditions.now) list) c.in_ok-seeker.ensures.image
-    (subst (λ p. IsFound s.image.now p.record p.way c.args.seed (map as_condition p.conditions.now) list) c.in_ok-seeker.ensures.plan found)
+    s.plan.now.record.random s.plan.now.record.input f.runner.worlds.items (length s.image.now.entries) made) holds (c.in-Ok-true.ensures.wanted c.in-Ok-true.field-0-test) spells in
+    subst (λ i. IsFound i c.args.plan.now.record c.args.plan.now.way c.args.seed (map as_condition c.args.plan.now.conditions.now) c.args.plan.now.stale list) c.in_ok-seeker.ensures.image
+    (subst (λ p. IsFound s.image.now p.record p.way c.args.seed (map as_condition p.conditions.now) p.stale list) c.in_ok-seeker.ensures.plan found)

@@ -1,4 +1,4 @@
-use Rattle.std.proofs.Common.{◌∙◌}
+use Rattle.std.proofs.Common.{refl}
 use Rattle.ir_picture.proofs.Texts.{threads_more, no_threads}
 use Rattle.ir_picture.proofs.chrome.push_threads.Goals as goal
 
@@ -6,5 +6,5 @@ pub loop-thread-init : goal.loop-thread-init
 loop-thread-init c = no_threads c.args.text.now.items
 
 pub loop-thread-preserved : goal.loop-thread-preserved
-loop-thread-preserved c = threads_more c.loop-thread.thread c.args.text.now.items c.loop-thread.text.items c.as_bytes.result.now _
-    c.loop-thread.invariant (c.as_bytes.ensures.value ∙ c.in_ok-thread_lines.ensures) c.in_ok-extend_from_slice.ensures.items
+loop-thread-preserved c = threads_more c.loop-thread.thread c.args.text.now.items c.loop-thread.text.items _ _ c.loop-thread.invariant refl
+    c.in_ok-push_thread.ensures

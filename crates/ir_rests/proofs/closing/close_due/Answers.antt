@@ -14,7 +14,7 @@ pub judged-requires-clause-opened : goal.judged-requires-clause-opened
 judged-requires-clause-opened c =
     let l : c.opened.i < length c.opened.watch.opened.items = (let a = c.in-Some.ensures.there in
     let b = ap (λ (xs : List Open). length xs) c.deref.ensures.value in omega (arith, a, b)) in
-    subst (IsOpenAt c.args.guide.fitted.now c.args.guide.rows.now c.args.t c.args.k) (c.take_out-opened.ensures.taken c.take_out-opened.result)
+    subst (IsOpenAt c.args.guide.route.fitted.now c.args.guide.rows.now c.args.t c.args.k) (c.take_out-opened.ensures.taken c.take_out-opened.result)
     (c.opened.invariant.watch.opened c.opened.i c.take_out-opened.result l)
 
 pub judged-requires-clause-here : goal.judged-requires-clause-here
@@ -36,7 +36,7 @@ keep-requires c =
 
 pub opened-preserved-then-ends : goal.opened-preserved-then-ends
 opened-preserved-then-ends c =
-    let f = c.args.guide.fitted.now in
+    let f = c.args.guide.route.fitted.now in
     let rows = c.args.guide.rows.now in
     let w = c.opened.watch in
     let i = c.opened.i in

@@ -8,7 +8,7 @@ use Rattle.ir_rests.proofs.noting.note_one.Goals as goal
 
 pub returns-in_ok-opened-clause-opened : goal.returns-in_ok-opened-clause-opened
 returns-in_ok-opened-clause-opened c =
-    let f = c.args.guide.fitted.now in
+    let f = c.args.guide.route.fitted.now in
     let old = c.args.opened.now in
     let more = c.in_ok-note_call.ensures in
     let here : c.steps.result ≡ positions (flat_in f c.args.state.now) c.args.t =
@@ -16,13 +16,13 @@ returns-in_ok-opened-clause-opened c =
     opened_on f c.args.guide.rows.now c.args.t c.args.from (positions (flat_in f c.args.state.now) c.args.t) old c.note_call.new.opened _ _
     c.requires.opened more c.requires.calls c.requires.up c.requires.within refl refl refl refl refl
     (λ _. words_now f c.args.guide.rows.now c.args.state.now c.args.t c.args.from (positions (flat_in f c.args.state.now) c.args.t)
-    c.note_call.new.opened.span.object old c.in_ok-opened.field-0.items c.requires.guide.last.run c.requires.opened c.requires.way.stands refl
+    c.note_call.new.opened.span.object old c.in_ok-opened.field-0.items c.requires.guide.route.last.run c.requires.opened c.requires.way.stands refl
     (ap (λ (s : Span). s.write) (sym more.span) ∙ c.if-opened-steps.true ∙ here) (ap (λ (s : Span). s.object) more.span)
     c.in_ok-opened.ensures)
 
 pub returns-else-opened-steps-clause-opened : goal.returns-else-opened-steps-clause-opened
 returns-else-opened-steps-clause-opened c =
-    let f = c.args.guide.fitted.now in
+    let f = c.args.guide.route.fitted.now in
     let old = c.args.opened.now in
     let more = c.in_ok-note_call.ensures in
     let here : c.steps.result ≡ positions (flat_in f c.args.state.now) c.args.t =

@@ -11,7 +11,7 @@ use Rattle.ir_rests.proofs.opening.open_due.Goals as goal
 
 pub due-preserved : goal.due-preserved
 due-preserved c =
-    let f = c.args.guide.fitted.now in
+    let f = c.args.guide.route.fitted.now in
     let w = c.due.watch in
     let k = positions (flat_in f c.args.state.now) c.args.t in
     let due = c.is_due.ensures.due c.due-test.true in
@@ -29,7 +29,7 @@ due-preserved c =
 
 pub returns-clause-due : goal.returns-clause-due
 returns-clause-due c =
-    let f = c.args.guide.fitted.now in
+    let f = c.args.guide.route.fitted.now in
     let k = positions (flat_in f c.args.state.now) c.args.t in
     let here : c.steps-k.result ≡ k = c.steps-k.ensures.value ∙ ap (λ (x : thread.State). x.steps) c.thread_of.ensures in
     none_due f c.args.guide.rows.now c.args.t k c.due.watch c.due.invariant.watch

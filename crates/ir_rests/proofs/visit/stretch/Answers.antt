@@ -13,12 +13,12 @@ use Rattle.ir_rests.proofs.visit.stretch.Goals as goal
 
 pub note-requires-clause-opened : goal.note-requires-clause-opened
 note-requires-clause-opened c =
-    subst (λ (xs : List Open). (i : ℕ) (d : Open) → i < length xs → IsOpenAt c.args.guide.fitted.now c.args.guide.rows.now c.args.t c.steps-from.result
+    subst (λ (xs : List Open). (i : ℕ) (d : Open) → i < length xs → IsOpenAt c.args.guide.route.fitted.now c.args.guide.rows.now c.args.t c.steps-from.result
     (slice_index_or xs i d)) (sym c.deref_mut.ensures.value) c.close_due.ensures.watch.opened
 
 pub returns-clause-watch : goal.returns-clause-watch
 returns-clause-watch c =
-    let f = c.args.guide.fitted.now in
+    let f = c.args.guide.route.fitted.now in
     let w = c.close_due.new.watch in
     let size : length c.note.new.opened ≡ length w.opened.items = c.note.ensures.size ∙ ap (λ (xs : List Open). length xs) c.deref_mut.ensures.value in
     let items : (with_items w.opened c.note.new.opened).items ≡ c.note.new.opened = with_items_is w.opened c.note.new.opened (size ∙ sym w.opened.ok.0) in

@@ -21,7 +21,7 @@ loop-t-init c = record {
 
 pub close_due-requires-clause-watch : goal.close_due-requires-clause-watch
 close_due-requires-clause-watch c =
-    let f = c.args.guide.fitted.now in
+    let f = c.args.guide.route.fitted.now in
     let t = c.loop-t.t in
     let l : t < length c.loop-t.watches = (let a = c.loop-t.invariant.watches in let b = c.loop-t-test.true in omega (arith, a, b)) in
     let here : c.steps-k.result ≡ positions (flat_in f c.args.state.now) t =
@@ -31,7 +31,7 @@ close_due-requires-clause-watch c =
 
 pub loop-t-preserved : goal.loop-t-preserved
 loop-t-preserved c =
-    let f = c.args.guide.fitted.now in
+    let f = c.args.guide.route.fitted.now in
     let t = c.loop-t.t in
     let i = c.loop-t.invariant in
     let l : t < length c.loop-t.watches = (let a = i.watches in let b = c.loop-t-test.true in omega (arith, a, b)) in
@@ -67,6 +67,6 @@ returns c =
     let i = c.loop-t.invariant in
     record {
       size = i.size ∙ c.requires.size;
-      each = λ r x there. i.done r x there (let a = (placed c.args.guide.fitted.now c.requires.guide.last.run x (c.requires.guide.stale.sound r x there)).there in
+      each = λ r x there. i.done r x there (let a = (placed c.args.guide.route.fitted.now c.requires.guide.route.last.run x (c.requires.guide.stale.sound r x there)).there in
           let b = c.requires.watches in let d = c.loop-t-test.false in omega (arith, a, b, d));
     }

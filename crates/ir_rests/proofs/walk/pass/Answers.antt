@@ -8,14 +8,14 @@ use Rattle.ir_rests.proofs.walk.pass.Goals as goal
 
 pub loop-t-preserved : goal.loop-t-preserved
 loop-t-preserved c =
-    let f = c.args.guide.fitted.now in
+    let f = c.args.guide.route.fitted.now in
     let t = c.loop-t.t in
     let k = c.loop-t.invariant in
     let new = c.in_ok-state.state in
     let done = c.in_ok-state.ensures in
     let l : t < length c.loop-t.watches = (let a = k.watches in let b = c.loop-t-test.true in omega (arith, a, b)) in
     record {
-      passed = pass_on f c.args.guide.ends.now t c.args.state c.loop-t.state new k.passed done.way done.further done.rests;
+      passed = pass_on f c.args.guide.route.ends.now t c.args.state c.loop-t.state new k.passed done.way done.further done.rests;
       watches = length-set c.loop-t.watches t c.visit_thread.new.watch ∙ k.watches;
       size = done.adds.size ∙ k.size;
       watched = watched_next f c.args.guide.rows.now t c.loop-t.state new c.loop-t.watches c.visit_thread.new.watch c.loop-t.rests

@@ -5,8 +5,8 @@ use Rattle.ir_rests.proofs.walk.pass.Given as goal
 
 abbrev pub invariant-loop-t : goal.invariant-loop-t
 invariant-loop-t l = record {
-  passed : IsPass l.guide.fitted.now l.guide.ends.now l.t l.fn.state l.state;
+  passed : IsPass l.guide.route.fitted.now l.guide.route.ends.now l.t l.fn.state l.state;
   watches : length l.watches ≡ length l.fn.watches;
   size : length l.rests ≡ length l.fn.rests;
-  watched : AreWatched l.guide.fitted.now l.guide.rows.now l.state l.watches l.rests;
+  watched : AreWatched l.guide.route.fitted.now l.guide.rows.now l.state l.watches l.rests;
 }

@@ -7,9 +7,9 @@ use Rattle.ir_rests.proofs.walk.walk.Goals as goal
 
 pub passes-smaller : goal.passes-smaller
 passes-smaller c =
-    let f = c.args.guide.fitted.now in
-    let ends = c.args.guide.ends.now in
+    let f = c.args.guide.route.fitted.now in
+    let ends = c.args.guide.route.ends.now in
     let below = subst (λ xs. (t : ℕ) × (t < length xs) × ((slice_index_or xs t idle).steps < cut_of ends t)) c.threads.ensures
     (c.are_done.ensures.below c.passes-test.true) in
-    pass_goes f ends (length c.passes.watches) c.passes.state c.in_ok-state.state c.requires.guide.last c.in_ok-state.ensures.passed
-    (c.requires.guide.last.size ∙ sym c.passes.invariant.watches) below.0 below.2
+    pass_goes f ends (length c.passes.watches) c.passes.state c.in_ok-state.state c.requires.guide.route.last c.in_ok-state.ensures.passed
+    (c.requires.guide.route.last.size ∙ sym c.passes.invariant.watches) below.0 below.2

@@ -7,11 +7,11 @@ use Rattle.ir_rests.proofs.walk.walk.Given as goal
 
 abbrev pub invariant-passes : goal.invariant-passes
 invariant-passes l = record {
-  way : IsOnWay l.guide.fitted.now l.guide.ends.now l.state;
-  watches : length l.watches ≡ length l.guide.fitted.now.guest.entries;
+  way : IsOnWay l.guide.route.fitted.now l.guide.route.ends.now l.state;
+  watches : length l.watches ≡ length l.guide.route.fitted.now.guest.entries;
   size : length l.rests ≡ length l.guide.rows.now;
-  watched : AreWatched l.guide.fitted.now l.guide.rows.now l.state l.watches l.rests;
+  watched : AreWatched l.guide.route.fitted.now l.guide.rows.now l.state l.watches l.rests;
 }
 
 abbrev pub decreases-passes : goal.decreases-passes
-decreases-passes l = steps_left l.guide.ends.now (flat_in l.guide.fitted.now l.state)
+decreases-passes l = steps_left l.guide.route.ends.now (flat_in l.guide.route.fitted.now l.state)

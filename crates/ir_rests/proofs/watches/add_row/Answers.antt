@@ -14,12 +14,12 @@ no_row = record { thread = 0; event = 0; object = 0; written = 0; read = 0; vers
 
 pub returns-in-Some-clause-built : goal.returns-in-Some-clause-built
 returns-in-Some-clause-built c =
-    let f = c.args.guide.fitted.now in
+    let f = c.args.guide.route.fitted.now in
     let rows = c.args.guide.rows.now in
     let x : StaleWrite = slice_index_or rows c.args.row no_row in
     let there = slice_get-get_or rows c.args.row no_row c.requires.row in
     let stale = c.requires.guide.stale.sound c.args.row x there in
-    let l : x.thread < length c.args.watches.now = (let a = (placed f c.requires.guide.last.run x stale).there in let b = c.requires.size in omega (arith, a, b)) in
+    let l : x.thread < length c.args.watches.now = (let a = (placed f c.requires.guide.route.last.run x stale).there in let b = c.requires.size in omega (arith, a, b)) in
     let old : Watch = c.index-watches-stale.result in
     let is : IsBuilt f rows c.args.row x.thread old = subst (IsBuilt f rows c.args.row x.thread) (sym c.index-watches-stale.is)
     (c.requires.built x.thread old l) in
@@ -31,5 +31,5 @@ returns-in-Some-clause-built c =
 pub returns-in-None-clause-built : goal.returns-in-None-clause-built
 returns-in-None-clause-built c =
     let rows = c.args.guide.rows.now in
-    same_built c.args.guide.fitted.now rows c.args.row c.args.watches.now (slice_index_or rows c.args.row no_row) c.requires.built
+    same_built c.args.guide.route.fitted.now rows c.args.row c.args.watches.now (slice_index_or rows c.args.row no_row) c.requires.built
     (slice_get-get_or rows c.args.row no_row c.requires.row) c.in-None.ensures.none

@@ -8,7 +8,7 @@ use Rattle.ir_rests.proofs.watches.watches.Goals as goal
 
 pub returns-clause-built : goal.returns-clause-built
 returns-clause-built c =
-    let f = c.args.guide.fitted.now in
+    let f = c.args.guide.route.fitted.now in
     let rows = c.args.guide.rows.now in
     let v = c.loop-row.watches in
     let new = c.sort_all.new.watches in

@@ -1,7 +1,7 @@
 use Rattle.std.proofs.Common.{refl, sym, ◌∙◌, ◌<◌, arith}
 use Rattle.ir_thread.specs.declared.ask.Ask.TheVariants as ask
 use Rattle.ir_thread.specs.declared.ask.Reply.TheVariants.{Go}
-use Rattle.ir_rests.specs.declared.exchange.Exchange.{Exchange}
+use Rattle.ir_walk.specs.declared.exchange.Exchange.{Exchange}
 use Rattle.ir_rests.proofs.Differs.{spent, differs, goes_on, none_left, fits, others_fit}
 use Rattle.ir_rests.proofs.what_if.what_if.Goals as goal
 

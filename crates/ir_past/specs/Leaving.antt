@@ -1,0 +1,22 @@
+-- What a thread enters it leaves.
+use Rattle.std.specs.Prelude.{ℕ, ◌<◌, ◌≤◌, List}
+use Rattle.ir_runs.specs.Machine.{Machine}
+use Rattle.ir_runs.specs.Labels.{In, Out}
+use Rattle.ir_runs.specs.declared.access.Access.{Access}
+use Rattle.ir_runs.specs.Run.{State, Step, IsStart, IsComplete}
+use Rattle.ir_runs.specs.Cuts.{Emits}
+use Rattle.ir_thread.specs.Instance.{thread_machine}
+use Rattle.ir_thread.specs.State as thread
+
+-- a step of thread t past its step j leaves object o after such access at version v, and is the first that does
+pub record LeavesFirst {T : Type 0} (m : Machine T) (s : State T) (run : List Step) (t j o : ℕ) (a : Access) (v : ℕ) : Type 0 where
+  pub leave : ℕ
+  pub past : j < leave
+  pub leaves : Emits m s run t leave (Out o a v)
+  pub first : (k : ℕ) → j < k → Emits m s run t k (Out o a v) → leave ≤ k
+
+-- the law: in each complete run of threads of any code, what a thread enters it leaves, at the version that it found
+abbrev pub EntriesLeft : Type 0
+EntriesLeft = (code : List ℕ) (s : State thread.State) → IsStart (thread_machine code) s → (run : List Step)
+    → IsComplete (thread_machine code) s run → (t j o : ℕ) (a : Access) (v l : ℕ) → Emits (thread_machine code) s run t j (In o a v l)
+    → LeavesFirst (thread_machine code) s run t j o a v

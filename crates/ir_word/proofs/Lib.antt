@@ -1,0 +1,7 @@
+mod Puts
+mod Begun
+mod Holding
+mod Built
+mod Noted
+mod Walked
+mod Joined

@@ -1,0 +1,3 @@
+pub mod Words
+pub mod Track
+pub mod Lines

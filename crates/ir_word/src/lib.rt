@@ -1,0 +1,27 @@
+//! In which versions of an object a word of it changed, and by which steps of a recorded run.
+#![tactic(auto)]
+
+mod answer;
+mod guide;
+mod hold;
+mod holds;
+mod lines;
+mod noting;
+mod object_word;
+mod question;
+mod run;
+mod start;
+mod stops;
+mod track;
+mod tracks;
+mod visit;
+mod walk;
+mod word_err;
+mod worded;
+
+pub use object_word::ObjectWord;
+pub use question::Question;
+pub use run::word_fit_run;
+pub use walk::words;
+pub use word_err::{Absent, WordErr};
+pub use worded::Worded;
