@@ -8,13 +8,15 @@ ENTER_AND_LEAVE = ["addi a7, zero, 8", "ecall", "addi a7, zero, 9", "ecall"]
 
 @dataclass(frozen=True)
 class Guest:
-    """Statements of an instruction each, how many threads take them from the first on, the objects, and the steps of one thread."""
+    """Statements of an instruction each, how many threads take them from the first on, the objects, and the steps of one thread; where
+    threads take different ways, those of all."""
 
     name: str
     statements: list
     steps: int
     threads: int = 1
     objects: int = 0
+    total: int = 0
 
     def is_large(self):
         """Whether it needs the large form and the second profile."""
@@ -22,7 +24,7 @@ class Guest:
 
     def all_steps(self):
         """The steps of all threads together."""
-        return self.threads * self.steps
+        return self.total or self.threads * self.steps
 
     def source(self):
         """Its source."""
@@ -92,6 +94,52 @@ def side_by_side():
     yield entering_its_own(46).named("4 threads, an object each, an entry each 100 steps", 4, 4)
     yield entering(496, 4).named("8 threads, one object, an entry each 999 steps", 8, 1)
     yield entering(4).named("4 threads, one object, an entry each 15 steps", 4, 1)
+
+
+def call(number, *arguments):
+    """A call with its arguments set before it."""
+    return [*(f"addi a{at}, zero, {value}" for at, value in enumerate(arguments)), f"addi a7, zero, {number}", "ecall"]
+
+
+# Reads word 0 of object 0 into t1, and writes t1 back.
+READ = [*call(7, 0), *call(10, 0, 0), "addi t1, a0, 0", *call(9, 0)]
+WRITE = [*call(8, 0), "addi a0, zero, 0", "addi a1, zero, 0", "addi a2, t1, 0", "addi a7, zero, 11", "ecall", *call(9, 0)]
+
+
+def turns_of(name, body, threads, steps, body_steps=None):
+    """So many threads that take the body again and again, some 10^7 steps together."""
+    once = (len(body) if body_steps is None else body_steps) + 2
+    units = max(1, steps // (threads * once << 12))
+    return counted(name, body, units, body_steps).named(f"{threads} threads, {name}", threads, 1)
+
+
+def locked_by_count(threads, steps):
+    """Thread 0 makes a count odd, writes a word, and makes the count even; the others read count, word and count."""
+    write_word = [*call(8, 0), *call(11, 0, 1, 1), *call(9, 0)]
+    read_word = [*call(7, 0), *call(10, 0, 1), *call(9, 0)]
+    add_one = ["addi t1, t1, 1", *WRITE]
+    fork = ["addi a7, zero, 12", "ecall"]
+    bodies = [[*add_one, *write_word, *add_one], [*READ, *read_word, *READ]]
+    units = [max(1, steps // (threads * (len(body) + 2) << 12)) for body in bodies]
+    writer, reader = (counted("", body, unit) for body, unit in zip(bodies, units))
+    over = [f"bne a0, zero, .+{4 * (1 + len(writer.statements))}"]
+    total = threads * 3 + writer.steps + (threads - 1) * reader.steps
+    statements = [*fork, *over, *writer.statements, *reader.statements]
+    return Guest(f"{threads} threads, sequence lock", statements, 0, threads, 1, total)
+
+
+def contended(steps=10_000_000):
+    """Guests whose threads meet at one object, each with two, four and eight threads."""
+    work = ["addi t2, zero, 4", "addi t2, t2, -1", "bne t2, zero, .-4"]
+    lost = [*READ, "addi t1, t1, 1", *WRITE]
+    checked = [*READ, "lui t3, 0x7ffff", f"bge t1, t3, .+{4 * (2 + len(WRITE))}", "addi t1, t1, 1", *WRITE]
+    reads = ["addi t3, zero, 15", *READ, "addi t3, t3, -1", f"bne t3, zero, .-{4 * (1 + len(READ))}", *WRITE]
+    for threads in (2, 4, 8):
+        yield turns_of("lost update", lost, threads, steps)
+        yield turns_of("check, then act", checked, threads, steps)
+        yield turns_of("an entry each 17 steps", [*work, *call(8, 0), *call(9, 0)], threads, steps, 15)
+        yield locked_by_count(threads, steps)
+        yield turns_of("15 reads, then a write", reads, threads, steps, 1 + 15 * (len(READ) + 2) + len(WRITE))
 
 
 def hit_late(after):

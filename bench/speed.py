@@ -9,6 +9,7 @@ is taken off. Without PART all are measured:
 speeds      guests of 8 * 10^7 steps and more: by a session, by steps many at a time, and with each step asked and taken by itself
 traces      recording in order from file to file, fitting what was recorded, and replaying it from its start to its end
 by_threads  recording and replay by real threads beside the same in order
+contended   the same of guests whose threads meet at one object, with thread switches; opening; the slowest of 50 moves to the end
 sessions    answers a second
 continuing  moves back, searches both ways and checkpoints, in milliseconds, the best of three; memory
 coherence   the check of eight long logs
@@ -180,6 +181,42 @@ def by_threads(programs):
         print(f"{guest.name:52}{steps:>12}{a:>10.0f}{b:>10.0f}{b / a:>8.2f}{c:>10.0f}{d:>10.0f}{d / c:>8.2f}", flush=True)
 
 
+def switches(words, data):
+    """How often the threads of a command over this input were switched."""
+    with subprocess.Popen(words, stdin=subprocess.PIPE, stdout=subprocess.DEVNULL) as run:
+        run.stdin.write(data)
+        run.stdin.close()
+        used = os.wait4(run.pid, 0)[2]
+    return used.ru_nvcsw + used.ru_nivcsw
+
+
+def ends_of(programs, files):
+    """The seconds of 50 moves to the end, each after a move to the start, by length."""
+    return sorted(programs.answering(files, b"end\nstart\n", b"end\n") for _ in range(50))
+
+
+def contended(programs):
+    """Recording and replay by real threads where these meet at one object; opening, of recording in order; moves to the end."""
+    print("threads at one object: recording and replay by threads, of the same in order; switches of threads; opening, of recording")
+    print("in order; moves to the end, the median in milliseconds and the slowest of 50, of it")
+    heads = ("record", "switches", "replay", "switches", "open", "end", "slowest")
+    print(f"{'guest':36}{'steps':>12}" + "".join(f"{head:>10}" for head in heads))
+    base = programs.best([programs.bench], b"record\n" + programs.digits_of(guests.EMPTY), lambda out: True)
+    for guest in guests.contended():
+        steps, image = guest.all_steps(), programs.digits_of(guest)
+        trace, _ = programs.record(guest)
+        files = (programs.file_of(guest), trace)
+        both = image + trace.read_bytes().hex().encode() + b"\n"
+        recorded = [programs.best_of_bench(mode, image, steps) - base for mode in (b"record", b"record-threads")]
+        replayed = [programs.best_replay(mode, both, steps) for mode in (b"replay", b"replay-threads")]
+        opened = programs.best_of_bench(b"fit", both, steps) - programs.best_of_bench(b"read", both, steps)
+        ends = ends_of(programs, files)
+        counts = [switches([programs.bench], mode + b"\n" + data) for mode, data in ((b"record-threads", image), (b"replay-threads", both))]
+        median = ends[len(ends) // 2]
+        print(f"{guest.name:36}{steps:>12}{recorded[0] / recorded[1]:>10.2f}{counts[0]:>10}{replayed[0] / replayed[1]:>10.2f}{counts[1]:>10}"
+              f"{recorded[0] / opened:>10.2f}{median * 1000:>10.0f}{ends[-1] / median:>10.2f}", flush=True)
+
+
 def files_of(programs, guest):
     """The image and the trace of a guest."""
     return programs.file_of(guest), programs.record(guest)[0]
@@ -294,7 +331,7 @@ def assembling(programs):
         print(f"{size:<24}{size // 4:>12}{took:>10.3f}{size / took:>12.0f}", flush=True)
 
 
-PARTS = {part.__name__: part for part in (speeds, traces, by_threads, sessions, continuing, coherence, tries, assembling)}
+PARTS = {part.__name__: part for part in (speeds, traces, by_threads, contended, sessions, continuing, coherence, tries, assembling)}
 
 
 def main():

@@ -19,7 +19,8 @@ use Rattle.ir_command.specs.declared.refusal.Refusal.TheVariants.{NoSuchThread}
 use Rattle.ir_debug.specs.declared.answer.Answer.{Answer}
 use Rattle.ir_debug.specs.declared.answer.Answer.TheVariants as answer
 use Rattle.ir_command.specs.declared.command.Keeping.TheVariants.{Keep, Load, Drop, Kept}
-use Rattle.ir_debug.specs.Machine.Desk.{Desk, threads_of, moved, spoken, with_point, without_point, kept_cut, with_kept, without_kept}
+use Rattle.ir_timeline.specs.Positions.{threads_of}
+use Rattle.ir_debug.specs.Machine.Desk.{Desk, moved, spoken, with_point, without_point, kept_cut, with_kept, without_kept}
 use Rattle.ir_command.specs.declared.command.Direction.{Direction}
 use Rattle.ir_command.specs.declared.command.Point.{Point}
 use Rattle.ir_command.specs.declared.hit.Hit.{Hit}

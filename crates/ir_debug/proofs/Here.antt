@@ -25,7 +25,8 @@ use Rattle.ir_debug.specs.Debugging.{Debugging, IsThere, IsLast, IsText, answer_
 use Rattle.ir_debug.proofs.Passed.{thread_below, object_below}
 use Rattle.ir_text.specs.Texts.{held_by, bytes_from, memory_text, output_text, object_text, log_text, next_text}
 use Rattle.ir_debug.specs.AtHand.{thread_here, object_here, events_of, shown_here, text_here, ShowsHere}
-use Rattle.ir_debug.specs.Machine.Desk.{IsDesk, threads_of}
+use Rattle.ir_timeline.specs.Positions.{threads_of}
+use Rattle.ir_debug.specs.Machine.Desk.{IsDesk}
 use Rattle.ir_debug.specs.Machine.Shown.{shown, current, logged_so_far}
 
 -- a thread in hand is the run's at its position

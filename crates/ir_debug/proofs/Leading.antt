@@ -9,7 +9,7 @@ use Rattle.ir_command.specs.declared.command.Direction.TheVariants.{Forwards, Ba
 use Rattle.ir_command.specs.declared.command.Move.{Move}
 use Rattle.ir_command.specs.declared.hit.Hit.{Hit}
 use Rattle.ir_command.specs.declared.command.Move.TheVariants.{Step, Back}
-use Rattle.ir_debug.specs.Machine.Desk.{last_of}
+use Rattle.ir_timeline.specs.Positions.{last_of}
 use Rattle.ir_debug.specs.Machine.Moves.{Leads, ToLeast, ToGreatest, ToEither, ToPosition, StopsAt, stop_of}
 
 to_least : (f : FittedTrace) (at to : List ℕ) (t k j : ℕ) → IsLeastCut f at t k to → k ≡ j

@@ -1,7 +1,7 @@
 mod Opened
 mod Replying
 mod Machine
-mod Ends
+mod Desks
 mod Leading
 mod KeptCuts
 mod SetPoints
@@ -11,4 +11,3 @@ mod RowsOne
 mod RowsTwo
 mod Here
 mod Passed
-mod Searches

@@ -13,7 +13,8 @@ use Rattle.ir_command.specs.declared.command.Keeping.TheVariants.{Keep, Load}
 use Rattle.ir_command.specs.declared.command.Point.{Point}
 use Rattle.ir_command.specs.declared.command.Point.TheVariants.{Break, Watch, WatchObject}
 use Rattle.ir_hits.specs.Hits.{IsWatchable}
-use Rattle.ir_debug.specs.Machine.Desk.{Desk, threads_of, kept_cut, most_kept, most_points, most_number}
+use Rattle.ir_timeline.specs.Positions.{threads_of}
+use Rattle.ir_debug.specs.Machine.Desk.{Desk, kept_cut, most_kept, most_points, most_number}
 use Rattle.ir_debug.specs.Machine.Refusals.{if_some, thread_named, object_named, lies_in_code, has_number, has_address, has_place, refusal_of}
 
 -- the tests

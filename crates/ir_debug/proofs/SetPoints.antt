@@ -12,15 +12,16 @@ use Rattle.ir_runs.specs.Run.{Step, trail, end}
 use Rattle.ir_fit.specs.Fit.{FittedTrace, HasRun, IsRunOf}
 use Rattle.ir_fit.proofs.CallerLemmas.{get_at}
 use Rattle.ir_weave.proofs.CallerLemmas.{past_end}
-use Rattle.ir_cut.specs.Positions.{machine_of, start_of, EachRun}
+use Rattle.ir_cut.specs.Positions.{machine_of, start_of, cut_of, EachRun}
 use Rattle.ir_command.specs.declared.command.Direction.{Direction}
 use Rattle.ir_command.specs.declared.command.Direction.TheVariants.{Forwards, Backwards}
 use Rattle.ir_command.specs.declared.command.Point.{Point}
 use Rattle.ir_command.specs.declared.command.Point.TheVariants.{Break, Watch, WatchObject}
 use Rattle.ir_hits.specs.Hits.{Numbered, AreWatchable, IsWatchable, HitBy, thread_at, steps_of}
 use Rattle.ir_command.specs.declared.hit.Hit.{Hit}
-use Rattle.ir_debug.specs.Machine.Desk.{Desk, is_set, points_without, threads_of, last_of}
-use Rattle.ir_debug.specs.Machine.Moves.{Finds, stop_of}
+use Rattle.ir_debug.specs.Machine.Desk.{Desk, is_set, points_without}
+use Rattle.ir_timeline.specs.Positions.{threads_of, last_of, Finds}
+use Rattle.ir_debug.specs.Machine.Moves.{stop_of}
 
 -- ---- the point of a number, from a place on
 
@@ -86,7 +87,7 @@ hit_within f run t k (WatchObject object) (j, is, (version, emitted)) =
     omega (arith, is, within)
 
 stop_there : (f : FittedTrace) (run : List Step) (d : Desk) (t : ℕ) (direction : Direction) (hit : Option Hit) → d.fitted ≡ f
-    → steps_of f run t ≡ last_of f t → Finds run d t direction hit → stop_of f t direction hit ≤ last_of f t
+    → steps_of f run t ≡ last_of f t → Finds run d.fitted d.points t (cut_of d.at t) direction hit → stop_of f t direction hit ≤ last_of f t
 stop_there f run d t Forwards (Some h) same all finds =
     let (i, p, at, number, hits) = finds.2.hits in
     let le = hit_within d.fitted run t h.position p.point hits in
@@ -102,7 +103,7 @@ stop_there f run d t Backwards None same all finds = omega arith
 
 -- it stops at one of its positions
 pub stop_within : (f : FittedTrace) (d : Desk) (t : ℕ) (direction : Direction) (hit : Option Hit) → d.fitted ≡ f → HasRun f
-    → t < threads_of f → EachRun d.fitted (λ run. Finds run d t direction hit) → stop_of f t direction hit ≤ last_of f t
+    → t < threads_of f → EachRun d.fitted (λ run. Finds run d.fitted d.points t (cut_of d.at t) direction hit) → stop_of f t direction hit ≤ last_of f t
 stop_within f d t direction hit same has l finds =
     stop_there f has.run d t direction hit same (has.whole.1.steps t l)
     (finds has.run (subst (λ (g : FittedTrace). IsRunOf g.guest g.recorded has.run) (sym same) has.whole))

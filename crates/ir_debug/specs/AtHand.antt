@@ -16,7 +16,7 @@ use Rattle.ir_debug.specs.declared.answer.Answer.TheVariants as answer
 use Rattle.ir_text.specs.Answers.{machine_text, refusal_text}
 use Rattle.ir_debug.specs.Debugging.{Debugging, IsThere}
 use Rattle.ir_debug.specs.Machine.Answers.{moved_text, continued_text, kept_text}
-use Rattle.ir_debug.specs.Machine.Desk.{threads_of}
+use Rattle.ir_timeline.specs.Positions.{threads_of}
 use Rattle.ir_debug.specs.Machine.Refusals.{thread_shown}
 use Rattle.ir_debug.specs.Machine.Shown.{shown}
 use Rattle.ir_text.specs.Texts.{bytes_from, number_line, positions_text, memory_text, output_text, object_text, log_text, next_text, held_by}

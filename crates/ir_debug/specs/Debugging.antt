@@ -3,24 +3,23 @@ use Rattle.std.specs.Prelude.{◌≡◌, ◌<◌, ℕ, ⊤, true, List, ◌++◌
 use Rattle.ir_runs.specs.Run.{Step}
 use Rattle.ir_cut.specs.Positions.{EachRun, cut_of}
 use Rattle.ir_weave.specs.Standing.{Standing, StandsAt}
-use Rattle.ir_checkpoint.specs.Checkpoints.{Checkpoints, AreCheckpoints, Stands}
+use Rattle.ir_timeline.specs.Positions.{threads_of}
 use Rattle.ir_command.specs.declared.command.Command.{Command}
 use Rattle.ir_command.specs.declared.command.Command.TheVariants as command
 use Rattle.ir_command.specs.declared.refusal.Refusal.{Refusal}
 use Rattle.ir_debug.specs.declared.answer.Answer.{Answer}
 use Rattle.ir_debug.specs.declared.answer.Answer.TheVariants.{Moved, Continued, Position, Shown, Next, Set, Cleared, Kept, Dropped, KeptCuts, Refused, Bye}
 use Rattle.ir_text.specs.Answers.{refusal_text}
-use Rattle.ir_debug.specs.Machine.Desk.{Desk, IsDesk, threads_of}
+use Rattle.ir_debug.specs.Machine.Desk.{Desk, IsDesk}
 use Rattle.ir_debug.specs.Machine.Refusals.{refusal_of, is_at_hand}
 use Rattle.ir_debug.specs.Machine.Shown.{shown}
 use Rattle.ir_text.specs.Texts.{number_line, positions_text}
 use Rattle.ir_debug.specs.Machine.Answers.{kept_text, moved_text, continued_text, RepliesBy}
 
--- the small machine, and beside it the guest's threads and objects at some consistent cut, and at others that are kept
+-- the small machine, and beside it the guest's threads and objects at some consistent cut
 pub record Debugging : Type 0 where
   pub desk : Desk
   pub state : Standing
-  pub checkpoints : Checkpoints
 
 -- the guest at the small machine's cut
 abbrev pub IsThere : Debugging → Type 0
@@ -28,8 +27,6 @@ IsThere d = StandsAt d.desk.fitted (cut_of d.desk.at) d.state
 
 pub record IsDebugging (d : Debugging) : Type 0 where
   pub desk : IsDesk d.desk
-  pub stands : Stands d.desk.fitted d.state
-  pub checkpoints : AreCheckpoints d.desk.fitted d.checkpoints
   -- before the first answer, and after a move
   pub fresh : d.desk.fresh ≡ true → IsThere d
 

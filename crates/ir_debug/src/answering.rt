@@ -10,8 +10,9 @@ ghost use Rattle.ir_command.specs.declared.command.Command.TheVariants as comman
 ghost use Rattle.ir_debug.specs.AtHand.{text_here};
 ghost use Rattle.ir_debug.specs.Debugging.{IsLast, IsText};
 ghost use Rattle.ir_debug.specs.Machine.Answers.{moved_text, continued_text, kept_line, kept_text};
-ghost use Rattle.ir_debug.specs.Machine.Desk.{threads_of, last_of, position_of};
+ghost use Rattle.ir_debug.specs.Machine.Desk.{position_of};
 ghost use Rattle.ir_debug.specs.Machine.Refusals.{refusal_of};
+ghost use Rattle.ir_timeline.specs.Positions.{threads_of, last_of};
 ghost use Rattle.ir_text.specs.Texts.{positions_text, stop_text};
 
 use crate::answer::Answer;

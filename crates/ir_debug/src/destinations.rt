@@ -2,60 +2,15 @@
 
 ghost use Rattle.std.specs.Prelude.{◌≡◌, ◌<◌, ◌≤◌, true, min, nat_lt, length, IfOk};
 ghost use Rattle.ir_cut.specs.Positions.{EachRun, IsConsistentCut};
-ghost use Rattle.ir_debug.specs.Machine.Desk.{threads_of, last_of, first_cut, last_cut};
+ghost use Rattle.ir_timeline.specs.Positions.{threads_of, last_of};
 ghost use Rattle.ir_debug.specs.Machine.Refusals.{if_some, thread_moved};
 ghost use Rattle.ir_debug.specs.Machine.Moves.{Leads, StopsAt, stop_of, ToPosition};
 
 use ir_command::{Direction, Hit, Move};
 use ir_cut::{Cut, greatest, least};
 use ir_fit::Fitted;
+use ir_timeline::{first_cut, last_cut, last_position};
 use std::alloc::{AllocError, Global};
-
-/// How many threads the guest has.
-pub fn thread_count(fitted: &Fitted) -> usize
-    ensures { result ≡ threads_of fitted.now }
-{
-    fitted.image().entries().len()
-}
-
-/// The last position of thread t.
-pub fn last_position(fitted: &Fitted, t: usize) -> u64
-    requires { t < threads_of fitted.now }
-    ensures { result ≡ last_of fitted.now t }
-{
-    fitted.known();
-    fitted.trace().threads()[t].steps()
-}
-
-/// All threads at 0.
-///
-/// # Errors
-/// Out of memory.
-pub fn first_cut(alloc: Global, fitted: &Fitted) -> Result<Cut, AllocError>
-    ensures first { IfOk result (λ c. c ≡ first_cut fitted.now) }
-    ensures size { IfOk result (λ c. length c ≡ threads_of fitted.now) }
-    ensures consistent { IfOk result (λ c. IsConsistentCut fitted.now c) }
-{
-    let positions = vec![in alloc; 0u64; thread_count(fitted)]?;
-    Ok(Cut::new(positions))
-}
-
-/// All threads at their last positions.
-///
-/// # Errors
-/// Out of memory.
-pub fn last_cut(alloc: Global, fitted: &Fitted) -> Result<Cut, AllocError>
-    ensures last { IfOk result (λ c. c ≡ last_cut fitted.now) }
-    ensures size { IfOk result (λ c. length c ≡ threads_of fitted.now) }
-    ensures consistent { IfOk result (λ c. IsConsistentCut fitted.now c) }
-{
-    let count = thread_count(fitted);
-    let mut positions = Vec::with_capacity(alloc, count)?;
-    for t in 0..count {
-        positions.push(last_position(fitted, t))?;
-    }
-    Ok(Cut::new(positions))
-}
 
 // The cut to which thread t is brought that goes to a position, or to its last.
 fn to_position(

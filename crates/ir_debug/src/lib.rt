@@ -12,7 +12,6 @@ mod open;
 mod opening;
 mod points;
 mod refusals;
-mod searching;
 mod serving;
 mod sessions;
 mod showing;

@@ -5,11 +5,11 @@ ghost use Rattle.ir_mach.specs.Memory.{lies_in_memory};
 ghost use Rattle.ir_debug.specs.Machine.Refusals.{thread_moved, thread_shown, thread_pointed, thread_named, object_named, lies_in_code, has_address};
 
 use crate::debugger::Debugger;
-use crate::destinations::thread_count;
 use crate::kept::{MOST_KEPT, kept_cut};
 use crate::points::{MOST_POINTS, is_set};
 use ir_command::{Command, Keeping, Move, Point, Refusal, Show};
 use ir_image::{CODE_START, Image, MEMORY_SIZE, MEMORY_START};
+use ir_timeline::thread_count;
 
 /// The thread that a move names.
 pub fn thread_moved(to: Move) -> Option<u32>

@@ -14,11 +14,8 @@ use crate::answering::write_answer;
 use crate::debugger::Debugger;
 use arrayvec::ArrayVec;
 use ir_command::{Command, Refusal, parse_line};
-use ir_object::Gate;
+use ir_object::Hands;
 use ir_stream::{DeviceErr, Fault, Flow, KEPT, Next, Served, Sink, Source, keep, next_byte};
-use std::alloc::Global;
-use std::thread::Threads;
-use std::time::Clock;
 
 // Whether the session ends with what a line asks.
 fn flow_of(asked: &Result<Option<Command>, Refusal>) -> Flow
@@ -31,32 +28,28 @@ fn flow_of(asked: &Result<Option<Command>, Refusal>) -> Flow
 }
 
 // Carries out what a line asks, if it has words.
-fn carry_out<T: Threads + Clock + Sync, G: Gate + Sync>(
-    rt: &T,
-    alloc: Global,
+fn carry_out<H: Hands>(
+    hands: &H,
     debugger: &mut Debugger,
     asked: &Result<Option<Command>, Refusal>,
-    gate: &G,
 ) -> Option<Answer>
     ensures none { IfNone result ((asked.now ≡ Ok None) × (debugger.new ≡ debugger.old)) }
     ensures some { IfSome result (IsAnswer asked.now debugger.old debugger.new) }
 {
     match asked {
         Ok(None) => None,
-        Ok(Some(command)) => Some(debugger.command(rt, alloc, command, gate)),
+        Ok(Some(command)) => Some(debugger.command(hands, command)),
         Err(refusal) => Some(debugger.refuse(*refusal)),
     }
 }
 
 // Answers a line. It comes without its line feed, and with the carriage return that may be before it.
 #[tactic(auto, unfolding(crate::specs::Machine::Answers::quits))]
-fn respond<T: Threads + Clock + Sync, W: Sink, G: Gate + Sync>(
-    rt: &T,
-    alloc: Global,
+fn respond<H: Hands, W: Sink>(
+    hands: &H,
     debugger: &mut Debugger,
     line: &[u8],
     writer: &mut W,
-    gate: &G,
 ) -> Result<Flow, DeviceErr>
     ensures ok { OnOk result (Replied Replies debugger.old.desk line.now debugger.new.desk (W.written writer.old) (W.written writer.new)) }
     ensures flow { IfOk result (λ f. f ≡ flow_after (quits line.now)) }
@@ -65,7 +58,7 @@ fn respond<T: Threads + Clock + Sync, W: Sink, G: Gate + Sync>(
     ensures err { OnErr result (W.broken writer.new ≡ true) }
 {
     let asked = parse_line(line);
-    let Some(answer) = carry_out(rt, alloc, debugger, &asked, gate) else {
+    let Some(answer) = carry_out(hands, debugger, &asked) else {
         return Ok(Flow::Goes);
     };
     match write_answer(debugger, &answer, writer) {
@@ -75,13 +68,11 @@ fn respond<T: Threads + Clock + Sync, W: Sink, G: Gate + Sync>(
 }
 
 // Answers what the input ended in, if it isn't empty.
-fn finish<T: Threads + Clock + Sync, W: Sink, G: Gate + Sync>(
-    rt: &T,
-    alloc: Global,
+fn finish<H: Hands, W: Sink>(
+    hands: &H,
     line: &[u8],
     writer: &mut W,
     debugger: &mut Debugger,
-    gate: &G,
 ) -> Result<Served, Fault>
     ensures ok { OnOk result (Wrote Replies debugger.old.desk (last_line line.now) (W.written writer.old) (W.written writer.new)) }
     ensures served { IfOk result (λ e. e ≡ served_after (some_quits quits (last_line line.now))) }
@@ -94,7 +85,7 @@ fn finish<T: Threads + Clock + Sync, W: Sink, G: Gate + Sync>(
     if line.is_empty() {
         return Ok(Served::InputEnd);
     }
-    match respond(rt, alloc, debugger, line, writer, gate) {
+    match respond(hands, debugger, line, writer) {
         Ok(Flow::Goes) => Ok(Served::InputEnd),
         Ok(Flow::Quits) => Ok(Served::Quit),
         Err(_) => Err(Fault::Write),
@@ -104,14 +95,12 @@ fn finish<T: Threads + Clock + Sync, W: Sink, G: Gate + Sync>(
 /// Answers the lines that the reader gives, until one quits, the input ends, a device fails, or `limit` bytes were
 /// read. A last line without a line feed counts where the input ends before the limit. A line that is unfinished at the
 /// limit has no answer.
-pub fn serve<T: Threads + Clock + Sync, R: Source, W: Sink, G: Gate + Sync>(
-    rt: &T,
-    alloc: Global,
+pub fn serve<H: Hands, R: Source, W: Sink>(
+    hands: &H,
     limit: u64,
     reader: &mut R,
     writer: &mut W,
     debugger: &mut Debugger,
-    gate: &G,
 ) -> Result<Served, Fault>
     requires reads { R.broken reader.old ≡ false }
     requires writes { W.broken writer.old ≡ false }
@@ -138,13 +127,13 @@ pub fn serve<T: Threads + Clock + Sync, R: Source, W: Sink, G: Gate + Sync>(
     for taken in 0..limit {
         match next_byte(reader) {
             Next::Failed => return Err(Fault::Read),
-            Next::End => return finish(rt, alloc, line.as_slice(), writer, debugger, gate),
+            Next::End => return finish(hands, line.as_slice(), writer, debugger),
             Next::Byte(byte) => {
                 if byte != b'\n' {
                     keep(&mut line, byte);
                     continue;
                 }
-                match respond(rt, alloc, debugger, line.as_slice(), writer, gate) {
+                match respond(hands, debugger, line.as_slice(), writer) {
                     Ok(Flow::Goes) => line.clear(),
                     Ok(Flow::Quits) => return Ok(Served::Quit),
                     Err(_) => return Err(Fault::Write),

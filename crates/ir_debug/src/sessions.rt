@@ -10,11 +10,8 @@ use crate::ended::{Ended, SessionErr};
 use crate::open::open;
 use crate::opening::Opened;
 use crate::serving::serve;
-use ir_object::Gate;
+use ir_object::Hands;
 use ir_stream::{Fault, Served, Sink, Source};
-use std::alloc::Global;
-use std::thread::Threads;
-use std::time::Clock;
 
 /// The most bytes that a session reads.
 pub const MOST_INPUT: u64 = 1_073_741_824;
@@ -41,15 +38,13 @@ fn ended(served: Result<Served, Fault>) -> Result<Ended, SessionErr>
 ///
 /// # Errors
 /// `NoMem` before a byte is written; `Read` and `Write` only where that device failed; `TooLong`.
-pub fn session_up_to<T: Threads + Clock + Sync, R: Source, W: Sink, G: Gate + Sync>(
-    rt: &T,
-    alloc: Global,
+pub fn session_up_to<H: Hands, R: Source, W: Sink>(
+    hands: &H,
     limit: u64,
     image: &[u8],
     trace: &[u8],
     reader: &mut R,
     writer: &mut W,
-    gate: &G,
 ) -> Result<Ended, SessionErr>
     requires limit { limit ≤ most_input }
     requires reads { R.broken reader.old ≡ false }
@@ -76,7 +71,7 @@ pub fn session_up_to<T: Threads + Clock + Sync, R: Source, W: Sink, G: Gate + Sy
         × Reads limit (R.left reader.old) (R.left reader.new)
         (AnsweredInPart image.now trace.now (R.left reader.new) (W.written writer.old) (W.written writer.new)) }
 {
-    let Ok(opened) = open(alloc, image, trace) else {
+    let Ok(opened) = open(hands.alloc(), image, trace) else {
         return Err(SessionErr::NoMem);
     };
     match announce(&opened, writer) {
@@ -89,20 +84,18 @@ pub fn session_up_to<T: Threads + Clock + Sync, R: Source, W: Sink, G: Gate + Sy
         Opened::Unfit(_verdict) => Ok(Ended::NotFit),
         Opened::Ready(debugger) => {
             let mut debugger: Debugger = debugger;
-            ended(serve(rt, alloc, limit, reader, writer, &mut debugger, gate))
+            ended(serve(hands, limit, reader, writer, &mut debugger))
         }
     }
 }
 
 /// `session_up_to` with the limit of 1,073,741,824 bytes.
-pub fn session<T: Threads + Clock + Sync, R: Source, W: Sink, G: Gate + Sync>(
-    rt: &T,
-    alloc: Global,
+pub fn session<H: Hands, R: Source, W: Sink>(
+    hands: &H,
     image: &[u8],
     trace: &[u8],
     reader: &mut R,
     writer: &mut W,
-    gate: &G,
 ) -> Result<Ended, SessionErr>
     requires reads { R.broken reader.old ≡ false }
     requires writes { W.broken writer.old ≡ false }
@@ -120,5 +113,5 @@ pub fn session<T: Threads + Clock + Sync, R: Source, W: Sink, G: Gate + Sync>(
         × Reads most_input (R.left reader.old) (R.left reader.new)
         (AnsweredInPart image.now trace.now (R.left reader.new) (W.written writer.old) (W.written writer.new)) }
 {
-    session_up_to(rt, alloc, MOST_INPUT, image, trace, reader, writer, gate)
+    session_up_to(hands, MOST_INPUT, image, trace, reader, writer)
 }

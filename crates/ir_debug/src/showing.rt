@@ -5,7 +5,8 @@ ghost use Rattle.std.specs.Io.KnownBytes.{Appends};
 ghost use Rattle.ir_stream.specs.Devices.{AppendsPrefix};
 ghost use Rattle.ir_debug.specs.AtHand.{thread_here, events_of, shown_here};
 ghost use Rattle.ir_debug.specs.Debugging.{IsThere, IsLast};
-ghost use Rattle.ir_debug.specs.Machine.Desk.{IsDesk, threads_of};
+ghost use Rattle.ir_debug.specs.Machine.Desk.{IsDesk};
+ghost use Rattle.ir_timeline.specs.Positions.{threads_of};
 ghost use Rattle.ir_debug.specs.declared.answer.Answer.TheVariants.{Shown};
 
 use crate::debugger::Debugger;
@@ -21,7 +22,7 @@ fn thread_here(debugger: &Debugger, number: u32) -> &Thread
     requires number { number < threads_of debugger.now.desk.fitted }
     ensures { result.now ≡ thread_here debugger.now number }
 {
-    &debugger.state().threads()[number as usize]
+    &debugger.threads()[number as usize]
 }
 
 // The events of a thread in its run.
@@ -64,12 +65,11 @@ pub fn write_shown<W: Sink>(
             )
         }
         Show::Object { object } => {
-            let state = debugger.state();
             let number = object as usize;
             write_object(
-                state.threads(),
+                debugger.threads(),
                 number,
-                &state.objects()[number],
+                &debugger.objects()[number],
                 debugger.fitted().image().object_words(),
                 writer,
             )

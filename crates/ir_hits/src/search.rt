@@ -20,12 +20,10 @@ use ir_command::Hit;
 use ir_cut::Cut;
 use ir_fit::Fitted;
 use ir_mach::MarkedCode;
-use ir_object::Gate;
+use ir_object::Hands;
 use ir_replay::State;
 use ir_thread::Thread;
-use std::alloc::{AllocError, Global};
-use std::thread::Threads;
-use std::time::Clock;
+use std::alloc::AllocError;
 
 /// Whether some point may hit thread t, wherever it is.
 pub fn may_hit(t: usize, points: &[NumberedPoint]) -> bool
@@ -35,9 +33,8 @@ pub fn may_hit(t: usize, points: &[NumberedPoint]) -> bool
 }
 
 // Where a point hits thread t next, at most at a position. The thread advances to there, or to that position if none does.
-fn next_hit<R: Threads + Clock + Sync, G: Gate + Sync>(
-    rt: &R,
-    alloc: Global,
+fn next_hit<H: Hands>(
+    hands: &H,
     fitted: &Fitted,
     state: &mut State,
     t: usize,
@@ -46,7 +43,6 @@ fn next_hit<R: Threads + Clock + Sync, G: Gate + Sync>(
     code: &MarkedCode<'_>,
     points: &[NumberedPoint],
     notes: &mut [Before],
-    gate: &G,
 ) -> Result<Option<Hit>, AllocError>
     requires stands { StandsAt fitted.now (positions (flat_in fitted.now state.old)) state.old }
     requires thread { t < length fitted.now.guest.entries }
@@ -64,7 +60,7 @@ fn next_hit<R: Threads + Clock + Sync, G: Gate + Sync>(
     let end = last.position(t);
     'steps: while thread_of(state, t).steps() < to {
         note_all(thread_of(state, t), t, points, notes);
-        take_steps(rt, alloc, fitted, state, t, to, last, code, gate)?;
+        take_steps(hands, fitted, state, t, to, last, code)?;
         let thread = thread_of(state, t);
         if let Some(number) = lowest(thread, t, end, points, notes) {
             let position = thread.steps();
@@ -79,15 +75,13 @@ fn next_hit<R: Threads + Clock + Sync, G: Gate + Sync>(
 ///
 /// # Errors
 /// Out of memory, with the threads and objects at some consistent cut.
-pub fn first_hit<R: Threads + Clock + Sync, G: Gate + Sync>(
-    rt: &R,
-    alloc: Global,
+pub fn first_hit<H: Hands>(
+    hands: &H,
     fitted: &Fitted,
     state: &mut State,
     t: usize,
     to: u64,
     points: &[NumberedPoint],
-    gate: &G,
 ) -> Result<Option<Hit>, AllocError>
     requires stands { StandsAt fitted.now (positions (flat_in fitted.now state.old)) state.old }
     requires thread { t < length fitted.now.guest.entries }
@@ -97,11 +91,12 @@ pub fn first_hit<R: Threads + Clock + Sync, G: Gate + Sync>(
     ensures hit { IfOk result (λ h. EachRun fitted.now (λ run. IsNextHit fitted.now run points.now t (positions (flat_in fitted.now state.old) t) to h)) }
     ensures reached { IfOk result (λ h. positions (flat_in fitted.now state.new) t ≡ reached to h) }
 {
+    let alloc = hands.alloc();
     let last = last_cut(alloc, fitted)?;
     let code = marked_code(alloc, fitted.image().code(), t, points)?;
     let mut notes = vec![in alloc; Before::Nothing; points.len()]?;
     next_hit(
-        rt, alloc, fitted, state, t, to, &last, &code, points, &mut notes, gate,
+        hands, fitted, state, t, to, &last, &code, points, &mut notes,
     )
 }
 
@@ -129,9 +124,8 @@ fn start_hit(
 }
 
 // Where a point last hits thread t in a window that ends at a position, where `found` is the last hit so far.
-fn last_in<R: Threads + Clock + Sync, G: Gate + Sync>(
-    rt: &R,
-    alloc: Global,
+fn last_in<H: Hands>(
+    hands: &H,
     fitted: &Fitted,
     state: &mut State,
     t: usize,
@@ -141,7 +135,6 @@ fn last_in<R: Threads + Clock + Sync, G: Gate + Sync>(
     points: &[NumberedPoint],
     notes: &mut [Before],
     found: Option<Hit>,
-    gate: &G,
 ) -> Result<Option<Hit>, AllocError>
     requires stands { StandsAt fitted.now (positions (flat_in fitted.now state.old)) state.old }
     requires thread { t < length fitted.now.guest.entries }
@@ -158,9 +151,7 @@ fn last_in<R: Threads + Clock + Sync, G: Gate + Sync>(
 {
     fitted.known();
     let mut found = found;
-    'hits: while let Some(hit) = next_hit(
-        rt, alloc, fitted, state, t, to, last, code, points, notes, gate,
-    )? {
+    'hits: while let Some(hit) = next_hit(hands, fitted, state, t, to, last, code, points, notes)? {
         found = Some(hit);
     }
     Ok(found)
@@ -171,15 +162,13 @@ fn last_in<R: Threads + Clock + Sync, G: Gate + Sync>(
 ///
 /// # Errors
 /// Out of memory, with the threads and objects at some consistent cut.
-pub fn last_hit<R: Threads + Clock + Sync, G: Gate + Sync>(
-    rt: &R,
-    alloc: Global,
+pub fn last_hit<H: Hands>(
+    hands: &H,
     fitted: &Fitted,
     state: &mut State,
     t: usize,
     to: u64,
     points: &[NumberedPoint],
-    gate: &G,
 ) -> Result<Option<Hit>, AllocError>
     requires stands { StandsAt fitted.now (positions (flat_in fitted.now state.old)) state.old }
     requires thread { t < length fitted.now.guest.entries }
@@ -189,12 +178,13 @@ pub fn last_hit<R: Threads + Clock + Sync, G: Gate + Sync>(
     ensures hit { IfOk result (λ h. EachRun fitted.now (λ run. IsLastFrom fitted.now run points.now t (window_start (positions (flat_in fitted.now state.old) t)) (to + 1) h)) }
     ensures reached { OnOk result (positions (flat_in fitted.now state.new) t ≡ to) }
 {
+    let alloc = hands.alloc();
     let last = last_cut(alloc, fitted)?;
     let code = marked_code(alloc, fitted.image().code(), t, points)?;
     let mut notes = vec![in alloc; Before::Nothing; points.len()]?;
     let end = last.position(t);
     let found = start_hit(thread_of(state, t), t, end, points, &notes);
     last_in(
-        rt, alloc, fitted, state, t, to, &last, &code, points, &mut notes, found, gate,
+        hands, fitted, state, t, to, &last, &code, points, &mut notes, found,
     )
 }

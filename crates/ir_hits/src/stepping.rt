@@ -11,13 +11,11 @@ ghost use Rattle.ir_hits.specs.Searching.{AreLast};
 use ir_cut::{Cut, least};
 use ir_fit::Fitted;
 use ir_mach::MarkedCode;
-use ir_object::Gate;
-use ir_replay::{State, advance, advance_alone, advance_unmarked};
+use ir_object::Hands;
+use ir_replay::{Pace, State, advance, advance_alone, advance_unmarked};
 use ir_thread::Thread;
 use std::alloc::{AllocError, Global};
 use std::mem;
-use std::thread::Threads;
-use std::time::Clock;
 
 // Thread t.
 pub fn thread_of(state: &State, t: usize) -> &Thread
@@ -53,13 +51,11 @@ fn cut_here(alloc: Global, threads: &[Thread]) -> Result<Cut, AllocError>
 }
 
 // Brings the threads and objects to a later cut, or to one between.
-fn bring<R: Threads + Clock + Sync, G: Gate + Sync>(
-    rt: &R,
-    alloc: Global,
+fn bring<H: Hands>(
+    hands: &H,
     fitted: &Fitted,
     state: &mut State,
     target: &Cut,
-    gate: &G,
 ) -> Result<(), AllocError>
     requires stands { StandsAt fitted.now (positions (flat_in fitted.now state.old)) state.old }
     requires target { (length target.now ≡ length fitted.now.guest.entries) × IsConsistentCut fitted.now target.now }
@@ -67,8 +63,15 @@ fn bring<R: Threads + Clock + Sync, G: Gate + Sync>(
     ensures stands { StandsAt fitted.now (positions (flat_in fitted.now state.new)) state.new }
     ensures there { OnOk result ((t : ℕ) → positions (flat_in fitted.now state.new) t ≡ cut_of target.now t) }
 {
+    let alloc = hands.alloc();
     let none = State::build(Vec::new(alloc), Vec::new(alloc));
-    match advance(rt, alloc, fitted, mem::replace(state, none), target, gate) {
+    match advance(
+        hands,
+        fitted,
+        mem::replace(state, none),
+        target,
+        &mut Pace::new(),
+    ) {
         Ok(there) => {
             *state = there;
             Ok(())
@@ -81,14 +84,12 @@ fn bring<R: Threads + Clock + Sync, G: Gate + Sync>(
 }
 
 // Thread t takes its next step. The others stay, or go on as far as that step needs them.
-fn take_step<R: Threads + Clock + Sync, G: Gate + Sync>(
-    rt: &R,
-    alloc: Global,
+fn take_step<H: Hands>(
+    hands: &H,
     fitted: &Fitted,
     state: &mut State,
     t: usize,
     last: &Cut,
-    gate: &G,
 ) -> Result<(), AllocError>
     requires stands { StandsAt fitted.now (positions (flat_in fitted.now state.old)) state.old }
     requires thread { t < length fitted.now.guest.entries }
@@ -98,29 +99,28 @@ fn take_step<R: Threads + Clock + Sync, G: Gate + Sync>(
     ensures taken { OnOk result (positions (flat_in fitted.now state.new) t ≡ positions (flat_in fitted.now state.old) t + 1) }
 {
     fitted.known();
+    let alloc = hands.alloc();
     let none = State::build(Vec::new(alloc), Vec::new(alloc));
-    let (here, taken) = advance_alone(fitted, mem::replace(state, none), t, last, 1, gate);
+    let (here, taken) = advance_alone(fitted, mem::replace(state, none), t, last, 1, hands);
     *state = here;
     if taken == 1 {
         return Ok(());
     }
     let at = cut_here(alloc, state.threads())?;
     let next = least(alloc, fitted, &at, t, thread_of(state, t).steps() + 1)?;
-    bring(rt, alloc, fitted, state, &next, gate)
+    bring(hands, fitted, state, &next)
 }
 
 // Thread t advances, at most to a position: over instructions none of which is marked; or by its next step, if that isn't such a one.
 // The others stay, or advance as far as that step needs them.
-pub fn take_steps<R: Threads + Clock + Sync, G: Gate + Sync>(
-    rt: &R,
-    alloc: Global,
+pub fn take_steps<H: Hands>(
+    hands: &H,
     fitted: &Fitted,
     state: &mut State,
     t: usize,
     to: u64,
     last: &Cut,
     code: &MarkedCode<'_>,
-    gate: &G,
 ) -> Result<(), AllocError>
     requires stands { StandsAt fitted.now (positions (flat_in fitted.now state.old)) state.old }
     requires thread { t < length fitted.now.guest.entries }
@@ -132,6 +132,7 @@ pub fn take_steps<R: Threads + Clock + Sync, G: Gate + Sync>(
 {
     fitted.known();
     let most = to - thread_of(state, t).steps();
+    let alloc = hands.alloc();
     let none = State::build(Vec::new(alloc), Vec::new(alloc));
     let here = mem::replace(state, none);
     let (there, taken) = advance_unmarked(fitted, here, t, last, code, most);
@@ -139,5 +140,5 @@ pub fn take_steps<R: Threads + Clock + Sync, G: Gate + Sync>(
     if taken > 0 {
         return Ok(());
     }
-    take_step(rt, alloc, fitted, state, t, last, gate)
+    take_step(hands, fitted, state, t, last)
 }

@@ -13,7 +13,7 @@ use crate::fault::BundleErr;
 use crate::line::{bytes_of, read_line};
 use ir_debug::{Ended, Sink, Source, session};
 use ir_files::{ExitStatus, tell};
-use ir_object::OpenGate;
+use ir_object::{Given, OpenGate};
 use std::alloc::Global;
 use std::thread::Threads;
 use std::time::Clock;
@@ -55,7 +55,8 @@ pub fn bundled<T: Threads + Clock + Sync, R: Source, W: Sink>(
     let image = next_bytes(alloc, reader)?;
     let trace = next_bytes(alloc, reader)?;
     let (image, trace) = (image.as_slice(), trace.as_slice());
-    let ended = session(rt, alloc, image, trace, reader, writer, &OpenGate)?;
+    let hands = Given::new(rt, alloc, &OpenGate);
+    let ended = session(&hands, image, trace, reader, writer)?;
     Ok(ended)
 }
 

@@ -13,7 +13,7 @@ use crate::bundles::status;
 use crate::fault::BundleErr;
 use ir_debug::{Sink, Source, session};
 use ir_files::{ExitStatus, tell};
-use ir_object::OpenGate;
+use ir_object::{Given, OpenGate};
 use std::thread::Threads;
 use std::time::Clock;
 
@@ -40,7 +40,8 @@ pub fn debug_run<T: Threads + Clock + Sync + AllocGlobal, R: Source, W: Sink, E:
         (writer_of (W.written writer.old) (W.written writer.new) (W.broken writer.new)) ((reader.new ≡ reader.old) × (writer.new ≡ writer.old))
         × Reports (writer_of (E.written faults.old) (E.written faults.new) (E.broken faults.new)) (fault_text (fault_words (fault_of e))) }
 {
-    match session(rt, rt.alloc(), image, trace, reader, writer, &OpenGate) {
+    let hands = Given::new(rt, rt.alloc(), &OpenGate);
+    match session(&hands, image, trace, reader, writer) {
         Ok(ended) => status(ended),
         Err(error) => {
             tell(faults, BundleErr::from(error).words());

@@ -3,6 +3,8 @@
 
 mod admission;
 mod alone;
+mod limit;
+mod meter;
 mod moves;
 mod pace;
 mod passes;
@@ -16,3 +18,4 @@ mod worker;
 pub use alone::{advance_alone, advance_unmarked};
 pub use ir_weave::{State, one_state_each};
 pub use moves::{advance, advance_in_order};
+pub use pace::Pace;

@@ -7,17 +7,16 @@ ghost use Rattle.ir_weave.specs.Woven.{IsFor, WasStopped};
 ghost use Rattle.ir_weave.specs.declared.stepping.Tried.TheVariants.{Stepped, NotNow, AtTarget};
 ghost use Rattle.ir_replay.specs.Workers.{IsReady, IsOnWay, HasWorked};
 
+use crate::limit::Limit;
 use crate::patience::Patience;
 use crate::telling::{tell_entry, tell_leave};
 use crossbeam_utils::{Backoff, CachePadded};
 use ir_cut::Cut;
 use ir_fit::Fitted;
-use ir_object::Gate;
+use ir_object::Hands;
 use ir_thread::{Ask, Thread};
 use ir_weave::{Tried, Weave, WeaveSeat};
-use std::sync::atomic::AtomicBool;
 use std::thread;
-use std::thread::Threads;
 use std::time::Clock;
 
 // A thread with its seat.
@@ -60,44 +59,43 @@ fn try_again(
 }
 
 // The thread advances until it is at its target or its next step isn't admitted for long.
-fn work<G: Gate>(
-    clock: &impl Clock,
+fn work<H: Hands>(
+    hands: &H,
     weave: &Weave,
     worker: &mut Worker,
     fitted: &Fitted,
     target: &Cut,
-    gate: &G,
-    ended: &AtomicBool,
+    limit: &Limit,
 )
     requires table { IsFor weave.now.table.shared.key fitted.now }
     requires target { (length target.now ≡ length fitted.now.guest.entries) × IsConsistentCut fitted.now target.now }
     requires ready { IsReady weave.now.table.shared.table_id weave.now.table.shared.key target.now worker.old }
     ensures { HasWorked weave.now.table.shared.table_id weave.now.table.shared.key target.now worker.old worker.new }
 {
-    let mut patience = Patience::new(ended);
+    let mut patience = Patience::new(limit);
     'steps: loop {
-        let (ran, asked) = weave.run(&worker.seat, &mut worker.thread, fitted, target);
-        patience.grow(ran);
+        let (_, asked) = weave.run(&worker.seat, &mut worker.thread, fitted, target);
         let number = worker.thread.number();
         if worker.thread.steps() >= target.position(number as usize) {
             return;
         }
-        tell_leave(gate, number, asked);
-        match try_again(clock, weave, worker, fitted, target, asked, &mut patience) {
-            Tried::Stepped => tell_entry(gate, &worker.thread, asked),
+        tell_leave(hands, number, asked);
+        match try_again(hands, weave, worker, fitted, target, asked, &mut patience) {
+            Tried::Stepped => tell_entry(hands, &worker.thread, asked),
             Tried::NotNow | Tried::AtTarget => return,
         }
     }
 }
 
-// Each worker runs in a thread of its own, if one can be made, and otherwise on the caller's.
-pub fn work_all<R: Threads + Clock + Sync, G: Gate + Sync>(
-    rt: &R,
+// Each worker runs in a thread of its own, if one can be made, and otherwise on the caller's. Once so many milliseconds have passed, a worker
+// whose next step isn't admitted ends its round.
+pub fn work_all<H: Hands>(
+    hands: &H,
     weave: &Weave,
     workers: &mut [Worker],
     fitted: &Fitted,
     target: &Cut,
-    gate: &G,
+    millis: u32,
 )
     requires table { IsFor weave.now.table.shared.key fitted.now }
     requires target { (length target.now ≡ length fitted.now.guest.entries) × IsConsistentCut fitted.now target.now }
@@ -108,11 +106,16 @@ pub fn work_all<R: Threads + Clock + Sync, G: Gate + Sync>(
         return;
     }
     let count = workers.len();
-    let ended = AtomicBool::new(false);
+    let limit = Limit::new(hands, millis);
     thread::for_each_mut(
-        rt,
+        hands,
         workers,
         count,
-        &|_, worker| work(rt, weave, worker, fitted, target, gate, &ended),
+        &|_, worker: &mut Worker|
+            requires table { IsFor weave.now.table.shared.key fitted.now }
+            requires target { (length target.now ≡ length fitted.now.guest.entries) × IsConsistentCut fitted.now target.now }
+            requires ready { IsReady weave.now.table.shared.table_id weave.now.table.shared.key target.now worker.now }
+            ensures { HasWorked weave.entry.now.table.shared.table_id weave.entry.now.table.shared.key target.entry.now worker.entry.now worker.exit.now }
+        { work(hands, weave, worker, fitted, target, &limit) },
     );
 }

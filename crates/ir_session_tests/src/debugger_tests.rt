@@ -2,7 +2,7 @@
 
 use ir_command::{ByteCount, Command, Direction, Move, Point, Refusal, Show};
 use ir_debug::{Answer, Debugger};
-use ir_object::OpenGate;
+use ir_object::{Given, Hands, OpenGate};
 use ir_tests::guests::TWO_COUNTERS;
 use ir_tests::replays::fitted;
 use ir_tests::traces::SECOND_FIRST;
@@ -50,26 +50,16 @@ fn positions(debugger: &Debugger) -> Option<Pair> {
 // What is seen after a command: the answer's kind, and the positions.
 type Sight = (Kind, Option<Pair>);
 
-fn sight_after<R: Threads + Clock + Sync>(
-    rt: &R,
-    alloc: Global,
-    debugger: &mut Debugger,
-    command: &Command,
-) -> Sight {
-    let answer = debugger.command(rt, alloc, command, &OpenGate);
+fn sight_after<H: Hands>(hands: &H, debugger: &mut Debugger, command: &Command) -> Sight {
+    let answer = debugger.command(hands, command);
     (kind_of(&answer), positions(debugger))
 }
 
 // What is seen after each of eight commands.
-fn sights<R: Threads + Clock + Sync>(
-    rt: &R,
-    alloc: Global,
-    debugger: &mut Debugger,
-    commands: &[Command; 8],
-) -> [Sight; 8] {
+fn sights<H: Hands>(hands: &H, debugger: &mut Debugger, commands: &[Command; 8]) -> [Sight; 8] {
     let mut all = [(Kind::Bye, None); 8];
     for i in 0..8 {
-        all[i] = sight_after(rt, alloc, debugger, &commands[i]);
+        all[i] = sight_after(hands, debugger, &commands[i]);
     }
     all
 }
@@ -81,7 +71,8 @@ fn walk<R: Threads + Clock + Sync>(
     commands: &[Command; 8],
 ) -> Result<[Sight; 8], Fail> {
     let mut debugger = Debugger::open(alloc, fitted(alloc, TWO_COUNTERS, SECOND_FIRST)?)?;
-    Ok(sights(rt, alloc, &mut debugger, commands))
+    let hands = Given::new(rt, alloc, &OpenGate);
+    Ok(sights(&hands, &mut debugger, commands))
 }
 
 // Moves, and what is seen after each.

@@ -4,7 +4,7 @@ use crate::line_tests::line_of;
 use crate::sessions::{Files, files_of};
 use crate::streams::{Bytes, ENDLESS, Page};
 use ir_debug::{Ended, MOST_INPUT, SessionErr, session_up_to};
-use ir_object::OpenGate;
+use ir_object::{Given, OpenGate};
 use ir_tests::guests::DOUBLED;
 use ir_tests::patches::{Patch, UNPATCHED, patched};
 use ir_tests::traces::ENDED_BY_144;
@@ -45,15 +45,14 @@ fn is_limited<R: AllocGlobal + Threads + Clock + Sync>(
     let (limit, lines, answers, wanted) = row;
     let mut reader = Bytes::new(lines, limit);
     let mut writer = Page::new(rt.alloc(), false, ENDLESS);
+    let hands = Given::new(rt, rt.alloc(), &OpenGate);
     let ended = session_up_to(
-        rt,
-        rt.alloc(),
+        &hands,
         limit.min(MOST_INPUT),
         files.image.as_slice(),
         files.trace.as_slice(),
         &mut reader,
         &mut writer,
-        &OpenGate,
     );
     writer.bytes.as_slice() == answers && ended == wanted
 }

@@ -2,7 +2,7 @@
 
 use crate::streams::{Bytes, ENDLESS, Page};
 use ir_debug::{Ended, SessionErr, session};
-use ir_object::{Gate, OpenGate};
+use ir_object::{Gate, Given, OpenGate};
 use ir_tests::sources::image_bytes;
 use ir_tests::traces::{TraceRow, trace_bytes};
 use std::alloc::Global;
@@ -27,7 +27,8 @@ pub fn answered_until<R: AllocGlobal + Threads + Clock + Sync, G: Gate + Sync>(
 ) -> (Page, Result<Ended, SessionErr>) {
     let mut reader = Bytes::new(lines, reads);
     let mut writer = Page::new(rt.alloc(), writes.is_some(), writes.unwrap_or(ENDLESS));
-    let ended = session(rt, rt.alloc(), image, trace, &mut reader, &mut writer, gate);
+    let hands = Given::new(rt, rt.alloc(), gate);
+    let ended = session(&hands, image, trace, &mut reader, &mut writer);
     (writer, ended)
 }
 

@@ -3,10 +3,9 @@
 use crate::streams::{ENDLESS, Page};
 use ir_command::{Command, Move, Show};
 use ir_debug::{Debugger, write_answer};
-use ir_object::OpenGate;
+use ir_object::{Given, Hands, OpenGate};
 use ir_tests::guests::THREE_COUNTERS;
 use ir_tests::recordings::{BUDGET, fitted_in_order};
-use std::alloc::Global;
 use std::process::Abort;
 use std::test::Fail;
 use std::thread::Threads;
@@ -32,19 +31,14 @@ fn positions(debugger: &Debugger) -> [u64; 3] {
 }
 
 // Writes what a command shows. Whether it could.
-fn is_shown<R: Threads + Clock + Sync>(
-    rt: &R,
-    alloc: Global,
-    debugger: &mut Debugger,
-    show: Show,
-    page: &mut Page,
-) -> bool {
-    let answer = debugger.command(rt, alloc, &Command::Show(show), &OpenGate);
+fn is_shown<H: Hands>(hands: &H, debugger: &mut Debugger, show: Show, page: &mut Page) -> bool {
+    let answer = debugger.command(hands, &Command::Show(show));
     write_answer(debugger, &answer, page).is_ok()
 }
 
 // Registers, log, output and next step of each thread, and the object. Nothing where it couldn't be written.
-fn sight<R: Threads + Clock + Sync>(rt: &R, alloc: Global, debugger: &mut Debugger) -> Vec<u8> {
+fn sight<H: Hands>(hands: &H, debugger: &mut Debugger) -> Vec<u8> {
+    let alloc = hands.alloc();
     let mut page = Page::new(alloc, false, ENDLESS);
     for thread in 0..THREADS {
         for show in [
@@ -54,7 +48,7 @@ fn sight<R: Threads + Clock + Sync>(rt: &R, alloc: Global, debugger: &mut Debugg
             Show::Next { thread },
             Show::Object { object: 0 },
         ] {
-            if !is_shown(rt, alloc, debugger, show, &mut page) {
+            if !is_shown(hands, debugger, show, &mut page) {
                 return Vec::new(alloc);
             }
         }
@@ -63,38 +57,29 @@ fn sight<R: Threads + Clock + Sync>(rt: &R, alloc: Global, debugger: &mut Debugg
 }
 
 // Goes back a step of a thread at a time, each in its turn, and gives all cuts on the way.
-fn back_to_start<R: Threads + Clock + Sync>(
-    rt: &R,
-    alloc: Global,
-    debugger: &mut Debugger,
-) -> Result<Vec<Stop>, Fail> {
-    let mut stops = Vec::new(alloc);
+fn back_to_start<H: Hands>(hands: &H, debugger: &mut Debugger) -> Result<Vec<Stop>, Fail> {
+    let mut stops = Vec::new(hands.alloc());
     for turn in 0..TURNS {
         let at = positions(debugger);
-        let seen = sight(rt, alloc, debugger);
+        let seen = sight(hands, debugger);
         stops.push(Stop { at, seen })?;
         let back = Move::Back {
             thread: turn % THREADS,
             count: 1,
         };
-        debugger.command(rt, alloc, &Command::Move(back), &OpenGate);
+        debugger.command(hands, &Command::Move(back));
     }
     Ok(stops)
 }
 
 // Whether the same is shown where the threads come to the positions from below.
-fn is_seen_again<R: Threads + Clock + Sync>(
-    rt: &R,
-    alloc: Global,
-    debugger: &mut Debugger,
-    stop: &Stop,
-) -> bool {
+fn is_seen_again<H: Hands>(hands: &H, debugger: &mut Debugger, stop: &Stop) -> bool {
     for thread in 0..THREADS {
         let position = stop.at[thread as usize];
         let goto = Move::Goto { thread, position };
-        debugger.command(rt, alloc, &Command::Move(goto), &OpenGate);
+        debugger.command(hands, &Command::Move(goto));
     }
-    let seen = sight(rt, alloc, debugger);
+    let seen = sight(hands, debugger);
     positions(debugger) == stop.at && seen.as_slice() == stop.seen.as_slice() && !seen.is_empty()
 }
 
@@ -104,9 +89,10 @@ fn assert_seen_again<R: AllocGlobal + Threads + Clock + Sync + Abort>(
     debugger: &mut Debugger,
     stops: &[Stop],
 ) {
+    let hands = Given::new(rt, rt.alloc(), &OpenGate);
     for i in 0..stops.len() {
         let stop = &stops[stops.len() - 1 - i];
-        assert!(rt; is_seen_again(rt, rt.alloc(), debugger, stop), "{i}");
+        assert!(rt; is_seen_again(&hands, debugger, stop), "{i}");
     }
 }
 
@@ -115,9 +101,10 @@ fn assert_same<R: AllocGlobal + Threads + Clock + Sync + Abort>(
     rt: &R,
     debugger: &mut Debugger,
 ) -> Result<(), Fail> {
-    debugger.command(rt, rt.alloc(), &Command::Move(Move::End), &OpenGate);
+    let hands = Given::new(rt, rt.alloc(), &OpenGate);
+    debugger.command(&hands, &Command::Move(Move::End));
     assert_eq!(rt; positions(debugger), [18, 18, 18]);
-    let stops = back_to_start(rt, rt.alloc(), debugger)?;
+    let stops = back_to_start(&hands, debugger)?;
     assert_eq!(rt; positions(debugger), [0, 0, 0]);
     assert_seen_again(rt, debugger, stops.as_slice());
     assert_eq!(rt; positions(debugger), [18, 18, 18]);

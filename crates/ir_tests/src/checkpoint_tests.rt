@@ -9,7 +9,7 @@ use crate::traces::{Ran, TraceRow};
 use ir_checkpoint::Checkpoints;
 use ir_cut::Cut;
 use ir_fit::Fitted;
-use ir_object::OpenGate;
+use ir_object::{Given, OpenGate};
 use ir_replay::State;
 use std::alloc::Global;
 use std::test::Fail;
@@ -53,7 +53,8 @@ fn brought<R: Threads + Clock + Sync>(
     if !is_cut(fitted, &target) {
         return Ok(None);
     }
-    checkpoints.bring(rt, alloc, fitted, state, &target, &OpenGate)?;
+    let hands = Given::new(rt, alloc, &OpenGate);
+    checkpoints.bring(&hands, fitted, state, &target)?;
     Ok(positions(state))
 }
 

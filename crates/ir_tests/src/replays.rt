@@ -8,8 +8,8 @@ use crate::states::same_state;
 use crate::traces::{TraceRow, trace_of};
 use ir_cut::{Cut, consistent, greatest, least};
 use ir_fit::{Fitted, fit};
-use ir_object::{Gate, OpenGate};
-use ir_replay::{State, advance, advance_in_order};
+use ir_object::{Gate, Given, OpenGate};
+use ir_replay::{Pace, State, advance, advance_in_order};
 use ir_trace::ThreadTrace;
 use std::alloc::Global;
 use std::test::Fail;
@@ -133,7 +133,8 @@ pub fn by_threads<R: Threads + Clock + Sync, G: Gate + Sync>(
         return Ok(None);
     }
     let start = State::start(alloc, fitted)?;
-    match advance(rt, alloc, fitted, start, target, gate) {
+    let hands = Given::new(rt, alloc, gate);
+    match advance(&hands, fitted, start, target, &mut Pace::new()) {
         Ok(state) => Ok(Some(state)),
         Err((_state, error)) => Err(error.into()),
     }

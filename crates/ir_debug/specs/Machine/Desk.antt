@@ -1,14 +1,14 @@
 -- What the small machine holds beside the run.
-use Rattle.std.specs.Prelude.{◌≡◌, ◌≤◌, ◌==◌, ℕ, zero, suc, ◌+◌, not, Bool, true, false, List, [], ◌∷◌, ◌++◌, length, replicate, find, is_some, Option, option_map}
+use Rattle.std.specs.Prelude.{◌≡◌, ◌≤◌, ◌==◌, ℕ, ◌+◌, not, Bool, true, false, List, [], ◌∷◌, ◌++◌, length, find, is_some, Option, option_map}
 use Rattle.std.specs.List.{filter, AllByRecursion}
 use Rattle.ir_runs.specs.Run.{Step, th}
 use Rattle.ir_thread.specs.State as thread
-use Rattle.ir_trace.specs.TraceOf.{recorded_thread}
 use Rattle.ir_fit.specs.Fit.{FittedTrace, HasRun}
 use Rattle.ir_cut.specs.Positions.{IsConsistentCut, machine_of, start_of, cut_of}
 use Rattle.ir_command.specs.Limits.{most_small}
 use Rattle.ir_command.specs.declared.command.Point.{Point}
 use Rattle.ir_hits.specs.Hits.{Numbered, AreWatchable}
+use Rattle.ir_timeline.specs.Positions.{threads_of, first_cut, Cuts}
 
 -- a kept cut, and the number by which it is asked for
 pub record Kept : Type 0 where
@@ -30,27 +30,6 @@ pub record Desk : Type 0 where
   pub kept : List Kept
   -- that number, or 0
   pub last_kept : ℕ
-
--- how many threads the guest has
-abbrev pub threads_of : FittedTrace → ℕ
-threads_of f = length f.guest.entries
-
--- the last position of a thread
-abbrev pub last_of : FittedTrace → ℕ → ℕ
-last_of f t = (recorded_thread f.recorded t).steps
-
--- all threads at 0
-abbrev pub first_cut : FittedTrace → List ℕ
-first_cut f = replicate (threads_of f) 0
-
--- the last positions of n threads, from this one on
-unfoldable pub last_positions : FittedTrace → ℕ → ℕ → List ℕ
-last_positions f from zero = []
-last_positions f from (suc n) = last_of f from ∷ last_positions f (from + 1) n
-
--- all threads at their last positions
-abbrev pub last_cut : FittedTrace → List ℕ
-last_cut f = last_positions f 0 (threads_of f)
 
 -- at the start, which is kept as 0
 abbrev pub desk_of : FittedTrace → Desk
@@ -124,10 +103,6 @@ position_of d t = cut_of d.at t
 -- thread t of the run just after its k-th own step
 abbrev pub thread_at : FittedTrace → List Step → ℕ → ℕ → thread.State
 thread_at f run t k = th (machine_of f) (start_of f) run t k
-
--- a consistent cut of the guest's threads
-abbrev pub Cuts : FittedTrace → List ℕ → Type 0
-Cuts f c = (length c ≡ threads_of f) × IsConsistentCut f c
 
 -- all kept cuts are such
 abbrev pub AllKept : FittedTrace → List Kept → Type 0

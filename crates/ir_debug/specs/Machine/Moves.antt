@@ -8,9 +8,9 @@ use Rattle.ir_command.specs.declared.command.Direction.TheVariants.{Forwards, Ba
 use Rattle.ir_command.specs.declared.command.Move.{Move}
 use Rattle.ir_command.specs.declared.command.Move.TheVariants.{Step, Back, Goto, Start, End}
 use Rattle.ir_fit.specs.Fit.{FittedTrace}
-use Rattle.ir_hits.specs.Hits.{IsFirstHit, IsLastHit}
 use Rattle.ir_command.specs.declared.hit.Hit.{Hit}
-use Rattle.ir_debug.specs.Machine.Desk.{Desk, threads_of, last_of, first_cut, last_cut}
+use Rattle.ir_timeline.specs.Positions.{threads_of, last_of, first_cut, last_cut, Finds}
+use Rattle.ir_debug.specs.Machine.Desk.{Desk}
 
 -- the least cut at or above this one with thread t at k or more
 abbrev pub ToLeast : List run.Step → FittedTrace → List ℕ → ℕ → ℕ → List ℕ → Type 0
@@ -39,11 +39,6 @@ Leads steps f at End to = to ≡ last_cut f
 
 -- ---- to a hit
 
--- the hit that thread t finds from its position in this direction
-abbrev pub Finds : List run.Step → Desk → ℕ → Direction → Option Hit → Type 0
-Finds steps d t Forwards hit = IsFirstHit d.fitted steps d.points t (cut_of d.at t) hit
-Finds steps d t Backwards hit = IsLastHit d.fitted steps d.points t (cut_of d.at t) hit
-
 -- where it stops: there; or at its last position, or at 0
 abbrev pub stop_of : FittedTrace → ℕ → Direction → Option Hit → ℕ
 stop_of f t direction (Some hit) = hit.position
@@ -57,5 +52,5 @@ StopsAt steps f at t Backwards k to = ToGreatest steps f at t k to
 
 -- thread t, continued in this direction, finds this hit, and all threads come to this cut
 abbrev pub Continues : List run.Step → Desk → ℕ → Direction → Option Hit → List ℕ → Type 0
-Continues steps d t direction hit to = Finds steps d t direction hit
+Continues steps d t direction hit to = Finds steps d.fitted d.points t (cut_of d.at t) direction hit
     × StopsAt steps d.fitted d.at t direction (stop_of d.fitted t direction hit) to

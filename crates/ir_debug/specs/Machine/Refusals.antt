@@ -14,7 +14,8 @@ use Rattle.ir_command.specs.declared.command.Keeping.{Keeping}
 use Rattle.ir_command.specs.declared.command.Keeping.TheVariants.{Keep, Load, Drop, Kept}
 use Rattle.ir_command.specs.declared.refusal.Refusal.{Refusal}
 use Rattle.ir_command.specs.declared.refusal.Refusal.TheVariants.{NoSuchThread, NoSuchObject, NoSuchNumber, BadAddress, Full}
-use Rattle.ir_debug.specs.Machine.Desk.{Desk, threads_of, is_set, kept_cut, most_kept, most_points, most_number}
+use Rattle.ir_timeline.specs.Positions.{threads_of}
+use Rattle.ir_debug.specs.Machine.Desk.{Desk, is_set, kept_cut, most_kept, most_points, most_number}
 
 -- a test of what is named, if anything is
 abbrev pub if_some : Option ℕ → (ℕ → Bool) → Bool

@@ -9,7 +9,8 @@ use Rattle.ir_cut.specs.Positions.{machine_of, start_of, cut_of}
 use Rattle.ir_command.specs.declared.command.Show.{Show}
 use Rattle.ir_command.specs.declared.command.Show.TheVariants.{Registers, Memory, Object, Output, Log, Next}
 use Rattle.ir_text.specs.Answers.{machine_text}
-use Rattle.ir_debug.specs.Machine.Desk.{Desk, threads_of, position_of, thread_at}
+use Rattle.ir_timeline.specs.Positions.{threads_of}
+use Rattle.ir_debug.specs.Machine.Desk.{Desk, position_of, thread_at}
 use Rattle.ir_text.specs.Texts.{memory_text, output_text, object_text, log_text, next_text, bytes_from}
 
 -- thread t at its position

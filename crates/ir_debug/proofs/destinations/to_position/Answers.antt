@@ -1,7 +1,7 @@
 use Rattle.std.proofs.Common.{min}
 use Rattle.std.proofs.lemmas.Result.{IfOk-weaker}
 use Rattle.ir_cut.specs.Positions.{IsLeastCut, IsGreatestCut}
-use Rattle.ir_debug.specs.Machine.Desk.{last_of}
+use Rattle.ir_timeline.specs.Positions.{last_of}
 use Rattle.ir_debug.proofs.Leading.{ToPositionSo, up_to, down_to}
 use Rattle.ir_debug.proofs.destinations.to_position.Goals as goal
 

@@ -27,7 +27,7 @@ write_memory-requires-clause-low g c =
 
 pub bounds-objects-number : goal.bounds-objects-number
 bounds-objects-number g c = object_there c.args.debugger.now c.args.show c.objects.result.now c.in-Object.object c.in-Object.is c.requires
-    (c.objects.ensures ∙ ap (λ s. s.objects) c.state-state.ensures)
+    c.objects.ensures
 
 pub thread_here-requires-in-Output-clause-number : goal.thread_here-requires-in-Output-clause-number
 thread_here-requires-in-Output-clause-number g c =
@@ -61,8 +61,8 @@ returns-in-Object-clause-ok g c =
     let new = g.W.Sink.written c.write_object.new.writer in
     subst (λ text. OnOk c.write_object.result (Appends old new text))
     (object_read c.args.debugger.now c.args.show c.objects.result.now c.threads.result.now c.index-objects-number.result c.in-Object.object
-    c.object_words.result c.in-Object.is c.requires (c.objects.ensures ∙ ap (λ s. s.objects) c.state-state.ensures)
-    (c.threads.ensures ∙ ap (λ s. s.threads) c.state-state.ensures)
+    c.object_words.result c.in-Object.is c.requires c.objects.ensures
+    c.threads.ensures
     (c.object_words.ensures.value ∙ ap object_words (c.image-in-Object.ensures.value ∙ ap (λ f. f.guest) c.fitted-in-Object.ensures.value))
     c.index-objects-number.is) c.write_object.ensures.ok
 
@@ -72,7 +72,7 @@ returns-in-Object-clause-prefix g c =
     let new = g.W.Sink.written c.write_object.new.writer in
     subst (λ text. OnErr c.write_object.result (AppendsPrefix old new text))
     (object_read c.args.debugger.now c.args.show c.objects.result.now c.threads.result.now c.index-objects-number.result c.in-Object.object
-    c.object_words.result c.in-Object.is c.requires (c.objects.ensures ∙ ap (λ s. s.objects) c.state-state.ensures)
-    (c.threads.ensures ∙ ap (λ s. s.threads) c.state-state.ensures)
+    c.object_words.result c.in-Object.is c.requires c.objects.ensures
+    c.threads.ensures
     (c.object_words.ensures.value ∙ ap object_words (c.image-in-Object.ensures.value ∙ ap (λ f. f.guest) c.fitted-in-Object.ensures.value))
     c.index-objects-number.is) c.write_object.ensures.prefix

@@ -15,7 +15,5 @@ invariant_of-self c =
         kept = held.kept;
         few = held.few;
       };
-      stands = c.self.invariant.stands;
-      checkpoints = c.self.invariant.checkpoints;
       fresh = λ e. absurd (cc e);
     }

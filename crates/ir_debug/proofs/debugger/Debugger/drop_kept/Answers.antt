@@ -1,5 +1,7 @@
 use Rattle.std.proofs.Common.{length, sym, ap, subst, arith, List}
+use Rattle.ir_timeline.specs.Replaying.{Replaying}
 use Rattle.ir_debug.specs.Machine.Desk.{Kept, AllKept}
+use Rattle.ir_debug.proofs.Desks.{desk_over}
 use Rattle.ir_debug.proofs.KeptCuts.{all_without, fewer}
 use Rattle.ir_debug.proofs.debugger.Debugger.drop_kept.Goals as goal
 
@@ -10,16 +12,10 @@ invariant_of-self c =
     let same = ap (λ (z : List Kept). length z) c.forget.ensures in
     let few = held.few in
     record {
-      desk = record {
-        run = held.run;
-        size = held.size;
-        at = held.at;
-        points = held.points;
-        kept = subst (AllKept c.self.inside.fitted) (sym c.forget.ensures)
-            (all_without c.self.inside.fitted c.self.inside.kept.items c.args.number held.kept);
-        few = omega (arith, less, same, few);
-      };
-      stands = c.self.invariant.stands;
-      checkpoints = c.drop_kept.ensures;
+      desk = desk_over c.self.inside.timeline.fitted _ (ap (λ (r : Replaying). r.fitted) c.drop_kept.ensures) held.run (held.size, held.at)
+          held.points
+          (subst (AllKept c.self.inside.timeline.fitted) (sym c.forget.ensures)
+          (all_without c.self.inside.timeline.fitted c.self.inside.kept.items c.args.number held.kept))
+          (omega (arith, less, same, few));
       fresh = λ e. absurd (cc e);
     }

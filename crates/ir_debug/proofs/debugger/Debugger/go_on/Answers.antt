@@ -1,32 +1,60 @@
-use Rattle.std.proofs.Common.{◌≡◌, ◌<◌, refl, sym, ap, subst, ◌∙◌}
-use Rattle.ir_cut.specs.Positions.{IsConsistentCut}
-use Rattle.ir_fit.specs.Fit.{FittedTrace}
+use Rattle.std.proofs.Common.{◌<◌, refl, sym, ap, subst, ◌∙◌}
+use Rattle.ir_cut.specs.Positions.{IsConsistentCut, EachRun, cut_of}
+use Rattle.ir_fit.specs.Fit.{FittedTrace, HasRun}
 use Rattle.ir_command.specs.declared.command.Command.TheVariants as command
+use Rattle.ir_timeline.specs.Positions.{threads_of, Cuts, Finds}
 use Rattle.ir_debug.specs.Debugging.{Debugging}
-use Rattle.ir_debug.specs.Machine.Desk.{Desk, threads_of}
+use Rattle.ir_debug.proofs.Desks.{desk_same}
 use Rattle.ir_debug.proofs.Passed.{thread_below}
 use Rattle.ir_debug.proofs.SetPoints.{stop_within}
 use Rattle.ir_debug.proofs.debugger.Debugger.go_on.Goals as goal
 
-pub find_hit-requires-after_bounds : goal.find_hit-requires-after_bounds
-find_hit-requires-after_bounds g c κs within =
-    thread_below c.args.self.now.desk (command.Continue c.args.thread c.args.direction) c.args.thread c.requires refl
+pub search-requires-clause-thread : goal.search-requires-clause-thread
+search-requires-clause-thread g c κs within =
+    subst (λ (f : FittedTrace). c.args.thread < threads_of f) (sym (ap (λ (d : Debugging). d.desk.fitted) c.self.view_is))
+    (thread_below c.args.self.now.desk (command.Continue c.args.thread c.args.direction) c.args.thread c.requires refl)
 
--- the guest is the same after the search
-same : (g : _) (c : goal.After-stop-arg-2-1 g) → c.args.self.now.desk.fitted ≡ c.self.inside.fitted
-same g c = sym (ap (λ (d : Debugging). d.desk.fitted) c.self.view_is ∙ ap (λ (d : Desk). d.fitted) c.in_ok-hit.ensures.desk)
+pub invariant_of-self : goal.invariant_of-self
+invariant_of-self g c = record {
+  desk = desk_same _ _ c.search.ensures.fitted refl refl refl c.self.invariant.desk;
+  fresh = λ e. absurd (cc e);
+}
+
+pub invariant_of-self-in_err-cut : goal.invariant_of-self-in_err-cut
+invariant_of-self-in_err-cut g c = record {
+  desk = desk_same _ _ c.search.ensures.fitted refl refl refl c.self.invariant.desk;
+  fresh = λ e. absurd (cc e);
+}
+
+pub invariant_of-self-2 : goal.invariant_of-self-2
+invariant_of-self-2 g c = record {
+  desk = desk_same _ _ c.search.ensures.fitted refl refl refl c.self.invariant.desk;
+  fresh = λ e. absurd (cc e);
+}
+
+pub stop-requires-clause-cut : goal.stop-requires-clause-cut
+stop-requires-clause-cut g c =
+    let held = c.self.invariant.desk in
+    subst (λ (f : FittedTrace). Cuts f c.self.inside.at) (sym (c.fitted-fitted.ensures.value ∙ c.search.ensures.fitted)) (held.size, held.at)
 
 pub stop-requires-clause-thread : goal.stop-requires-clause-thread
 stop-requires-clause-thread g c =
-    subst (λ (f : FittedTrace). c.args.thread < threads_of f) (same g c)
+    subst (λ (f : FittedTrace). c.args.thread < threads_of f)
+    (sym (c.fitted-fitted.ensures.value ∙ c.search.ensures.fitted ∙ ap (λ (d : Debugging). d.desk.fitted) c.self.view_is))
     (thread_below c.args.self.now.desk (command.Continue c.args.thread c.args.direction) c.args.thread c.requires refl)
 
 pub stop-requires-clause-within : goal.stop-requires-clause-within
 stop-requires-clause-within g c =
-    stop_within c.self.inside.fitted c.args.self.now.desk c.args.thread c.args.direction c.in_ok-hit.hit (same g c)
-    c.self.invariant.desk.run (stop-requires-clause-thread g c) c.in_ok-hit.ensures.finds
+    let there = c.fitted-fitted.ensures.value ∙ c.search.ensures.fitted in
+    let same = there ∙ ap (λ (d : Debugging). d.desk.fitted) c.self.view_is in
+    let f = c.self.inside.timeline.fitted in
+    let finds = subst (λ points. EachRun f (λ run. Finds run f points c.args.thread (cut_of c.self.inside.at c.args.thread)
+    c.args.direction c.in_ok-hit.hit)) c.as_slice-points.ensures c.in_ok-hit.ensures.finds in
+    stop_within c.fitted-fitted.result.now c.args.self.now.desk c.args.thread c.args.direction c.in_ok-hit.hit (sym same)
+    (subst HasRun (sym there) c.self.invariant.desk.run) (stop-requires-clause-thread g c)
+    (subst (λ (z : Debugging). EachRun z.desk.fitted (λ run. Finds run z.desk.fitted z.desk.points c.args.thread
+    (cut_of z.desk.at c.args.thread) c.args.direction c.in_ok-hit.hit)) c.self.view_is finds)
 
 pub go_to-requires-clause-consistent : goal.go_to-requires-clause-consistent
 go_to-requires-clause-consistent g c κs within =
-    subst (λ (f : FittedTrace). IsConsistentCut f c.in_ok-cut.cut) (ap (λ (d : Debugging). d.desk.fitted) c.self.view_is)
-    c.in_ok-cut.ensures.consistent
+    subst (λ (f : FittedTrace). IsConsistentCut f c.in_ok-cut.cut) c.fitted-fitted.ensures.value c.in_ok-cut.ensures.consistent

@@ -1,29 +1,27 @@
-use Rattle.std.proofs.Common.{◌≡◌, length, sym, ap, subst}
-use Rattle.ir_cut.specs.Positions.{IsConsistentCut}
+use Rattle.std.proofs.Common.{sym, ap, subst, refl}
 use Rattle.ir_fit.specs.Fit.{FittedTrace}
-use Rattle.ir_debug.specs.Machine.Desk.{threads_of}
+use Rattle.ir_timeline.specs.Positions.{Cuts}
 use Rattle.ir_debug.specs.Debugging.{Debugging}
+use Rattle.ir_debug.proofs.Desks.{desk_over, desk_same}
 use Rattle.ir_debug.proofs.debugger.Debugger.go_to.Goals as goal
 
-pub bring-requires-clause-target : goal.bring-requires-clause-target
-bring-requires-clause-target g c κs within =
-    let same = ap (λ (d : Debugging). d.desk.fitted) c.self.view_is in (
-      subst (λ (f : FittedTrace). length c.args.to ≡ threads_of f) (sym same) c.requires.size,
-      subst (λ (f : FittedTrace). IsConsistentCut f c.args.to) (sym same) c.requires.consistent,
-    )
+pub go_to-requires-after_bounds : goal.go_to-requires-after_bounds
+go_to-requires-after_bounds g c κs within =
+    subst (λ (f : FittedTrace). Cuts f c.args.to) (sym (ap (λ (d : Debugging). d.desk.fitted) c.self.view_is))
+    (c.requires.size, c.requires.consistent)
+
+pub invariant_of-self : goal.invariant_of-self
+invariant_of-self g c = record {
+  desk = desk_same _ _ c.go_to.ensures.fitted refl refl refl c.self.invariant.desk;
+  fresh = λ e. absurd (cc e);
+}
 
 pub invariant_of-self-2 : goal.invariant_of-self-2
 invariant_of-self-2 g c =
-    let same = ap (λ (d : Debugging). d.desk.fitted) c.self.view_is in record {
-      desk = record {
-        run = c.self.invariant.desk.run;
-        size = subst (λ (f : FittedTrace). length c.args.to ≡ threads_of f) (sym same) c.requires.size;
-        at = subst (λ (f : FittedTrace). IsConsistentCut f c.args.to) (sym same) c.requires.consistent;
-        points = c.self.invariant.desk.points;
-        kept = c.self.invariant.desk.kept;
-        few = c.self.invariant.desk.few;
-      };
-      stands = c.in_ok-bring.ensures.stands;
-      checkpoints = c.in_ok-bring.ensures.checkpoints;
-      fresh = λ e. c.in_ok-bring.ensures.there;
+    let held = c.self.invariant.desk in
+    record {
+      desk = desk_over c.self.inside.timeline.fitted _ c.go_to.ensures.fitted held.run
+          (subst (λ (f : FittedTrace). Cuts f c.args.to) (sym (ap (λ (d : Debugging). d.desk.fitted) c.self.view_is))
+          (c.requires.size, c.requires.consistent)) held.points held.kept held.few;
+      fresh = λ e. c.in_ok-go_to.ensures.there;
     }

@@ -20,8 +20,8 @@ found g c = ap (λ (z : List Kept). kept_cut z c.args.number) (sym c.as_slice.en
 
 pub go_to-requires-clause-size : goal.go_to-requires-clause-size
 go_to-requires-clause-size g c κs within =
-    (one_of c.self.inside.fitted c.self.inside.kept.items c.args.number c.in_ok-cut.cut c.self.invariant.desk.kept (found g c)).0
+    (one_of c.self.inside.timeline.fitted c.self.inside.kept.items c.args.number c.in_ok-cut.cut c.self.invariant.desk.kept (found g c)).0
 
 pub go_to-requires-clause-consistent : goal.go_to-requires-clause-consistent
 go_to-requires-clause-consistent g c κs within =
-    (one_of c.self.inside.fitted c.self.inside.kept.items c.args.number c.in_ok-cut.cut c.self.invariant.desk.kept (found g c)).1
+    (one_of c.self.inside.timeline.fitted c.self.inside.kept.items c.args.number c.in_ok-cut.cut c.self.invariant.desk.kept (found g c)).1

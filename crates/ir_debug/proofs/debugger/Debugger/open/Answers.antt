@@ -1,7 +1,10 @@
-use Rattle.std.proofs.Common.{◌≡◌, ◌++◌, [], ◌∷◌, List, length, sym, ap, ◌∙◌, subst, arith}
+use Rattle.std.proofs.Common.{◌≡◌, ◌++◌, [], ◌∷◌, true, List, length, sym, ap, ◌∙◌, subst, arith}
+use Rattle.ir_fit.specs.Fit.{FittedTrace}
+use Rattle.ir_cut.specs.Positions.{cut_of}
+use Rattle.ir_weave.specs.Standing.{StandsAt}
 use Rattle.ir_hits.specs.Hits.{AreWatchable}
-use Rattle.ir_debug.specs.Machine.Desk.{Kept, Cuts, AllKept}
-use Rattle.ir_debug.proofs.Ends.{first_there}
+use Rattle.ir_timeline.specs.Positions.{Cuts}
+use Rattle.ir_debug.specs.Machine.Desk.{Kept, AllKept, IsDesk}
 use Rattle.ir_debug.proofs.debugger.Debugger.open.Goals as goal
 
 pub invariant_of-result : goal.invariant_of-result
@@ -10,7 +13,15 @@ invariant_of-result c =
     ∙ ap (λ (z : List Kept). z ++ c.new.result ∷ []) c.in_ok-kept.ensures.items in
     let long = ap (λ (z : List Kept). length z) one in
     record {
-      desk = record {
+      desk = subst (λ (f : FittedTrace). IsDesk (record {
+        fitted = f;
+        at = c.in_ok-at.at;
+        fresh = true;
+        points = c.in_ok-points.points;
+        last_point = 0;
+        kept = c.push.new.self.items;
+        last_kept = 0;
+      })) (sym c.in_ok-timeline.ensures.fitted) (record {
         run = c.known.ensures.run;
         size = c.in_ok-at.ensures.size;
         at = c.in_ok-at.ensures.consistent;
@@ -21,8 +32,7 @@ invariant_of-result c =
           tt,
         );
         few = omega (arith, long);
-      };
-      stands = c.in_ok-state.ensures.own;
-      checkpoints = c.in_ok-checkpoints.ensures;
-      fresh = λ e. first_there c.args.fitted c.in_ok-state.state c.in_ok-at.at c.in_ok-at.ensures.first c.in_ok-state.ensures.start;
+      });
+      fresh = λ e. subst (λ at. StandsAt c.in_ok-timeline.timeline.fitted (cut_of at) c.in_ok-timeline.timeline.state)
+          (sym c.in_ok-at.ensures.first) c.in_ok-timeline.ensures.start;
     }

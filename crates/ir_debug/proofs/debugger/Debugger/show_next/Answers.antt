@@ -10,10 +10,11 @@ use Rattle.ir_debug.proofs.debugger.Debugger.show_next.Goals as goal
 
 pub returns-clause-line : goal.returns-clause-line
 returns-clause-line g c =
-    IfOk-weaker c.next_line.result (λ line. line.items ≡ next_text c.code.result.now c.index-threads-thread.result)
+    IfOk-weaker c.next_line.result (λ line. line.items ≡ next_text c.code-code.result.now c.index-threads-thread.result)
     (λ line. EachRun c.args.self.now.desk.fitted (λ run. line.items ≡ shown run c.args.self.now.desk (Next c.args.thread)))
-    (λ line text. next_answered c.args.self.now.desk c.bring_here.new.self c.threads-threads.result.now c.code.result.now c.args.thread
+    (λ line text. next_answered c.args.self.now.desk c.bring_here.new.self c.threads-threads.result.now c.code-code.result.now c.args.thread
     c.index-threads-thread.result line.items c.in_ok-bring_here.ensures.desk c.in_ok-bring_here.ensures.there
     (c.threads-threads.ensures ∙ ap (λ (z : Debugging). z.state.threads) c.self.view_is)
-    (c.code.ensures.value ∙ ap (λ g. g.code) c.image.ensures.value ∙ ap (λ (z : Debugging). z.desk.fitted.guest.code) c.self.view_is)
+    (c.code-code.ensures.value ∙ ap (λ g. g.code) c.image.ensures.value ∙ ap (λ f. f.guest.code) c.fitted.ensures.value
+    ∙ ap (λ (z : Debugging). z.desk.fitted.guest.code) c.self.view_is)
     c.requires c.index-threads-thread.is text) c.next_line.ensures

@@ -1,0 +1,27 @@
+-- What the small machine always holds, over equal traces.
+use Rattle.std.proofs.Common.{◌≡◌, ◌≤◌, ◌+◌, length, sym, subst}
+use Rattle.ir_fit.specs.Fit.{FittedTrace, HasRun}
+use Rattle.ir_cut.specs.Positions.{IsConsistentCut}
+use Rattle.ir_hits.specs.Hits.{AreWatchable}
+use Rattle.ir_timeline.specs.Positions.{threads_of, Cuts}
+use Rattle.ir_debug.specs.Machine.Desk.{Desk, IsDesk, AllKept, most_kept}
+
+-- the facts of a trace are those of one that is equal
+pub desk_over : (f : FittedTrace) (d : Desk) → d.fitted ≡ f → HasRun f → Cuts f d.at → AreWatchable d.points → AllKept f d.kept
+    → length d.kept ≤ most_kept + 1 → IsDesk d
+desk_over f d same run cut points kept few = record {
+  run = subst HasRun (sym same) run;
+  size = subst (λ (g : FittedTrace). length d.at ≡ threads_of g) (sym same) cut.0;
+  at = subst (λ (g : FittedTrace). IsConsistentCut g d.at) (sym same) cut.1;
+  points = points;
+  kept = subst (λ (g : FittedTrace). AllKept g d.kept) (sym same) kept;
+  few = few;
+}
+
+-- a machine that differs from another in its last answer alone
+pub desk_same : (d next : Desk) → next.fitted ≡ d.fitted → next.at ≡ d.at → next.points ≡ d.points → next.kept ≡ d.kept → IsDesk d
+    → IsDesk next
+desk_same d next same at points kept is =
+    let few : length next.kept ≤ most_kept + 1 = subst (λ ks. length ks ≤ most_kept + 1) (sym kept) is.few in
+    desk_over d.fitted next same is.run (subst (Cuts d.fitted) (sym at) (is.size, is.at)) (subst AreWatchable (sym points) is.points)
+    (subst (AllKept d.fitted) (sym kept) is.kept) few

@@ -1,0 +1,40 @@
+-- Positions of the threads of a guest with a trace.
+use Rattle.std.specs.Prelude.{◌≡◌, ℕ, zero, suc, ◌+◌, List, [], ◌∷◌, length, replicate, Option}
+use Rattle.ir_runs.specs.Run.{Step}
+use Rattle.ir_trace.specs.TraceOf.{recorded_thread}
+use Rattle.ir_fit.specs.Fit.{FittedTrace}
+use Rattle.ir_cut.specs.Positions.{IsConsistentCut}
+use Rattle.ir_command.specs.declared.command.Direction.{Direction}
+use Rattle.ir_command.specs.declared.command.Direction.TheVariants.{Forwards, Backwards}
+use Rattle.ir_command.specs.declared.hit.Hit.{Hit}
+use Rattle.ir_hits.specs.Hits.{Numbered, IsFirstHit, IsLastHit}
+
+-- how many threads the guest has
+abbrev pub threads_of : FittedTrace → ℕ
+threads_of f = length f.guest.entries
+
+-- the last position of a thread
+abbrev pub last_of : FittedTrace → ℕ → ℕ
+last_of f t = (recorded_thread f.recorded t).steps
+
+-- all threads at 0
+abbrev pub first_cut : FittedTrace → List ℕ
+first_cut f = replicate (threads_of f) 0
+
+-- the last positions of n threads, from this one on
+unfoldable pub last_positions : FittedTrace → ℕ → ℕ → List ℕ
+last_positions f from zero = []
+last_positions f from (suc n) = last_of f from ∷ last_positions f (from + 1) n
+
+-- all threads at their last positions
+abbrev pub last_cut : FittedTrace → List ℕ
+last_cut f = last_positions f 0 (threads_of f)
+
+-- a consistent cut of the guest's threads
+abbrev pub Cuts : FittedTrace → List ℕ → Type 0
+Cuts f c = (length c ≡ threads_of f) × IsConsistentCut f c
+
+-- the hit that thread t finds from a position in this direction
+abbrev pub Finds : List Step → FittedTrace → List Numbered → ℕ → ℕ → Direction → Option Hit → Type 0
+Finds run f points t from Forwards hit = IsFirstHit f run points t from hit
+Finds run f points t from Backwards hit = IsLastHit f run points t from hit

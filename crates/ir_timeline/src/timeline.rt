@@ -1,0 +1,167 @@
+//! A recorded run in hand.
+
+ghost use Rattle.std.specs.Prelude.{◌≡◌};
+ghost use Rattle.ir_fit.specs.Fit.{HasRun};
+ghost use Rattle.ir_timeline.specs.Hand.{IsInHand};
+ghost use Rattle.ir_timeline.specs.Replaying.{Replaying, IsReplaying};
+
+use crate::hand::InHand;
+use crate::searching::{hit_above, hit_below};
+use ir_checkpoint::Checkpoints;
+use ir_command::{Direction, Hit};
+use ir_cut::Cut;
+use ir_fit::Fitted;
+use ir_hits::NumberedPoint;
+use ir_object::{Hands, Object};
+use ir_replay::State;
+use ir_thread::Thread;
+use std::alloc::{AllocError, Global};
+use std::marker::Model;
+
+/// A guest with the trace of one of its runs, its threads and objects at a consistent cut, and states that are kept at others, for
+/// moves and searches to begin at. In clauses the trace, the threads and the objects: which states are kept changes no answer.
+#[derive(Drop)]
+pub struct Timeline {
+    fitted: Fitted,
+    hand: InHand,
+}
+
+impl Model for Timeline {
+    ghost Value = { Replaying };
+
+    ghost view = { λ l. record { fitted = l.fitted; state = l.hand.state } };
+
+    ghost invariant = { λ l. HasRun l.fitted × IsInHand l.fitted l.hand };
+}
+
+impl Timeline {
+    ghost use Rattle.std.specs.Prelude.{◌<◌, IfOk, IsOk, OnOk};
+    ghost use Rattle.ir_cut.specs.Positions.{EachRun, cut_of};
+    ghost use Rattle.ir_hits.specs.Hits.{AreWatchable};
+    ghost use Rattle.ir_timeline.specs.Positions.{Cuts, Finds, first_cut, threads_of};
+    ghost use Rattle.ir_timeline.specs.Replaying.{IsThere};
+
+    /// The guest at its start.
+    ///
+    /// # Errors
+    /// Out of memory.
+    pub fn open(alloc: Global, fitted: Fitted) -> Result<Timeline, AllocError>
+        ensures fitted { IfOk result (λ l. l.fitted ≡ fitted) }
+        ensures start { IfOk result (λ l. IsThere l (first_cut fitted)) }
+    {
+        fitted.known();
+        let state = State::start(alloc, &fitted)?;
+        let checkpoints = Checkpoints::new(alloc, &fitted)?;
+        let hand = InHand { state, checkpoints };
+        Ok(Timeline { fitted, hand })
+    }
+
+    /// The guest and its trace.
+    pub fn fitted(&self) -> &Fitted
+        ensures value { result.now ≡ self.now.fitted }
+        ensures replaying { IsReplaying self.now }
+    {
+        &self.fitted
+    }
+
+    /// The threads in hand, by their numbers.
+    pub fn threads(&self) -> &[Thread]
+        ensures { result.now ≡ self.now.state.threads }
+    {
+        self.hand.state.threads()
+    }
+
+    /// The objects in hand, by their numbers.
+    pub fn objects(&self) -> &[Object]
+        ensures { result.now ≡ self.now.state.objects }
+    {
+        self.hand.state.objects()
+    }
+
+    /// Brings the threads and objects to a cut, from where they are or from the nearest state that is kept.
+    ///
+    /// # Errors
+    /// Out of memory, which doesn't happen if they are there, with the threads and objects at some consistent cut.
+    pub fn go_to<H: Hands>(&mut self, hands: &H, to: &Cut) -> Result<(), AllocError>
+        requires { Cuts self.old.fitted to.now }
+        ensures fitted { self.new.fitted ≡ self.old.fitted }
+        ensures there { OnOk result (IsThere self.new to.now) }
+        ensures already { IsThere self.old to.now → IsOk result }
+    {
+        let state = &mut self.hand.state;
+        self.hand.checkpoints.bring(hands, &self.fitted, state, to)
+    }
+
+    // The hit that a thread finds from its position in this cut.
+    fn find<H: Hands>(
+        &mut self,
+        hands: &H,
+        at: &Cut,
+        thread: u32,
+        direction: Direction,
+        points: &[NumberedPoint],
+    ) -> Result<Option<Hit>, AllocError>
+        requires cut { Cuts self.old.fitted at.now }
+        requires thread { thread < threads_of self.old.fitted }
+        requires points { AreWatchable points.now }
+        ensures fitted { self.new.fitted ≡ self.old.fitted }
+        ensures finds { IfOk result (λ hit. EachRun self.old.fitted (λ run. Finds run self.old.fitted points.now thread (cut_of at.now thread) direction hit)) }
+    {
+        let t = thread as usize;
+        match direction {
+            Direction::Forwards => {
+                self.go_to(hands, at)?;
+                hit_above(hands, &self.fitted, &mut self.hand, t, points)
+            }
+            Direction::Backwards => {
+                let from = at.position(t);
+                hit_below(hands, &self.fitted, &mut self.hand, t, from, points)
+            }
+        }
+    }
+
+    /// The hit that a thread finds from its position in a cut, upwards or downwards. The threads and objects are then at some consistent
+    /// cut. If memory runs out, the states that moves have passed are given up, and it is searched once more.
+    ///
+    /// # Errors
+    /// Out of memory.
+    pub fn search<H: Hands>(
+        &mut self,
+        hands: &H,
+        at: &Cut,
+        thread: u32,
+        direction: Direction,
+        points: &[NumberedPoint],
+    ) -> Result<Option<Hit>, AllocError>
+        requires cut { Cuts self.old.fitted at.now }
+        requires thread { thread < threads_of self.old.fitted }
+        requires points { AreWatchable points.now }
+        ensures fitted { self.new.fitted ≡ self.old.fitted }
+        ensures finds { IfOk result (λ hit. EachRun self.old.fitted (λ run. Finds run self.old.fitted points.now thread (cut_of at.now thread) direction hit)) }
+    {
+        if let Ok(hit) = self.find(hands, at, thread, direction, points) {
+            return Ok(hit);
+        }
+        if !self.hand.checkpoints.give_up_all(&self.fitted) {
+            return Err(AllocError);
+        }
+        self.find(hands, at, thread, direction, points)
+    }
+
+    /// Keeps the state in hand, under the next number from 1 on. Beside the start 64 are kept at most.
+    ///
+    /// # Errors
+    /// Out of memory.
+    pub fn keep(&mut self) -> Result<(), AllocError>
+        ensures { self.new ≡ self.old }
+    {
+        self.hand.checkpoints.keep(&self.fitted, &self.hand.state)
+    }
+
+    /// Gives up the state that is kept under a number, if there is one, and it isn't the start.
+    pub fn drop_kept(&mut self, number: u32)
+        ensures { self.new ≡ self.old }
+    {
+        self.hand.checkpoints.drop_kept(&self.fitted, number);
+    }
+}
