@@ -5,3 +5,4 @@ mod Kept
 mod Pieces
 mod Written
 pub mod CallerLemmas
+mod Rows

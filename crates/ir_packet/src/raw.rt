@@ -1,6 +1,6 @@
 //! The bytes between `$` and `#`.
 
-ghost use Rattle.std.specs.Prelude.{◌≡◌, ◌≤◌, ◌<◌, ◌+◌, ◌++◌, ◌∷◌, ℕ, List, length, vec_len, vec_capacity, Option};
+ghost use Rattle.std.specs.Prelude.{◌≡◌, ◌≤◌, ◌<◌, ◌+◌, ◌++◌, ◌∷◌, ℕ, List, length, vec_len, vec_capacity, Option, IfSome};
 ghost use Rattle.hex.specs.Hex.{hex_digit_value};
 ghost use Rattle.ir_packet.specs.Packets.{checksum, unescaped, unescaped_from, two_digits};
 
@@ -50,8 +50,10 @@ pub fn unescape(raw: &[u8], payload: &mut Vec<u8>)
     }
 }
 
-fn digit_value(digit: u8) -> Option<u8>
-    ensures { result ≡ hex_digit_value digit }
+/// The value of a hexadecimal digit, in either case.
+pub fn digit_value(digit: u8) -> Option<u8>
+    ensures value { result ≡ hex_digit_value digit }
+    ensures within { IfSome result (λ v. v < 16) }
 {
     match digit {
         b'0'..=b'9' => Some(digit - b'0'),

@@ -103,3 +103,122 @@ fn replies_are_written(rt: HostRuntime) -> Result<(), Fail> {
     assert_eq!(rt; out.as_slice(), b"$OK#9a$#00".as_slice());
     Ok(())
 }
+
+#[test]
+fn requests_are_read(rt: HostRuntime) -> Result<(), Fail> {
+    let cases: [(&[u8], Request); 52] = [
+        (b"qSupported:multiprocess+;swbreak+", Request::Supported),
+        (b"QStartNoAckMode", Request::NoAcknowledgements),
+        (b"?", Request::Reason),
+        (b"Hg0", Request::General(Who::Any)),
+        (b"Hg-1", Request::General(Who::Any)),
+        (b"Hg2", Request::General(Who::Thread(2))),
+        (b"Hgx", Request::Malformed),
+        (b"Hc1f", Request::Choose(Who::Thread(31))),
+        (b"Hc", Request::Malformed),
+        (b"T3", Request::Alive(3)),
+        (b"T", Request::Malformed),
+        (
+            b"qXfer:features:read:target.xml:0,fff",
+            Request::Description(0, 4095),
+        ),
+        (b"qXfer:threads:read::7D,10", Request::Threads(125, 16)),
+        (b"qXfer:threads:read::7D", Request::Malformed),
+        (b"qXfer:memory-map:read::0,fff", Request::Unknown),
+        (b"qAttached", Request::Attached),
+        (b"qOffsets", Request::Offsets),
+        (b"qSymbol::", Request::Symbols),
+        (b"vCont?", Request::Motions),
+        (b"g", Request::Registers),
+        (b"g1", Request::Malformed),
+        (b"p20", Request::Register(32)),
+        (b"p21", Request::Malformed),
+        (b"m100000,4", Request::Memory(0x10_0000, 4)),
+        (b"mFFFFffff,1", Request::Memory(u32::MAX, 1)),
+        (b"m100000000,1", Request::Malformed),
+        (b"m100000", Request::Malformed),
+        (b"m,4", Request::Malformed),
+        (b"M100000,1:00", Request::Change),
+        (b"P1=00000000", Request::Change),
+        (b"G00", Request::Change),
+        (b"X100000,0:", Request::Unknown),
+        (b"Z0,10010,4", Request::SetBreak(0x10010, false)),
+        (b"Z1,10010,4", Request::SetBreak(0x10010, true)),
+        (b"z1,10010,4", Request::ClearBreak(0x10010, true)),
+        (b"Z2,100008,2", Request::SetWatch(0x10_0008, 2)),
+        (b"z2,100008,2", Request::ClearWatch(0x10_0008, 2)),
+        (b"Z3,100008,2", Request::Unknown),
+        (b"Z0,10010", Request::Malformed),
+        (b"vCont;s:1", Request::Move(Motion::Step, Mover::Alone(1))),
+        (b"vCont;s:1;c", Request::Move(Motion::Step, Mover::Among(1))),
+        (
+            b"vCont;C05:2;c",
+            Request::Move(Motion::Continue, Mover::Among(2)),
+        ),
+        (b"vCont;c", Request::Move(Motion::Continue, Mover::Any)),
+        (b"vCont;c:-1", Request::Move(Motion::Continue, Mover::Any)),
+        (
+            b"vCont;r10000,10008:1",
+            Request::Move(Motion::Range(0x1_0000, 0x1_0008), Mover::Alone(1)),
+        ),
+        (b"vCont;t:1", Request::Malformed),
+        (b"bc", Request::Move(Motion::ContinueBack, Mover::Chosen)),
+        (b"s", Request::Move(Motion::Step, Mover::Chosen)),
+        (b"D", Request::Detach),
+        (b"k", Request::Kill),
+        (b"", Request::Unknown),
+        (b"vMustReplyEmpty", Request::Unknown),
+    ];
+    for (payload, want) in cases {
+        assert_eq!(rt; request_of(payload), want);
+    }
+    Ok(())
+}
+
+#[test]
+fn a_line_is_read(rt: HostRuntime) -> Result<(), Fail> {
+    let mut line = Vec::with_capacity(rt.alloc(), 64)?;
+    assert_eq!(rt; request_of(b"qRcmd,706f73"), Request::Console);
+    assert_eq!(rt; request_of(b"qRcmd,706f7"), Request::Malformed);
+    assert_eq!(rt; request_of(b"qRcmd,7x"), Request::Malformed);
+    put_line(&mut line, b"qRcmd,706f73");
+    assert_eq!(rt; line.as_slice(), b"pos".as_slice());
+    Ok(())
+}
+
+#[test]
+fn stops_are_written(rt: HostRuntime) -> Result<(), Fail> {
+    let mut out = Vec::with_capacity(rt.alloc(), 200)?;
+    let stop = Stop {
+        interrupted: false,
+        thread: 2,
+        reason: Reason::Watch(0x10_0008),
+        pc: 0x1_0010,
+        sp: 0x10_fff0,
+        fp: 0,
+        ra: 0x1_0004,
+    };
+    put_stop(&mut out, &stop);
+    assert_eq!(rt;
+        out.as_slice(),
+        b"T05thread:00000002;watch:00100008;20:10000100;02:f0ff1000;08:00000000;01:04000100;".as_slice()
+    );
+    Ok(())
+}
+
+#[test]
+fn pieces_are_written(rt: HostRuntime) -> Result<(), Fail> {
+    let cases: [(u32, u32, &[u8]); 5] = [
+        (0, 3, b"mabc"),
+        (3, 2, b"mde"),
+        (3, 3, b"ldef"),
+        (6, 9, b"l"),
+        (u32::MAX, u32::MAX, b"l"),
+    ];
+    for (from, most, want) in cases {
+        let mut out = Vec::with_capacity(rt.alloc(), 16)?;
+        put_piece(&mut out, b"abcdef", from, most);
+        assert_eq!(rt; out.as_slice(), want);
+    }
+    Ok(())
+}

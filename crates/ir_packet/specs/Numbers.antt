@@ -1,0 +1,47 @@
+-- Hexadecimal numbers and bytes, as packets write them.
+use Rattle.std.specs.Prelude.{ℕ, suc, ◌+◌, ◌*◌, ◌==◌, ◌&&◌, ◌^◌, nat_lt, Bool, true, false, List, [], ◌∷◌, ◌++◌, take, drop, Option, Some, None, is_some, option_and_then, if◌then◌else◌}
+use Rattle.hex.specs.Hex.{hex_digit_value}
+use Rattle.ir_packet.specs.Packets.{two_digits}
+
+-- one more than the most that a number may be
+abbrev pub number_limit : ℕ
+number_limit = 2 ^ 32
+
+-- the number that digits write behind those that wrote n
+unfoldable pub value_from : ℕ → List ℕ → Option ℕ
+value_from n [] = Some n
+value_from n (d ∷ digits) = option_and_then (λ v. if nat_lt (n * 16 + v) number_limit then value_from (n * 16 + v) digits else None) (hex_digit_value d)
+
+-- the number below 2^32 that one or more digits write, in either case
+unfoldable pub number : List ℕ → Option ℕ
+number [] = None
+number (d ∷ digits) = value_from 0 (d ∷ digits)
+
+-- how many bytes are before the first of these
+unfoldable pub index_of : ℕ → List ℕ → ℕ
+index_of mark [] = 0
+index_of mark (b ∷ bytes) = if b == mark then 0 else suc (index_of mark bytes)
+
+-- the bytes before the first of these; all of them if there is none
+abbrev pub before : ℕ → List ℕ → List ℕ
+before mark bytes = take (index_of mark bytes) bytes
+
+-- the bytes behind the first of these
+abbrev pub behind : ℕ → List ℕ → List ℕ
+behind mark bytes = drop (index_of mark bytes + 1) bytes
+
+-- whether they are pairs of digits
+unfoldable pub are_pairs : List ℕ → Bool
+are_pairs [] = true
+are_pairs (a ∷ []) = false
+are_pairs (a ∷ b ∷ digits) = is_some (two_digits a b) && are_pairs digits
+
+abbrev pub byte_of : Option ℕ → List ℕ
+byte_of None = []
+byte_of (Some v) = v ∷ []
+
+-- the bytes that pairs of digits write
+unfoldable pub bytes_of_pairs : List ℕ → List ℕ
+bytes_of_pairs [] = []
+bytes_of_pairs (a ∷ []) = []
+bytes_of_pairs (a ∷ b ∷ digits) = byte_of (two_digits a b) ++ bytes_of_pairs digits

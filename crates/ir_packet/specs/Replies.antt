@@ -1,0 +1,65 @@
+-- The payloads of replies.
+use Rattle.std.specs.Prelude.{ℕ, ◌+◌, ◌/◌, ◌%◌, ◌^◌, nat_lt, Bool, true, false, List, [], ◌∷◌, ◌++◌, length, codes, take, drop, if◌then◌else◌}
+use Rattle.hex.specs.Hex.{encode_lower}
+use Rattle.ir_packet.specs.Packets.{word_bytes}
+use Rattle.ir_packet.specs.declared.reply.Reply.{Reply}
+use Rattle.ir_packet.specs.declared.reply.Reply.TheVariants as reply
+use Rattle.ir_packet.specs.declared.reply.Reason.{Reason}
+use Rattle.ir_packet.specs.declared.reply.Reason.TheVariants as reason
+use Rattle.ir_packet.specs.declared.reply.Stop.{Stop}
+
+-- a number as eight lower-case digits, the highest first
+abbrev pub number_text : ℕ → List ℕ
+number_text n = encode_lower (n / 2 ^ 24 % 256 ∷ n / 2 ^ 16 % 256 ∷ n / 256 % 256 ∷ n % 256 ∷ [])
+
+-- a word as eight digits, its lowest byte first
+abbrev pub word_text : ℕ → List ℕ
+word_text word = encode_lower (word_bytes word)
+
+-- replies that are always the same; an error's number is that of Linux
+unfoldable pub reply_text : Reply → List ℕ
+reply_text reply.Done = codes "OK"
+reply_text reply.Nothing = []
+reply_text reply.NotPermitted = codes "E01"
+reply_text reply.NoMemory = codes "E0C"
+reply_text reply.BadAddress = codes "E0E"
+reply_text reply.NoSpace = codes "E1C"
+reply_text reply.ReadOnly = codes "E1E"
+reply_text reply.Attached = codes "1"
+reply_text reply.Offsets = codes "Text=0;Data=0;Bss=0"
+reply_text reply.Motions = codes "vCont;c;C;s;S;r"
+
+-- why a thread stopped
+unfoldable pub reason_text : Reason → List ℕ
+reason_text reason.Step = []
+reason_text reason.SoftwareBreak = codes "swbreak:;"
+reason_text reason.HardwareBreak = codes "hwbreak:;"
+reason_text (reason.Watch address) = codes "watch:" ++ number_text address ++ codes ";"
+reason_text reason.End = codes "replaylog:end;"
+reason_text reason.Begin = codes "replaylog:begin;"
+
+-- the signal of a stop: 2 at an interrupt, or else 5
+abbrev pub signal_text : Bool → List ℕ
+signal_text true = codes "T02"
+signal_text false = codes "T05"
+
+-- the registers that spare gdb a `g` at each stop
+unfoldable pub stop_registers : Stop → List ℕ
+stop_registers s = codes "20:" ++ word_text s.pc ++ codes ";02:" ++ word_text s.sp ++ codes ";08:" ++ word_text s.fp ++ codes ";01:" ++ word_text s.ra ++ codes ";"
+
+-- a stop of a thread, whose id is its number and 1
+unfoldable pub stop_text : Stop → List ℕ
+stop_text s = signal_text s.interrupted ++ codes "thread:" ++ number_text s.thread ++ codes ";" ++ reason_text s.reason ++ stop_registers s
+
+-- registers, or bytes that are shown as words
+unfoldable pub words_text : List ℕ → List ℕ
+words_text [] = []
+words_text (word ∷ words) = word_text word ++ words_text words
+
+-- a piece of a text: `m`, or `l` if the text ends with it
+unfoldable pub piece_text : List ℕ → ℕ → ℕ → List ℕ
+piece_text text from most = if nat_lt (from + most) (length text) then codes "m" ++ take most (drop from text) else codes "l" ++ drop from text
+
+-- what a session prints
+unfoldable pub output_text : List ℕ → List ℕ
+output_text bytes = codes "O" ++ encode_lower bytes

@@ -1,0 +1,243 @@
+-- What the payload of a packet asks: one table of the bytes that packets begin with.
+use Rattle.std.specs.Prelude.{ℕ, ◌==◌, nat_le, List, [], ◌∷◌, codes, drop, Bool, true, false, Option, Some, None, if◌then◌else◌}
+use Rattle.std.specs.Str.{bytes_eq}
+use Rattle.ir_packet.specs.Packets.{two_digits}
+use Rattle.ir_packet.specs.Numbers.{number, index_of, before, behind, are_pairs, bytes_of_pairs}
+use Rattle.ir_packet.specs.declared.request.Request.{Request}
+use Rattle.ir_packet.specs.declared.request.Request.TheVariants as request
+use Rattle.ir_packet.specs.declared.request.Who.{Who}
+use Rattle.ir_packet.specs.declared.request.Who.TheVariants as who
+use Rattle.ir_packet.specs.declared.request.Motion.{Motion}
+use Rattle.ir_packet.specs.declared.request.Motion.TheVariants as motion
+use Rattle.ir_packet.specs.declared.request.Mover.{Mover}
+use Rattle.ir_packet.specs.declared.request.Mover.TheVariants as mover
+
+-- what is made of nothing behind the name
+abbrev pub plain : Request → List ℕ → Request
+plain asked [] = asked
+plain asked (b ∷ rest) = request.Malformed
+
+-- what is made of anything behind the name
+abbrev pub whatever : Request → List ℕ → Request
+whatever asked rest = asked
+
+-- what is made of a number, if there is one
+abbrev pub of_number : (ℕ → Request) → Option ℕ → Request
+of_number makes (Some n) = makes n
+of_number makes None = request.Malformed
+
+-- what is made of two numbers, if there are two
+abbrev pub of_numbers : (ℕ → ℕ → Request) → Option ℕ → Option ℕ → Request
+of_numbers makes None n = request.Malformed
+of_numbers makes (Some m) None = request.Malformed
+of_numbers makes (Some m) (Some n) = makes m n
+
+unfoldable pub one : (ℕ → Request) → List ℕ → Request
+one makes rest = of_number makes (number rest)
+
+-- two numbers with a `,` between them
+unfoldable pub two : (ℕ → ℕ → Request) → List ℕ → Request
+two makes rest = of_numbers makes (number (before 44 rest)) (number (behind 44 rest))
+
+-- 0 is any thread
+abbrev pub who_of_number : Option ℕ → Option Who
+who_of_number None = None
+who_of_number (Some n) = if n == 0 then Some who.Any else Some (who.Thread n)
+
+-- a number of a thread from 1 on, 0, or -1, which is any thread too
+unfoldable pub who_of : List ℕ → Option Who
+who_of id = if bytes_eq id (codes "-1") then Some who.Any else who_of_number (number id)
+
+abbrev pub of_who : (Who → Request) → Option Who → Request
+of_who makes None = request.Malformed
+of_who makes (Some w) = makes w
+
+unfoldable pub thread : (Who → Request) → List ℕ → Request
+thread makes rest = of_who makes (who_of rest)
+
+-- a register of x0 to x31, or pc, which is 32
+abbrev pub register : ℕ → Request
+register n = if nat_le n 32 then request.Register n else request.Malformed
+
+-- a line, each byte as two digits
+unfoldable pub console : List ℕ → Request
+console rest = if are_pairs rest then request.Console else request.Malformed
+
+abbrev pub range_of : Option ℕ → Option ℕ → Option Motion
+range_of None high = None
+range_of (Some low) None = None
+range_of (Some low) (Some high) = Some (motion.Range low high)
+
+-- the ends of a range, with a `,` between them
+unfoldable pub range : List ℕ → Option Motion
+range rest = range_of (number (before 44 rest)) (number (behind 44 rest))
+
+-- the motion of an action with a signal, if its two digits are some
+abbrev pub signalled : Motion → Option ℕ → Option Motion
+signalled m None = None
+signalled m (Some signal) = Some m
+
+-- `s` and `c`; `S` and `C` with a signal, which counts for nothing; `r` with the ends of a range
+unfoldable pub motion_of : List ℕ → Option Motion
+motion_of [] = None
+motion_of (a ∷ []) = if a == 115 then Some motion.Step else if a == 99 then Some motion.Continue else if a == 114 then range [] else None
+motion_of (a ∷ b ∷ []) = if a == 114 then range (b ∷ []) else None
+motion_of (a ∷ b ∷ c ∷ []) = if a == 83 then signalled motion.Step (two_digits b c) else if a == 67 then signalled motion.Continue
+    (two_digits b c) else if a == 114 then range (b ∷ c ∷ []) else None
+motion_of (a ∷ b ∷ c ∷ d ∷ rest) = if a == 114 then range (b ∷ c ∷ d ∷ rest) else None
+
+-- the thread that moves, if the others may be stopped at their hits, and if they may not
+abbrev pub mover_of : Who → Bool → Mover
+mover_of who.Any others = mover.Any
+mover_of (who.Thread n) true = mover.Among n
+mover_of (who.Thread n) false = mover.Alone n
+
+-- the thread behind an action: `:` and its id, or nothing
+unfoldable pub thread_behind : List ℕ → Option Who
+thread_behind [] = Some who.Any
+thread_behind (b ∷ id) = who_of id
+
+-- what the other threads do: nothing, or `;c`
+unfoldable pub others_of : List ℕ → Option Bool
+others_of rest = if bytes_eq rest [] then Some false else if bytes_eq rest (codes ";c") then Some true else None
+
+abbrev pub move_of : Option Motion → Option Who → Option Bool → Request
+move_of None w others = request.Malformed
+move_of (Some m) None others = request.Malformed
+move_of (Some m) (Some w) None = request.Malformed
+move_of (Some m) (Some w) (Some others) = request.Move m (mover_of w others)
+
+-- an action and its thread
+unfoldable pub first_action : List ℕ → Option Bool → Request
+first_action action others = move_of (motion_of (before 58 action)) (thread_behind (drop (index_of 58 action) action)) others
+
+-- an action, and what the others do
+unfoldable pub actions : List ℕ → Request
+actions rest = first_action (before 59 rest) (others_of (drop (index_of 59 rest) rest))
+
+-- the bytes that a packet begins with, and what is made of those behind them
+pub record Row : Type 0 where
+  pub name : List ℕ
+  pub makes : List ℕ → Request
+
+abbrev pub row : List ℕ → (List ℕ → Request) → Row
+row name makes = record { name = name; makes = makes }
+
+-- what gdb asks of the target as a whole
+abbrev pub queries : List Row
+queries =
+    row (codes "qSupported") (whatever request.Supported) ∷
+    row (codes "QStartNoAckMode") (plain request.NoAcknowledgements) ∷
+    row (codes "qAttached") (whatever request.Attached) ∷
+    row (codes "qOffsets") (plain request.Offsets) ∷
+    row (codes "qSymbol::") (plain request.Symbols) ∷
+    []
+
+-- texts that gdb reads piece by piece
+abbrev pub texts : List Row
+texts =
+    row (codes "qXfer:features:read:target.xml:") (two request.Description) ∷
+    row (codes "qXfer:threads:read::") (two request.Threads) ∷
+    []
+
+-- a session's lines, and moves with their threads
+abbrev pub commands : List Row
+commands =
+    row (codes "qRcmd,") console ∷
+    row (codes "vCont?") (plain request.Motions) ∷
+    row (codes "vCont;") actions ∷
+    []
+
+-- breakpoints and watches
+abbrev pub points : List Row
+points =
+    row (codes "Z0,") (two (λ a kind. request.SetBreak a false)) ∷
+    row (codes "Z1,") (two (λ a kind. request.SetBreak a true)) ∷
+    row (codes "Z2,") (two request.SetWatch) ∷
+    row (codes "z0,") (two (λ a kind. request.ClearBreak a false)) ∷
+    row (codes "z1,") (two (λ a kind. request.ClearBreak a true)) ∷
+    row (codes "z2,") (two request.ClearWatch) ∷
+    []
+
+-- packets of a letter or two
+abbrev pub letters : List Row
+letters =
+    row (codes "?") (plain request.Reason) ∷
+    row (codes "Hg") (thread request.General) ∷
+    row (codes "Hc") (thread request.Choose) ∷
+    row (codes "T") (one request.Alive) ∷
+    row (codes "g") (plain request.Registers) ∷
+    row (codes "p") (one register) ∷
+    row (codes "m") (two request.Memory) ∷
+    []
+
+-- packets of a letter or two that have no argument, or none that counts
+abbrev pub ends : List Row
+ends =
+    row (codes "G") (whatever request.Change) ∷
+    row (codes "P") (whatever request.Change) ∷
+    row (codes "M") (whatever request.Change) ∷
+    row (codes "s") (plain (request.Move motion.Step mover.Chosen)) ∷
+    row (codes "c") (plain (request.Move motion.Continue mover.Chosen)) ∷
+    row (codes "bs") (plain (request.Move motion.StepBack mover.Chosen)) ∷
+    row (codes "bc") (plain (request.Move motion.ContinueBack mover.Chosen)) ∷
+    row (codes "D") (whatever request.Detach) ∷
+    row (codes "k") (whatever request.Kill) ∷
+    []
+
+-- the bytes behind a name, if the payload begins with it
+unfoldable pub after_name : List ℕ → List ℕ → Option (List ℕ)
+after_name [] bytes = Some bytes
+after_name (n ∷ name) [] = None
+after_name (n ∷ name) (b ∷ bytes) = if b == n then after_name name bytes else None
+
+abbrev pub made_by : Row → Option (List ℕ) → Option Request → Option Request
+made_by r None next = next
+made_by r (Some rest) next = Some (r.makes rest)
+
+-- what the first row makes whose name the payload begins with
+abbrev pub asked_in : List Row → List ℕ → Option Request
+asked_in [] payload = None
+asked_in (r ∷ rows) payload = made_by r (after_name r.name payload) (asked_in rows payload)
+
+abbrev pub or_else : Option Request → Option Request → Option Request
+or_else None next = next
+or_else (Some r) next = Some r
+
+abbrev pub or_unknown : Option Request → Request
+or_unknown None = request.Unknown
+or_unknown (Some r) = r
+
+unfoldable pub asked_queries : List ℕ → Option Request
+asked_queries payload = asked_in queries payload
+
+unfoldable pub asked_texts : List ℕ → Option Request
+asked_texts payload = asked_in texts payload
+
+unfoldable pub asked_commands : List ℕ → Option Request
+asked_commands payload = asked_in commands payload
+
+-- packets with a name
+unfoldable pub asked_named : List ℕ → Option Request
+asked_named payload = or_else (asked_queries payload) (or_else (asked_texts payload) (asked_commands payload))
+
+unfoldable pub asked_points : List ℕ → Option Request
+asked_points payload = asked_in points payload
+
+unfoldable pub asked_ends : List ℕ → Option Request
+asked_ends payload = asked_in ends payload
+
+unfoldable pub asked_letters : List ℕ → Option Request
+asked_letters payload = or_else (asked_in letters payload) (asked_ends payload)
+
+-- what a payload asks; each packet has one row at most
+unfoldable pub request_of : List ℕ → Request
+request_of payload = or_unknown (or_else (asked_named payload) (or_else (asked_points payload) (asked_letters payload)))
+
+abbrev pub line_behind : Option (List ℕ) → List ℕ
+line_behind None = []
+line_behind (Some digits) = bytes_of_pairs digits
+
+-- the line of a `qRcmd` packet
+unfoldable pub console_line : List ℕ → List ℕ
+console_line payload = line_behind (after_name (codes "qRcmd,") payload)

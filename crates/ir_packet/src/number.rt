@@ -1,0 +1,74 @@
+//! Hexadecimal numbers and bytes of packets.
+
+ghost use Rattle.std.specs.Prelude.{◌≡◌, ◌≤◌, ◌<◌, ◌+◌, ◌*◌, ◌++◌, ℕ, List, length, vec_len, vec_capacity, is_some, Some, None, IfSome, OnSome};
+ghost use Rattle.ir_packet.specs.Numbers.{value_from, number, index_of, bytes_of_pairs};
+ghost use Rattle.ir_packet.specs.Numbers as numbers;
+
+use crate::raw::{digit_value, two_digits};
+
+// The number that digits write behind those that wrote `before`.
+#[tactic(auto, unfolding(crate::specs::Numbers::value_from))]
+fn value_from(before: u32, digits: &[u8]) -> Option<u32>
+    ensures { result ≡ value_from before digits.now }
+{
+    match digits {
+        [] => Some(before),
+        [digit, rest @ ..] => {
+            let value = u64::from(before) * 16 + u64::from(digit_value(*digit)?);
+            if value > u64::from(u32::MAX) {
+                return None;
+            }
+            value_from(value as u32, rest)
+        }
+    }
+}
+
+/// The number below 2^32 that one or more digits write.
+#[tactic(auto, unfolding(crate::specs::Numbers::number))]
+pub fn number(digits: &[u8]) -> Option<u32>
+    ensures { result ≡ number digits.now }
+{
+    match digits {
+        [] => None,
+        _ => value_from(0, digits),
+    }
+}
+
+/// How many bytes are before the first of these.
+#[tactic(auto, unfolding(crate::specs::Numbers::index_of))]
+pub fn index_of(mark: u8, bytes: &[u8]) -> usize
+    ensures value { result ≡ index_of mark bytes.now }
+    ensures within { result ≤ length bytes.now }
+{
+    match bytes {
+        [first, rest @ ..] if *first != mark => index_of(mark, rest) + 1,
+        _ => 0,
+    }
+}
+
+/// Whether they are pairs of digits.
+#[tactic(auto, unfolding(crate::specs::Numbers::are_pairs))]
+pub fn are_pairs(digits: &[u8]) -> bool
+    ensures { result ≡ numbers.are_pairs digits.now }
+{
+    match digits {
+        [] => true,
+        [high, low, rest @ ..] => two_digits(*high, *low).is_some() && are_pairs(rest),
+        _ => false,
+    }
+}
+
+/// Puts the bytes that pairs of digits write at the end.
+#[tactic(auto, unfolding(crate::specs::Numbers::bytes_of_pairs))]
+pub fn put_bytes(out: &mut Vec<u8>, digits: &[u8])
+    requires room { vec_len out.old + length digits.now ≤ vec_capacity out.old }
+    ensures bytes { out.new.items ≡ out.old.items ++ bytes_of_pairs digits.now }
+    ensures capacity { vec_capacity out.new ≡ vec_capacity out.old }
+{
+    if let [high, low, rest @ ..] = digits {
+        if let Some(byte) = two_digits(*high, *low) {
+            out.push_reserved(byte);
+        }
+        put_bytes(out, rest);
+    }
+}
