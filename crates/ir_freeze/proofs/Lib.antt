@@ -1,0 +1,4 @@
+mod Written
+mod Apart
+mod Back
+mod Alike

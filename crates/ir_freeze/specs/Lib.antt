@@ -1,0 +1,3 @@
+pub mod Frozen
+pub mod Thawed
+pub mod Twins

@@ -1,0 +1,35 @@
+-- Threads whose bytes can be compared.
+use Rattle.std.specs.Prelude.{◌≡◌, ◌↔◌, ℕ, ◌≤◌, List, length, false, MatchOption, ⊤}
+use Rattle.ir_image.specs.Guest.{IsWord}
+use Rattle.ir_mach.specs.Core.{IsCore, memory_size}
+use Rattle.ir_thread.specs.Calls.{most_output}
+use Rattle.ir_thread.specs.Ends.{end_code}
+use Rattle.ir_thread.specs.Frames.{frame_of}
+use Rattle.ir_thread.specs.State.{State}
+use Rattle.ir_seen.specs.Seen.{Same, view}
+use Rattle.ir_freeze.specs.Frozen.{frozen, is_over}
+use Rattle.ir_freeze.specs.Thawed.{before_changes, thawed}
+
+-- two moments of the thread of one number in one guest
+pub record AreTwins (x y : State) : Type 0 where
+  pub number : x.number ≡ y.number
+  pub profile : x.profile ≡ y.profile
+  pub form : x.form ≡ y.form
+  pub objects : length x.held ≡ length y.held
+
+-- what each thread keeps
+pub record IsBounded (s : State) : Type 0 where
+  pub core : IsCore s.core
+  pub output : length s.output ≤ most_output
+  pub code : MatchOption s.ended ⊤ (λ e. IsWord (end_code e))
+
+-- two moments of a thread, beside marks of one length, have equal bytes exactly where they look the same
+abbrev pub TellsApart : Type 0
+TellsApart = (code start : List ℕ) → length start ≡ memory_size → (x y : State) → AreTwins x y → IsBounded x → IsBounded y
+    → (m n : List ℕ) → length m ≡ length n
+    → (frozen start x m ≡ frozen start y n) ↔ Same code (view x, m) (view y, n)
+
+-- a thread that isn't over comes back from its bytes and its frame as it was
+abbrev pub ComesBack : Type 0
+ComesBack = (start : List ℕ) → length start ≡ memory_size → (s : State) → IsBounded s → (mark : List ℕ) → is_over s ≡ false
+    → thawed start (frame_of s) (before_changes s (length mark)) (frozen start s mark) ≡ s

@@ -1,0 +1,11 @@
+//! A thread as bytes, which are equal exactly where threads look the same, and back.
+#![tactic(auto)]
+
+mod freezing;
+mod laws;
+mod pages;
+mod thawing;
+
+pub use freezing::freeze;
+pub use laws::{comes_back, tells_apart};
+pub use thawing::{changes_at, thaw};
