@@ -29,12 +29,12 @@ no_calls_yet : (code : List ℕ) (at : ℕ → thread.State) (k n : ℕ) → n �
 unfolding calls_in
 no_calls_yet code at k n e = ap (calls_in code at k) (sym e)
 
-pub opened_at : (f : FittedTrace) (rows : List StaleWrite) (s : Standing) (t : ℕ) (o : Open) → HasRun f
+pub opened_at : (copies : Bool) (f : FittedTrace) (rows : List StaleWrite) (s : Standing) (t : ℕ) (o : Open) → HasRun f
     → StandsAt f (positions (flat_in f s)) s → IsSpanOf f rows t o.span → o.span.read ≡ positions (flat_in f s) t
     → o.kept.object ≡ o.span.object → o.kept.thread ≡ slice_index_or s.threads t idle
     → o.kept.was.items ≡ (slice_index_or s.objects o.span.object empty).words → o.kept.calls.items ≡ []
-    → IsOpenAt f rows t o.span.read o
-opened_at f rows s t o h stands of here object copied words none = record {
+    → IsOpenAt copies f rows t o.span.read o
+opened_at copies f rows s t o h stands of here object copied words none = record {
   of = of;
   kept = record {
     object = object ∙ of.span.object;
@@ -65,13 +65,13 @@ same_span f rows t old new e of = record {
 }
 
 -- its calls are added
-pub opened_on : (f : FittedTrace) (rows : List StaleWrite) (t from k : ℕ) (old mid new : Open) (calls : List Exchange)
-    → (o : IsOpenAt f rows t from old) → IsCallMore old mid calls → AreCalls f t from (k - from) calls → from ≤ k → k ≤ old.span.end
+pub opened_on : (copies : Bool) (f : FittedTrace) (rows : List StaleWrite) (t from k : ℕ) (old mid new : Open) (calls : List Exchange)
+    → (o : IsOpenAt copies f rows t from old) → IsCallMore old mid calls → AreCalls f t from (k - from) calls → from ≤ k → k ≤ old.span.end
     → new.span ≡ mid.span → new.kept.object ≡ mid.kept.object → new.kept.thread ≡ mid.kept.thread → new.kept.was.items ≡ mid.kept.was.items
     → new.kept.calls.items ≡ mid.kept.calls.items
     → (behind_write f o.of.row ≤ k → AreWordsAt f o.of.row.thread (behind_write f o.of.row) o.of.row.object new.kept.now.items)
-    → IsOpenAt f rows t k new
-opened_on f rows t from k old mid new calls o more are up within same object copied was calls' now = record {
+    → IsOpenAt copies f rows t k new
+opened_on copies f rows t from k old mid new calls o more are up within same object copied was calls' now = record {
   of = same_span f rows t old.span new.span (same ∙ more.span) o.of;
   kept = record {
     object = object ∙ more.object ∙ o.kept.object;
@@ -89,20 +89,20 @@ opened_on f rows t from k old mid new calls o more are up within same object cop
 }
 
 -- the words are those that are there behind the write entry
-pub words_now : (f : FittedTrace) (rows : List StaleWrite) (s : Standing) (t from k object : ℕ) (old : Open) (words : List ℕ) → HasRun f
-    → (o : IsOpenAt f rows t from old) → StandsAt f (positions (flat_in f s)) s → positions (flat_in f s) t ≡ k → old.span.write ≡ k
+pub words_now : (copies : Bool) (f : FittedTrace) (rows : List StaleWrite) (s : Standing) (t from k object : ℕ) (old : Open) (words : List ℕ) → HasRun f
+    → (o : IsOpenAt copies f rows t from old) → StandsAt f (positions (flat_in f s)) s → positions (flat_in f s) t ≡ k → old.span.write ≡ k
     → object ≡ old.span.object → words ≡ (slice_index_or s.objects object empty).words
     → AreWordsAt f o.of.row.thread (behind_write f o.of.row) o.of.row.object words
-words_now f rows s t from k object old words h o stands at here same is =
+words_now copies f rows s t from k object old words h o stands at here same is =
     words_there f s o.of.row.thread (behind_write f o.of.row) o.of.row.object words stands
     (ap (positions (flat_in f s)) o.of.thread ∙ at ∙ sym here ∙ o.of.span.write) (holds_write f h o.of.row o.of.stale)
     (is ∙ ap (λ (p : ℕ). (slice_index_or s.objects p empty).words) (same ∙ o.of.span.object))
 
 -- or those that were kept before
-pub words_before : (f : FittedTrace) (rows : List StaleWrite) (t from k : ℕ) (old mid : Open) (calls : List Exchange)
-    → (o : IsOpenAt f rows t from old) → IsCallMore old mid calls → (from < old.span.write → k ≤ old.span.write) → (mid.span.write ≡ k → ⊥)
+pub words_before : (copies : Bool) (f : FittedTrace) (rows : List StaleWrite) (t from k : ℕ) (old mid : Open) (calls : List Exchange)
+    → (o : IsOpenAt copies f rows t from old) → IsCallMore old mid calls → (from < old.span.write → k ≤ old.span.write) → (mid.span.write ≡ k → ⊥)
     → behind_write f o.of.row ≤ k → AreWordsAt f o.of.row.thread (behind_write f o.of.row) o.of.row.object mid.kept.now.items
-words_before f rows t from k old mid calls o more stop other past =
+words_before copies f rows t from k old mid calls o more stop other past =
     subst (AreWordsAt f o.of.row.thread (behind_write f o.of.row) o.of.row.object) (sym more.now) (o.kept.now before)
   where
     before : behind_write f o.of.row ≤ from
@@ -118,11 +118,11 @@ words_before f rows t from k old mid calls o more stop other past =
 some_row : (x y : StaleWrite) → Some x ≡ Some y → x ≡ y
 some_row x y e = cc e
 
-pub judged_as : (f : FittedTrace) (rows : List StaleWrite) (t k : ℕ) (code : List ℕ) (o : Open) (rest : Option Rest) → IsOpenAt f rows t k o
+pub judged_as : (copies : Bool) (f : FittedTrace) (rows : List StaleWrite) (t k : ℕ) (code : List ℕ) (o : Open) (rest : Option Rest) → IsOpenAt copies f rows t k o
     → o.span.end ≡ k → code ≡ f.guest.code
     → rest ≡ rest_of code o.kept.object o.kept.was.items o.kept.now.items (k - o.span.read + 65536) o.kept.thread o.kept.calls.items
     → (x : StaleWrite) → slice_get rows o.span.row ≡ Some x → IsRestOf f x rest
-judged_as f rows t k code o rest is ends same found x there =
+judged_as copies f rows t k code o rest is ends same found x there =
     subst (λ (y : StaleWrite). IsRestOf f y rest) (some_row is.of.row x (sym is.of.there ∙ there)) (inl record {
       last = is.of.span.last;
       leave = is.of.span.leave;

@@ -3,6 +3,7 @@
 
 mod closing;
 mod differences;
+mod found;
 mod guide;
 mod hold;
 mod holding;

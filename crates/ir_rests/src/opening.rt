@@ -22,11 +22,16 @@ fn open_one(guide: Guide<'_, '_>, state: &State, t: usize, span: Span) -> Result
     requires thread { t < length guide.route.fitted.now.guest.entries }
     requires span { IsSpanOf guide.route.fitted.now guide.rows.now t span }
     requires here { span.read ≡ positions (flat_in guide.route.fitted.now state.now) t }
-    ensures open { IfOk result (IsOpenAt guide.entry.route.fitted.now guide.entry.rows.now t span.read) }
+    ensures open { IfOk result (IsOpenAt guide.entry.copies guide.entry.route.fitted.now guide.entry.rows.now t span.read) }
     ensures row { IfOk result (λ o. o.span ≡ span) }
 {
+    let thread = if guide.copies {
+        Some(thread_of(state, t).copy()?)
+    } else {
+        None
+    };
     let kept = Kept {
-        thread: thread_of(state, t).copy()?,
+        thread,
         object: span.object,
         was: words_of(guide.route.alloc, state, span.object)?,
         now: Vec::new(guide.route.alloc),
@@ -56,8 +61,8 @@ pub fn open_due(
     requires guide { IsGuide guide.route.fitted.now guide.rows.now guide.route.ends.now guide.route.code.now }
     requires way { IsOnWay guide.route.fitted.now guide.route.ends.now state.now }
     requires thread { t < length guide.route.fitted.now.guest.entries }
-    requires watch { IsWatch guide.route.fitted.now guide.rows.now t (positions (flat_in guide.route.fitted.now state.now) t) watch.old }
-    ensures watch { OnOk result (IsWatch guide.entry.route.fitted.now guide.entry.rows.now t (positions (flat_in guide.entry.route.fitted.now state.now) t) watch.new) }
+    requires watch { IsWatch guide.copies guide.route.fitted.now guide.rows.now t (positions (flat_in guide.route.fitted.now state.now) t) watch.old }
+    ensures watch { OnOk result (IsWatch guide.entry.copies guide.entry.route.fitted.now guide.entry.rows.now t (positions (flat_in guide.entry.route.fitted.now state.now) t) watch.new) }
     ensures watched { OnOk result ((r : ℕ) → IsWatched watch.old r → IsWatched watch.new r) }
     ensures due { OnOk result (NoneDue (positions (flat_in guide.entry.route.fitted.now state.now) t) watch.new) }
 {

@@ -10,7 +10,7 @@ invariant-passes l = record {
   way : IsOnWay l.guide.route.fitted.now l.guide.route.ends.now l.state;
   watches : length l.watches ≡ length l.guide.route.fitted.now.guest.entries;
   size : length l.rests ≡ length l.guide.rows.now;
-  watched : AreWatched l.guide.route.fitted.now l.guide.rows.now l.state l.watches l.rests;
+  watched : AreWatched  l.guide.copies l.guide.route.fitted.now l.guide.rows.now l.state l.watches l.rests;
 }
 
 abbrev pub decreases-passes : goal.decreases-passes
