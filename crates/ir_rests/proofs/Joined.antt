@@ -13,11 +13,11 @@ use Rattle.ir_rests.specs.declared.rest.Rest.{Rest}
 
 -- ---- how many
 
-pub none_kept : (rests : List Found) → 0 ≡ kept_of rests 0
+pub none_kept : (rests : List (Option Rest)) → 0 ≡ kept_of rests 0
 unfolding kept_of
 none_kept rests = refl
 
-pub one_kept : (rests : List Found) (n kept one : ℕ) → kept ≡ kept_of rests n → one ≡ one_if (slice_index_or rests n None)
+pub one_kept : (rests : List (Option Rest)) (n kept one : ℕ) → kept ≡ kept_of rests n → one ≡ one_if (slice_index_or rests n None)
     → kept + one ≡ kept_of rests (n + 1)
 unfolding kept_of
 one_kept rests n kept one a b =
@@ -26,12 +26,12 @@ one_kept rests n kept one a b =
 
 -- ---- lines
 
-pub no_lines : (f : FittedTrace) (rows : List StaleWrite) (rests : List Found) (text first : List ℕ) → text ≡ first
+pub no_lines : (f : FittedTrace) (rows : List StaleWrite) (rests : List (Option Rest)) (text first : List ℕ) → text ≡ first
     → text ≡ first ++ first_lines f rows rests 0
 unfolding first_lines
 no_lines f rows rests text first e = e ∙ sym (append-nil first)
 
-pub one_line : (f : FittedTrace) (rows : List StaleWrite) (rests : List Found) (n : ℕ) (x : StaleWrite) (r : Option Rest) (text new first : List ℕ)
+pub one_line : (f : FittedTrace) (rows : List StaleWrite) (rests : List (Option Rest)) (n : ℕ) (x : StaleWrite) (r : Option Rest) (text new first : List ℕ)
     → text ≡ first ++ first_lines f rows rests n → new ≡ text ++ line_if f (Some x) r → slice_get rows n ≡ Some x
     → r ≡ slice_index_or rests n None → new ≡ first ++ first_lines f rows rests (n + 1)
 unfolding first_lines

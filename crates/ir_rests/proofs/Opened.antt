@@ -1,6 +1,6 @@
 -- A row between its read entry and the leave after its write entry.
-use Rattle.std.proofs.Common.{◌≡◌, ◌+◌, ◌-◌, ◌<◌, ◌≤◌, ℕ, List, [], ◌++◌, sym, ap, ◌∙◌, subst, arith, inl, inr}
-use Rattle.std.specs.Prelude.{Option, Some, slice_get}
+use Rattle.std.proofs.Common.{◌≡◌, ◌+◌, ◌-◌, ◌<◌, ◌≤◌, ℕ, List, [], ◌++◌, refl, sym, ap, ◌∙◌, subst, arith, inl, inr}
+use Rattle.std.specs.Prelude.{Bool, true, false, if◌then◌else◌, Option, Some, None, slice_get}
 use Rattle.std.specs.List.{slice_index_or}
 use Rattle.std.proofs.lemmas.Bool.{cases_lt}
 use Rattle.ir_thread.specs.State as thread
@@ -13,11 +13,15 @@ use Rattle.ir_past.specs.declared.stale_write.StaleWrite.{StaleWrite}
 use Rattle.ir_fit_run.proofs.CallerLemmas.{leave_past}
 use Rattle.ir_walk.specs.Calls.{calls_in, AllSuit, AreCalls}
 use Rattle.ir_walk.specs.Words.{AreWordsAt}
-use Rattle.ir_rests.specs.WhatIf.{rest_of}
+use Rattle.ir_rests.specs.WhatIf.{rest_of, rest_by, what_if, puts, changed_word, unknown_by, found_of}
 use Rattle.ir_rests.specs.Rests.{behind_read, behind_write, IsRestOf}
-use Rattle.ir_rests.specs.Watch.{IsSpan, IsSpanOf, IsOpenAt, IsCallMore}
+use Rattle.ir_rests.specs.Watch.{IsFoundAs, IsCopyOf, IsSpan, IsSpanOf, IsOpenAt, IsCallMore}
 use Rattle.ir_walk.specs.declared.exchange.Exchange.{Exchange}
 use Rattle.ir_rests.specs.declared.rest.Rest.{Rest}
+use Rattle.ir_rests.specs.declared.found.Found.{Found}
+use Rattle.ir_rests.specs.declared.found.Found.TheVariants.{Unknown, Known}
+use Rattle.ir_rests.specs.declared.hold.Hold.TheVariants.{Reading}
+use Rattle.ir_thread.specs.State.{State}
 use Rattle.ir_rests.specs.declared.span.Span.{Span}
 use Rattle.ir_rests.specs.declared.kept.Open.{Open}
 use Rattle.ir_walk.proofs.CallerLemmas.{calls_then, suit_both, words_there}
@@ -31,15 +35,16 @@ no_calls_yet code at k n e = ap (calls_in code at k) (sym e)
 
 pub opened_at : (copies : Bool) (f : FittedTrace) (rows : List StaleWrite) (s : Standing) (t : ℕ) (o : Open) → HasRun f
     → StandsAt f (positions (flat_in f s)) s → IsSpanOf f rows t o.span → o.span.read ≡ positions (flat_in f s) t
-    → o.kept.object ≡ o.span.object → o.kept.thread ≡ slice_index_or s.threads t idle
+    → o.kept.object ≡ o.span.object → IsCopyOf o.kept.thread (slice_index_or s.threads t idle) → (copies ≡ true → o.kept.thread ≡ None → ⊥)
     → o.kept.was.items ≡ (slice_index_or s.objects o.span.object empty).words → o.kept.calls.items ≡ []
     → IsOpenAt copies f rows t o.span.read o
-opened_at copies f rows s t o h stands of here object copied words none = record {
+opened_at copies f rows s t o h stands of here object copied there words none = record {
   of = of;
   kept = record {
     object = object ∙ of.span.object;
-    thread = λ run whole. copied ∙ (stands.at.each run whole).threads t
-        ∙ (λ i. thread_at f run (sym of.thread i) ((sym here ∙ of.span.read) i));
+    thread = λ run whole. subst (IsCopyOf o.kept.thread) ((stands.at.each run whole).threads t
+        ∙ (λ i. thread_at f run (sym of.thread i) ((sym here ∙ of.span.read) i))) copied;
+    copied = there;
     was = words_there f s of.row.thread (behind_read f of.row) of.row.object o.kept.was.items stands
         (ap (positions (flat_in f s)) of.thread ∙ sym here ∙ of.span.read) (holds_read f h of.row of.stale)
         (words ∙ ap (λ (p : ℕ). (slice_index_or s.objects p empty).words) of.span.object);
@@ -75,7 +80,8 @@ opened_on copies f rows t from k old mid new calls o more are up within same obj
   of = same_span f rows t old.span new.span (same ∙ more.span) o.of;
   kept = record {
     object = object ∙ more.object ∙ o.kept.object;
-    thread = λ run whole. copied ∙ more.thread ∙ o.kept.thread run whole;
+    thread = λ run whole. subst (λ y. IsCopyOf y (thread_at f run o.of.row.thread (behind_read f o.of.row))) (sym (copied ∙ more.thread)) (o.kept.thread run whole);
+    copied = λ on none. o.kept.copied on (sym (copied ∙ more.thread) ∙ none);
     was = subst (AreWordsAt f o.of.row.thread (behind_read f o.of.row) o.of.row.object) (sym (was ∙ more.was)) o.kept.was;
     now = now;
     calls = λ run whole. calls' ∙ more.calls
@@ -118,11 +124,35 @@ words_before copies f rows t from k old mid calls o more stop other past =
 some_row : (x y : StaleWrite) → Some x ≡ Some y → x ≡ y
 some_row x y e = cc e
 
-pub judged_as : (copies : Bool) (f : FittedTrace) (rows : List StaleWrite) (t k : ℕ) (code : List ℕ) (o : Open) (rest : Option Rest) → IsOpenAt copies f rows t k o
+known_same : {r q : Option Rest} → Known r ≡ Known q → r ≡ q
+known_same e = cc e
+
+known_unknown : {r : Option Rest} → Known r ≡ Unknown → ⊥
+known_unknown e = cc e
+
+-- without a copy it is known that a row rests on nothing, or it is unknown
+known_none : (f : FittedTrace) (code : List ℕ) (o : ℕ) (was now : List ℕ) (fuel : ℕ) (calls : List Exchange) (r : Option Rest) (x : State)
+    → Known r ≡ found_of code o was now fuel None calls → r ≡ rest_of code o was now fuel x calls
+known_none f code o was now fuel calls r x e = by_puts (puts o Reading calls) (changed_word o was now calls) e
+  where
+    by_puts : (p : Bool) (w : Option ℕ) → Known r ≡ (if p then unknown_by w else Known None)
+        → r ≡ (if p then rest_by was now w (what_if code o now Reading fuel x calls) else None)
+    by_puts false w e = known_same e
+    by_puts true None e = known_same e
+    by_puts true (Some i) e = absurd (known_unknown e)
+
+-- a thread that is copied, or none
+known_by : (f : FittedTrace) (code : List ℕ) (o : ℕ) (was now : List ℕ) (fuel : ℕ) (copy : Option State) (calls : List Exchange)
+    (r : Option Rest) (x : State) → IsCopyOf copy x → Known r ≡ found_of code o was now fuel copy calls
+    → r ≡ rest_of code o was now fuel x calls
+known_by f code o was now fuel (Some y) calls r x same e = known_same e ∙ ap (λ z. rest_of code o was now fuel z calls) same
+known_by f code o was now fuel None calls r x same e = known_none f code o was now fuel calls r x e
+
+pub judged_as : (copies : Bool) (f : FittedTrace) (rows : List StaleWrite) (t k : ℕ) (code : List ℕ) (o : Open) (found : Found) → IsOpenAt copies f rows t k o
     → o.span.end ≡ k → code ≡ f.guest.code
-    → rest ≡ rest_of code o.kept.object o.kept.was.items o.kept.now.items (k - o.span.read + 65536) o.kept.thread o.kept.calls.items
-    → (x : StaleWrite) → slice_get rows o.span.row ≡ Some x → IsRestOf f x rest
-judged_as copies f rows t k code o rest is ends same found x there =
+    → found ≡ found_of code o.kept.object o.kept.was.items o.kept.now.items (k - o.span.read + 65536) o.kept.thread o.kept.calls.items
+    → (x : StaleWrite) → slice_get rows o.span.row ≡ Some x → IsFoundAs copies f x found
+judged_as copies f rows t k code o (Known rest) is ends same found x there =
     subst (λ (y : StaleWrite). IsRestOf f y rest) (some_row is.of.row x (sym is.of.there ∙ there)) (inl record {
       last = is.of.span.last;
       leave = is.of.span.leave;
@@ -135,6 +165,21 @@ judged_as copies f rows t k code o rest is ends same found x there =
           let fuel : k - o.span.read + 65536 ≡ is.of.span.last + 1 - behind_read f is.of.row + 65536 =
           (let b = is.of.span.read in omega (arith, b, to)) in
           let steps : k - behind_read f is.of.row ≡ is.of.span.last + 1 - behind_read f is.of.row = omega (arith, to) in
-          found ∙ (λ i. rest_of (same i) (is.kept.object i) o.kept.was.items o.kept.now.items (fuel i) (is.kept.thread run whole i)
+          known_by f code o.kept.object o.kept.was.items o.kept.now.items (k - o.span.read + 65536) o.kept.thread o.kept.calls.items rest
+          (thread_at f run is.of.row.thread (behind_read f is.of.row)) (is.kept.thread run whole) found
+          ∙ (λ i. rest_of (same i) (is.kept.object i) o.kept.was.items o.kept.now.items (fuel i) (thread_at f run is.of.row.thread (behind_read f is.of.row))
           ((is.kept.calls run whole ∙ ap (calls_in f.guest.code (thread_at f run is.of.row.thread) (behind_read f is.of.row)) steps) i));
     })
+judged_as copies f rows t k code o Unknown is ends same found x there =
+    subst (λ (y : StaleWrite). IsFoundAs copies f y Unknown) (some_row is.of.row x (sym is.of.there ∙ there)) (
+      no_copy copies (λ on. is.kept.copied on (none_copied o.kept.thread found)),
+      (is.of.span.last, is.of.span.leave.leaves),
+    )
+  where
+    none_copied : (copy : Option State) → Unknown ≡ found_of code o.kept.object o.kept.was.items o.kept.now.items (k - o.span.read + 65536) copy o.kept.calls.items
+        → copy ≡ None
+    none_copied None e = refl
+    none_copied (Some y) e = absurd (known_unknown (sym e))
+    no_copy : (b : Bool) → (b ≡ true → ⊥) → b ≡ false
+    no_copy false not = refl
+    no_copy true not = absurd (not refl)

@@ -1,6 +1,6 @@
 -- What is kept of the threads, and what is found of their rows, as they go on.
 use Rattle.std.proofs.Common.{◌≡◌, ◌⊎◌, ◌<◌, ◌≤◌, ℕ, List, [], ◌∷◌, length, set, length-set, get_or-set_same, get_or-set_other, refl, sym, ap, ◌∙◌, subst, arith, inl, inr}
-use Rattle.std.specs.Prelude.{Option, Some, None, slice_get}
+use Rattle.std.specs.Prelude.{Bool, Option, Some, slice_get}
 use Rattle.std.specs.List.{slice_index_or}
 use Rattle.std.specs.List.Sorted.{IsNonDecreasingBy}
 use Rattle.std.proofs.lemmas.Bool.{cases_eq}
@@ -11,9 +11,9 @@ use Rattle.ir_weave.specs.States.{positions}
 use Rattle.ir_past.specs.declared.stale_write.StaleWrite.{StaleWrite}
 use Rattle.ir_events.specs.Walk.{IsFurther}
 use Rattle.ir_fit_run.proofs.CallerLemmas.{leave_past}
-use Rattle.ir_rests.specs.Rests.{IsRestOf}
-use Rattle.ir_rests.specs.Watch.{IsSpanOf, IsOpenAt, IsWatched, IsWatch, IsFound, NoneEnds, IsBeforeStops, AddsRests, AreWatched}
-use Rattle.ir_rests.specs.declared.rest.Rest.{Rest}
+use Rattle.ir_rests.specs.Watch.{IsFoundAs, IsSpanOf, IsOpenAt, IsWatched, IsWatch, IsFound, NoneEnds, IsBeforeStops, AddsRests, AreWatched}
+use Rattle.ir_rests.specs.declared.found.Found.{Found}
+use Rattle.ir_rests.specs.declared.found.Found.TheVariants.{Unknown, Known}
 use Rattle.ir_rests.specs.declared.span.Span.{Span}
 use Rattle.ir_rests.specs.declared.kept.Open.{Open}
 use Rattle.ir_rests.specs.declared.watch.Watch.{Watch}
@@ -57,7 +57,7 @@ adds_then copies f rows a b c first more = record {
     | inr found ↦ inr found
     | inl same ↦ elim (first.each r x there) [
       | inl before ↦ inl (same ∙ before)
-      | inr found ↦ inr (subst (IsRestOf f x) (sym same) found)
+      | inr found ↦ inr (subst (IsFoundAs copies f x) (sym same) found)
     ]
   ];
 }
@@ -66,7 +66,7 @@ adds_then copies f rows a b c first more = record {
 pub stays_found : (copies : Bool) (f : FittedTrace) (rows : List StaleWrite) (a b : List Found) (r : ℕ) (x : StaleWrite) → AddsRests copies f rows a b
     → slice_get rows r ≡ Some x → IsFoundAs copies f x (slice_index_or a r Unknown) → IsFoundAs copies f x (slice_index_or b r Unknown)
 stays_found copies f rows a b r x adds there found = elim (adds.each r x there) [
-  | inl same ↦ subst (IsRestOf f x) (sym same) found
+  | inl same ↦ subst (IsFoundAs copies f x) (sym same) found
   | inr new ↦ new
 ]
 

@@ -1,9 +1,9 @@
 use Rattle.std.proofs.Common.{◌≡◌, ◌⊎◌, ◌<◌, ◌≤◌, ◌-◌, ℕ, length}
-use Rattle.std.specs.Prelude.{None, Some, slice_get}
+use Rattle.std.specs.Prelude.{Some, slice_get}
 use Rattle.std.specs.List.{slice_index_or}
 use Rattle.ir_past.specs.declared.stale_write.StaleWrite.{StaleWrite}
-use Rattle.ir_rests.specs.Rests.{IsRestOf}
-use Rattle.ir_rests.specs.Watch.{IsWatch, IsWatched, AddsRests}
+use Rattle.ir_rests.specs.declared.found.Found.TheVariants.{Unknown}
+use Rattle.ir_rests.specs.Watch.{IsFoundAs, IsWatch, IsWatched, AddsRests}
 use Rattle.ir_rests.specs.declared.kept.Open.{Open}
 use Rattle.ir_rests.proofs.closing.close_due.Given as goal
 

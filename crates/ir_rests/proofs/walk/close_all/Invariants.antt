@@ -1,11 +1,11 @@
 use Rattle.std.proofs.Common.{◌≡◌, ◌<◌, ◌≤◌, ℕ, length}
-use Rattle.std.specs.Prelude.{Some, None, slice_get}
+use Rattle.std.specs.Prelude.{Some, slice_get}
 use Rattle.std.specs.List.{slice_index_or}
 use Rattle.ir_weave.specs.Standing.{flat_in}
 use Rattle.ir_weave.specs.States.{positions}
 use Rattle.ir_past.specs.declared.stale_write.StaleWrite.{StaleWrite}
-use Rattle.ir_rests.specs.Rests.{IsRestOf}
-use Rattle.ir_rests.specs.Watch.{IsWatch, IsFound}
+use Rattle.ir_rests.specs.declared.found.Found.TheVariants.{Unknown}
+use Rattle.ir_rests.specs.Watch.{IsFoundAs, IsWatch, IsFound}
 use Rattle.ir_rests.specs.declared.watch.Watch.{Watch}
 use Rattle.ir_rests.proofs.walk.close_all.Given as goal
 

@@ -16,11 +16,11 @@ walk-requires-clause-watched c =
     let f = c.args.fitted.now in
     let rows = c.args.rows.now in
     let s = c.in_ok-state.state in
-    subst (λ (z : List Watch × List Found). AreWatched copies f rows s z.0 z.1)
+    subst (λ (z : List Watch × List Found). AreWatched c.args.guide.copies f rows s z.0 z.1)
     (λ i. (sym c.deref_mut.ensures.value i, sym c.deref_mut-2.ensures.value i))
     (λ t d l. let is = c.in_ok-watches.ensures.built t d l in (
-      watched_first copies f rows t (positions (flat_in f s) t) _ is (c.in_ok-watches.ensures.sorted t d l) (c.in_ok-state.ensures.below (λ u. 0) t),
-      found_first copies f rows c.in_ok-found.found.items t _ is c.in_ok-found.ensures.none,
+      watched_first c.args.guide.copies f rows t (positions (flat_in f s) t) _ is (c.in_ok-watches.ensures.sorted t d l) (c.in_ok-state.ensures.below (λ u. 0) t),
+      found_first c.args.guide.copies f rows c.in_ok-found.found.items t _ is c.in_ok-found.ensures.none,
     ))
 
 pub returns : goal.returns

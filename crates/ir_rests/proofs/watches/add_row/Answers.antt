@@ -21,10 +21,10 @@ returns-in-Some-clause-built c =
     let stale = c.requires.guide.stale.sound c.args.row x there in
     let l : x.thread < length c.args.watches.now = (let a = (placed f c.requires.guide.route.last.run x stale).there in let b = c.requires.size in omega (arith, a, b)) in
     let old : Watch = c.index-watches-stale.result in
-    let is : IsBuilt copies f rows c.args.row x.thread old = subst (IsBuilt copies f rows c.args.row x.thread) (sym c.index-watches-stale.is)
+    let is : IsBuilt c.args.guide.copies f rows c.args.found.now c.args.row x.thread old = subst (IsBuilt c.args.guide.copies f rows c.args.found.now c.args.row x.thread) (sym c.index-watches-stale.is)
     (c.requires.built x.thread old l) in
-    on_ok_weaker c.add_span.result (λ h. set_built copies f rows c.args.row x.thread c.args.watches.now c.add_span.new.watch x l c.requires.built there refl
-    (added_built copies f rows c.args.row x.thread old c.add_span.new.watch x c.in-Some.span is there refl stale c.in-Some.ensures.row c.in-Some.ensures.found
+    on_ok_weaker c.add_span.result (λ h. set_built c.args.guide.copies f rows c.args.found.now c.args.row x.thread c.args.watches.now c.add_span.new.watch x l c.requires.built there refl
+    (added_built c.args.guide.copies f rows c.args.found.now c.args.row x.thread old c.add_span.new.watch x c.in-Some.span is there refl stale c.in-Some.ensures.row c.in-Some.ensures.found
     (h.0 ∙ ap (λ (w : Watch). w.next) (sym c.index-watches-stale.is)) (h.1 ∙ ap (λ (w : Watch). w.opened.items) (sym c.index-watches-stale.is))
     (h.2 ∙ ap (λ (w : Watch). w.spans.items ++ c.in-Some.span ∷ []) (sym c.index-watches-stale.is)))) c.add_span.ensures
 
