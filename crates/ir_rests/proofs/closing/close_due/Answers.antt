@@ -14,7 +14,7 @@ pub judged-requires-clause-opened : goal.judged-requires-clause-opened
 judged-requires-clause-opened c =
     let l : c.opened.i < length c.opened.watch.opened.items = (let a = c.in-Some.ensures.there in
     let b = ap (λ (xs : List Open). length xs) c.deref.ensures.value in omega (arith, a, b)) in
-    subst (IsOpenAt  c.args.guide.copies c.args.guide.route.fitted.now c.args.guide.rows.now c.args.t c.args.k) (c.take_out-opened.ensures.taken c.take_out-opened.result)
+    subst (IsOpenAt c.args.guide.copies c.args.guide.route.fitted.now c.args.guide.rows.now c.args.t c.args.k) (c.take_out-opened.ensures.taken c.take_out-opened.result)
     (c.opened.invariant.watch.opened c.opened.i c.take_out-opened.result l)
 
 pub judged-requires-clause-here : goal.judged-requires-clause-here

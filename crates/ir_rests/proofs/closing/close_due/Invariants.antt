@@ -9,12 +9,12 @@ use Rattle.ir_rests.proofs.closing.close_due.Given as goal
 
 abbrev pub invariant-opened : goal.invariant-opened
 invariant-opened l = record {
-  watch : IsWatch  l.guide.copies l.guide.route.fitted.now l.guide.rows.now l.t l.k l.watch;
+  watch : IsWatch l.guide.copies l.guide.route.fitted.now l.guide.rows.now l.t l.k l.watch;
   ends : (j : ℕ) (d : Open) → j < l.i → l.k < (slice_index_or l.watch.opened.items j d).span.end;
   within : l.i ≤ length l.watch.opened.items;
   spans : l.watch.spans ≡ l.fn.watch.spans;
   next : l.watch.next ≡ l.fn.watch.next;
-  adds : AddsRests  l.guide.copies l.guide.route.fitted.now l.guide.rows.now l.fn.rests l.rests;
+  adds : AddsRests l.guide.copies l.guide.route.fitted.now l.guide.rows.now l.fn.rests l.rests;
   found : (r : ℕ) (x : StaleWrite) → slice_get l.guide.rows.now r ≡ Some x → IsWatched l.fn.watch r
       → IsWatched l.watch r ⊎ IsFoundAs l.guide.copies l.guide.route.fitted.now x (slice_index_or l.rests r Unknown);
 }

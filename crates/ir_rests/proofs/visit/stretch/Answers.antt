@@ -13,7 +13,7 @@ use Rattle.ir_rests.proofs.visit.stretch.Goals as goal
 
 pub note-requires-clause-opened : goal.note-requires-clause-opened
 note-requires-clause-opened c =
-    subst (λ (xs : List Open). (i : ℕ) (d : Open) → i < length xs → IsOpenAt  c.args.guide.copies c.args.guide.route.fitted.now c.args.guide.rows.now c.args.t c.steps-from.result
+    subst (λ (xs : List Open). (i : ℕ) (d : Open) → i < length xs → IsOpenAt c.args.guide.copies c.args.guide.route.fitted.now c.args.guide.rows.now c.args.t c.steps-from.result
     (slice_index_or xs i d)) (sym c.deref_mut.ensures.value) c.close_due.ensures.watch.opened
 
 pub returns-clause-watch : goal.returns-clause-watch

@@ -14,8 +14,8 @@ abbrev pub invariant-stretches : goal.invariant-stretches
 invariant-stretches l = record {
   way : IsOnWay l.guide.route.fitted.now l.guide.route.ends.now l.state;
   further : IsFurther l.guide.route.fitted.now l.t l.fn.state l.state;
-  watch : IsWatch  l.guide.copies l.guide.route.fitted.now l.guide.rows.now l.t (positions (flat_in l.guide.route.fitted.now l.state) l.t) l.watch;
-  adds : AddsRests  l.guide.copies l.guide.route.fitted.now l.guide.rows.now l.fn.rests l.rests;
+  watch : IsWatch l.guide.copies l.guide.route.fitted.now l.guide.rows.now l.t (positions (flat_in l.guide.route.fitted.now l.state) l.t) l.watch;
+  adds : AddsRests l.guide.copies l.guide.route.fitted.now l.guide.rows.now l.fn.rests l.rests;
   found : (r : ℕ) (x : StaleWrite) → slice_get l.guide.rows.now r ≡ Some x → IsWatched l.fn.watch r
       → IsWatched l.watch r ⊎ IsFoundAs l.guide.copies l.guide.route.fitted.now x (slice_index_or l.rests r Unknown);
 }

@@ -16,6 +16,6 @@ invariant-loop-t l = record {
   done : (r : ℕ) (x : StaleWrite) → slice_get l.guide.rows.now r ≡ Some x → x.thread < l.t
       → IsFoundAs l.guide.copies l.guide.route.fitted.now x (slice_index_or l.rests r Unknown);
   others : (u : ℕ) (d : Watch) → l.t ≤ u → u < length l.watches
-      → IsWatch  l.guide.copies l.guide.route.fitted.now l.guide.rows.now u (positions (flat_in l.guide.route.fitted.now l.state) u) (slice_index_or l.watches u d)
-      × IsFound  l.guide.copies l.guide.route.fitted.now l.guide.rows.now l.rests u (slice_index_or l.watches u d);
+      → IsWatch l.guide.copies l.guide.route.fitted.now l.guide.rows.now u (positions (flat_in l.guide.route.fitted.now l.state) u) (slice_index_or l.watches u d)
+      × IsFound l.guide.copies l.guide.route.fitted.now l.guide.rows.now l.rests u (slice_index_or l.watches u d);
 }

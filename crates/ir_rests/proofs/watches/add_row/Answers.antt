@@ -31,5 +31,5 @@ returns-in-Some-clause-built c =
 pub returns-in-None-clause-built : goal.returns-in-None-clause-built
 returns-in-None-clause-built c =
     let rows = c.args.guide.rows.now in
-    same_built  c.args.guide.copies c.args.guide.route.fitted.now rows c.args.row c.args.watches.now (slice_index_or rows c.args.row no_row) c.requires.built
+    same_built c.args.guide.copies c.args.guide.route.fitted.now rows c.args.row c.args.watches.now (slice_index_or rows c.args.row no_row) c.requires.built
     (slice_get-get_or rows c.args.row no_row c.requires.row) c.in-None.ensures.none

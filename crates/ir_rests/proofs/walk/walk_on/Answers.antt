@@ -3,7 +3,7 @@ use Rattle.std.specs.List.{slice_index_or}
 use Rattle.ir_flat.specs.Flat.{idle}
 use Rattle.ir_cut.specs.Positions.{cut_of}
 use Rattle.ir_events.proofs.CallerLemmas.{pass_goes}
-use Rattle.ir_rests.proofs.walk.walk.Goals as goal
+use Rattle.ir_rests.proofs.walk.walk_on.Goals as goal
 
 pub passes-smaller : goal.passes-smaller
 passes-smaller c =
