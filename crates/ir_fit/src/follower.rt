@@ -26,6 +26,8 @@ pub struct Follower<'a> {
     pub flat: Flat<'a>,
     pub trace: Trace,
     pub ready: Vec<Readiness>,
+    // As many threads wait at most. While it is 0 no thread is looked for that waits.
+    pub waiting: usize,
     pub places: Vec<GrowingPlaces>,
 }
 

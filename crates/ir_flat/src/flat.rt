@@ -7,7 +7,8 @@ ghost use Rattle.ir_flat.specs.Next.{next, MayStep};
 ghost use Rattle.ir_thread.specs.Allowed.{IsAllowed};
 ghost use Rattle.ir_thread.specs.Calls.{most_budget, ask_of, Permits};
 ghost use Rattle.ir_thread.specs.Private.{NoInstruction, UnmarkedSteps, StopsUnmarked};
-ghost use Rattle.std.specs.Prelude.{◌≡◌, ◌<◌, ◌≤◌, ◌↔◌, length, IfOk, OnOk, OnErr, IsTrue};
+ghost use Rattle.ir_thread.specs.declared.ask.Ask.TheVariants.{Private};
+ghost use Rattle.std.specs.Prelude.{◌≡◌, ◌≢◌, ◌<◌, ◌≤◌, ◌↔◌, length, IfOk, OnOk, OnErr, IsTrue};
 
 use crate::parts::Parts;
 use crate::start;
@@ -149,7 +150,8 @@ impl<'a> Flat<'a> {
         self.parts.may(t, 0, asked)
     }
 
-    /// Thread t takes instructions, at most `limit`: how many they are, and what it asks then.
+    /// Thread t takes private steps, at most `limit`: how many they are, and what it asks then, which below the limit is no private
+    /// step.
     #[inline(always)]
     pub fn run_to_ask(&mut self, t: usize, limit: u64) -> (u64, Ask)
         requires { t < length self.old.threads }
@@ -159,6 +161,7 @@ impl<'a> Flat<'a> {
         ensures went { WentAlone self.old self.new t result.0 }
         ensures asked { result.1 ≡ ask_of self.new.code (thread_of self.new t) }
         ensures stops { result.0 < limit → NoInstruction self.new.code (thread_of self.new t) }
+        ensures shared { result.0 < limit → result.1 ≢ Private }
     {
         self.parts.run_to_ask(t, limit)
     }

@@ -129,7 +129,7 @@ impl<'a> Parts<'a> {
         self.threads[t].take_asked(self.code, asked, reply);
     }
 
-    // Thread t takes instructions, at most `limit`: how many they are, and what it asks then.
+    // Thread t takes private steps, at most `limit`: how many they are, and what it asks then.
     #[inline(always)]
     pub fn run_to_ask(&mut self, t: usize, limit: u64) -> (u64, Ask)
         requires { t < length self.old.threads }
@@ -138,6 +138,7 @@ impl<'a> Parts<'a> {
         ensures moved { self.new ≡ with_thread self.old t (run_of self.old.code result.0 (thread_of self.old t)) }
         ensures asked { result.1 ≡ ask_of self.new.code (thread_of self.new t) }
         ensures stops { result.0 < limit → NoInstruction self.new.code (thread_of self.new t) }
+        ensures shared { result.0 < limit → result.1 ≢ Private }
     {
         self.threads[t].run_to_ask(self.code, limit)
     }

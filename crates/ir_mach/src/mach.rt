@@ -1,6 +1,6 @@
 //! One machine: its pc, its registers and its private memory.
 
-ghost use Rattle.std.specs.Prelude.{◌≡◌, ◌<◌, ◌≤◌, ℕ, List, Bool, length, slice_index, take, IfOk, Some};
+ghost use Rattle.std.specs.Prelude.{◌≡◌, ◌<◌, ◌≤◌, ℕ, List, Bool, length, slice_index, take, IfOk, Some, true};
 ghost use Rattle.ir_isa.specs.declared.inst.LoadOp.TheVariants.{Lw};
 ghost use Rattle.ir_image.specs.Guest.{IsByte, IsWord};
 ghost use Rattle.ir_mach.specs.Core.{Core, IsCore, memory_size, register, start_core, start_memory};
@@ -81,7 +81,7 @@ impl Mach {
     ghost use Rattle.ir_mach.specs.Effects.{applied, IsPossible};
     ghost use Rattle.ir_mach.specs.Execution.{outcome_of, ran_of, IsStep, past_call};
     ghost use Rattle.ir_mach.specs.Marks.{AreUnmarked};
-    ghost use Rattle.ir_mach.specs.Run.{unmarked_after};
+    ghost use Rattle.ir_mach.specs.Run.{unmarked_after, IsAtCall};
 
     /// The machine of a thread before its first step: pc is the thread's entry, x2 the address just
     /// above private memory, the other registers 0, and private memory the image's data and then
@@ -210,17 +210,20 @@ impl Mach {
         self.apply(effect)
     }
 
-    // Carries out operations, at most `limit`, as long as none is unusual, and says how many.
+    // Carries out operations, at most `limit`, as long as none is unusual, and says how many, and whether it stopped because
+    // a system call comes next.
     #[tactic(auto, using(crate::proofs::Runs::unmarked_none))]
-    pub(crate) fn run_usual(&mut self, operations: &[Operation], limit: u64) -> u64
-        ensures within { result ≤ limit }
-        ensures steps { (code : List ℕ) (marks : List Bool) → AreUnmarked code marks operations.now → unmarked_after result code marks self.old ≡ Some self.new }
+    #[inline(never)]
+    pub(crate) fn run_usual(&mut self, operations: &[Operation], limit: u64) -> (u64, bool)
+        ensures within { result.0 ≤ limit }
+        ensures steps { (code : List ℕ) (marks : List Bool) → AreUnmarked code marks operations.now → unmarked_after result.0 code marks self.old ≡ Some self.new }
+        ensures call { result.1 ≡ true → IsAtCall operations.now self.new }
     {
         if self.pc % 4 != 0 {
-            return 0;
+            return (0, false);
         }
         let start = place_of(self.pc);
-        let (place, done) = carry_out(
+        let (place, done, at_call) = carry_out(
             operations,
             &mut self.registers,
             self.memory.as_mut_slice(),
@@ -228,7 +231,7 @@ impl Mach {
             limit,
         );
         self.pc = address_of(place);
-        done
+        (done, at_call)
     }
 
     /// Goes past a system call: pc to the next word, and the answer, if there is one, into a0.

@@ -44,6 +44,17 @@ read_leave_word w inside_one room small =
     let writer : (w + reader_leaves) % 2 ^ 64 % reader_unit ≡ w % 2 = omega (arith, small) in
     λ i. record { version = version i; left = left i; inside = inside i; writer = writer i == 1 }
 
+-- the same of any word of 64 bits
+pub reader_left_word : (w : ℕ) → w < 2 ^ 64 → 0 < (fields_of w).inside → (fields_of w).left + 1 < left_limit
+    → (w + reader_leaves < 2 ^ 64) × (fields_of (w + reader_leaves) ≡ left_by Reading (fields_of w))
+reader_left_word w fits inside_one room =
+    let below : w + reader_leaves < 2 ^ 64 = omega (arith, fits, room, inside_one) in
+    let version : (w + reader_leaves) / version_unit ≡ w / version_unit = omega (arith, room, inside_one) in
+    let left : (w + reader_leaves) / left_unit % left_limit ≡ w / left_unit % left_limit + 1 = omega (arith, room, inside_one) in
+    let inside : (w + reader_leaves) / reader_unit % inside_limit ≡ w / reader_unit % inside_limit - 1 = omega (arith, room, inside_one) in
+    let writer : (w + reader_leaves) % reader_unit ≡ w % 2 = omega arith in
+    (below, λ i. record { version = version i; left = left i; inside = inside i; writer = writer i == 1 })
+
 -- the next version alone, which a writer leaves
 pub version_word : (v : ℕ) (f : Fields) → f.version ≡ v → fields_of ((v + 1) * version_unit) ≡ left_by Writing f
 version_word v f is =

@@ -3,6 +3,7 @@
 
 mod fields;
 mod gate;
+mod hands;
 mod laws;
 mod layout;
 mod object;
@@ -10,6 +11,7 @@ mod word;
 
 pub use fields::Fields;
 pub use gate::{Gate, OpenGate};
+pub use hands::{Given, Hands};
 pub use laws::{one_word_each, steps_of_words, words_stand};
 pub use layout::{APART, CONTENT_PLACE, WORD_PLACE};
 pub use object::Object;

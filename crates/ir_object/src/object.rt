@@ -93,44 +93,29 @@ impl Object {
     }
 
     /// A thread enters.
+    #[tactic(auto, using(crate::proofs::Words::read_entry_word, crate::proofs::Words::write_entry_word))]
     pub fn enter(&mut self, access: Access)
         requires admitted { Admitted access self.old.fields }
         requires fits { IsFields (entered access self.old.fields) }
         ensures { self.new ≡ record self.old { fields = entered access self.old.fields } }
     {
-        let fields = self.fields();
-        self.word = Word::pack(match access {
-            Access::Reading => Fields {
-                inside: fields.inside + 1,
-                ..fields
-            },
-            Access::Writing => Fields {
-                writer: true,
-                ..fields
-            },
-        });
+        match access {
+            Access::Reading => self.word.bits += Word::READER_ENTERS,
+            Access::Writing => self.word.bits += Word::WRITER_ENTERS,
+        }
     }
 
     /// A thread that is inside leaves.
+    #[tactic(auto, using(crate::proofs::Words::reader_left_word, crate::proofs::Words::version_word))]
     pub fn leave(&mut self, access: Access)
         requires inside { CanLeave access self.old.fields }
         requires fits { IsFields (left_by access self.old.fields) }
         ensures { self.new ≡ record self.old { fields = left_by access self.old.fields } }
     {
-        let fields = self.fields();
-        self.word = Word::pack(match access {
-            Access::Reading => Fields {
-                left: fields.left + 1,
-                inside: fields.inside - 1,
-                ..fields
-            },
-            Access::Writing => Fields {
-                version: fields.version + 1,
-                left: 0,
-                inside: 0,
-                writer: false,
-            },
-        });
+        match access {
+            Access::Reading => self.word.bits += Word::READER_LEAVES,
+            Access::Writing => self.word = self.word.next_version(),
+        }
     }
 
     /// The word of this index, below `ir_image::MOST_OBJECT_WORDS`.

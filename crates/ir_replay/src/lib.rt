@@ -3,6 +3,8 @@
 
 mod admission;
 mod alone;
+mod limit;
+mod meter;
 mod moves;
 mod pace;
 mod passes;

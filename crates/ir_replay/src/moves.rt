@@ -8,6 +8,7 @@ ghost use Rattle.ir_weave.specs.States.{positions};
 ghost use Rattle.ir_weave.specs.Stepping.{steps_left};
 ghost use Rattle.ir_replay.specs.Rounds.{IsBetween, OneIsBelow, Goes};
 
+use crate::meter::Meter;
 use crate::pace::Pace;
 use crate::passes::{finish, follow};
 use crate::round::round;
@@ -77,8 +78,8 @@ fn steps_of(threads: &[Thread]) -> u64 {
     steps
 }
 
-// A round of workers; or a stretch on the caller, where the workers' last round took few steps, and where one thread
-// alone is below its target.
+// A round of workers; or a stretch on the caller, where it is faster than the workers' last round, and where one thread alone is below its
+// target.
 fn turn<R: Threads + Clock + Sync, G: Gate + Sync>(
     rt: &R,
     alloc: Global,
@@ -99,21 +100,22 @@ fn turn<R: Threads + Clock + Sync, G: Gate + Sync>(
     if is_alone(state.threads(), target) {
         return Ok(stretch(fitted, state, target, u64::MAX, gate));
     }
+    let meter = Meter::start(rt, steps_of(state.threads()));
     let most = pace.stretch();
     if most > 0 {
-        pace.after_stretch();
-        return Ok(stretch(fitted, state, target, most, gate));
+        let state = stretch(fitted, state, target, most, gate);
+        pace.after_stretch(meter.rate(rt, steps_of(state.threads())));
+        return Ok(state);
     }
-    let before = steps_of(state.threads());
-    let state = round(rt, alloc, fitted, state, target, gate)?;
-    pace.after_round(steps_of(state.threads()).saturating_sub(before));
+    let state = round(rt, alloc, fitted, state, target, gate, pace.millis())?;
+    pace.after_round(meter.rate(rt, steps_of(state.threads())));
     Ok(state)
 }
 
 /// Brings the threads and objects to the target by rounds of workers, one for each thread, over a table that they share.
-/// A worker whose next step isn't admitted looks again for a while, then ends its round. Where workers hinder each other,
-/// so that a round takes few steps, the caller takes a stretch of steps by itself before the next; where one thread alone
-/// has steps to take, it takes them all. Each entry and leave is reported to the gate.
+/// A worker whose next step isn't admitted looks again for some milliseconds, then ends its round. Where the caller by itself is faster, it
+/// takes ever longer stretches of steps between rounds; where one thread alone has steps to take, it takes them all. Each entry and leave is
+/// reported to the gate.
 ///
 /// # Errors
 /// Out of memory, with the state at a consistent cut between.

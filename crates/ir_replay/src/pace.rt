@@ -1,21 +1,30 @@
-//! How a move advances: by workers, or by stretches on the caller if workers hinder each other.
+//! How a move advances: by workers, or by stretches on the caller where that is faster.
 
 ghost use Rattle.std.specs.Prelude.{◌<◌};
 
-// A round of fewer steps than these was few: the caller takes as many in the time in which workers are started and joined.
-const FEW_STEPS: u64 = 20_000;
-
-// The first stretch of steps that the caller takes by itself after such a round.
-const FIRST_STRETCH: u64 = 1 << 16;
+// The first stretch of steps that the caller takes by itself.
+const FIRST_STRETCH: u64 = 1 << 18;
 
 // The longest.
-const LONGEST_STRETCH: u64 = 1 << 24;
+const LONGEST_STRETCH: u64 = 1 << 25;
 
-// Whose turn it is, and how many steps the caller takes at its next.
+// How many times as long the next one is, after a round in which workers were slower again.
+const GROWTH: u64 = 8;
+
+// How long the first round of workers lasts in which some wait, in milliseconds. To start and to join them takes a small part of it.
+const FIRST_ROUND: u32 = 10;
+
+// The longest.
+const LONGEST_ROUND: u32 = 1000;
+
+// Whose turn it is, how many steps the caller takes at its next, and how long the workers' next lasts.
 #[derive(Clone, Copy)]
 pub struct Pace {
     callers: bool,
     stretch: u64,
+    millis: u32,
+    // How fast the caller's last stretch was, in steps in a millisecond.
+    alone: Option<u64>,
     ghost some: { 0 < stretch },
 }
 
@@ -25,6 +34,8 @@ impl Pace {
         Pace {
             callers: false,
             stretch: FIRST_STRETCH,
+            millis: FIRST_ROUND,
+            alone: None,
         }
     }
 
@@ -33,17 +44,30 @@ impl Pace {
         if self.callers { self.stretch } else { 0 }
     }
 
-    // After a round in which the workers took `steps` steps.
-    pub fn after_round(&mut self, steps: u64) {
-        self.callers = steps < FEW_STEPS;
-        if !self.callers {
+    // How many milliseconds the workers' turn may last, if some of them wait.
+    pub fn millis(self) -> u32 {
+        self.millis
+    }
+
+    // After a round of so many steps in a millisecond, if that is known: the caller's turn where it is faster, or wasn't tried.
+    pub fn after_round(&mut self, rate: Option<u64>) {
+        self.callers = match (rate, self.alone) {
+            (Some(together), Some(alone)) => together < alone,
+            (Some(_), None) => true,
+            (None, _) => false,
+        };
+        if self.callers {
+            self.millis = FIRST_ROUND;
+        } else {
+            self.millis = self.millis.saturating_mul(2).min(LONGEST_ROUND);
             self.stretch = FIRST_STRETCH;
         }
     }
 
-    // After a stretch, the next of which is longer.
-    pub fn after_stretch(&mut self) {
+    // After a stretch of so many steps in a millisecond, if that is known.
+    pub fn after_stretch(&mut self, rate: Option<u64>) {
+        self.alone = rate;
         self.callers = false;
-        self.stretch = self.stretch.saturating_mul(2).min(LONGEST_STRETCH);
+        self.stretch = self.stretch.saturating_mul(GROWTH).min(LONGEST_STRETCH);
     }
 }

@@ -2,16 +2,13 @@
 
 ghost use Rattle.std.specs.Prelude.{◌≡◌, ◌<◌, true};
 
+use crate::limit::Limit;
 use crossbeam_utils::Backoff;
-use std::sync::atomic::{AtomicBool, Ordering};
 use std::thread;
 use std::time::{Clock, Duration};
 
-// How often a worker may look again in a round, before it has taken a step.
-const FIRST_LOOKS: u64 = 500;
-
-// The steps for which it may look once more, so that it waits no longer than it works.
-const STEPS_FOR_A_LOOK: u64 = 8;
+// How often a worker may look again in a round. Its time ends before.
+const MOST_LOOKS: u64 = 1 << 40;
 
 // How often it looks for one step before it sleeps between looks: by then it has waited longer than a sleep takes, so
 // that sleeping at most doubles its wait. Fewer looks cost more than they save: with 40, replay took five times as long.
@@ -24,35 +21,39 @@ const SLEEP_MICROS: u64 = 10;
 // millisecond longer than without sleeping, where a worker that ends has slept for five times as long.
 const LAST_LOOKS: u64 = LOOKS_AWAKE + 20;
 
+// After how many looks it asks for the time.
+const LOOKS_FOR_A_TIME: u64 = 16;
+
 /// How often a worker may still look for steps that aren't admitted.
 #[derive(Drop)]
 pub struct Patience<'a> {
     pub looks: u64,
-    // Whether a worker of the round ended it below its target.
-    ended: &'a AtomicBool,
+    limit: &'a Limit,
 }
 
 impl<'a> Patience<'a> {
-    // Of a worker that hasn't begun, beside others who tell each other that one has ended.
-    pub fn new(ended: &'a AtomicBool) -> Patience<'a> {
+    // Of a worker that hasn't begun, in a round that ends so.
+    pub fn new(limit: &'a Limit) -> Patience<'a> {
         Patience {
-            looks: FIRST_LOOKS,
-            ended,
+            looks: MOST_LOOKS,
+            limit,
         }
     }
 
-    // More looks, for `steps` steps that were taken.
-    pub fn grow(&mut self, steps: u64) {
-        self.looks = self.looks.saturating_add(steps / STEPS_FOR_A_LOOK);
+    // Whether the worker ends its round, after `looked` looks for one step.
+    fn is_over(&self, clock: &impl Clock, looked: u64) -> bool {
+        if looked >= LAST_LOOKS && self.limit.is_ended() {
+            return true;
+        }
+        self.looks % LOOKS_FOR_A_TIME == 0 && self.limit.is_reached(clock)
     }
 
     // Waits a moment after `looked` looks for one step; or says that there is no time for another.
     pub fn wait(&mut self, clock: &impl Clock, backoff: &Backoff, looked: u64) -> bool
         ensures { result ≡ true → self.new.looks < self.old.looks }
     {
-        let is_over = looked >= LAST_LOOKS && self.ended.load(Ordering::Relaxed);
-        if self.looks == 0 || is_over {
-            self.ended.store(true, Ordering::Relaxed);
+        if self.looks == 0 || self.is_over(clock, looked) {
+            self.limit.end();
             return false;
         }
         self.looks -= 1;

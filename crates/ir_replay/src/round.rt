@@ -43,7 +43,7 @@ pub fn assign_seats(workers: &mut Vec<Worker>, threads: &mut Vec<Thread>, mut se
     }
 }
 
-// All workers go on.
+// All workers go on, for so many milliseconds and longer.
 fn run_all<R: Threads + Clock + Sync, G: Gate + Sync>(
     rt: &R,
     weave: &Weave,
@@ -51,13 +51,22 @@ fn run_all<R: Threads + Clock + Sync, G: Gate + Sync>(
     fitted: &Fitted,
     target: &Cut,
     gate: &G,
+    millis: u32,
 )
     requires table { IsFor weave.now.table.shared.key fitted.now }
     requires target { (length target.now ≡ length fitted.now.guest.entries) × IsConsistentCut fitted.now target.now }
     requires ready { AllByRecursion (IsReady weave.now.table.shared.table_id weave.now.table.shared.key target.now) workers.old.items }
     ensures { Pairs (HasWorked weave.now.table.shared.table_id weave.now.table.shared.key target.now) workers.old.items workers.new.items }
 {
-    work_all(rt, weave, workers.as_mut_slice(), fitted, target, gate);
+    work_all(
+        rt,
+        weave,
+        workers.as_mut_slice(),
+        fitted,
+        target,
+        gate,
+        millis,
+    );
 }
 
 // The threads again, the first first, and their seats joined to one.
@@ -80,22 +89,29 @@ fn joined(weave: &Weave, workers: &mut Vec<Worker>, threads: &mut Vec<Thread>) -
     all
 }
 
-// A round over a table that is open, with room for its workers.
-fn run_at_table<R: Threads + Clock + Sync, G: Gate + Sync>(
-    rt: &R,
+// A table that is open, its seats, and room for the workers of a round.
+#[derive(Drop)]
+struct Opened {
     weave: Weave,
     seats: Vec<WeaveSeat>,
-    mut workers: Vec<Worker>,
+    workers: Vec<Worker>,
+}
+
+// A round over a table.
+fn run_at_table<R: Threads + Clock + Sync, G: Gate + Sync>(
+    rt: &R,
+    opened: Opened,
     fitted: &Fitted,
     state: State,
     target: &Cut,
     gate: &G,
+    millis: u32,
 ) -> State
-    requires table { IsFor weave.table.shared.key fitted.now }
-    requires opened { weave.table.shared.key.opened.value ≡ state }
-    requires seats { AreSeats weave.table.shared.table_id weave.table.shared.key 0 seats.items × (length seats.items ≡ length fitted.now.guest.entries) }
-    requires none { workers.items ≡ [] }
-    requires room { length seats.items ≤ vec_capacity workers }
+    requires table { IsFor opened.weave.table.shared.key fitted.now }
+    requires opened { opened.weave.table.shared.key.opened.value ≡ state }
+    requires seats { AreSeats opened.weave.table.shared.table_id opened.weave.table.shared.key 0 opened.seats.items × (length opened.seats.items ≡ length fitted.now.guest.entries) }
+    requires none { opened.workers.items ≡ [] }
+    requires room { length opened.seats.items ≤ vec_capacity opened.workers }
     requires state { StandsAt fitted.now (positions (flat_in fitted.now state)) state }
     requires target { (length target.now ≡ length fitted.now.guest.entries) × IsConsistentCut fitted.now target.now }
     requires below { (t : ℕ) → positions (flat_in fitted.now state) t ≤ cut_of target.now t }
@@ -103,15 +119,20 @@ fn run_at_table<R: Threads + Clock + Sync, G: Gate + Sync>(
     ensures goes { Goes fitted.now target.now state result }
 {
     fitted.image().code();
+    let Opened {
+        weave,
+        seats,
+        mut workers,
+    } = opened;
     let (mut threads, mut objects) = state.parts();
     assign_seats(&mut workers, &mut threads, seats);
-    run_all(rt, &weave, &mut workers, fitted, target, gate);
+    run_all(rt, &weave, &mut workers, fitted, target, gate, millis);
     let seat = joined(&weave, &mut workers, &mut threads);
     weave.close(seat, objects.as_mut_slice());
     State::build(threads, objects)
 }
 
-// One round: each thread advances until it is at its target or its next step isn't admitted for long.
+// One round: each thread advances until it is at its target, or its next step isn't admitted and so many milliseconds have passed.
 pub fn round<R: Threads + Clock + Sync, G: Gate + Sync>(
     rt: &R,
     alloc: Global,
@@ -119,6 +140,7 @@ pub fn round<R: Threads + Clock + Sync, G: Gate + Sync>(
     state: State,
     target: &Cut,
     gate: &G,
+    millis: u32,
 ) -> Result<State, (State, AllocError)>
     requires state { StandsAt fitted.now (positions (flat_in fitted.now state)) state }
     requires target { (length target.now ≡ length fitted.now.guest.entries) × IsConsistentCut fitted.now target.now }
@@ -135,5 +157,10 @@ pub fn round<R: Threads + Clock + Sync, G: Gate + Sync>(
         Ok(workers) => workers,
         Err(error) => return Err((state, error)),
     };
-    Ok(run_at_table(rt, weave, seats, workers, fitted, state, target, gate))
+    let opened = Opened {
+        weave,
+        seats,
+        workers,
+    };
+    Ok(run_at_table(rt, opened, fitted, state, target, gate, millis))
 }

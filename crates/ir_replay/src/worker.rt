@@ -7,6 +7,7 @@ ghost use Rattle.ir_weave.specs.Woven.{IsFor, WasStopped};
 ghost use Rattle.ir_weave.specs.declared.stepping.Tried.TheVariants.{Stepped, NotNow, AtTarget};
 ghost use Rattle.ir_replay.specs.Workers.{IsReady, IsOnWay, HasWorked};
 
+use crate::limit::Limit;
 use crate::patience::Patience;
 use crate::telling::{tell_entry, tell_leave};
 use crossbeam_utils::{Backoff, CachePadded};
@@ -15,7 +16,6 @@ use ir_fit::Fitted;
 use ir_object::Gate;
 use ir_thread::{Ask, Thread};
 use ir_weave::{Tried, Weave, WeaveSeat};
-use std::sync::atomic::AtomicBool;
 use std::thread;
 use std::thread::Threads;
 use std::time::Clock;
@@ -67,17 +67,16 @@ fn work<G: Gate>(
     fitted: &Fitted,
     target: &Cut,
     gate: &G,
-    ended: &AtomicBool,
+    limit: &Limit,
 )
     requires table { IsFor weave.now.table.shared.key fitted.now }
     requires target { (length target.now ≡ length fitted.now.guest.entries) × IsConsistentCut fitted.now target.now }
     requires ready { IsReady weave.now.table.shared.table_id weave.now.table.shared.key target.now worker.old }
     ensures { HasWorked weave.now.table.shared.table_id weave.now.table.shared.key target.now worker.old worker.new }
 {
-    let mut patience = Patience::new(ended);
+    let mut patience = Patience::new(limit);
     'steps: loop {
-        let (ran, asked) = weave.run(&worker.seat, &mut worker.thread, fitted, target);
-        patience.grow(ran);
+        let (_, asked) = weave.run(&worker.seat, &mut worker.thread, fitted, target);
         let number = worker.thread.number();
         if worker.thread.steps() >= target.position(number as usize) {
             return;
@@ -90,7 +89,8 @@ fn work<G: Gate>(
     }
 }
 
-// Each worker runs in a thread of its own, if one can be made, and otherwise on the caller's.
+// Each worker runs in a thread of its own, if one can be made, and otherwise on the caller's. Once so many milliseconds have passed, a worker
+// whose next step isn't admitted ends its round.
 pub fn work_all<R: Threads + Clock + Sync, G: Gate + Sync>(
     rt: &R,
     weave: &Weave,
@@ -98,6 +98,7 @@ pub fn work_all<R: Threads + Clock + Sync, G: Gate + Sync>(
     fitted: &Fitted,
     target: &Cut,
     gate: &G,
+    millis: u32,
 )
     requires table { IsFor weave.now.table.shared.key fitted.now }
     requires target { (length target.now ≡ length fitted.now.guest.entries) × IsConsistentCut fitted.now target.now }
@@ -108,11 +109,11 @@ pub fn work_all<R: Threads + Clock + Sync, G: Gate + Sync>(
         return;
     }
     let count = workers.len();
-    let ended = AtomicBool::new(false);
+    let limit = Limit::new(rt, millis);
     thread::for_each_mut(
         rt,
         workers,
         count,
-        &|_, worker| work(rt, weave, worker, fitted, target, gate, &ended),
+        &|_, worker| work(rt, weave, worker, fitted, target, gate, &limit),
     );
 }

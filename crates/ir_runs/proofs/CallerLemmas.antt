@@ -43,3 +43,8 @@ pub use Rattle.ir_runs.proofs.Admit.{admitted}
 pub use Rattle.ir_runs.proofs.Prefixes.{IsPrefix, prefix_at}
 -- runs by an order of the threads
 pub use Rattle.ir_runs.proofs.Turns.{turns_run, turns_append}
+-- steps of different threads commute, unless both enter
+pub use Rattle.ir_runs.proofs.Swap.{Clash, IsEntry}
+pub use Rattle.ir_runs.proofs.Steps.{Clashes, Keeps, keeps, commute}
+-- results with which a thread does the same
+pub use Rattle.ir_runs.proofs.Pull.{same_after, clash_sym}

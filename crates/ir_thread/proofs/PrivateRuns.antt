@@ -4,14 +4,16 @@ use Rattle.std.specs.Prelude.{nat_lt, is_some, Option, MatchOption}
 use Rattle.std.proofs.lemmas.Bool.{lt-leb, ltb-true, ltb-false}
 use Rattle.std.proofs.lemmas.Option.{option_and_then_some}
 use Rattle.ir_mach.specs.Core.{Core, Outcome, Goes, Calls, Ends}
-use Rattle.ir_mach.specs.Execution.{outcome_of}
+use Rattle.ir_mach.specs.Execution.{outcome_of, ran_of, past_call}
 use Rattle.ir_mach.specs.Run.{core_after as machine_after, core_of}
 use Rattle.ir_thread.specs.State.{State}
-use Rattle.ir_thread.specs.Calls.{ask_of, after_ask, after_reply, step_of, run_of}
-use Rattle.ir_thread.specs.Private.{PrivateSteps}
+use Rattle.ir_thread.specs.Calls.{ask_of, after_ask, after_reply, core_after, step_of, run_of, IsRunning, Permits}
+use Rattle.ir_thread.specs.Private.{PrivateSteps, NoInstruction}
 use Rattle.ir_thread.specs.declared.ask.Ask.TheVariants as ask
 use Rattle.ir_thread.specs.declared.ask.Reply.TheVariants.{Go}
 use Rattle.ir_thread.specs.declared.end.End.{End}
+use Rattle.ir_thread.specs.Ends.{end_of_fault}
+use Rattle.ir_thread.proofs.Asked.{ask_permits}
 
 -- a thread that hasn't ended has a step for each that its budget leaves
 pub running : (ended : Option End) → is_some ended ≡ false → ended ≡ None
@@ -129,6 +131,24 @@ then_one code first s middle t before asks goes =
       each = λ k below. below_more (λ (j : ℕ). ask_of code (run_of code j s) ≡ ask.Private) first before.each
           (ap (λ m. ask_of code m) (sym here) ∙ asks) k (omega arith);
     }
+
+-- a private step that is no instruction goes past the call that answers the thread's number
+pub own_number : (code : List ℕ) (s : State) (number : ℕ) → s.number ≡ number → ask_of code s ≡ ask.Private → NoInstruction code s
+    → after_reply code s Go ≡ record s { core = past_call s.core (Some number); steps = s.steps + 1 }
+unfolding after_reply
+own_number code s number is private none =
+    let lives : IsRunning s = subst (Permits s) private (ask_permits code s) in
+    ap (λ a. after_ask code s a Go) private
+    ∙ ap (λ (c : Core). record s { core = c; steps = s.steps + 1 }) (by lives (outcome_of code s.core) refl)
+  where
+    by : IsRunning s → (o : Outcome) → outcome_of code s.core ≡ o
+        → core_after s.number (outcome_of code s.core) s.core ≡ past_call s.core (Some number)
+    by lives (Goes core) there = absurd (none lives.lives lives.has_budget (ap ran_of there))
+    by lives Calls there = ap (λ o. core_after s.number o s.core) there ∙ ap (λ (n : ℕ). past_call s.core (Some n)) is
+    by lives (Ends fault) there =
+        let within : leb s.budget s.steps ≡ false = lt-leb s.budget s.steps lives.has_budget in
+        let ends : ask_of code s ≡ ask.End (end_of_fault fault) = rw (lives.lives, within, there) refl in
+        let never : ask.Private ≡ ask.End (end_of_fault fault) = sym private ∙ ends in absurd cc
 
 -- ---- the first of them, and what they leave as it is
 

@@ -338,8 +338,8 @@ fn a_small_image_has_eight_words_of_each_object(rt: HostRuntime) -> Result<(), F
     Ok(())
 }
 
-// `auipc t0, 1`, `jal zero, -4`, `beq t0, t0, 6`, `lw a0, 4(t0)`, `sw a0, -4(t0)`, `sltiu a0, a0, -1`, `ecall`
-const WORDS: [u32; 7] = [
+// `auipc t0, 1`, `jal zero, -4`, `beq t0, t0, 6`, `lw a0, 4(t0)`, `sw a0, -4(t0)`, `sltiu a0, a0, -1`, `ecall`, `ebreak`
+const WORDS: [u32; 8] = [
     0x0000_1297,
     0xffdf_f06f,
     0x0052_8363,
@@ -347,15 +347,17 @@ const WORDS: [u32; 7] = [
     0xfea2_ae23,
     0xfff5_3513,
     0x73,
+    0x0010_0073,
 ];
 
-const LOWERED: [(Kind, u8, u8, u8, u32); 7] = [
+const LOWERED: [(Kind, u8, u8, u8, u32); 8] = [
     (Kind::Constant, 5, 0, 0, 0x0001_1000),
     (Kind::Jal, 32, 0, 0, 0),
     (Kind::Unusual, 32, 0, 0, 0),
     (Kind::Lw, 10, 5, 0, 0xfff0_0004),
     (Kind::Sw, 32, 5, 10, 0xffef_fffc),
     (Kind::Sltiu, 10, 10, 0, 0xffff_ffff),
+    (Kind::Call, 32, 0, 0, 0),
     (Kind::Unusual, 32, 0, 0, 0),
 ];
 

@@ -50,6 +50,7 @@ pub fn followed<'a>(
         flat,
         trace,
         ready,
+        waiting: 0,
         places,
     };
     follower.follow();

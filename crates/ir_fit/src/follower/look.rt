@@ -222,7 +222,7 @@ impl Follower<'_> {
         requires asked { asked ≡ ask_of self.now.flat.code (thread_of self.now.flat t) }
         ensures { IsSeen self.now.trace self.now.flat t result }
     {
-        if asked == Ask::Done {
+        if let Ask::Done = asked {
             return Look::Done;
         }
         if self.steps_left(t) == 0 {

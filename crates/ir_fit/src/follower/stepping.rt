@@ -38,14 +38,21 @@ fn opens(number: u8, object: &Object, event: Event) -> bool {
     }
 }
 
-// Those that can enter the object of this number now, as the events say that they wait for, are to be looked at again.
-fn wake(ready: &mut Vec<Readiness>, number: u8, object: &Object)
+// Those that can enter the object of this number now, as the events say that they wait for, are to be looked at again. The
+// others that wait are counted.
+fn wake(ready: &mut Vec<Readiness>, waiting: &mut usize, number: u8, object: &Object)
     ensures { length ready.new.items ≡ length ready.old.items }
 {
+    if *waiting == 0 {
+        return;
+    }
+    *waiting = 0;
     for t in 0..ready.len() {
         if let Readiness::Waits(event) = ready[t] {
             if opens(number, object, event) {
                 ready[t] = Readiness::Ready;
+            } else {
+                *waiting = waiting.saturating_add(1);
             }
         }
     }
@@ -61,6 +68,9 @@ impl Follower<'_> {
         ensures places { self.new.places.items ≡ self.old.places.items }
         ensures sized { IsSized self.new }
     {
+        if let Look::Waits(_) = look {
+            self.waiting = self.waiting.saturating_add(1);
+        }
         self.ready[t] = readiness(look);
     }
 
@@ -106,6 +116,7 @@ impl Follower<'_> {
         if let Ask::Leave(object, _) = next.asked {
             wake(
                 &mut self.ready,
+                &mut self.waiting,
                 object,
                 &self.flat.objects()[object as usize],
             );

@@ -1,6 +1,6 @@
 //! What a thread asks.
 
-ghost use Rattle.std.specs.Prelude.{◌≡◌, ◌+◌, ◌<◌, length, if◌then◌else◌, IfErr, IfOk, Some, None};
+ghost use Rattle.std.specs.Prelude.{◌≡◌, ◌+◌, ◌<◌, length, if◌then◌else◌, nat_le, IfErr, IfOk, Some, None};
 ghost use Rattle.ir_thread.specs.declared.ask.Ask.{Ask};
 ghost use Rattle.ir_thread.specs.declared.ask.Ask.TheVariants as ask;
 
@@ -53,6 +53,7 @@ impl Thread {
     }
 
     // A call that is logged, where there is room for it.
+    #[inline(always)]
     fn logged(&self, asked: Ask) -> Ask
         ensures { result ≡ logged_ask self.now asked }
     {
@@ -64,6 +65,7 @@ impl Thread {
     }
 
     // Object a0, if the guest has it.
+    #[inline(always)]
     fn object(&self) -> Option<u8>
         ensures { result ≡ (if is_object self.now (a0 self.now) then Some (a0 self.now) else None) }
     {
@@ -76,6 +78,7 @@ impl Thread {
     }
 
     // Object a0 and its word a1, if there is such a word.
+    #[inline(always)]
     fn word(&self) -> Option<(u8, u8)>
         ensures { result ≡ (if has_word self.now then Some (a0 self.now, a1 self.now) else None) }
     {
@@ -88,6 +91,7 @@ impl Thread {
         }
     }
 
+    #[inline(always)]
     fn held_for(&self, object: u8) -> Option<Access>
         requires { object < length self.now.held }
         ensures { result ≡ held_at self.now.held object }
@@ -96,6 +100,7 @@ impl Thread {
     }
 
     // Object a0, where it may be entered; else how the thread ends.
+    #[inline(always)]
     fn entry(&self) -> Result<u8, End>
         ensures object { IfOk result (λ object. (object ≡ a0 self.now) × ((q : Ask) → entry_ask self.now q ≡ logged_ask self.now q)) }
         ensures end { IfErr result (λ end. (q : Ask) → entry_ask self.now q ≡ ask.End end) }
@@ -107,6 +112,7 @@ impl Thread {
         }
     }
 
+    #[inline(always)]
     fn entering(&self, access: Access) -> Ask
         ensures { result ≡ entry_ask self.now (ask.Enter (a0 self.now) access) }
     {
@@ -116,6 +122,7 @@ impl Thread {
         }
     }
 
+    #[inline(always)]
     fn trying(&self) -> Ask
         ensures { result ≡ entry_ask self.now (ask.Try (a0 self.now)) }
     {
@@ -125,6 +132,7 @@ impl Thread {
         }
     }
 
+    #[inline(always)]
     fn leaving(&self) -> Ask
         ensures { result ≡ leave_ask self.now }
     {
@@ -137,6 +145,7 @@ impl Thread {
         }
     }
 
+    #[inline(always)]
     fn getting(&self) -> Ask
         ensures { result ≡ get_ask self.now }
     {
@@ -149,6 +158,7 @@ impl Thread {
         }
     }
 
+    #[inline(always)]
     fn putting(&self) -> Ask
         ensures { result ≡ put_ask self.now }
     {
@@ -186,39 +196,40 @@ impl Thread {
     fn running(&self, code: &Code) -> Ask
         ensures { result ≡ running_ask code.now self.now }
     {
-        self.running_by(code, self.mach.next(code))
+        self.asked_by(code, self.mach.next(code))
     }
 
-    // The same, where it is known what its machine's next step comes to.
+    // Whether no step of the budget is left.
     #[inline(always)]
-    fn running_by(&self, code: &Code, ran: Ran) -> Ask
+    fn is_spent(&self) -> bool
+        ensures { result ≡ nat_le self.now.budget self.now.steps }
+    {
+        self.steps >= self.budget
+    }
+
+    // The same, where it is known what its machine's next step comes to. That is looked at first, since whoever runs the
+    // machine knows where it stopped.
+    #[inline(always)]
+    pub(super) fn asked_by(&self, code: &Code, ran: Ran) -> Ask
         requires { ran ≡ ran_of (outcome_of code.now self.now.core) }
         ensures { result ≡ running_ask code.now self.now }
     {
-        if self.steps >= self.budget {
-            return Ask::End(End::BudgetSpent);
-        }
         match ran {
+            Ran::Call => {
+                if self.is_spent() {
+                    Ask::End(End::BudgetSpent)
+                } else {
+                    self.calling()
+                }
+            }
+            _ if self.is_spent() => Ask::End(End::BudgetSpent),
             Ran::Ran => Ask::Private,
-            Ran::Call => self.calling(),
             Ran::Fault(fault) => Ask::End(End::from(fault)),
         }
     }
 
-    // What the thread asks, where it is known what its machine's next step comes to.
-    #[inline(always)]
-    pub(super) fn asked_by(&self, code: &Code, ran: Ran) -> Ask
-        requires { self.now.ended ≡ None → ran ≡ ran_of (outcome_of code.now self.now.core) }
-        ensures { result ≡ ask_of code.now self.now }
-    {
-        match self.ended {
-            Some(_) => self.releasing(),
-            None => self.running_by(code, ran),
-        }
-    }
-
     // After its end the thread leaves what it holds, the greatest object first.
-    fn releasing(&self) -> Ask
+    pub(super) fn releasing(&self) -> Ask
         ensures { result ≡ release_ask (highest self.now.held) }
     {
         match highest(self.held.as_slice()) {

@@ -47,7 +47,8 @@ impl Thread {
     }
 
     // Past a call, with its answer in a0 if it has one.
-    fn pass(&mut self, answer: Option<u32>)
+    #[inline(always)]
+    pub(super) fn pass(&mut self, answer: Option<u32>)
         requires { IsRunning self.old }
         ensures { self.new ≡ record self.old { core = past_call self.old.core answer; steps = self.old.steps + 1 } }
     {
@@ -56,6 +57,7 @@ impl Thread {
     }
 
     // Into an object, for reading or writing.
+    #[inline(always)]
     fn enter(&mut self, object: u8, access: Access)
         requires runs { IsRunning self.old }
         requires object { object < length self.old.held }
@@ -65,6 +67,7 @@ impl Thread {
     }
 
     // Into an object for writing, where that was answered.
+    #[inline(always)]
     fn enter_if(&mut self, object: u8, reply: Reply)
         requires runs { IsRunning self.old }
         requires object { object < length self.old.held }
@@ -77,6 +80,7 @@ impl Thread {
 
     // Out of an object: past the call, but while the thread releases what it holds its pc stays.
     #[tactic(auto, using(crate::proofs::Highest::one_fewer))]
+    #[inline(always)]
     fn leave(&mut self, object: u8)
         requires steps { self.old.ended ≡ None → self.old.steps < self.old.budget }
         requires object { object < length self.old.held }

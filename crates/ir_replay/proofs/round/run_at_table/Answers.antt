@@ -11,8 +11,8 @@ use Rattle.ir_replay.proofs.round.run_at_table.Goals as goal
 
 pub run_all-requires-clause-ready : goal.run_all-requires-clause-ready
 run_all-requires-clause-ready g c κs within =
-    let id = c.args.weave.table.shared.table_id in
-    let k = c.args.weave.table.shared.key in
+    let id = c.args.opened.weave.table.shared.table_id in
+    let k = c.args.opened.weave.table.shared.key in
     let f = c.args.fitted.now in
     let target = c.args.target.now in
     let ws = c.assign_seats.new.workers.items in
@@ -28,13 +28,13 @@ run_all-requires-clause-ready g c κs within =
     let inside : Starts (trace_in k) target k.opened.value = starts_in k f target c.args.state c.requires.table c.requires.opened start in
     let of_threads : backwards (threads_of ws) ≡ k.opened.value.threads = c.assign_seats.ensures.threads ∙ c.parts-threads.ensures.threads
     ∙ ap (λ (z : Standing). z.threads) (sym c.requires.opened) in
-    all_ready id k target ws (assigned id k target ws c.args.seats.items inside c.requires.seats.0 c.assign_seats.ensures.seats of_threads)
+    all_ready id k target ws (assigned id k target ws c.args.opened.seats.items inside c.requires.seats.0 c.assign_seats.ensures.seats of_threads)
 
 pub joined-seat-requires-clause-some : goal.joined-seat-requires-clause-some
 joined-seat-requires-clause-some g c =
     let vs = c.assign_seats.new.workers.items in
     let ws = c.run_all.new.workers.items in
-    let same = pairs_size (HasWorked c.args.weave.table.shared.table_id c.args.weave.table.shared.key c.args.target.now) vs ws
+    let same = pairs_size (HasWorked c.args.opened.weave.table.shared.table_id c.args.opened.weave.table.shared.key c.args.target.now) vs ws
     c.run_all.ensures in
     let some = c.code.ensures.within.some_thread in
     let of = ap (λ z. length z.entries) c.image.ensures.value in
@@ -48,7 +48,7 @@ pub joined-seat-requires-clause-room : goal.joined-seat-requires-clause-room
 joined-seat-requires-clause-room g c =
     let vs = c.assign_seats.new.workers.items in
     let ws = c.run_all.new.workers.items in
-    let same = pairs_size (HasWorked c.args.weave.table.shared.table_id c.args.weave.table.shared.key c.args.target.now) vs ws
+    let same = pairs_size (HasWorked c.args.opened.weave.table.shared.table_id c.args.opened.weave.table.shared.key c.args.target.now) vs ws
     c.run_all.ensures in
     let back = back_threads vs in
     let threads = ap (λ z. length z) c.assign_seats.ensures.threads in
@@ -59,8 +59,8 @@ joined-seat-requires-clause-room g c =
 
 pub joined-seat-requires-clause-seats : goal.joined-seat-requires-clause-seats
 joined-seat-requires-clause-seats g c =
-    let id = c.args.weave.table.shared.table_id in
-    let k = c.args.weave.table.shared.key in
+    let id = c.args.opened.weave.table.shared.table_id in
+    let k = c.args.opened.weave.table.shared.key in
     let f = c.args.fitted.now in
     let target = c.args.target.now in
     let vs = c.assign_seats.new.workers.items in
@@ -78,13 +78,13 @@ joined-seat-requires-clause-seats g c =
     let of_threads : backwards (threads_of vs) ≡ k.opened.value.threads = c.assign_seats.ensures.threads ∙ c.parts-threads.ensures.threads
     ∙ ap (λ (z : Standing). z.threads) (sym c.requires.opened) in
     let first : Down (IsAssigned id k target) vs =
-    assigned id k target vs c.args.seats.items inside c.requires.seats.0 c.assign_seats.ensures.seats of_threads in
+    assigned id k target vs c.args.opened.seats.items inside c.requires.seats.0 c.assign_seats.ensures.seats of_threads in
     of_table id k target ws (after_all id k target vs ws first c.run_all.ensures)
 
 pub returns-clause-between : goal.returns-clause-between
 returns-clause-between g c =
-    let id = c.args.weave.table.shared.table_id in
-    let k = c.args.weave.table.shared.key in
+    let id = c.args.opened.weave.table.shared.table_id in
+    let k = c.args.opened.weave.table.shared.key in
     let f = c.args.fitted.now in
     let target = c.args.target.now in
     let vs = c.assign_seats.new.workers.items in
@@ -101,7 +101,7 @@ returns-clause-between g c =
     let inside : Starts (trace_in k) target k.opened.value = starts_in k f target c.args.state c.requires.table c.requires.opened start in
     let all : backwards (threads_of vs) ≡ c.args.state.threads = c.assign_seats.ensures.threads ∙ c.parts-threads.ensures.threads in
     let first : Down (IsAssigned id k target) vs =
-    assigned id k target vs c.args.seats.items inside c.requires.seats.0 c.assign_seats.ensures.seats
+    assigned id k target vs c.args.opened.seats.items inside c.requires.seats.0 c.assign_seats.ensures.seats
     (all ∙ ap (λ (z : Standing). z.threads) (sym c.requires.opened)) in
     let last : Down (IsAfterRound id k target) ws = after_all id k target vs ws first c.run_all.ensures in
     let size : length ws ≡ length c.args.state.threads = pairs_size (HasWorked id k target) vs ws c.run_all.ensures ∙ sym (back_threads vs)
@@ -119,8 +119,8 @@ returns-clause-between g c =
 
 pub returns-clause-goes : goal.returns-clause-goes
 returns-clause-goes g c =
-    let id = c.args.weave.table.shared.table_id in
-    let k = c.args.weave.table.shared.key in
+    let id = c.args.opened.weave.table.shared.table_id in
+    let k = c.args.opened.weave.table.shared.key in
     let f = c.args.fitted.now in
     let target = c.args.target.now in
     let vs = c.assign_seats.new.workers.items in
@@ -137,7 +137,7 @@ returns-clause-goes g c =
     let inside : Starts (trace_in k) target k.opened.value = starts_in k f target c.args.state c.requires.table c.requires.opened start in
     let all : backwards (threads_of vs) ≡ c.args.state.threads = c.assign_seats.ensures.threads ∙ c.parts-threads.ensures.threads in
     let first : Down (IsAssigned id k target) vs =
-    assigned id k target vs c.args.seats.items inside c.requires.seats.0 c.assign_seats.ensures.seats
+    assigned id k target vs c.args.opened.seats.items inside c.requires.seats.0 c.assign_seats.ensures.seats
     (all ∙ ap (λ (z : Standing). z.threads) (sym c.requires.opened)) in
     let last : Down (IsAfterRound id k target) ws = after_all id k target vs ws first c.run_all.ensures in
     let size : length ws ≡ length c.args.state.threads = pairs_size (HasWorked id k target) vs ws c.run_all.ensures ∙ sym (back_threads vs)

@@ -1,6 +1,6 @@
 use Rattle.std.proofs.Common.{◌≤◌, ◌-◌}
 use Rattle.ir_thread.specs.Private.{PrivateSteps}
-use Rattle.ir_thread.proofs.thread.Thread.run.Given as goal
+use Rattle.ir_thread.proofs.thread.Thread.run_to_ask.Given as goal
 
 abbrev pub decreases-loop-taken : goal.decreases-loop-taken
 decreases-loop-taken l = l.limit - l.taken

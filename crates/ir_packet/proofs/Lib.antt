@@ -1,0 +1,7 @@
+mod Again
+mod Cut
+mod Escapes
+mod Kept
+mod Pieces
+mod Written
+pub mod CallerLemmas

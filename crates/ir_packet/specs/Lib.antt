@@ -1,0 +1,4 @@
+pub mod Packets
+pub mod Stream
+pub mod Parts
+pub mod Reading

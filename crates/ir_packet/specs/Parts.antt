@@ -1,0 +1,70 @@
+-- A stream of bytes cut into packets and what is between them.
+use Rattle.std.specs.Prelude.{◌≡◌, ◌==◌, ℕ, List, [], ◌∷◌, ◌++◌, ⊤, if◌then◌else◌}
+use Rattle.ir_packet.specs.Packets.{dollar, hash}
+use Rattle.ir_packet.specs.Stream.{Item, Place, Between, Inside, Summing, Digit, packet_item, byte_items, step}
+
+-- a byte between packets; `$`, bytes, `#` and two bytes; or a packet that a `$` or the end of the stream cut off, by all of its bytes
+pub data Part : Type 0 where
+  Byte : ℕ → Part
+  Whole : List ℕ → ℕ → ℕ → Part
+  CutOff : List ℕ → Part
+
+-- the bytes of a part
+abbrev pub bytes_of : Part → List ℕ
+bytes_of (Byte b) = b ∷ []
+bytes_of (Whole raw a b) = dollar ∷ (raw ++ hash ∷ a ∷ b ∷ [])
+bytes_of (CutOff bytes) = bytes
+
+-- what a part holds
+abbrev pub items_of : Part → List Item
+items_of (Byte b) = byte_items b
+items_of (Whole raw a b) = packet_item raw a b ∷ []
+items_of (CutOff bytes) = []
+
+-- the bytes of the packet that was begun
+abbrev pub begun : Place → List ℕ
+begun Between = []
+begun (Inside raw) = dollar ∷ raw
+begun (Summing raw) = dollar ∷ (raw ++ hash ∷ [])
+begun (Digit raw a) = dollar ∷ (raw ++ hash ∷ a ∷ [])
+
+-- the part that the end of the stream cuts off
+abbrev pub left_at : Place → List Part
+left_at Between = []
+left_at (Inside raw) = CutOff (begun (Inside raw)) ∷ []
+left_at (Summing raw) = CutOff (begun (Summing raw)) ∷ []
+left_at (Digit raw a) = CutOff (begun (Digit raw a)) ∷ []
+
+-- the part that a byte ends, or that it cuts off
+abbrev pub part_at : Place → ℕ → List Part
+part_at Between b = if b == dollar then [] else Byte b ∷ []
+part_at (Inside raw) b = if b == dollar then CutOff (begun (Inside raw)) ∷ [] else []
+part_at (Summing raw) b = []
+part_at (Digit raw a) b = Whole raw a b ∷ []
+
+-- bytes without `$` and `#`
+unfoldable pub IsPlain : List ℕ → Type 0
+IsPlain [] = ⊤
+IsPlain (b ∷ rest) = (b ≡ dollar → ⊥) × (b ≡ hash → ⊥) × IsPlain rest
+
+-- a place in a packet with such bytes
+abbrev pub IsPlainPlace : Place → Type 0
+IsPlainPlace Between = ⊤
+IsPlainPlace (Inside raw) = IsPlain raw
+IsPlainPlace (Summing raw) = IsPlain raw
+IsPlainPlace (Digit raw a) = IsPlain raw
+
+-- what each part is made of: a byte between packets is no `$`, a packet has no `$` or `#` among its bytes, and one that is cut off was begun
+abbrev pub IsPart : Part → Type 0
+IsPart (Byte b) = b ≡ dollar → ⊥
+IsPart (Whole raw a b) = IsPlain raw
+IsPart (CutOff bytes) = (p : Place) × (bytes ≡ begun p) × IsPlainPlace p × (p ≡ Between → ⊥)
+
+-- the parts of the bytes, from a place on
+unfoldable pub parts_from : Place → List ℕ → List Part
+parts_from p [] = left_at p
+parts_from p (b ∷ bytes) = part_at p b ++ parts_from (step p b) bytes
+
+-- the parts of a stream
+abbrev pub parts : List ℕ → List Part
+parts bytes = parts_from Between bytes

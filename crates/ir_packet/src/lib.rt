@@ -1,0 +1,20 @@
+//! What a stream of gdb's remote serial protocol holds, and packets as they are written. The protocol is that of the
+//! GDB manual, appendix 'GDB Remote Serial Protocol'.
+#![tactic(auto)]
+
+mod found;
+mod laws;
+mod raw;
+mod reader;
+mod standing;
+#[cfg(test)]
+mod tests;
+mod writing;
+
+pub use found::Found;
+pub use laws::{
+    packet_is_read_back, parts_are_the_stream, parts_hold_what_the_stream_holds,
+    pieces_hold_what_the_stream_holds, reader_finds_what_the_stream_holds,
+};
+pub use reader::Reader;
+pub use writing::{put_hex, put_packet, put_word};

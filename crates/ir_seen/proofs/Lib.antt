@@ -1,0 +1,5 @@
+mod View
+mod Same
+mod Start
+mod Guests
+pub mod CallerLemmas

@@ -1,0 +1,98 @@
+-- The outcomes of a finished search are those of the complete runs that count.
+use Rattle.std.proofs.Common.{◌≡◌, ◌↔◌, ℕ, List, [], ◌∷◌, ◌++◌, refl, sym, ap, ◌∙◌, subst}
+use Rattle.ir_runs.specs.Machine.{Machine, IsLawful}
+use Rattle.ir_runs.specs.Run.{State, Step, end, IsDone}
+use Rattle.ir_runs.proofs.CallerLemmas.{Good, end_append}
+use Rattle.ir_states.specs.Counting.{Answers, Counts, GoesAhead, entering, Brought}
+use Rattle.ir_states.specs.Nodes.{TellsNothing, Noted, Path, IsClosed, Chain, Arrives}
+use Rattle.ir_states.specs.Outcomes.{IsOutcome, Begins, IsFinished}
+use Rattle.ir_states.proofs.Rest.{goes_counts, goes_append, counted_good, bring, done_stays}
+use Rattle.ir_states.proofs.Closed.{along, Walked, shows}
+
+pub done_alike : {T : Type 0} (m : Machine T) (answers : Answers T) (Alike : State T → State T → Type 0) → TellsNothing m answers Alike
+    → (s v : State T) → Alike s v → IsDone m s → IsDone m v
+done_alike m answers Alike tells s v alike done t = sym (tells.asks s v alike t) ∙ done t
+
+-- a run that counts, from the start, leads to a node
+pub arrive : {T I K : Type 0} (m : Machine T) → IsLawful m → (answers : Answers T) (Alike : State T → State T → Type 0)
+    → TellsNothing m answers Alike
+    → (Moves : I → ℕ → I → Type 0) (state_of : K → State T) (Node : I → K → Type 0) (Next : Noted K)
+    → IsClosed m answers Alike Moves state_of Node Next → (s : State T) (first : K) → Good m s
+    → Begins m answers Alike s (state_of first) → (i j : I) → Node i first → (run : List Step) → Counts m answers s run
+    → Chain Moves i (entering m s run) j → Arrives m answers Alike state_of Node Next s first run j
+arrive m law answers Alike tells Moves state_of Node Next closed s first good begins i j is run ok chain =
+    let b : Brought m answers s begins.ahead run = bring m law answers s good begins.ahead begins.goes run ok in
+    let a : Arrives m answers Alike state_of Node Next (end m s begins.ahead) first b.rest j =
+    along m law answers Alike tells Moves state_of Node Next closed (entering m s run) i j chain (end m s begins.ahead) first
+    (counted_good m law answers s good begins.ahead (goes_counts m answers s begins.ahead begins.goes)) begins.alike is b.rest b.counts
+    b.same_entering in
+    record {
+      left = b.left ++ a.left;
+      goes = goes_append m answers (end m s run) b.left a.left b.goes (subst (λ z. GoesAhead m answers z a.left) b.same_end a.goes);
+      node = a.node;
+      is = a.is;
+      alike = subst (λ z. Alike z (state_of a.node))
+          (ap (λ z. end m z a.left) b.same_end ∙ sym (end_append m (end m s run) b.left a.left)) a.alike;
+      path = subst (λ z. Path Next first z a.node) b.same_entering a.path;
+    }
+
+-- of a complete run that node is its end
+pub arrived : {T I K : Type 0} (m : Machine T) (answers : Answers T) (Alike : State T → State T → Type 0) (state_of : K → State T)
+    (Node : I → K → Type 0) (Next : Noted K) (s : State T) (v : K) (run : List Step) (j : I) → IsDone m (end m s run)
+    → (a : Arrives m answers Alike state_of Node Next s v run j) → Alike (end m s run) (state_of a.node)
+arrived m answers Alike state_of Node Next s v run j done a =
+    subst (λ z. Alike (end m (end m s run) z) (state_of a.node)) (done_stays m answers (end m s run) done a.left a.goes) a.alike
+
+-- nodes that all stand at one place, where every thread may move
+abbrev pub Free : Unit {0} → ℕ → Unit {0} → Type 0
+Free i t j = Unit {0}
+
+abbrev pub Placed : {K : Type 0} → (K → Type 0) → Unit {0} → K → Type 0
+Placed Node i v = Node v
+
+pub free_chain : (ts : List ℕ) → Chain Free tt ts tt
+free_chain [] = refl
+free_chain (t ∷ ts) = (tt, tt, free_chain ts)
+
+module _ {T K : Type 0} (m : Machine T) (law : IsLawful m) (answers : Answers T) (Alike : State T → State T → Type 0)
+    (tells : TellsNothing m answers Alike) (s : State T) (good : Good m s) (state_of : K → State T) (Node : K → Type 0) (Next : Noted K)
+    (first : K) (f : IsFinished m answers Alike s state_of Node Next first) where
+  pub finished_closed : IsClosed m answers Alike Free state_of (Placed Node) Next
+  finished_closed = record {
+    at_rest = λ i v is. f.at_rest v is;
+    followed = λ i j v is e moves can. let n = f.followed v is e can in let l = f.leads v is e n.0 n.1 in (n.0, l.0, n.1, l.1);
+  }
+
+  -- a run that counts leads to a node
+  pub finds : (run : List Step) → Counts m answers s run → Arrives m answers Alike state_of (Placed Node) Next s first run tt
+  finds run ok =
+      arrive m law answers Alike tells Free state_of (Placed Node) Next finished_closed s first good f.begins tt tt f.is run ok
+      (free_chain (entering m s run))
+
+  -- each node has a run that leads to it
+  pub found : (v : K) (ts : List ℕ) → Path Next first ts v → Walked m answers Alike s ts (state_of v)
+  found v ts path = shows m answers Alike tells state_of Node Next f.at_rest f.leads s first f.begins f.is ts v path
+
+  -- x is the outcome of a complete run that counts exactly where it is that of a done node
+  pub exact : {X : Type 0} (outcome : State T → X) → ((u v : State T) → Alike u v → outcome u ≡ outcome v) → (x : X)
+      → IsOutcome m answers s outcome x ↔ ((v : K) × Node v × IsDone m (state_of v) × (outcome (state_of v) ≡ x))
+  exact outcome same x = (
+    λ h.
+        let a : Arrives m answers Alike state_of (Placed Node) Next s first h.0 tt = finds h.0 h.1 in
+        let alike : Alike (end m s h.0) (state_of a.node) =
+        arrived m answers Alike state_of (Placed Node) Next s first h.0 tt h.2 a in (
+          a.node,
+          a.is,
+          done_alike m answers Alike tells (end m s h.0) (state_of a.node) alike h.2,
+          sym (same (end m s h.0) (state_of a.node) alike) ∙ h.3,
+        ),
+    λ h.
+        let r = f.reached h.0 h.1 in
+        let k : Walked m answers Alike s r.0 (state_of h.0) = found h.0 r.0 r.1 in (
+          k.run,
+          k.counts,
+          done_alike m answers Alike tells (state_of h.0) (end m s k.run)
+              (tells.backwards (end m s k.run) (state_of h.0) k.alike) h.2,
+          same (end m s k.run) (state_of h.0) k.alike ∙ h.3,
+        ),
+  )

@@ -1,0 +1,193 @@
+-- What threads do between their entries, brought before a run.
+use Rattle.std.proofs.Common.{◌≡◌, ℕ, suc, zero, ◌+◌, ◌<◌, ◌≤◌, ◌⊎◌, inl, inr, Bool, true, false, cond, List, [], ◌∷◌, ◌++◌, length, refl, sym, ap, ◌∙◌, subst, arith, eqb, append-nil, append_assoc, length-append}
+use Rattle.std.proofs.lemmas.Bool.{cases_eq, cases_lt}
+use Rattle.ir_runs.specs.Machine.{Ask, Private, Env, Enter, Try, Leave, Get, Put, Done, act_of, Machine, IsLawful}
+use Rattle.ir_runs.specs.declared.env_kind.EnvKind.{EnvKind}
+use Rattle.ir_runs.specs.Object.{target, Admits}
+use Rattle.ir_runs.specs.Run.{State, Step, asked, after, label, IsRun, end, join_if, trail, IsDone, IsIdle}
+use Rattle.ir_runs.proofs.CallerLemmas.{Good, stays_good, stays_idle, end_append, trail_append}
+use Rattle.ir_states.specs.Counting.{Answers, IsAnswered, Takes, Counts, is_own, IsAtRest, GoesAhead, entering, Brought}
+use Rattle.ir_states.proofs.First.{first}
+
+-- a run that counts is a run
+pub counts_runs : {T : Type 0} (m : Machine T) (answers : Answers T) (s : State T) (run : List Step) → Counts m answers s run → IsRun m s run
+counts_runs m answers s [] ok = tt
+counts_runs m answers s (e ∷ run) ok = (ok.0.0, counts_runs m answers (after m s e) run ok.1)
+
+-- steps that no other can refuse count
+pub goes_counts : {T : Type 0} (m : Machine T) (answers : Answers T) (s : State T) (run : List Step) → GoesAhead m answers s run
+    → Counts m answers s run
+goes_counts m answers s [] ok = tt
+goes_counts m answers s (e ∷ run) ok = (ok.1, goes_counts m answers (after m s e) run ok.2)
+
+-- runs one after the other
+pub counts_append : {T : Type 0} (m : Machine T) (answers : Answers T) (s : State T) (run more : List Step) → Counts m answers s run
+    → Counts m answers (end m s run) more → Counts m answers s (run ++ more)
+counts_append m answers s [] more ok ok' = ok'
+counts_append m answers s (e ∷ run) more ok ok' = (ok.0, counts_append m answers (after m s e) run more ok.1 ok')
+
+pub goes_append : {T : Type 0} (m : Machine T) (answers : Answers T) (s : State T) (run more : List Step) → GoesAhead m answers s run
+    → GoesAhead m answers (end m s run) more → GoesAhead m answers s (run ++ more)
+goes_append m answers s [] more ok ok' = ok'
+goes_append m answers s (e ∷ run) more ok ok' = (ok.0, ok.1, goes_append m answers (after m s e) run more ok.2 ok')
+
+-- the entries of runs one after the other
+pub entering_append : {T : Type 0} (m : Machine T) (s : State T) (run more : List Step)
+    → entering m s (run ++ more) ≡ entering m s run ++ entering m (end m s run) more
+entering_append m s [] more = refl
+entering_append m s (e ∷ run) more =
+    ap (λ z. cond (is_own (asked m s e.0)) z (e.0 ∷ z)) (entering_append m (after m s e) run more)
+    ∙ join (is_own (asked m s e.0)) (entering m (after m s e) run)
+  where
+    join : (b : Bool) (ts : List ℕ) → cond b (ts ++ entering m (end m (after m s e) run) more)
+        (e.0 ∷ (ts ++ entering m (end m (after m s e) run) more)) ≡ cond b ts (e.0 ∷ ts) ++ entering m (end m (after m s e) run) more
+    join true ts = refl
+    join false ts = refl
+
+-- steps that no other can refuse enter nothing
+pub goes_entering : {T : Type 0} (m : Machine T) (answers : Answers T) (s : State T) (run : List Step) → GoesAhead m answers s run
+    → entering m s run ≡ []
+goes_entering m answers s [] ok = refl
+goes_entering m answers s (e ∷ run) ok =
+    ap (λ b. cond b (entering m (after m s e) run) (e.0 ∷ entering m (after m s e) run)) ok.0
+    ∙ goes_entering m answers (after m s e) run ok.2
+
+pub counted_good : {T : Type 0} (m : Machine T) → IsLawful m → (answers : Answers T) (s : State T) → Good m s → (run : List Step)
+    → Counts m answers s run → Good m (end m s run)
+counted_good m law answers s good [] ok = good
+counted_good m law answers s good (e ∷ run) ok =
+    counted_good m law answers (after m s e) (stays_good m law s good e ok.0.0) run ok.1
+
+-- In a run that counts, what the threads do up to their next entries may come first.
+pub bring : {T : Type 0} (m : Machine T) → IsLawful m → (answers : Answers T) (s : State T) → Good m s → (ahead : List Step)
+    → GoesAhead m answers s ahead → (run : List Step) → Counts m answers s run → Brought m answers s ahead run
+bring m law answers s good [] goes run ok = record {
+  left = [];
+  goes = tt;
+  rest = run;
+  counts = ok;
+  same_end = refl;
+  same_entering = refl;
+  same_trail = λ u. ap (λ z. trail m s z u) (sym (append-nil run));
+  same_length = omega arith;
+}
+bring m law answers s good (e ∷ ahead) goes run ok =
+    let p : Brought m answers s (e ∷ []) run = first m law answers s good run ok e.0 e.1 goes.0 goes.1 in
+    let q : Brought m answers (after m s e) ahead p.rest = bring m law answers (after m s e) (stays_good m law s good e goes.1.0) ahead
+    goes.2 p.rest p.counts in
+    record {
+      left = p.left ++ q.left;
+      goes = goes_append m answers (end m s run) p.left q.left p.goes (subst (λ z. GoesAhead m answers z q.left) p.same_end q.goes);
+      rest = q.rest;
+      counts = q.counts;
+      same_end = q.same_end ∙ ap (λ z. end m z q.left) p.same_end ∙ sym (end_append m (end m s run) p.left q.left);
+      same_entering = q.same_entering ∙ p.same_entering;
+      same_trail = λ u.
+          ap (join_if (eqb u e.0) (s.now u, label m s e)) (q.same_trail u)
+          ∙ trail_append m s (e ∷ p.rest) q.left u
+          ∙ ap (λ z. z ++ trail m (end m (after m s e) p.rest) q.left u) (p.same_trail u)
+          ∙ ap (λ z. trail m s (run ++ p.left) u ++ trail m z q.left u) (p.same_end ∙ sym (end_append m s run p.left))
+          ∙ sym (trail_append m s (run ++ p.left) q.left u)
+          ∙ ap (λ z. trail m s z u) (append_assoc run p.left q.left);
+      same_length =
+          let a = p.same_length in let b = q.same_length in let c = length-append p.left q.left in omega (arith, a, b, c);
+    }
+
+-- where all are done nothing goes on
+pub done_stays : {T : Type 0} (m : Machine T) (answers : Answers T) (s : State T) → IsDone m s → (left : List Step)
+    → GoesAhead m answers s left → left ≡ []
+done_stays m answers s done [] goes = refl
+done_stays m answers s done (e ∷ left) goes = absurd (subst (λ q. is_own q ≡ true → ⊥) (sym (done e.0)) (λ h. cc h) goes.0)
+
+-- the run with the steps `ahead` first, of a complete run
+pub record Whole {T : Type 0} (m : Machine T) (answers : Answers T) (s : State T) (ahead run : List Step) : Type 0 where
+  pub rest : List Step
+  pub counts : Counts m answers (end m s ahead) rest
+  pub same_end : end m (end m s ahead) rest ≡ end m s run
+  pub same_entering : entering m (end m s ahead) rest ≡ entering m s run
+  pub same_trail : (u : ℕ) → trail m s (ahead ++ rest) u ≡ trail m s run u
+  pub same_length : length ahead + length rest ≡ length run
+
+-- In a complete run that counts, what the threads do up to their next entries may come first: each of its steps is among the run's.
+pub bring_whole : {T : Type 0} (m : Machine T) → IsLawful m → (answers : Answers T) (s : State T) → Good m s → (ahead : List Step)
+    → GoesAhead m answers s ahead → (run : List Step) → Counts m answers s run → IsDone m (end m s run) → Whole m answers s ahead run
+bring_whole m law answers s good ahead goes run ok done =
+    let b : Brought m answers s ahead run = bring m law answers s good ahead goes run ok in
+    let none : b.left ≡ [] = done_stays m answers (end m s run) done b.left b.goes in
+    record {
+      rest = b.rest;
+      counts = b.counts;
+      same_end = b.same_end ∙ ap (end m (end m s run)) none;
+      same_entering = b.same_entering;
+      same_trail = λ u. b.same_trail u ∙ ap (λ z. trail m s (run ++ z) u) none ∙ ap (λ z. trail m s z u) (append-nil run);
+      same_length = let h = b.same_length in let n : length b.left ≡ 0 = ap length none in omega (arith, h, n);
+    }
+
+-- each answer suits its call
+abbrev pub AnswersFit : {T : Type 0} → Machine T → Answers T → Type 0
+AnswersFit {T} m answers = (t : ℕ) (x : T) (k : EnvKind) → m.ask x ≡ Env k → m.fits k (answers t x) ≡ true
+
+own_takes : {T : Type 0} (m : Machine T) (answers : Answers T) → AnswersFit m answers → (s : State T) (t : ℕ)
+    → is_own (asked m s t) ≡ true → Takes m answers s (t, answers t (s.now t))
+own_takes m answers fit s t own = by_ask (asked m s t) (answers t (s.now t)) own (λ k is. fit t (s.now t) k is)
+  where
+    by_ask : (q : Ask) (a : ℕ) → is_own q ≡ true → ((k : EnvKind) → q ≡ Env k → m.fits k a ≡ true)
+        → Admits m (act_of q a) (s.objects (target (act_of q a))) × IsAnswered q a a
+    by_ask Private a own fits = (tt, tt)
+    by_ask (Env k) a own fits = (fits k refl, refl)
+    by_ask (Enter o c) a own fits = absurd (cc own)
+    by_ask (Try o) a own fits = absurd (cc own)
+    by_ask (Leave o c) a own fits = (tt, tt)
+    by_ask (Get o i) a own fits = (tt, tt)
+    by_ask (Put o i w) a own fits = (tt, tt)
+    by_ask Done a own fits = absurd (cc own)
+
+-- some thread has such a step, or none below n
+own_below : {T : Type 0} (m : Machine T) (s : State T) (n : ℕ) → ((t : ℕ) × (is_own (asked m s t) ≡ true))
+    ⊎ ((t : ℕ) → t < n → is_own (asked m s t) ≡ false)
+own_below m s zero = inr (λ t h. absurd (omega arith))
+own_below m s (suc n) = elim (own_below m s n) [
+  | inl p ↦ inl p
+  | inr none ↦ elim (true_or_false (is_own (asked m s n))) [
+    | inl own ↦ inl (n, own)
+    | inr other ↦ inr (λ t h. elim (cases_eq t n) [
+      | inl same ↦ subst (λ z. is_own (asked m s z) ≡ false) (sym same) other
+      | inr ne ↦ none t (omega (arith, h, ne))
+    ])
+  ]
+]
+  where
+    true_or_false : (b : Bool) → (b ≡ true) ⊎ (b ≡ false)
+    true_or_false true = inl refl
+    true_or_false false = inr refl
+
+-- the threads can go on to their next entries or their ends
+pub record Rests {T : Type 0} (m : Machine T) (answers : Answers T) (s : State T) : Type 0 where
+  pub ahead : List Step
+  pub goes : GoesAhead m answers s ahead
+  pub at_rest : IsAtRest m (end m s ahead)
+
+done_rests : {T : Type 0} (m : Machine T) (s : State T) → IsDone m s → IsAtRest m s
+done_rests m s done t = ap is_own (done t)
+
+-- where a complete run counts, they can
+pub rests : {T : Type 0} (m : Machine T) → IsLawful m → (answers : Answers T) → AnswersFit m answers → (n count : ℕ) (s : State T) → Good m s
+    → IsIdle m s n → (run : List Step) → Counts m answers s run → IsDone m (end m s run) → length run ≤ count → Rests m answers s
+rests m law answers fit n zero s good idle [] ok done few =
+    record { ahead = []; goes = tt; at_rest = done_rests m s done }
+rests m law answers fit n zero s good idle (e ∷ run) ok done few = absurd (omega (arith, few))
+rests m law answers fit n (suc count) s good idle run ok done few = elim (own_below m s n) [
+  | inl own ↦
+      let e : Step = (own.0, answers own.0 (s.now own.0)) in
+      let takes : Takes m answers s e = own_takes m answers fit s own.0 own.1 in
+      let b : Whole m answers s (e ∷ []) run = bring_whole m law answers s good (e ∷ []) (own.1, takes, tt) run ok done in
+      let r : Rests m answers (after m s e) = rests m law answers fit n count (after m s e) (stays_good m law s good e takes.0)
+      (stays_idle m s n idle e takes.0) b.rest b.counts (subst (IsDone m) (sym b.same_end) done)
+      (let h = b.same_length in omega (arith, few, h)) in
+      record { ahead = e ∷ r.ahead; goes = (own.1, takes, r.goes); at_rest = r.at_rest }
+  | inr none ↦ record {
+    ahead = [];
+    goes = tt;
+    at_rest = λ t. elim (cases_lt t n) [ inl l ↦ none t l | inr g ↦ ap is_own (idle t g) ];
+  }
+]
