@@ -10,9 +10,9 @@ use anyhow::{Context, Result, bail, ensure};
 use ir_cut::{Cut, consistent};
 use ir_fit::{Fitted, coherent, fit};
 use ir_image::{Image, read_image};
-use ir_object::OpenGate;
+use ir_object::{Given, OpenGate};
 use ir_record::{record, record_in_order};
-use ir_replay::{State, advance, advance_in_order};
+use ir_replay::{Pace, State, advance, advance_in_order};
 use ir_thread::{Ask, Profile, Reply, Thread};
 use ir_trace::{ThreadTrace, Trace, read_trace};
 use std::alloc::Global;
@@ -154,7 +154,14 @@ fn replayed_by_threads<R: Threads + Clock + Print + Sync>(
     }
     let state = State::start(alloc, &replay.fitted)?;
     let start = Instant::now(rt)?;
-    let result = advance(rt, alloc, &replay.fitted, state, &replay.target, &OpenGate);
+    let hands = Given::new(rt, alloc, &OpenGate);
+    let result = advance(
+        &hands,
+        &replay.fitted,
+        state,
+        &replay.target,
+        &mut Pace::new(),
+    );
     println!(rt; "{} microseconds", micros_since(rt, start)?)?;
     match result {
         Ok(state) => Ok(steps_of(&state)),

@@ -15,8 +15,8 @@ use crate::passed::{MOST_PASSED, Passed, PassedCut};
 use ir_cut::Cut;
 use ir_fit::Fitted;
 use ir_keep::{KeepErr, Keeper};
-use ir_object::Gate;
-use ir_replay::{State, advance};
+use ir_object::{Gate, Given, Hands};
+use ir_replay::{Pace, State, advance};
 use std::alloc::{AllocError, Global};
 use std::marker::Model;
 use std::mem;
@@ -306,14 +306,13 @@ impl Checkpoints {
     }
 
     // Advances towards the target, which no thread is past, until it is near or memory runs out, and keeps states on the way.
-    fn approach<R: Threads + Clock + Sync, G: Gate + Sync>(
+    fn approach<H: Hands>(
         &mut self,
-        rt: &R,
-        alloc: Global,
+        hands: &H,
         fitted: &Fitted,
         state: State,
         target: &Cut,
-        gate: &G,
+        pace: &mut Pace,
     ) -> State
         requires checkpoints { AreCheckpoints fitted.now self.old }
         requires stands { Stands fitted.now state }
@@ -327,10 +326,10 @@ impl Checkpoints {
         let present = steps_before(target);
         let gap = gap_of(present.saturating_sub(steps_of(state.threads())));
         'stops: for _ in 0..MOST_STOPS {
-            let Some(stop) = next_stop(alloc, fitted, &state, target, gap) else {
+            let Some(stop) = next_stop(hands.alloc(), fitted, &state, target, gap) else {
                 return state;
             };
-            match advance(rt, alloc, fitted, state, &stop, gate) {
+            match advance(hands, fitted, state, &stop, pace) {
                 Ok(there) => state = there,
                 Err((between, AllocError)) => return between,
             }
@@ -343,14 +342,12 @@ impl Checkpoints {
 
     // Advances to the target, which no thread is past. If memory runs out, the states that moves have passed are given up, and it
     // continues.
-    fn forward<R: Threads + Clock + Sync, G: Gate + Sync>(
+    fn forward<H: Hands>(
         &mut self,
-        rt: &R,
-        alloc: Global,
+        hands: &H,
         fitted: &Fitted,
         state: State,
         target: &Cut,
-        gate: &G,
     ) -> Result<State, (State, AllocError)>
         requires checkpoints { AreCheckpoints fitted.now self.old }
         requires stands { Stands fitted.now state }
@@ -360,14 +357,15 @@ impl Checkpoints {
         ensures ok { IfOk result (λ s. StandsAt fitted.now (cut_of target.now) s) }
         ensures err { IfErr result (λ e. Stands fitted.now e.0) }
     {
-        let near = self.approach(rt, alloc, fitted, state, target, gate);
-        match advance(rt, alloc, fitted, near, target, gate) {
+        let mut pace = Pace::new();
+        let near = self.approach(hands, fitted, state, target, &mut pace);
+        match advance(hands, fitted, near, target, &mut pace) {
             Ok(there) => Ok(there),
             Err((between, error)) => {
                 if !self.give_up_all(fitted) {
                     return Err((between, error));
                 }
-                advance(rt, alloc, fitted, between, target, gate)
+                advance(hands, fitted, between, target, &mut pace)
             }
         }
     }
@@ -405,7 +403,8 @@ impl Checkpoints {
             *state = self.restore(fitted, target)?;
         }
         let none = State::build(Vec::new(alloc), Vec::new(alloc));
-        match self.forward(rt, alloc, fitted, mem::replace(state, none), target, gate) {
+        let hands = Given::new(rt, alloc, gate);
+        match self.forward(&hands, fitted, mem::replace(state, none), target) {
             Ok(there) => {
                 *state = there;
                 Ok(())

@@ -11,8 +11,8 @@ ghost use Rattle.ir_hits.specs.Searching.{AreLast};
 use ir_cut::{Cut, least};
 use ir_fit::Fitted;
 use ir_mach::MarkedCode;
-use ir_object::Gate;
-use ir_replay::{State, advance, advance_alone, advance_unmarked};
+use ir_object::{Gate, Given};
+use ir_replay::{Pace, State, advance, advance_alone, advance_unmarked};
 use ir_thread::Thread;
 use std::alloc::{AllocError, Global};
 use std::mem;
@@ -68,7 +68,14 @@ fn bring<R: Threads + Clock + Sync, G: Gate + Sync>(
     ensures there { OnOk result ((t : ℕ) → positions (flat_in fitted.now state.new) t ≡ cut_of target.now t) }
 {
     let none = State::build(Vec::new(alloc), Vec::new(alloc));
-    match advance(rt, alloc, fitted, mem::replace(state, none), target, gate) {
+    let hands = Given::new(rt, alloc, gate);
+    match advance(
+        &hands,
+        fitted,
+        mem::replace(state, none),
+        target,
+        &mut Pace::new(),
+    ) {
         Ok(there) => {
             *state = there;
             Ok(())

@@ -18,3 +18,4 @@ mod worker;
 pub use alone::{advance_alone, advance_unmarked};
 pub use ir_weave::{State, one_state_each};
 pub use moves::{advance, advance_in_order};
+pub use pace::Pace;

@@ -15,12 +15,10 @@ use crate::round::round;
 use crate::stretch::{known, stretch, with_code, without_code};
 use ir_cut::Cut;
 use ir_fit::Fitted;
-use ir_object::Gate;
+use ir_object::Hands;
 use ir_thread::Thread;
 use ir_weave::State;
-use std::alloc::{AllocError, Global};
-use std::thread::Threads;
-use std::time::Clock;
+use std::alloc::AllocError;
 
 /// Brings the threads and objects to the target, on this thread. Each entry of the order takes one step of that thread,
 /// or nothing where the guest has no such thread, or this one is at its target or its next step isn't admitted. After
@@ -80,13 +78,11 @@ fn steps_of(threads: &[Thread]) -> u64 {
 
 // A round of workers; or a stretch on the caller, where it is faster than the workers' last round, and where one thread alone is below its
 // target.
-fn turn<R: Threads + Clock + Sync, G: Gate + Sync>(
-    rt: &R,
-    alloc: Global,
+fn turn<H: Hands>(
+    hands: &H,
     fitted: &Fitted,
     state: State,
     target: &Cut,
-    gate: &G,
     pace: &mut Pace,
 ) -> Result<State, (State, AllocError)>
     requires state { StandsAt fitted.now (positions (flat_in fitted.now state)) state }
@@ -98,34 +94,33 @@ fn turn<R: Threads + Clock + Sync, G: Gate + Sync>(
     ensures alone { OneIsBelow target.now (positions (flat_in fitted.now state)) → IsOk result }
 {
     if is_alone(state.threads(), target) {
-        return Ok(stretch(fitted, state, target, u64::MAX, gate));
+        return Ok(stretch(fitted, state, target, u64::MAX, hands));
     }
-    let meter = Meter::start(rt, steps_of(state.threads()));
+    let meter = Meter::start(hands, steps_of(state.threads()));
     let most = pace.stretch();
     if most > 0 {
-        let state = stretch(fitted, state, target, most, gate);
-        pace.after_stretch(meter.rate(rt, steps_of(state.threads())));
+        let state = stretch(fitted, state, target, most, hands);
+        pace.after_stretch(meter.rate(hands, steps_of(state.threads())));
         return Ok(state);
     }
-    let state = round(rt, alloc, fitted, state, target, gate, pace.millis())?;
-    pace.after_round(meter.rate(rt, steps_of(state.threads())));
+    let state = round(hands, fitted, state, target, pace.millis())?;
+    pace.after_round(meter.rate(hands, steps_of(state.threads())));
     Ok(state)
 }
 
 /// Brings the threads and objects to the target by rounds of workers, one for each thread, over a table that they share.
 /// A worker whose next step isn't admitted looks again for some milliseconds, then ends its round. Where the caller by itself is faster, it
-/// takes ever longer stretches of steps between rounds; where one thread alone has steps to take, it takes them all. Each entry and leave is
-/// reported to the gate.
+/// takes ever longer stretches of steps between rounds; where one thread alone has steps to take, it takes them all. What was found of this is
+/// in the pace, for the next part of a long move. Each entry and leave is reported to the gate.
 ///
 /// # Errors
 /// Out of memory, with the state at a consistent cut between.
-pub fn advance<R: Threads + Clock + Sync, G: Gate + Sync>(
-    rt: &R,
-    alloc: Global,
+pub fn advance<H: Hands>(
+    hands: &H,
     fitted: &Fitted,
     state: State,
     target: &Cut,
-    gate: &G,
+    pace: &mut Pace,
 ) -> Result<State, (State, AllocError)>
     requires state { StandsAt fitted.now (positions (flat_in fitted.now state)) state }
     requires target { (length target.now ≡ length fitted.now.guest.entries) × IsConsistentCut fitted.now target.now }
@@ -136,9 +131,8 @@ pub fn advance<R: Threads + Clock + Sync, G: Gate + Sync>(
     ensures alone { OneIsBelow target.now (positions (flat_in fitted.now state)) → IsOk result }
 {
     let mut state = state;
-    let mut pace = Pace::new();
     'rounds: while !is_there(state.threads(), target) {
-        state = turn(rt, alloc, fitted, state, target, gate, &mut pace)?;
+        state = turn(hands, fitted, state, target, pace)?;
     }
     Ok(state)
 }

@@ -17,7 +17,8 @@ const FIRST_ROUND: u32 = 10;
 // The longest.
 const LONGEST_ROUND: u32 = 1000;
 
-// Whose turn it is, how many steps the caller takes at its next, and how long the workers' next lasts.
+/// How a move goes on: whose turn it is, how many steps the caller takes at its next, and how long the workers' next lasts. A long move
+/// of several parts keeps it from one to the next.
 #[derive(Clone, Copy)]
 pub struct Pace {
     callers: bool,
@@ -29,7 +30,7 @@ pub struct Pace {
 }
 
 impl Pace {
-    // The workers', at first.
+    /// It is the workers' turn.
     pub fn new() -> Pace {
         Pace {
             callers: false,

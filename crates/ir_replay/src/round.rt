@@ -15,12 +15,10 @@ use crate::worker::{Worker, work_all};
 use crossbeam_utils::CachePadded;
 use ir_cut::Cut;
 use ir_fit::Fitted;
-use ir_object::Gate;
+use ir_object::Hands;
 use ir_thread::Thread;
 use ir_weave::{State, Weave, WeaveSeat};
-use std::alloc::{AllocError, Global};
-use std::thread::Threads;
-use std::time::Clock;
+use std::alloc::AllocError;
 
 // A worker for each thread, at its seat, the last first.
 pub fn assign_seats(workers: &mut Vec<Worker>, threads: &mut Vec<Thread>, mut seats: Vec<WeaveSeat>)
@@ -44,13 +42,12 @@ pub fn assign_seats(workers: &mut Vec<Worker>, threads: &mut Vec<Thread>, mut se
 }
 
 // All workers go on, for so many milliseconds and longer.
-fn run_all<R: Threads + Clock + Sync, G: Gate + Sync>(
-    rt: &R,
+fn run_all<H: Hands>(
+    hands: &H,
     weave: &Weave,
     workers: &mut Vec<Worker>,
     fitted: &Fitted,
     target: &Cut,
-    gate: &G,
     millis: u32,
 )
     requires table { IsFor weave.now.table.shared.key fitted.now }
@@ -58,15 +55,7 @@ fn run_all<R: Threads + Clock + Sync, G: Gate + Sync>(
     requires ready { AllByRecursion (IsReady weave.now.table.shared.table_id weave.now.table.shared.key target.now) workers.old.items }
     ensures { Pairs (HasWorked weave.now.table.shared.table_id weave.now.table.shared.key target.now) workers.old.items workers.new.items }
 {
-    work_all(
-        rt,
-        weave,
-        workers.as_mut_slice(),
-        fitted,
-        target,
-        gate,
-        millis,
-    );
+    work_all(hands, weave, workers.as_mut_slice(), fitted, target, millis);
 }
 
 // The threads again, the first first, and their seats joined to one.
@@ -98,13 +87,12 @@ struct Opened {
 }
 
 // A round over a table.
-fn run_at_table<R: Threads + Clock + Sync, G: Gate + Sync>(
-    rt: &R,
+fn run_at_table<H: Hands>(
+    hands: &H,
     opened: Opened,
     fitted: &Fitted,
     state: State,
     target: &Cut,
-    gate: &G,
     millis: u32,
 ) -> State
     requires table { IsFor opened.weave.table.shared.key fitted.now }
@@ -126,20 +114,18 @@ fn run_at_table<R: Threads + Clock + Sync, G: Gate + Sync>(
     } = opened;
     let (mut threads, mut objects) = state.parts();
     assign_seats(&mut workers, &mut threads, seats);
-    run_all(rt, &weave, &mut workers, fitted, target, gate, millis);
+    run_all(hands, &weave, &mut workers, fitted, target, millis);
     let seat = joined(&weave, &mut workers, &mut threads);
     weave.close(seat, objects.as_mut_slice());
     State::build(threads, objects)
 }
 
 // One round: each thread advances until it is at its target, or its next step isn't admitted and so many milliseconds have passed.
-pub fn round<R: Threads + Clock + Sync, G: Gate + Sync>(
-    rt: &R,
-    alloc: Global,
+pub fn round<H: Hands>(
+    hands: &H,
     fitted: &Fitted,
     state: State,
     target: &Cut,
-    gate: &G,
     millis: u32,
 ) -> Result<State, (State, AllocError)>
     requires state { StandsAt fitted.now (positions (flat_in fitted.now state)) state }
@@ -149,6 +135,7 @@ pub fn round<R: Threads + Clock + Sync, G: Gate + Sync>(
     ensures goes { IfOk result (λ s. Goes fitted.now target.now state s) }
     ensures err { IfErr result (λ e. e.0 ≡ state) }
 {
+    let alloc = hands.alloc();
     let (weave, seats) = match Weave::open(alloc, fitted, &state) {
         Ok(opened) => opened,
         Err(error) => return Err((state, error)),
@@ -162,5 +149,5 @@ pub fn round<R: Threads + Clock + Sync, G: Gate + Sync>(
         seats,
         workers,
     };
-    Ok(run_at_table(rt, opened, fitted, state, target, gate, millis))
+    Ok(run_at_table(hands, opened, fitted, state, target, millis))
 }

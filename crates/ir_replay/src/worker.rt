@@ -13,11 +13,10 @@ use crate::telling::{tell_entry, tell_leave};
 use crossbeam_utils::{Backoff, CachePadded};
 use ir_cut::Cut;
 use ir_fit::Fitted;
-use ir_object::Gate;
+use ir_object::Hands;
 use ir_thread::{Ask, Thread};
 use ir_weave::{Tried, Weave, WeaveSeat};
 use std::thread;
-use std::thread::Threads;
 use std::time::Clock;
 
 // A thread with its seat.
@@ -60,13 +59,12 @@ fn try_again(
 }
 
 // The thread advances until it is at its target or its next step isn't admitted for long.
-fn work<G: Gate>(
-    clock: &impl Clock,
+fn work<H: Hands>(
+    hands: &H,
     weave: &Weave,
     worker: &mut Worker,
     fitted: &Fitted,
     target: &Cut,
-    gate: &G,
     limit: &Limit,
 )
     requires table { IsFor weave.now.table.shared.key fitted.now }
@@ -81,9 +79,9 @@ fn work<G: Gate>(
         if worker.thread.steps() >= target.position(number as usize) {
             return;
         }
-        tell_leave(gate, number, asked);
-        match try_again(clock, weave, worker, fitted, target, asked, &mut patience) {
-            Tried::Stepped => tell_entry(gate, &worker.thread, asked),
+        tell_leave(hands, number, asked);
+        match try_again(hands, weave, worker, fitted, target, asked, &mut patience) {
+            Tried::Stepped => tell_entry(hands, &worker.thread, asked),
             Tried::NotNow | Tried::AtTarget => return,
         }
     }
@@ -91,13 +89,12 @@ fn work<G: Gate>(
 
 // Each worker runs in a thread of its own, if one can be made, and otherwise on the caller's. Once so many milliseconds have passed, a worker
 // whose next step isn't admitted ends its round.
-pub fn work_all<R: Threads + Clock + Sync, G: Gate + Sync>(
-    rt: &R,
+pub fn work_all<H: Hands>(
+    hands: &H,
     weave: &Weave,
     workers: &mut [Worker],
     fitted: &Fitted,
     target: &Cut,
-    gate: &G,
     millis: u32,
 )
     requires table { IsFor weave.now.table.shared.key fitted.now }
@@ -109,11 +106,11 @@ pub fn work_all<R: Threads + Clock + Sync, G: Gate + Sync>(
         return;
     }
     let count = workers.len();
-    let limit = Limit::new(rt, millis);
+    let limit = Limit::new(hands, millis);
     thread::for_each_mut(
-        rt,
+        hands,
         workers,
         count,
-        &|_, worker| work(rt, weave, worker, fitted, target, gate, &limit),
+        &|_, worker| work(hands, weave, worker, fitted, target, &limit),
     );
 }

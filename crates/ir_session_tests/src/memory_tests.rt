@@ -14,9 +14,9 @@ use ir_cut::Cut;
 use ir_debug::{Ended, SessionErr};
 use ir_fit::{FitErr, Fitted, fit};
 use ir_image::{Image, write_image};
-use ir_object::OpenGate;
+use ir_object::{Given, OpenGate};
 use ir_record::{RecordErr, World, WorldErr, record};
-use ir_replay::{State, advance};
+use ir_replay::{Pace, State, advance};
 use ir_runs::EnvKind;
 use ir_tests::guests::{DOUBLED, Source, TWO_COUNTERS, TWO_READERS};
 use ir_tests::meeting::Meeting;
@@ -226,9 +226,10 @@ fn is_reached<R: Threads + Clock + Sync>(
     requires target { (length target.now ≡ length fitted.now.guest.entries) × IsConsistentCut fitted.now target.now }
     requires below { (t : ℕ) → positions (flat_in fitted.now state) t ≤ cut_of target.now t }
 {
-    let ended = match advance(rt, alloc, fitted, state, target, &OpenGate) {
+    let hands = Given::new(rt, alloc, &OpenGate);
+    let ended = match advance(&hands, fitted, state, target, &mut Pace::new()) {
         Ok(there) => Ok(there),
-        Err((between, _)) => advance(rt, alloc, fitted, between, target, &OpenGate),
+        Err((between, _)) => advance(&hands, fitted, between, target, &mut Pace::new()),
     };
     match ended {
         Ok(there) => is_at(&there, target),
