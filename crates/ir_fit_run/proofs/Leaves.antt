@@ -24,7 +24,7 @@ use Rattle.ir_cut.proofs.CallerLemmas.{same_trail}
 use Rattle.ir_past.specs.Past.{event_at, entered}
 use Rattle.ir_past.proofs.CallerLemmas.{of_thread}
 use Rattle.ir_events.specs.Events.{entry_of}
-use Rattle.ir_fit_run.specs.Positions.{IsInside, LeavesFrom, EntryLeaves, LeavesAfter, IsLeaveOf, Enters, IsOf, NoneIsOf, IsFirstOf}
+use Rattle.ir_fit_run.specs.Positions.{IsInside, LeavesFrom, EntryLeaves, LeavesAfter, IsLeaveOf, EntersAt, IsLeaveAs, NoLeaveAs, IsFirstLeaveAs}
 
 -- a step of one run is one of each
 pub in_each : (f : FittedTrace) (h : HasRun f) (t k : ℕ) (a : Label) → Emits (machine_of f) (start_of f) h.run t k a
@@ -50,22 +50,12 @@ pub below_tested : (xs : List Leave) (from i : ℕ)
     → IsPartitionPoint (λ (y : Leave). y.position < from) (λ y. from ≤ y.position) xs i
 below_tested xs from i h = (λ k d low lt. ltb-true _ from (h.0 k d low lt), λ k d low lt. ltb-false _ from (h.1 k d low lt))
 
--- none so far, and one more that isn't so
-pub none_more : (ls : List Leave) (start n o : ℕ) (a : Access) (v : ℕ) → NoneIsOf ls start n o a v
-    → ((d : Leave) → IsOf (get_or ls n d) o a v → ⊥) → NoneIsOf ls start (n + 1) o a v
-none_more ls start n o a v none last j d from less = elim (cases_lt j n) [
-  | inl before ↦ none j d from before
-  | inr after ↦
-      let same : n ≡ j = omega (arith, after, less) in
-      subst (λ k. IsOf (get_or ls k d) o a v → ⊥) same (last d)
-]
-
 -- the leaves of thread t, and where those at `from` or past it begin
 pub record AreFrom (f : FittedTrace) (t from : ℕ) (ls : List Leave) (start : ℕ) : Type 0 where
   pub leaves : ls ≡ (placed_at f.placed t).leaves
   pub point : IsPartitionPoint (λ (l : Leave). l.position < from) (λ l. from ≤ l.position) ls start
 
-leave_like : (k o : ℕ) (a : Access) (v : ℕ) (l : Leave) → IsOf l o a v → l.position ≡ k
+leave_like : (k o : ℕ) (a : Access) (v : ℕ) (l : Leave) → IsLeaveAs l o a v → l.position ≡ k
     → l ≡ record { position = k; object = o; access = a; version = v }
 leave_like k o a v l of at = λ i. record { position = at i; object = of.0 i; access = of.1 i; version = of.2 i }
 
@@ -91,7 +81,7 @@ listed_from f h t from ls start o a v k x at =
 
 -- the first that is of what was entered
 pub first_leaves : (f : FittedTrace) → HasRun f → (t from : ℕ) (ls : List Leave) (start o : ℕ) (a : Access) (v k : ℕ) → t < length f.guest.entries
-    → AreFrom f t from ls start → IsFirstOf ls start o a v k
+    → AreFrom f t from ls start → IsFirstLeaveAs ls start o a v k
     → LeavesFrom f t from o a v k × ((n : ℕ) → LeavesFrom f t from o a v n → k ≤ n)
 first_leaves f h t from ls start o a v k l x first = (
   (
@@ -103,7 +93,7 @@ first_leaves f h t from ls start o a v k l x first = (
       let there : (get_or ls other.0 p).position ≡ n = ap (λ (z : Leave). z.position) (other.3 p) in
       elim (cases_lt other.0 first.number) [
         | inl before ↦ absurd (first.before other.0 p other.1 before
-            (subst (λ (z : Leave). IsOf z o a v) (sym (other.3 p)) (refl, refl, refl)))
+            (subst (λ (z : Leave). IsLeaveAs z o a v) (sym (other.3 p)) (refl, refl, refl)))
         | inr after ↦
             let up = subst (λ (z : List Leave). IsNonDecreasingBy (λ (y : Leave). y.position) z) (sym x.leaves) (in_order f h t l) in
             let low = up first.number other.0 p (omega (arith, after)) other.2 in
@@ -126,30 +116,30 @@ first_leaves f h t from ls start o a v k l x first = (
 
 -- and where none is, no step leaves
 pub none_leaves : (f : FittedTrace) → HasRun f → (t from : ℕ) (ls : List Leave) (start o : ℕ) (a : Access) (v : ℕ) → AreFrom f t from ls start
-    → NoneIsOf ls start (length ls) o a v → (k : ℕ) → LeavesFrom f t from o a v k → ⊥
+    → NoLeaveAs ls start (length ls) o a v → (k : ℕ) → LeavesFrom f t from o a v k → ⊥
 none_leaves f h t from ls start o a v x none k at =
     let other = listed_from f h t from ls start o a v k x at in
     let p : Leave = record { position = k; object = o; access = a; version = v } in
-    none other.0 p other.1 other.2 (subst (λ (z : Leave). IsOf z o a v) (sym (other.3 p)) (refl, refl, refl))
+    none other.0 p other.1 other.2 (subst (λ (z : Leave). IsLeaveAs z o a v) (sym (other.3 p)) (refl, refl, refl))
 
 -- so of an event
 pub entry_first : (f : FittedTrace) → HasRun f → (t from : ℕ) (ls : List Leave) (start o : ℕ) (a : Access) (v k : ℕ) (e : Event)
-    → t < length f.guest.entries → AreFrom f t from ls start → Enters e o a v → IsFirstOf ls start o a v k
+    → t < length f.guest.entries → AreFrom f t from ls start → EntersAt e o a v → IsFirstLeaveAs ls start o a v k
     → EntryLeaves f t from (Some e) k × ((n : ℕ) → EntryLeaves f t from (Some e) n → k ≤ n)
 entry_first f h t from ls start o a v k (Answer kind value) l x enters first = absurd enters
 entry_first f h t from ls start o a v k (Read p w) l x enters first = first_leaves f h t from ls start p Reading w k l x
-    (subst (λ (z : ℕ × Access × ℕ). IsFirstOf ls start z.0 z.1 z.2 k) (λ i. (enters.0 i, enters.1 i, enters.2 i)) first)
+    (subst (λ (z : ℕ × Access × ℕ). IsFirstLeaveAs ls start z.0 z.1 z.2 k) (λ i. (enters.0 i, enters.1 i, enters.2 i)) first)
 entry_first f h t from ls start o a v k (Write p w readers) l x enters first = first_leaves f h t from ls start p Writing w k l x
-    (subst (λ (z : ℕ × Access × ℕ). IsFirstOf ls start z.0 z.1 z.2 k) (λ i. (enters.0 i, enters.1 i, enters.2 i)) first)
+    (subst (λ (z : ℕ × Access × ℕ). IsFirstLeaveAs ls start z.0 z.1 z.2 k) (λ i. (enters.0 i, enters.1 i, enters.2 i)) first)
 entry_first f h t from ls start o a v k (Try p) l x enters first = absurd enters
 
 pub entry_none : (f : FittedTrace) → HasRun f → (t from : ℕ) (ls : List Leave) (start o : ℕ) (a : Access) (v : ℕ) (e : Event)
-    → AreFrom f t from ls start → Enters e o a v → NoneIsOf ls start (length ls) o a v → (k : ℕ) → EntryLeaves f t from (Some e) k → ⊥
+    → AreFrom f t from ls start → EntersAt e o a v → NoLeaveAs ls start (length ls) o a v → (k : ℕ) → EntryLeaves f t from (Some e) k → ⊥
 entry_none f h t from ls start o a v (Answer kind value) x enters none k at = absurd enters
 entry_none f h t from ls start o a v (Read p w) x enters none k at = none_leaves f h t from ls start p Reading w x
-    (subst (λ (z : ℕ × Access × ℕ). NoneIsOf ls start (length ls) z.0 z.1 z.2) (λ i. (enters.0 i, enters.1 i, enters.2 i)) none) k at
+    (subst (λ (z : ℕ × Access × ℕ). NoLeaveAs ls start (length ls) z.0 z.1 z.2) (λ i. (enters.0 i, enters.1 i, enters.2 i)) none) k at
 entry_none f h t from ls start o a v (Write p w readers) x enters none k at = none_leaves f h t from ls start p Writing w x
-    (subst (λ (z : ℕ × Access × ℕ). NoneIsOf ls start (length ls) z.0 z.1 z.2) (λ i. (enters.0 i, enters.1 i, enters.2 i)) none) k at
+    (subst (λ (z : ℕ × Access × ℕ). NoLeaveAs ls start (length ls) z.0 z.1 z.2) (λ i. (enters.0 i, enters.1 i, enters.2 i)) none) k at
 entry_none f h t from ls start o a v (Try p) x enters none k at = absurd enters
 
 -- an event of a thread, what it enters, and the leaves from behind it on
@@ -157,11 +147,11 @@ pub record IsSought (f : FittedTrace) (t i from : ℕ) (ls : List Leave) (start 
   pub event : Event
   pub there : event_at f.recorded t i ≡ Some event
   pub behind : from ≡ entry_of f t i + 1
-  pub enters : Enters event o a v
+  pub enters : EntersAt event o a v
   pub leaves : AreFrom f t from ls start
 
 pub leave_found : (f : FittedTrace) → HasRun f → (t i from : ℕ) (ls : List Leave) (start o : ℕ) (a : Access) (v : ℕ) (found : Option ℕ)
-    → t < length f.guest.entries → IsSought f t i from ls start o a v → IfSome found (IsFirstOf ls start o a v) → IfSome found (IsLeaveOf f t i)
+    → t < length f.guest.entries → IsSought f t i from ls start o a v → IfSome found (IsFirstLeaveAs ls start o a v) → IfSome found (IsLeaveOf f t i)
 leave_found f h t i from ls start o a v None l x first = tt
 leave_found f h t i from ls start o a v (Some k) l x first =
     let y = entry_first f h t from ls start o a v k x.event l x.leaves x.enters first in
@@ -174,7 +164,7 @@ leave_found f h t i from ls start o a v (Some k) l x first =
     }
 
 pub leave_none : (f : FittedTrace) → HasRun f → (t i from : ℕ) (ls : List Leave) (start o : ℕ) (a : Access) (v : ℕ) (found : Option ℕ)
-    → IsSought f t i from ls start o a v → IfNone found (NoneIsOf ls start (length ls) o a v) → IfNone found ((k : ℕ) → LeavesAfter f t i k → ⊥)
+    → IsSought f t i from ls start o a v → IfNone found (NoLeaveAs ls start (length ls) o a v) → IfNone found ((k : ℕ) → LeavesAfter f t i k → ⊥)
 leave_none f h t i from ls start o a v (Some k) x none = tt
 leave_none f h t i from ls start o a v None x none = λ k at.
     entry_none f h t from ls start o a v x.event x.leaves x.enters none k

@@ -40,28 +40,28 @@ pub record IsLeaveOf (f : FittedTrace) (t i k : ℕ) : Type 0 where
   pub first : (j : ℕ) → LeavesAfter f t i j → k ≤ j
 
 -- an event enters object o so, at version v
-abbrev pub Enters : Event → ℕ → Access → ℕ → Type 0
-Enters (Answer kind value) o a v = ⊥
-Enters (Read p w) o a v = (o ≡ p) × (a ≡ Reading) × (v ≡ w)
-Enters (Write p w readers) o a v = (o ≡ p) × (a ≡ Writing) × (v ≡ w)
-Enters (Try p) o a v = ⊥
+abbrev pub EntersAt : Event → ℕ → Access → ℕ → Type 0
+EntersAt (Answer kind value) o a v = ⊥
+EntersAt (Read p w) o a v = (o ≡ p) × (a ≡ Reading) × (v ≡ w)
+EntersAt (Write p w readers) o a v = (o ≡ p) × (a ≡ Writing) × (v ≡ w)
+EntersAt (Try p) o a v = ⊥
 
 -- a leave is of object o after such access at version v
-abbrev pub IsOf : Leave → ℕ → Access → ℕ → Type 0
-IsOf l o a v = (l.object ≡ o) × (l.access ≡ a) × (l.version ≡ v)
+abbrev pub IsLeaveAs : Leave → ℕ → Access → ℕ → Type 0
+IsLeaveAs l o a v = (l.object ≡ o) × (l.access ≡ a) × (l.version ≡ v)
 
 -- none of these leaves from number `start` to below number n is so
-abbrev pub NoneIsOf : List Leave → ℕ → ℕ → ℕ → Access → ℕ → Type 0
-NoneIsOf ls start n o a v = (j : ℕ) (d : Leave) → start ≤ j → j < n → IsOf (slice_index_or ls j d) o a v → ⊥
+abbrev pub NoLeaveAs : List Leave → ℕ → ℕ → ℕ → Access → ℕ → Type 0
+NoLeaveAs ls start n o a v = (j : ℕ) (d : Leave) → start ≤ j → j < n → IsLeaveAs (slice_index_or ls j d) o a v → ⊥
 
 -- the first of them from there on that is so is at position k
-pub record IsFirstOf (ls : List Leave) (start o : ℕ) (a : Access) (v k : ℕ) : Type 0 where
+pub record IsFirstLeaveAs (ls : List Leave) (start o : ℕ) (a : Access) (v k : ℕ) : Type 0 where
   pub number : ℕ
   pub from : start ≤ number
   pub within : number < length ls
-  pub is : (d : Leave) → IsOf (slice_index_or ls number d) o a v
+  pub is : (d : Leave) → IsLeaveAs (slice_index_or ls number d) o a v
   pub there : (d : Leave) → (slice_index_or ls number d).position ≡ k
-  pub before : NoneIsOf ls start number o a v
+  pub before : NoLeaveAs ls start number o a v
 
 -- the law: what an event of a run's trace enters its thread leaves
 abbrev pub EventsLeft : Type 0

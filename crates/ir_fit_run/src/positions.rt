@@ -6,7 +6,7 @@ ghost use Rattle.std.specs.String.{string_bytes};
 ghost use Rattle.ir_events.specs.Events.{entry_of};
 ghost use Rattle.ir_fit.specs.declared.leave.Leave.{Leave};
 ghost use Rattle.ir_past.specs.Past.{entered};
-ghost use Rattle.ir_fit_run.specs.Positions.{IsInside, Enters, IsOf, IsFirstOf, NoneIsOf, LeavesAfter, IsLeaveOf, step_if};
+ghost use Rattle.ir_fit_run.specs.Positions.{IsInside, EntersAt, IsLeaveAs, IsFirstLeaveAs, NoLeaveAs, LeavesAfter, IsLeaveOf, step_if};
 
 use ir_fit::{Fitted, Leave};
 use ir_log::Event;
@@ -32,7 +32,7 @@ pub fn step_of(fitted: &Fitted, place: Place) -> u64
 
 // What an event enters; none, if it is no entry.
 fn stay_of(event: Event) -> Option<Stay>
-    ensures { MatchOption result (entered event ≡ None) (λ s. Enters event s.object s.access s.version) }
+    ensures { MatchOption result (entered event ≡ None) (λ s. EntersAt event s.object s.access s.version) }
 {
     match event {
         Event::Read { object, version } => Some(Stay {
@@ -64,15 +64,15 @@ fn count_below(leaves: &[Leave], from: u64) -> usize
 
 // Whether a leave is of what was entered.
 fn is_of(leave: &Leave, stay: Stay) -> bool
-    ensures { IsTrue result ↔ IsOf leave.now stay.object stay.access stay.version }
+    ensures { IsTrue result ↔ IsLeaveAs leave.now stay.object stay.access stay.version }
 {
     leave.object == stay.object && leave.access == stay.access && leave.version == stay.version
 }
 
 // The position of the first of these leaves, from one of them on, that is of what was entered.
 fn first_of(leaves: &[Leave], start: usize, stay: Stay) -> Option<u64>
-    ensures found { IfSome result (IsFirstOf leaves.now start stay.object stay.access stay.version) }
-    ensures none { IfNone result (NoneIsOf leaves.now start (length leaves.now) stay.object stay.access stay.version) }
+    ensures found { IfSome result (IsFirstLeaveAs leaves.now start stay.object stay.access stay.version) }
+    ensures none { IfNone result (NoLeaveAs leaves.now start (length leaves.now) stay.object stay.access stay.version) }
 {
     for number in start..leaves.len() {
         if is_of(&leaves[number], stay) {

@@ -48,3 +48,17 @@ pub fn put_answer<O: Sink>(answer: &Answer, out: &mut O) -> Result<ExitStatus, P
     write_all(out, &answer.text)?;
     Ok(answer.status)
 }
+
+/// Writes bytes.
+///
+/// # Errors
+/// The writer failed; then a prefix of them was written.
+pub fn put_bytes<O: Sink>(text: &[u8], out: &mut O) -> Result<(), PastErr>
+    requires { O.broken out.old ≡ false }
+    ensures ok { OnOk result (Appends (O.written out.old) (O.written out.new) text.now) }
+    ensures works { OnOk result (O.broken out.new ≡ false) }
+    ensures fails { IfErr result (λ e. Stops e (writer_of (O.written out.old) (O.written out.new) (O.broken out.new)) text.now) }
+{
+    write_all(out, text)?;
+    Ok(())
+}

@@ -20,7 +20,7 @@ mod run;
 mod stale;
 mod stale_write;
 
-pub use answer::{Answer, line_answer, put_answer};
+pub use answer::{Answer, line_answer, put_answer, put_bytes};
 pub use counts::write_count;
 pub use laws::{entries_left, returns_counted};
 pub use logs::{event_of, events_of, thread_count};

@@ -111,6 +111,11 @@ pub fn work_all<H: Hands>(
         hands,
         workers,
         count,
-        &|_, worker| work(hands, weave, worker, fitted, target, &limit),
+        &|_, worker: &mut Worker|
+            requires table { IsFor weave.now.table.shared.key fitted.now }
+            requires target { (length target.now ≡ length fitted.now.guest.entries) × IsConsistentCut fitted.now target.now }
+            requires ready { IsReady weave.now.table.shared.table_id weave.now.table.shared.key target.now worker.now }
+            ensures { HasWorked weave.entry.now.table.shared.table_id weave.entry.now.table.shared.key target.entry.now worker.entry.now worker.exit.now }
+        { work(hands, weave, worker, fitted, target, &limit) },
     );
 }

@@ -1,11 +1,10 @@
 //! `ir who` with an image: the bytes of an image and of a trace in, the versions of an object of the run out.
 
-ghost use Rattle.std.specs.Prelude.{◌≡◌, ◌≢◌, ◌⊎◌, ◌≤◌, ℕ, List, slice_get, Some, IfOk, OnOk, IfErr, false};
+ghost use Rattle.std.specs.Prelude.{◌≡◌, ◌≢◌, ◌⊎◌, ◌≤◌, ℕ, List, slice_get, Some, IfOk, IfErr, false};
 ghost use Rattle.std.specs.String.{string_bytes};
 ghost use Rattle.ir_files.specs.Writers.{writer_of, Reports, fault_text};
 ghost use Rattle.ir_files.specs.declared.exit_status.ExitStatus.TheVariants as status;
-ghost use Rattle.ir_past.specs.Answers.{Answered, Stops};
-ghost use Rattle.std.specs.Io.KnownBytes.{Appends};
+ghost use Rattle.ir_past.specs.Answers.{Answered};
 ghost use Rattle.ir_past.specs.declared.place.Place as place;
 ghost use Rattle.ir_fit_run.specs.Answers.{IsAnswerOf};
 ghost use Rattle.ir_fit_run.specs.Opened.{IsFit};
@@ -25,8 +24,8 @@ use crate::who_err::{Absent, WhoErr};
 use ir_files::{ExitStatus, tell};
 use ir_fit::Fitted;
 use ir_fit_run::{Opened, leave_of, open_fit, refuse};
-use ir_past::{PastErr, Place, makers_of, readers_of};
-use ir_stream::{Sink, write_all};
+use ir_past::{PastErr, Place, makers_of, put_bytes, readers_of};
+use ir_stream::Sink;
 use std::alloc::{AllocError, Global};
 
 // From which step on what an event made is there.
@@ -109,20 +108,6 @@ fn answer(alloc: Global, fitted: &Fitted, asked: &Question) -> Result<String, Wh
         None => Ok(object_answer(alloc, fitted, object)?),
         Some(version) => version_answer(alloc, fitted, object, version),
     }
-}
-
-/// Writes bytes.
-///
-/// # Errors
-/// The writer failed; then a prefix of them was written.
-pub fn put_bytes<O: Sink>(text: &[u8], out: &mut O) -> Result<(), PastErr>
-    requires { O.broken out.old ≡ false }
-    ensures ok { OnOk result (Appends (O.written out.old) (O.written out.new) text.now) }
-    ensures works { OnOk result (O.broken out.new ≡ false) }
-    ensures fails { IfErr result (λ e. Stops e (writer_of (O.written out.old) (O.written out.new) (O.broken out.new)) text.now) }
-{
-    write_all(out, text)?;
-    Ok(())
 }
 
 // Writes the lines that answer a question about a run.

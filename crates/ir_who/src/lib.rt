@@ -13,7 +13,7 @@ mod versions;
 mod who_err;
 
 pub use dated::Dated;
-pub use fit_run::{put_bytes, who_fit_run};
+pub use fit_run::who_fit_run;
 pub use lines::object_line;
 pub use question::Question;
 pub use run::who_run;

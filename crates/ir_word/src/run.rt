@@ -15,8 +15,8 @@ use crate::word_err::WordErr;
 use ir_files::{ExitStatus, tell};
 use ir_fit::Fitted;
 use ir_fit_run::{Opened, open_fit, refuse};
+use ir_past::put_bytes;
 use ir_stream::Sink;
-use ir_who::put_bytes;
 use std::alloc::Global;
 
 // Writes the lines that answer a question about a run.

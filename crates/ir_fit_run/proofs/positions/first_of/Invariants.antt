@@ -1,10 +1,10 @@
 use Rattle.std.proofs.Common.{◌≤◌}
-use Rattle.ir_fit_run.specs.Positions.{NoneIsOf}
+use Rattle.ir_fit_run.specs.Positions.{NoLeaveAs}
 use Rattle.ir_fit_run.proofs.positions.first_of.Given as goal
 
 -- none of those before is so
 abbrev pub invariant-loop-number : goal.invariant-loop-number
 invariant-loop-number l = record {
   from : l.start ≤ l.number;
-  none : NoneIsOf l.leaves l.start l.number l.stay.object l.stay.access l.stay.version;
+  none : NoLeaveAs l.leaves l.start l.number l.stay.object l.stay.access l.stay.version;
 }
