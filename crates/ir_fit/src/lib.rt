@@ -14,6 +14,7 @@ mod leave;
 mod object_places;
 mod place;
 mod places;
+mod telling;
 mod verdict;
 mod visiting;
 mod visits;
@@ -31,4 +32,5 @@ pub use laws::{
 };
 pub use leave::Leave;
 pub use place::Place;
+pub use telling::MOST_UNTOLD;
 pub use verdict::Verdict;

@@ -7,10 +7,12 @@ ghost use Rattle.ir_fit.specs.Follower.{GoesOn, IsSized};
 use crate::follower::Follower;
 use crate::follower::look::{Look, Move};
 use crate::follower::readiness::Readiness;
+use crate::telling::MOST_UNTOLD;
+use ir_object::Gate;
 
 impl Follower<'_> {
-    // Thread t continues while its steps follow the trace.
-    pub fn advance(&mut self, t: usize)
+    // Thread t continues while its steps follow the trace. The gate is told of its private steps.
+    pub fn advance<G: Gate>(&mut self, t: usize, gate: &G)
         requires sized { IsSized self.old }
         requires thread { t < length self.old.flat.threads }
         ensures goes { GoesOn self.old.trace self.old.flat self.old.places.items self.new.flat self.new.places.items }
@@ -18,8 +20,9 @@ impl Follower<'_> {
         ensures sized { IsSized self.new }
     {
         'steps: loop {
-            let left = self.steps_left(t);
-            let (_, asked) = self.flat.run_to_ask(t, left);
+            let ahead = self.steps_left(t);
+            let (taken, asked) = self.flat.run_to_ask(t, ahead.min(MOST_UNTOLD));
+            gate.stepped(t as u8, taken);
             let look = self.look_at(t, asked);
             let Look::Goes(next) = look else {
                 self.note(t, look);
@@ -82,7 +85,7 @@ impl Follower<'_> {
     }
 
     // Continues while any thread has a step that follows.
-    pub fn follow(&mut self)
+    pub fn follow<G: Gate>(&mut self, gate: &G)
         requires { IsSized self.old }
         ensures goes { GoesOn self.old.trace self.old.flat self.old.places.items self.new.flat self.new.places.items }
         ensures trace { self.new.trace ≡ self.old.trace }
@@ -91,7 +94,7 @@ impl Follower<'_> {
     {
         'moves: while let Some(next) = self.next() {
             self.take(next);
-            self.advance(next.thread);
+            self.advance(next.thread, gate);
         }
     }
 }
