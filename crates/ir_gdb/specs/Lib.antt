@@ -1,2 +1,4 @@
 pub mod Stub
 pub mod Stops
+pub mod Serving
+pub mod Reads

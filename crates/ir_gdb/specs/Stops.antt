@@ -6,7 +6,9 @@ use Rattle.ir_hits.specs.Hits.{HitByNumber, IsLowest, IsFirstHit, IsLastHit, ste
 use Rattle.ir_command.specs.declared.hit.Hit.{Hit}
 use Rattle.ir_packet.specs.declared.reply.Reason.{Reason}
 use Rattle.ir_packet.specs.declared.reply.Reason.TheVariants as reason
-use Rattle.ir_gdb.specs.Stub.{Stub, Breakpoint, Watched, watch_points, points_upwards, points_downwards}
+use Rattle.ir_gdb.specs.declared.point.Breakpoint.{Breakpoint}
+use Rattle.ir_gdb.specs.declared.point.Watched.{Watched}
+use Rattle.ir_gdb.specs.Stub.{Stub, watch_points, points_upwards, points_downwards}
 
 -- a position, and why the thread stops there
 pub record Stopped : Type 0 where

@@ -1,18 +1,11 @@
 -- What is held for gdb beside the run.
-use Rattle.std.specs.Prelude.{ℕ, zero, suc, ◌+◌, ◌-◌, ◌*◌, ◌/◌, Bool, List, [], ◌∷◌, ◌++◌, length, Option}
-use Rattle.ir_fit.specs.Fit.{FittedTrace}
+use Rattle.std.specs.Prelude.{◌<◌, ⊤, None, Some, ℕ, zero, suc, ◌+◌, ◌-◌, ◌*◌, ◌/◌, Bool, List, [], ◌∷◌, ◌++◌, length, Option}
+use Rattle.ir_fit.specs.Fit.{FittedTrace, HasRun}
 use Rattle.ir_command.specs.declared.command.Point.TheVariants.{Break, Watch}
 use Rattle.ir_hits.specs.Hits.{Numbered}
-
--- a breakpoint of all threads: Z0, or Z1 if it is a hardware one
-pub record Breakpoint : Type 0 where
-  pub address : ℕ
-  pub hardware : Bool
-
--- a watch of the words that some bytes lie in: Z2
-pub record Watched : Type 0 where
-  pub address : ℕ
-  pub size : ℕ
+use Rattle.ir_timeline.specs.Positions.{threads_of, first_cut, Cuts}
+use Rattle.ir_gdb.specs.declared.point.Breakpoint.{Breakpoint}
+use Rattle.ir_gdb.specs.declared.point.Watched.{Watched}
 
 pub record Stub : Type 0 where
   -- the guest and its trace
@@ -27,6 +20,31 @@ pub record Stub : Type 0 where
   pub current : ℕ
   pub breaks : List Breakpoint
   pub watches : List Watched
+
+-- all threads at 0, thread 0 current, no points
+abbrev pub stub_of : FittedTrace → Stub
+stub_of f = record {
+  fitted = f;
+  at = first_cut f;
+  general = 0;
+  chosen = None;
+  current = 0;
+  breaks = [];
+  watches = [];
+}
+
+-- a thread that `Hc` may have named
+abbrev pub IsChoice : FittedTrace → Option ℕ → Type 0
+IsChoice f None = ⊤
+IsChoice f (Some t) = t < threads_of f
+
+-- what is always so
+pub record IsStub (s : Stub) : Type 0 where
+  pub run : HasRun s.fitted
+  pub cut : Cuts s.fitted s.at
+  pub general : s.general < threads_of s.fitted
+  pub chosen : IsChoice s.fitted s.chosen
+  pub current : s.current < threads_of s.fitted
 
 -- n words from an address on, for thread t, under one number
 unfoldable pub word_points : ℕ → ℕ → ℕ → ℕ → List Numbered
