@@ -7,6 +7,7 @@ ghost use Rattle.ir_gdb.specs.Stops.{after_back, stopped};
 ghost use Rattle.ir_packet.specs.declared.reply.Reason.TheVariants.{Begin};
 
 mod point;
+mod registers;
 mod remote;
 
 pub use point::{Breakpoint, Watched};
