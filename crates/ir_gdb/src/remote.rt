@@ -8,10 +8,12 @@ ghost use Rattle.ir_gdb.specs.Stub.{IsStub};
 ghost use Rattle.ir_gdb.specs.Reads.{thread_of_id};
 
 use crate::point::{Breakpoint, Watched};
+use crate::registers::{put_registers, word_of};
 use ir_cut::Cut;
 use ir_fit::Fitted;
 use ir_object::Hands;
-use ir_packet::{Reply, Who};
+use ir_packet::{Reply, Who, put_word};
+use ir_thread::Thread;
 use ir_timeline::{Timeline, first_cut, thread_count};
 use std::alloc::{AllocError, Global};
 use std::marker::Model;
@@ -82,10 +84,11 @@ fn thread_of_id(fitted: &Fitted, id: u32) -> Option<u32>
 }
 
 impl Remote {
-    ghost use Rattle.std.specs.Prelude.{OnOk, IfOk};
+    ghost use Rattle.std.specs.Prelude.{◌≤◌, ◌+◌, ◌++◌, OnOk, OnErr, IfOk, vec_len, vec_capacity};
+    ghost use Rattle.ir_cut.specs.Positions.{EachRun};
     ghost use Rattle.ir_gdb.specs.Stub.{stub_of};
     ghost use Rattle.ir_gdb.specs.Serving.{IsThere};
-    ghost use Rattle.ir_gdb.specs.Reads.{thread_of_id, reply_to, with_current, general_reply, after_general, chosen_reply, after_chosen};
+    ghost use Rattle.ir_gdb.specs.Reads.{thread_of_id, reply_to, with_current, general_reply, after_general, chosen_reply, after_chosen, current_of, registers_text, register_text};
 
     /// All threads at 0, and no points.
     ///
@@ -165,5 +168,52 @@ impl Remote {
         ensures there { OnOk result (IsThere self.new) }
     {
         self.timeline.go_to(hands, &self.at)
+    }
+
+    // The general thread in hand.
+    #[tactic(auto, using(crate::proofs::There::is_current, crate::proofs::There::is_in_hand))]
+    fn general_thread(&self) -> &Thread
+        requires { IsThere self.now }
+        ensures { EachRun self.now.stub.fitted (λ run. result.now ≡ current_of run self.now.stub self.now.stub.general) }
+    {
+        &self.timeline.threads()[self.general as usize]
+    }
+
+    /// `g`: puts the registers of the general thread at the end.
+    ///
+    /// # Errors
+    /// Out of memory.
+    pub fn registers<H: Hands>(&mut self, hands: &H, out: &mut Vec<u8>) -> Result<(), AllocError>
+        requires { vec_len out.old + 264 ≤ vec_capacity out.old }
+        ensures stub { self.new.stub ≡ self.old.stub }
+        ensures ok { OnOk result (EachRun self.old.stub.fitted (λ run. out.new.items ≡ out.old.items ++ registers_text run self.old.stub)) }
+        ensures err { OnErr result (out.new.items ≡ out.old.items) }
+        ensures capacity { vec_capacity out.new ≡ vec_capacity out.old }
+    {
+        self.bring_here(hands)?;
+        put_registers(out, self.general_thread().mach());
+        Ok(())
+    }
+
+    /// `p n`: puts register n of the general thread at the end.
+    ///
+    /// # Errors
+    /// Out of memory.
+    pub fn register<H: Hands>(
+        &mut self,
+        hands: &H,
+        n: u32,
+        out: &mut Vec<u8>,
+    ) -> Result<(), AllocError>
+        requires room { vec_len out.old + 8 ≤ vec_capacity out.old }
+        requires number { n < 33 }
+        ensures stub { self.new.stub ≡ self.old.stub }
+        ensures ok { OnOk result (EachRun self.old.stub.fitted (λ run. out.new.items ≡ out.old.items ++ register_text run self.old.stub n)) }
+        ensures err { OnErr result (out.new.items ≡ out.old.items) }
+        ensures capacity { vec_capacity out.new ≡ vec_capacity out.old }
+    {
+        self.bring_here(hands)?;
+        put_word(out, word_of(self.general_thread().mach(), n));
+        Ok(())
     }
 }
