@@ -1,8 +1,6 @@
 -- Threads in hand at the stub's cut.
-use Rattle.std.proofs.Common.{◌≡◌, ◌<◌, ℕ, List, length, sym, subst, slice_index_or, ◌∙◌}
-use Rattle.ir_thread.specs.State as thread
-use Rattle.ir_flat.specs.Flat.{idle, thread_of}
-use Rattle.ir_runs.specs.Run.{Step}
+use Rattle.std.proofs.Common.{◌≡◌, ◌<◌, ℕ, length, sym, subst, slice_index_or}
+use Rattle.ir_flat.specs.Flat.{idle}
 use Rattle.ir_cut.specs.Positions.{EachRun}
 use Rattle.ir_timeline.specs.Positions.{threads_of}
 use Rattle.ir_gdb.specs.Serving.{Serving, IsThere}

@@ -1,3 +1,4 @@
+pub mod Fixed
 pub mod Stub
 pub mod Stops
 pub mod Serving

@@ -1,15 +1,13 @@
 -- Replies to packets that move no thread and set no point.
-use Rattle.std.specs.Prelude.{ℕ, zero, suc, ◌+◌, ◌-◌, ◌==◌, ◌&&◌, nat_lt, nat_le, List, [], ◌∷◌, ◌++◌, slice_index, length, Option, Some, None, if◌then◌else◌}
-use Rattle.hex.specs.Hex.{encode_lower}
+use Rattle.std.specs.Prelude.{ℕ, zero, suc, nat_lt, List, [], ◌∷◌, ◌++◌, slice_index, Option, Some, None, if◌then◌else◌}
 use Rattle.ir_mach.specs.Core.{Core}
-use Rattle.ir_mach.specs.Memory.{byte_at}
 use Rattle.ir_thread.specs.State as thread
 use Rattle.ir_runs.specs.Run.{Step}
 use Rattle.ir_cut.specs.Positions.{cut_of}
 use Rattle.ir_fit.specs.Fit.{FittedTrace}
 use Rattle.ir_hits.specs.Hits.{thread_at}
 use Rattle.ir_timeline.specs.Positions.{threads_of}
-use Rattle.ir_packet.specs.Replies.{word_text, words_text, reply_text}
+use Rattle.ir_packet.specs.Replies.{word_text, words_text}
 use Rattle.ir_packet.specs.declared.reply.Reply.{Reply}
 use Rattle.ir_packet.specs.declared.reply.Reply.TheVariants as reply
 use Rattle.ir_packet.specs.declared.request.Who.{Who}

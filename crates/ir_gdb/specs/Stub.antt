@@ -1,5 +1,5 @@
 -- What is held for gdb beside the run.
-use Rattle.std.specs.Prelude.{◌<◌, ⊤, None, Some, ℕ, zero, suc, ◌+◌, ◌-◌, ◌*◌, ◌/◌, Bool, List, [], ◌∷◌, ◌++◌, length, Option}
+use Rattle.std.specs.Prelude.{◌<◌, ⊤, None, Some, ℕ, zero, suc, ◌+◌, ◌-◌, ◌*◌, ◌/◌, List, [], ◌∷◌, ◌++◌, length, Option}
 use Rattle.ir_fit.specs.Fit.{FittedTrace, HasRun}
 use Rattle.ir_command.specs.declared.command.Point.TheVariants.{Break, Watch}
 use Rattle.ir_hits.specs.Hits.{Numbered}

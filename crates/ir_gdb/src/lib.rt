@@ -6,10 +6,12 @@ ghost use Rattle.ir_gdb.specs.Stub.{Stub};
 ghost use Rattle.ir_gdb.specs.Stops.{after_back, stopped};
 ghost use Rattle.ir_packet.specs.declared.reply.Reason.TheVariants.{Begin};
 
+mod fixed;
 mod point;
 mod registers;
 mod remote;
 
+pub use fixed::fixed_reply;
 pub use point::{Breakpoint, Watched};
 pub use remote::Remote;
 
