@@ -1,0 +1,1 @@
+-- What callers may cite of a search.

@@ -1,0 +1,8 @@
+//! A search over numbered nodes, level by level: in a level each thread goes on alone as far as it can.
+#![tactic(auto)]
+
+mod alone;
+mod successors;
+
+pub use alone::go_alone;
+pub use successors::{Stop, Successors};
