@@ -1,91 +1,80 @@
-use Rattle.std.proofs.Common.{rules, ◌≡◌, ℕ, ◌<◌, ◌≤◌, length, OnOk, ◌+◌, ◌-◌, ◌*◌, ◌/◌, ◌%◌, Bool, true, false, nat_eq, nat_lt, List, [], ◌∷◌, ◌++◌, slice_index_or, slice_set, bit_and, bit_or, Fits, w8, w32, w64, Bor, MutBor}
-use Rattle.ir_explore.specs.Following.{Keeps, IsOpen, StaysOpen, IsFollowed}
+use Rattle.std.proofs.Common.{◌≡◌, refl, inl, inr, Some, ap, ◌∙◌, sym, length-set, subst, ◌<◌, arith}
+use Rattle.ir_explore.specs.Following.{IsOpen}
+use Rattle.ir_explore.proofs.Opens.{shut_less, stays_more, opens_more, followed_to, is_open, all_followed, goes_on, ends_there}
 use Rattle.ir_explore.proofs.alone.go_alone.Goals as goal
 
--- src/alone.rt:29:5
 pub loop-opened-init : goal.loop-opened-init
-loop-opened-init g c = ?
+loop-opened-init g c = record {
+  followed = followed_to (g.S.Successors.noted c.args.graph.now c.args.thread) c.args.opened.now c.args.from c.requires.followed;
+  node = c.requires.node;
+  room = c.requires.room;
+  opens = inr refl;
+  stays = λ v o. o;
+  kept = λ t v next e. e;
+  grown = omega arith;
+}
 
--- src/alone.rt:29:12
-pub bounds-opened-node : goal.bounds-opened-node
-bounds-opened-node g c = ?
-
--- src/alone.rt:30:9
-pub bounds-opened-node-in-loop-opened : goal.bounds-opened-node-in-loop-opened
-bounds-opened-node-in-loop-opened g c = ?
-
--- src/alone.rt:31:15
-pub next-requires : goal.next-requires
-next-requires g c = ?
-
--- src/alone.rt:31:15
 pub returns-in_err-next-clause-stays : goal.returns-in_err-next-clause-stays
-returns-in_err-next-clause-stays g c = ?
+returns-in_err-next-clause-stays g c =
+    stays_more c.args.opened.now c.loop-opened.opened c.loop-opened.node c.loop-opened.invariant.room c.loop-opened.invariant.stays
 
--- src/alone.rt:31:15
 pub returns-in_err-next-clause-kept : goal.returns-in_err-next-clause-kept
-returns-in_err-next-clause-kept g c = ?
+returns-in_err-next-clause-kept g c = λ t v next e. c.next.ensures.kept t v next (c.loop-opened.invariant.kept t v next e)
 
--- src/alone.rt:31:15
-pub returns-in_err-next-clause-grown : goal.returns-in_err-next-clause-grown
-returns-in_err-next-clause-grown g c = ?
-
--- src/alone.rt:32:21
 pub returns-in-None-clause-followed : goal.returns-in-None-clause-followed
-returns-in-None-clause-followed g c = ?
+returns-in-None-clause-followed g c =
+    ends_there (g.S.Successors.noted c.loop-opened.graph c.args.thread) (g.S.Successors.noted c.next.new.self c.args.thread)
+    c.loop-opened.opened c.loop-opened.node c.loop-opened.invariant.room c.loop-opened.invariant.followed
+    (c.next.ensures.kept c.args.thread) (c.in_ok-next.ensures.found ∙ ap Some c.in-None.is)
 
--- src/alone.rt:32:21
 pub returns-in-None-clause-opens : goal.returns-in-None-clause-opens
-returns-in-None-clause-opens g c = ?
+returns-in-None-clause-opens g c =
+    opens_more c.loop-opened.opened c.loop-opened.node c.args.from c.loop-opened.invariant.room c.loop-opened.invariant.opens
 
--- src/alone.rt:32:21
 pub returns-in-None-clause-stays : goal.returns-in-None-clause-stays
-returns-in-None-clause-stays g c = ?
+returns-in-None-clause-stays g c =
+    stays_more c.args.opened.now c.loop-opened.opened c.loop-opened.node c.loop-opened.invariant.room c.loop-opened.invariant.stays
 
--- src/alone.rt:32:21
 pub returns-in-None-clause-kept : goal.returns-in-None-clause-kept
-returns-in-None-clause-kept g c = ?
+returns-in-None-clause-kept g c = λ t v next e. c.next.ensures.kept t v next (c.loop-opened.invariant.kept t v next e)
 
--- src/alone.rt:32:21
-pub returns-in-None-clause-grown : goal.returns-in-None-clause-grown
-returns-in-None-clause-grown g c = ?
-
--- src/alone.rt:36:13
 pub returns-then-node-opened-clause-stays : goal.returns-then-node-opened-clause-stays
-returns-then-node-opened-clause-stays g c = ?
+returns-then-node-opened-clause-stays g c =
+    stays_more c.args.opened.now c.loop-opened.opened c.loop-opened.node c.loop-opened.invariant.room c.loop-opened.invariant.stays
 
--- src/alone.rt:36:13
 pub returns-then-node-opened-clause-kept : goal.returns-then-node-opened-clause-kept
-returns-then-node-opened-clause-kept g c = ?
+returns-then-node-opened-clause-kept g c = λ t v next e. c.next.ensures.kept t v next (c.loop-opened.invariant.kept t v next e)
 
--- src/alone.rt:36:13
-pub returns-then-node-opened-clause-grown : goal.returns-then-node-opened-clause-grown
-returns-then-node-opened-clause-grown g c = ?
-
--- src/alone.rt:29:5
 pub loop-opened-smaller : goal.loop-opened-smaller
-loop-opened-smaller g c = ?
+loop-opened-smaller g c =
+    shut_less c.loop-opened.opened c.loop-opened.node c.loop-opened.invariant.room c.loop-opened-test.true
 
--- src/alone.rt:29:5
 pub loop-opened-preserved : goal.loop-opened-preserved
-loop-opened-preserved g c = ?
+loop-opened-preserved g c = record {
+  followed =
+      goes_on (g.S.Successors.noted c.loop-opened.graph c.args.thread) (g.S.Successors.noted c.next.new.self c.args.thread)
+      c.loop-opened.opened c.loop-opened.node c.in-Some.next c.loop-opened.invariant.room c.loop-opened.invariant.followed
+      (c.next.ensures.kept c.args.thread) (c.in_ok-next.ensures.found ∙ ap Some c.in-Some.is);
+  node = c.in_ok-next.ensures.within c.in-Some.next c.in-Some.is;
+  room = let h = c.if-node-opened.false in omega (arith, h);
+  opens =
+      inl
+      (opens_more c.loop-opened.opened c.loop-opened.node c.args.from c.loop-opened.invariant.room c.loop-opened.invariant.opens);
+  stays =
+      stays_more c.args.opened.now c.loop-opened.opened c.loop-opened.node c.loop-opened.invariant.room c.loop-opened.invariant.stays;
+  kept = λ t v next e. c.next.ensures.kept t v next (c.loop-opened.invariant.kept t v next e);
+  grown = let a = c.next.ensures.grown in let b = c.loop-opened.invariant.grown in omega (arith, a, b);
+}
 
--- src/alone.rt:12:1
 pub returns-clause-followed : goal.returns-clause-followed
-returns-clause-followed g c = ?
+returns-clause-followed g c =
+    all_followed (g.S.Successors.noted c.loop-opened.graph c.args.thread) c.loop-opened.opened c.loop-opened.node
+    (is_open c.loop-opened.opened c.loop-opened.node c.loop-opened.invariant.room c.loop-opened-test.false)
+    c.loop-opened.invariant.followed
 
--- src/alone.rt:12:1
 pub returns-clause-opens : goal.returns-clause-opens
-returns-clause-opens g c = ?
-
--- src/alone.rt:12:1
-pub returns-clause-stays : goal.returns-clause-stays
-returns-clause-stays g c = ?
-
--- src/alone.rt:12:1
-pub returns-clause-kept : goal.returns-clause-kept
-returns-clause-kept g c = ?
-
--- src/alone.rt:12:1
-pub returns-clause-grown : goal.returns-clause-grown
-returns-clause-grown g c = ?
+returns-clause-opens g c = elim c.loop-opened.invariant.opens [
+  | inl o ↦ o
+  | inr e ↦ subst (λ z. IsOpen c.loop-opened.opened z) e
+      (is_open c.loop-opened.opened c.loop-opened.node c.loop-opened.invariant.room c.loop-opened-test.false)
+]
