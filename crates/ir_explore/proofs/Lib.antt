@@ -1,2 +1,3 @@
 mod Opens
+mod Meant
 pub mod CallerLemmas

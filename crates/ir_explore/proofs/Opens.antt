@@ -72,10 +72,14 @@ before : (leading more : Leading) (xs : List Bool) (x v : ℕ) → x < length xs
     → IsOpen xs v → GoesTo more (IsOpen (slice_set xs x true)) v
 before leading more xs x v l f kept o = elim (f v o) [
   | inl none ↦ inl (kept v None none)
-  | inr s ↦ inr (s.0, kept v (Some s.0) s.1, elim s.2 [
-    | inl o ↦ opens_stays xs x l s.0 o
-    | inr here ↦ subst (IsOpen (slice_set xs x true)) (sym here) (opens_here xs x l)
-  ])
+  | inr s ↦ inr (
+    s.0,
+    kept v (Some s.0) s.1,
+    elim s.2 [
+      | inl o ↦ opens_stays xs x l s.0 o
+      | inr here ↦ subst (IsOpen (slice_set xs x true)) (sym here) (opens_here xs x l)
+    ],
+  )
 ]
 
 -- the node in hand is opened, and the thread goes on to another

@@ -1,5 +1,5 @@
 -- One thread that goes on alone from node to node.
-use Rattle.std.specs.Prelude.{◌≡◌, ℕ, Bool, true, List, ◌⊎◌, Some, None, slice_get}
+use Rattle.std.specs.Prelude.{◌≡◌, ℕ, ◌≤◌, ◌<◌, Bool, true, List, ◌⊎◌, Some, None, slice_get}
 use Rattle.std.specs.declared.option.Option.{Option}
 
 -- where the thread leads from each node: it hasn't been asked, to no node, or to this one
@@ -29,3 +29,7 @@ IsFollowed leading opened = (v : ℕ) → IsOpen opened v → GoesTo leading (Is
 -- the same, but for the node in hand, to which it may go on too
 abbrev pub IsFollowedTo : Leading → List Bool → ℕ → Type 0
 IsFollowedTo leading opened x = (v : ℕ) → IsOpen opened v → GoesTo leading (λ w. IsOpen opened w ⊎ (w ≡ x)) v
+
+-- each node from `first` on below `until` is opened
+abbrev pub AreOpen : List Bool → ℕ → ℕ → Type 0
+AreOpen opened first until = (v : ℕ) → first ≤ v → v < until → IsOpen opened v

@@ -3,6 +3,8 @@
 
 mod alone;
 mod successors;
+mod turn;
 
 pub use alone::go_alone;
 pub use successors::{Stop, Successors};
+pub use turn::take_turn;

@@ -1,4 +1,4 @@
-use Rattle.std.proofs.Common.{◌≡◌, refl, inl, inr, Some, ap, ◌∙◌, sym, length-set, subst, ◌<◌, arith}
+use Rattle.std.proofs.Common.{refl, inl, inr, Some, ap, ◌∙◌, subst, arith}
 use Rattle.ir_explore.specs.Following.{IsOpen}
 use Rattle.ir_explore.proofs.Opens.{shut_less, stays_more, opens_more, followed_to, is_open, all_followed, goes_on, ends_there}
 use Rattle.ir_explore.proofs.alone.go_alone.Goals as goal
