@@ -1,3 +1,4 @@
 mod Opens
 mod Meant
+mod Rows
 pub mod CallerLemmas

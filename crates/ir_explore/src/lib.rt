@@ -2,9 +2,11 @@
 #![tactic(auto)]
 
 mod alone;
+mod level;
 mod successors;
 mod turn;
 
 pub use alone::go_alone;
+pub use level::take_level;
 pub use successors::{Stop, Successors};
 pub use turn::take_turn;
