@@ -1,5 +1,5 @@
 -- The rows of the threads.
-use Rattle.std.proofs.Common.{◌≡◌, ℕ, suc, zero, ◌<◌, Bool, Some, List, [], ◌∷◌, ◌⊎◌, inl, inr, length, get_or, slice_set, refl, sym, ap, arith}
+use Rattle.std.proofs.Common.{◌≡◌, ℕ, suc, zero, ◌<◌, Bool, Some, List, [], ◌∷◌, ◌⊎◌, inl, inr, length, get_or, slice_set, refl, ap, arith}
 use Rattle.std.specs.Prelude.{slice_get}
 use Rattle.std.specs.Global.{Vec}
 use Rattle.std.proofs.lemmas.Option.{same_Some}

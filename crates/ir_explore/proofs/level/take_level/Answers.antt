@@ -1,4 +1,4 @@
-use Rattle.std.proofs.Common.{◌≡◌, ◌∙◌, ap, get_or, ◌≤◌, ◌<◌, ℕ, List, Bool, length, length-set, inl, inr, sym, subst, arith}
+use Rattle.std.proofs.Common.{◌≡◌, ◌∙◌, ap, get_or, ◌≤◌, ◌<◌, length, length-set, inl, inr, sym, subst, arith}
 use Rattle.ir_explore.specs.Following.{IsFollowed, AreOpen}
 use Rattle.std.proofs.lemmas.List.{with_items_is}
 use Rattle.ir_explore.proofs.Rows.{row_at, row_cases}
