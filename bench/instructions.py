@@ -20,17 +20,13 @@ from concurrent.futures import ThreadPoolExecutor
 from itertools import product
 from pathlib import Path
 
+from guests import call
+
 # Turns of the shorter guest, in units of 4,096.
 UNITS = 4
 COLLECTED = re.compile(r"Collected : (\d+)")
 RECORD = ["--budget", "1000000000"]
 ENTER, LEAVE, GET, PUT, SELF = 8, 9, 10, 11, 12
-
-
-def call(number, *arguments):
-    """A call with its arguments set before it."""
-    set_them = [f"addi a{at}, zero, {value}" for at, value in enumerate(arguments)]
-    return [*set_them, f"addi a7, zero, {number}", "ecall"]
 
 
 # Each operation: its name, the statements of a turn, how many operations they are, and what comes before the loop.
