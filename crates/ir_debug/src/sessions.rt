@@ -5,9 +5,9 @@ ghost use Rattle.ir_stream.specs.Devices.{Reads};
 ghost use Rattle.ir_debug.specs.Session.{most_input, IfServed, IfRefused, Session, AnsweredWhole, AnsweredInPart, ended_by};
 
 use crate::announcing::announce;
+use crate::bytes::open;
 use crate::debugger::Debugger;
 use crate::ended::{Ended, SessionErr};
-use crate::open::open;
 use crate::opening::Opened;
 use crate::serving::serve;
 use ir_object::Hands;
@@ -71,7 +71,7 @@ pub fn session_up_to<H: Hands, R: Source, W: Sink>(
         × Reads limit (R.left reader.old) (R.left reader.new)
         (AnsweredInPart image.now trace.now (R.left reader.new) (W.written writer.old) (W.written writer.new)) }
 {
-    let Ok(opened) = open(hands.alloc(), image, trace) else {
+    let Ok(opened) = open(hands, image, trace) else {
         return Err(SessionErr::NoMem);
     };
     match announce(&opened, writer) {
