@@ -1,0 +1,5 @@
+-- What callers may cite of a search.
+-- what is gone over of numbers is gone over of the machine
+pub use Rattle.ir_explore.proofs.Meant.{node_order, asked_finished, Opened, covered_covers}
+-- a list with one more
+pub use Rattle.ir_explore.proofs.Reached.{pushed_cases, pushed_stays, slice_less}

@@ -1,0 +1,7 @@
+mod Opens
+mod Reached
+mod Going
+mod Rows
+mod Gone
+mod Meant
+pub mod CallerLemmas

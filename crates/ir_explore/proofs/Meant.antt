@@ -1,0 +1,159 @@
+-- What a search over numbers has gone over is gone over of the machine.
+use Rattle.std.proofs.Common.{◌≡◌, ℕ, suc, zero, ◌<◌, ◌≤◌, true, cond, eq-eqb, ne_eqb, Some, List, [], ◌∷◌, ◌++◌, ◌⊎◌, inl, inr, length, refl, sym, ap, ◌∙◌, subst, arith}
+use Rattle.std.specs.Prelude.{slice_get, replicate}
+use Rattle.std.proofs.lemmas.Bool.{cases_eq, cases_lt}
+use Rattle.ir_runs.specs.Machine.{Machine}
+use Rattle.ir_runs.specs.Run.{State}
+use Rattle.ir_states.specs.Counting.{Answers}
+use Rattle.ir_states.specs.Nodes.{Path}
+use Rattle.ir_states.specs.Outcomes.{changes, switches, IsFinished, Covers}
+use Rattle.ir_states.proofs.CallerLemmas.{path_append}
+use Rattle.ir_explore.specs.declared.origin.Origin.{Origin}
+use Rattle.ir_explore.specs.Following.{Leading}
+use Rattle.ir_explore.specs.Levels.{AreAsked, Covered}
+use Rattle.ir_explore.specs.Meaning.{Means, Steps}
+use Rattle.ir_explore.specs.Origins.{Goes, BeginsAt, first_origin, AreReached, LeadsBy}
+use Rattle.ir_explore.proofs.Reached.{slice_less}
+use Rattle.ir_explore.proofs.Gone.{got}
+
+-- one thread's turn at an order's end is a switch at most
+same_changes : (t n : ℕ) → changes t (replicate n t) ≡ 0
+same_changes t zero = refl
+same_changes t (suc n) = ap (λ b. cond b (changes t (replicate n t)) (suc (changes t (replicate n t)))) (eq-eqb t t refl) ∙ same_changes t n
+
+turn_changes : (t : ℕ) (ts : List ℕ) (u n : ℕ) → changes t (ts ++ replicate n u) ≤ suc (changes t ts)
+turn_changes t [] u zero = omega arith
+turn_changes t [] u (suc n) = elim (cases_eq u t) [
+  | inl same ↦
+      let e = ap (λ b. cond b (changes t (replicate n u)) (suc (changes u (replicate n u)))) (eq-eqb u t same) in
+      let none : changes t (replicate n u) ≡ 0 = subst (λ z. changes t (replicate n z) ≡ 0) (sym same) (same_changes t n) in
+      omega (arith, e, none)
+  | inr other ↦
+      let e = ap (λ b. cond b (changes t (replicate n u)) (suc (changes u (replicate n u)))) (ne_eqb u t other) in
+      let none = same_changes u n in
+      omega (arith, e, none)
+]
+turn_changes t (v ∷ ts) u n = elim (cases_eq v t) [
+  | inl same ↦
+      let p = eq-eqb v t same in
+      let e = ap (λ b. cond b (changes t (ts ++ replicate n u)) (suc (changes v (ts ++ replicate n u)))) p in
+      let f = ap (λ b. cond b (changes t ts) (suc (changes v ts))) p in
+      let h = turn_changes t ts u n in
+      omega (arith, e, f, h)
+  | inr other ↦
+      let p = ne_eqb v t other in
+      let e = ap (λ b. cond b (changes t (ts ++ replicate n u)) (suc (changes v (ts ++ replicate n u)))) p in
+      let f = ap (λ b. cond b (changes t ts) (suc (changes v ts))) p in
+      let h = turn_changes v ts u n in
+      omega (arith, e, f, h)
+]
+
+turn_switches : (ts : List ℕ) (u n : ℕ) → switches (ts ++ replicate n u) ≤ suc (switches ts)
+turn_switches [] u zero = omega arith
+turn_switches [] u (suc n) = let h = same_changes u n in omega (arith, h)
+turn_switches (t ∷ ts) u n = turn_changes t ts u n
+
+alone_switches : (u n : ℕ) → switches (replicate n u) ≤ 0
+alone_switches u zero = omega arith
+alone_switches u (suc n) = let h = same_changes u n in omega (arith, h)
+
+module _ {T : Type 0} (m : Machine T) (answers : Answers T) (Alike : State T → State T → Type 0) (s : State T) (state_of : ℕ → State T)
+    (noted : ℕ → Leading) (threads size : ℕ) (means : Means m answers Alike s state_of noted threads size) where
+  -- a thread's turn is a path
+  goes_path : (t n v w : ℕ) → v < size → Goes (noted t) size v n w → Path (Steps m state_of noted size) v (replicate n t) w
+  goes_path t zero v w l g = g
+  goes_path t (suc n) v w l g =
+      let c = means.can t v g.0 l g.1 in (c.0, g.0, (g.1, l, g.2, c.1), goes_path t n g.0 w g.2 g.3)
+
+  -- An order of threads leads to each node, with as many switches at most as its level.
+  pub node_order : (nodes : List Origin) → AreReached noted nodes → length nodes ≡ size → 0 < size → (k v : ℕ) (n : Origin)
+      → slice_get nodes v ≡ Some n → n.level ≡ k
+      → (ts : List ℕ) × LeadsBy nodes k v ts × Path (Steps m state_of noted size) 0 ts v × (switches ts ≤ k)
+  node_order nodes reached all some zero v n is same =
+      let r = reached v n is in
+      let first : n.from ≡ 0 = subst (λ z. BeginsAt nodes z n.from) same r.0 in
+      let goes : Goes (noted n.thread) size 0 n.entries v =
+      subst (λ z. Goes (noted n.thread) size z n.entries v) first
+      (subst (λ z. Goes (noted n.thread) z n.from n.entries v) all r.1) in (
+        replicate n.entries n.thread,
+        (n, is, refl),
+        goes_path n.thread n.entries 0 v some goes,
+        alone_switches n.thread n.entries,
+      )
+  node_order nodes reached all some (suc k) v n is same =
+      let r = reached v n is in
+      let before : BeginsAt nodes (suc k) n.from = subst (λ z. BeginsAt nodes z n.from) same r.0 in
+      let from = node_order nodes reached all some k n.from before.0 before.1 before.2 in
+      let l : n.from < size = (let h = slice_less nodes n.from before.0 before.1 in omega (arith, h, all)) in
+      let goes = subst (λ z. Goes (noted n.thread) z n.from n.entries v) all r.1 in (
+        from.0 ++ replicate n.entries n.thread,
+        (n, is, from.0, from.1, refl),
+        path_append (Steps m state_of noted size) 0 n.from v from.0 (replicate n.entries n.thread) from.2
+            (goes_path n.thread n.entries n.from v l goes),
+        let a = turn_switches from.0 n.thread n.entries in let b = from.3 in omega (arith, a, b),
+      )
+
+  -- where each thread was asked at each node, the search is finished
+  pub asked_finished : (nodes : List Origin) → AreReached noted nodes → length nodes ≡ size → 0 < size → AreAsked noted threads size
+      → IsFinished m answers Alike s state_of (λ v. v < size) (Steps m state_of noted size) 0
+  asked_finished nodes reached all some asked = record {
+    begins = means.begins;
+    is = some;
+    at_rest = means.at_rest;
+    leads = λ v l e w n. (n.2, means.leads e.0 v w l n.0 e refl n.3);
+    followed = λ v l e can. elim (cases_lt e.0 threads) [
+      | inl few ↦ elim (asked v e.0 l few) [
+        | inl none ↦ absurd (means.stays e.0 v l none e refl can)
+        | inr to ↦ (to.0, (to.1, l, to.2, can))
+      ]
+      | inr many ↦ absurd (means.idle v l e many can)
+    ];
+    reached = λ v l.
+        let n = got nodes v (omega (arith, l, all)) in
+        let o = node_order nodes reached all some n.0.level v n.0 n.1 refl in
+        (o.0, o.2);
+  }
+
+  -- which nodes are opened for which threads by the end of a level: for one that never has a step, what is opened for each that may
+  abbrev pub Opened : (nodes : List Origin) (c : ℕ) → Covered noted threads nodes c → ℕ → ℕ → ℕ → Type 0
+  Opened nodes c h k v t = (k ≤ c) × ((n : Origin) × (slice_get nodes v ≡ Some n) × (n.level ≤ k))
+      × ((u : ℕ) → u < threads → (t ≡ u) ⊎ (threads ≤ t) → h.levels k v u ≡ true)
+
+  -- the levels that are gone over over numbers are gone over of the machine
+  pub covered_covers : (nodes : List Origin) (c : ℕ) → (h : Covered noted threads nodes c) → slice_get nodes 0 ≡ Some first_origin
+      → length nodes ≤ size → Covers m answers Alike s state_of (Opened nodes c h) 0 c
+  covered_covers nodes c h first wide =
+      let inside : (v : ℕ) (n : Origin) → slice_get nodes v ≡ Some n → v < size =
+      λ v n is. (let a = slice_less nodes v n is in omega (arith, a, wide)) in record {
+        begins = means.begins;
+        opens = λ t. (omega arith, (first_origin, first, omega arith), λ u few same. h.opens u few);
+        at_rest = λ k t v o. means.at_rest v (inside v o.1.0 o.1.1);
+        followed = λ k v e o can.
+            let l : v < size = inside v o.1.0 o.1.1 in
+            elim (cases_lt e.0 threads) [
+              | inl few ↦ elim (h.followed k v e.0 o.0 few (o.2 e.0 few (inl refl))) [
+                | inl none ↦ absurd (means.stays e.0 v l none e refl can)
+                | inr to ↦ (
+                  to.0,
+                  (
+                    o.0,
+                    h.within k to.0 e.0 o.0 few to.2,
+                    λ u less same. elim same [
+                      | inl is ↦ subst (λ z. h.levels k to.0 z ≡ true) is to.2
+                      | inr many ↦ absurd (omega (arith, few, many))
+                    ],
+                  ),
+                  means.leads e.0 v to.0 l to.1 e refl can,
+                )
+              ]
+              | inr many ↦ absurd (means.idle v l e many can)
+            ];
+        turned = λ k t u v o less. (
+          less,
+          (o.1.0, o.1.1, let a = o.1.2 in omega (arith, a)),
+          λ w few same. elim (cases_lt t threads) [
+            | inl is ↦ h.turned k v t w is few (o.2 t is (inl refl)) less
+            | inr many ↦ h.turned k v w w few few (o.2 w few (inr many)) less
+          ],
+        );
+      }

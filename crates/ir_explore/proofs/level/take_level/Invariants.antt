@@ -1,0 +1,24 @@
+use Rattle.std.proofs.Common.{◌≡◌, ℕ, ◌≤◌, length}
+use Rattle.ir_explore.specs.Following.{Keeps}
+use Rattle.ir_explore.specs.Levels.{rows, AllFollowed, AllOpen, AreWithin}
+use Rattle.ir_explore.specs.Origins.{AreReached, IsLevel, Adds}
+use Rattle.ir_explore.proofs.level.take_level.Given as goal
+
+abbrev pub invariant-loop-thread : goal.invariant-loop-thread
+invariant-loop-thread g l = record {
+  followed : AllFollowed (g.S.Successors.noted l.graph) (rows l.opened);
+  before : AllOpen (rows l.opened) 0 l.level.first (length l.fn.opened);
+  opens : AllOpen (rows l.opened) 0 l.level.until l.thread;
+  within : AreWithin (rows l.opened) (length l.nodes.items);
+  threads : length l.opened ≡ length l.fn.opened;
+  nodes : length l.nodes.items ≡ g.S.Successors.size l.graph;
+  until : l.level.until ≤ length l.nodes.items;
+  level : IsLevel l.nodes.items l.level;
+  reached : AreReached (g.S.Successors.noted l.graph) l.nodes.items;
+  adds : Adds l.level.number l.fn.nodes.items l.nodes.items;
+  kept : (t : ℕ) → Keeps (g.S.Successors.noted l.fn.graph t) (g.S.Successors.noted l.graph t);
+  sound : g.S.Successors.is_sound l.graph;
+  origin : g.S.Successors.origin l.graph ≡ g.S.Successors.origin l.fn.graph;
+  room : g.S.Successors.size l.graph ≤ g.S.Successors.most l.graph;
+  limit : g.S.Successors.most l.graph ≡ g.S.Successors.most l.fn.graph;
+}

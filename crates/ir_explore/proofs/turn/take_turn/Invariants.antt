@@ -1,0 +1,22 @@
+use Rattle.std.proofs.Common.{◌≡◌, ℕ, ◌≤◌, length}
+use Rattle.ir_explore.specs.Following.{Keeps, AreOpen, StaysOpen, IsFollowed}
+use Rattle.ir_explore.specs.Origins.{AreReached, IsLevel, Adds}
+use Rattle.ir_explore.proofs.turn.take_turn.Given as goal
+
+abbrev pub invariant-loop-from : goal.invariant-loop-from
+invariant-loop-from g l = record {
+  followed : IsFollowed (g.S.Successors.noted l.graph l.thread) l.opened.items;
+  opens : AreOpen l.opened.items l.level.first l.from;
+  stays : StaysOpen l.fn.opened.items l.opened.items;
+  row : length l.opened.items ≡ length l.nodes.items;
+  nodes : length l.nodes.items ≡ g.S.Successors.size l.graph;
+  until : l.level.until ≤ length l.nodes.items;
+  level : IsLevel l.nodes.items l.level;
+  reached : AreReached (g.S.Successors.noted l.graph) l.nodes.items;
+  adds : Adds l.level.number l.fn.nodes.items l.nodes.items;
+  kept : (t : ℕ) → Keeps (g.S.Successors.noted l.fn.graph t) (g.S.Successors.noted l.graph t);
+  sound : g.S.Successors.is_sound l.graph;
+  origin : g.S.Successors.origin l.graph ≡ g.S.Successors.origin l.fn.graph;
+  room : g.S.Successors.size l.graph ≤ g.S.Successors.most l.graph;
+  limit : g.S.Successors.most l.graph ≡ g.S.Successors.most l.fn.graph;
+}

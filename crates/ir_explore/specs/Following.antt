@@ -1,0 +1,35 @@
+-- One thread that goes on alone from node to node.
+use Rattle.std.specs.Prelude.{◌≡◌, ℕ, ◌≤◌, ◌<◌, Bool, true, List, ◌⊎◌, Some, None, slice_get}
+use Rattle.std.specs.declared.option.Option.{Option}
+
+-- where the thread leads from each node: it hasn't been asked, to no node, or to this one
+abbrev pub Leading : Type 0
+Leading = ℕ → Option (Option ℕ)
+
+-- what was noted stays
+abbrev pub Keeps : Leading → Leading → Type 0
+Keeps old new = (v : ℕ) (next : Option ℕ) → old v ≡ Some next → new v ≡ Some next
+
+-- node v is opened
+abbrev pub IsOpen : List Bool → ℕ → Type 0
+IsOpen opened v = slice_get opened v ≡ Some true
+
+-- all that was opened stays so
+abbrev pub StaysOpen : List Bool → List Bool → Type 0
+StaysOpen old new = (v : ℕ) → IsOpen old v → IsOpen new v
+
+-- from node v the thread can't go on, or it goes on to a node of these
+abbrev pub GoesTo : Leading → (ℕ → Type 0) → ℕ → Type 0
+GoesTo leading Those v = (leading v ≡ Some None) ⊎ ((w : ℕ) × (leading v ≡ Some (Some w)) × Those w)
+
+-- from each opened node the thread can't go on, or it goes on to an opened one
+abbrev pub IsFollowed : Leading → List Bool → Type 0
+IsFollowed leading opened = (v : ℕ) → IsOpen opened v → GoesTo leading (IsOpen opened) v
+
+-- the same, but for the node in hand, to which it may go on too
+abbrev pub IsFollowedTo : Leading → List Bool → ℕ → Type 0
+IsFollowedTo leading opened x = (v : ℕ) → IsOpen opened v → GoesTo leading (λ w. IsOpen opened w ⊎ (w ≡ x)) v
+
+-- each node from `first` on below `until` is opened
+abbrev pub AreOpen : List Bool → ℕ → ℕ → Type 0
+AreOpen opened first until = (v : ℕ) → first ≤ v → v < until → IsOpen opened v

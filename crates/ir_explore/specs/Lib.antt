@@ -1,0 +1,4 @@
+pub mod Following
+pub mod Meaning
+pub mod Origins
+pub mod Levels

@@ -1,0 +1,57 @@
+//! A level: each thread has a turn.
+
+ghost use Rattle.std.specs.Prelude.{◌≡◌, ℕ, ◌<◌, ◌≤◌, length, IsErrOf, OnOk};
+ghost use Rattle.ir_explore.specs.declared.stop.Stop.TheVariants.{Nodes};
+ghost use Rattle.ir_explore.specs.Following.{Keeps};
+ghost use Rattle.ir_explore.specs.Levels.{rows, AllFollowed, AllOpen, AreWithin};
+ghost use Rattle.ir_explore.specs.Origins.{AreReached, IsLevel, Adds};
+
+use crate::origin::{Level, Origin};
+use crate::stop::Stop;
+use crate::successors::Successors;
+use crate::turn::take_turn;
+
+/// Opens each node of the level for each thread, and each node to which that thread goes on alone from there. What it finds joins the
+/// nodes.
+///
+/// # Errors
+/// The graph stops, or out of memory.
+pub fn take_level<S: Successors>(
+    graph: &mut S,
+    opened: &mut [Vec<bool>],
+    nodes: &mut Vec<Origin>,
+    level: Level,
+) -> Result<(), Stop>
+    requires followed { AllFollowed (S.noted graph.old) (rows opened.old) }
+    requires before { AllOpen (rows opened.old) 0 level.first (length opened.old) }
+    requires level { IsLevel nodes.old.items level }
+    requires reached { AreReached (S.noted graph.old) nodes.old.items }
+    requires until { level.until ≤ length nodes.old.items }
+    requires rows { AreWithin (rows opened.old) (length nodes.old.items) }
+    requires nodes { length nodes.old.items ≡ S.size graph.old }
+    requires room { S.size graph.old ≤ S.most graph.old }
+    requires sound { S.is_sound graph.old }
+
+    // Once each has had its turn
+    ensures followed { OnOk result (AllFollowed (S.noted graph.new) (rows opened.new)) }
+    ensures opens { OnOk result (AllOpen (rows opened.new) 0 level.until (length opened.old)) }
+    ensures rows { OnOk result (AreWithin (rows opened.new) (length nodes.new.items)) }
+    ensures nodes { OnOk result (length nodes.new.items ≡ S.size graph.new) }
+
+    // Whatever comes
+    ensures threads { length opened.new ≡ length opened.old }
+    ensures reached { AreReached (S.noted graph.new) nodes.new.items }
+    ensures adds { Adds level.number nodes.old.items nodes.new.items }
+    ensures few { length nodes.new.items ≤ S.size graph.new }
+    ensures kept { (t : ℕ) → Keeps (S.noted graph.old t) (S.noted graph.new t) }
+    ensures room { S.size graph.new ≤ S.most graph.new }
+    ensures limit { S.most graph.new ≡ S.most graph.old }
+    ensures origin { S.origin graph.new ≡ S.origin graph.old }
+    ensures full { IsErrOf result Nodes → S.size graph.new ≡ S.most graph.new }
+    ensures sound { S.is_sound graph.new }
+{
+    for thread in 0..opened.len() {
+        take_turn(graph, &mut opened[thread], nodes, thread, level)?;
+    }
+    Ok(())
+}

@@ -1,0 +1,18 @@
+//! A search over numbered nodes, level by level: in a level each thread goes on alone as far as it can.
+#![tactic(auto)]
+
+mod alone;
+mod level;
+mod origin;
+mod search;
+mod stop;
+mod successors;
+mod turn;
+
+pub use alone::go_alone;
+pub use level::take_level;
+pub use origin::{Level, Origin};
+pub use search::{Ended, Searched, run_search};
+pub use stop::Stop;
+pub use successors::Successors;
+pub use turn::take_turn;

@@ -1,0 +1,48 @@
+//! What gives the nodes that come next.
+
+ghost use Rattle.std.specs.Prelude.{◌≡◌, ◌⊎◌, ℕ, suc, ◌<◌, ◌≤◌, Some, IfOk, IsErrOf};
+ghost use Rattle.std.specs.declared.option.Option.{Option};
+ghost use Rattle.ir_explore.specs.Following.{Keeps};
+ghost use Rattle.ir_explore.specs.declared.stop.Stop.TheVariants.{Nodes};
+
+use crate::stop::Stop;
+
+/// A graph that grows: its nodes are numbers, and each thread leads from a node to at most one.
+pub trait Successors {
+    /// What the graph was made of.
+    ghost Origin: { Type 0 };
+
+    /// That of this graph.
+    ghost origin: { Self → Self.Origin };
+
+    /// How many nodes there are.
+    ghost size: { Self → ℕ };
+
+    /// How many nodes there may be.
+    ghost most: { Self → ℕ };
+
+    /// Where a thread leads from a node, once it has been asked: to no node, or to this one.
+    ghost noted: { Self → ℕ → ℕ → Option (Option ℕ) };
+
+    /// What is so of the graph however far it has grown.
+    ghost is_sound: { Self → Type 0 };
+
+    /// The node to which a thread leads from a node, if it can go on there: an old one, or a new one after the others.
+    ///
+    /// # Errors
+    /// `Nodes` if a new node would be one too many; any other as the graph says.
+    fn next(&mut self, thread: usize, node: usize) -> Result<Option<usize>, Stop>
+        requires node { node < size self.old }
+        requires room { size self.old ≤ most self.old }
+        requires sound { is_sound self.old }
+        ensures found { IfOk result (λ next. noted self.new thread node ≡ Some next) }
+        ensures within { IfOk result (λ next. (w : ℕ) → next ≡ Some w → w < size self.new) }
+        ensures added { IfOk result (λ next. (size self.new ≡ size self.old) ⊎ ((next ≡ Some (size self.old)) × (size self.new ≡ suc (size self.old)))) }
+        ensures grown { size self.old ≤ size self.new }
+        ensures kept { (t : ℕ) → Keeps (noted self.old t) (noted self.new t) }
+        ensures room { size self.new ≤ most self.new }
+        ensures limit { most self.new ≡ most self.old }
+        ensures origin { origin self.new ≡ origin self.old }
+        ensures full { IsErrOf result Nodes → size self.new ≡ most self.new }
+        ensures sound { is_sound self.new };
+}

@@ -1,0 +1,5 @@
+-- What callers may cite of a guest's graph.
+-- runs of steps that concern no other thread
+pub use Rattle.ir_graph.proofs.Plain.{plain_ahead, no_plain, plain_more, one_plain, went_plain, rests_live, like_same, like_more, like_back, plain_like, step_like}
+-- where threads lead
+pub use Rattle.ir_graph.proofs.Leads.{seen_at_rest, seen_stays, done_stays, step_leads, plain_begins}

@@ -1,0 +1,148 @@
+-- What a search over a guest's graph has listed.
+use Rattle.std.proofs.Common.{◌≡◌, ℕ, ◌<◌, ◌≤◌, Option, Some, None, List, [], inl, inr, length, get_or, refl, sym, ap, ◌∙◌, subst, arith}
+use Rattle.std.specs.Prelude.{slice_get}
+use Rattle.std.proofs.lemmas.Bool.{cases_lt}
+use Rattle.std.proofs.lemmas.Option.{slice_get-get_or}
+use Rattle.ir_image.specs.Guest.{Guest}
+use Rattle.ir_explore.specs.declared.origin.Origin.{Origin}
+use Rattle.ir_explore.specs.Levels.{AreAsked, Covered}
+use Rattle.ir_explore.specs.Meaning.{Means, Steps}
+use Rattle.ir_explore.specs.Origins.{first_origin, AreReached}
+use Rattle.ir_explore.proofs.CallerLemmas.{asked_finished, covered_covers, slice_less}
+use Rattle.ir_runs.specs.Machine as machines
+use Rattle.ir_runs.specs.Run as run
+use Rattle.ir_runs.specs.Run.{Step, Can}
+use Rattle.ir_states.specs.Counting.{IsAtRest}
+use Rattle.ir_states.specs.Nodes.{LeadsTo}
+use Rattle.ir_states.specs.Outcomes.{IsFinished, Covers}
+use Rattle.ir_states.specs.Sources.{plain}
+use Rattle.ir_thread.specs.State.{State}
+use Rattle.ir_thread.specs.declared.profile.Profile.TheVariants.{One}
+use Rattle.ir_seen.specs.Seen.{seen_start}
+use Rattle.ir_seen.proofs.CallerLemmas.{seen_view, guest_all, guest_within}
+use Rattle.ir_flat.specs.Flat.{Flat, machine, tables, thread_of}
+use Rattle.ir_graph.specs.Graph.{IsGraph}
+use Rattle.ir_graph.specs.Nodes.{told, seen_by, told_by, Alike, seen_of}
+use Rattle.ir_graph.specs.Outcomes.{outcome_of, AllListed, WithinListed}
+use Rattle.ir_graph.proofs.Grown.{threads_at}
+use Rattle.ir_graph.proofs.Leads.{idle_done, seen_at_rest, done_stays}
+
+abbrev pub nothing : Flat
+nothing = record { code = []; threads = []; objects = [] }
+
+-- states that look the same have one outcome
+same_outcome : (code : List ℕ) (u v : run.State (State × List ℕ)) → Alike code u v → outcome_of (plain u) ≡ outcome_of (plain v)
+same_outcome code u v alike = λ i. record {
+  ends = λ t. end_at t i;
+  outputs = λ t. output_at t i;
+  words = λ o. alike.words o i;
+}
+  where
+    end_at : (t : ℕ) → (u.now t).0.ended ≡ (v.now t).0.ended
+    end_at t = elim (alike.threads t) [ inl e ↦ ap (λ z. z.0.ended) e | inr d ↦ d.2 ]
+
+    output_at : (t : ℕ) → (u.now t).0.output ≡ (v.now t).0.output
+    output_at t = elim (alike.threads t) [ inl e ↦ ap (λ z. z.0.output) e | inr d ↦ d.3 ]
+
+module _ (guest : Guest) (flats : List Flat) (noted : ℕ → ℕ → Option (Option ℕ)) (threads : ℕ) (g : IsGraph guest flats noted threads)
+    (past : (t v : ℕ) → threads ≤ t → noted t v ≡ Some None) (answers : ℕ → List ℕ) where
+  abbrev pub flat_of : ℕ → Flat
+  flat_of v = get_or flats v nothing
+
+  abbrev pub state_of : ℕ → run.State (State × List ℕ)
+  state_of v = seen_of (flat_of v) answers
+
+  at : (v : ℕ) → v < length flats → slice_get flats v ≡ Some (flat_of v)
+  at v l = slice_get-get_or flats v nothing l
+
+  code_at : (v : ℕ) → v < length flats → (flat_of v).code ≡ guest.code
+  code_at v l = (g.nodes.like 0 v (flat_of 0) (flat_of v) (at 0 g.some) (at v l)).code ∙ g.code (flat_of 0) (at 0 g.some)
+
+  -- a number that is no thread's has no step
+  never : (v t : ℕ) → v < length flats → threads ≤ t → (e : Step) → e.0 ≡ t → Can (seen_by guest.code) (state_of v) e → ⊥
+  never v t l many e same =
+      subst (λ z. Can (seen_by z) (state_of v) e → ⊥) (code_at v l)
+      (done_stays (flat_of v) answers t
+      (idle_done (flat_of v) t (let a = threads_at guest flats noted threads v (flat_of v) g (at v l) in omega (arith, a, many))) e same)
+
+  leads_at : (t v w : ℕ) → v < length flats → t < threads → noted t v ≡ Some (Some w) → (e : Step) → e.0 ≡ t
+      → LeadsTo (seen_by guest.code) (told_by guest.code) (Alike guest.code) (state_of v) e (state_of w)
+  leads_at t v w l few is e same =
+      subst (λ z. LeadsTo (seen_by z) (told_by z) (Alike z) (state_of v) e (state_of w)) (code_at v l)
+      (g.leads t v (Some w) few is (flat_of v) (flat_of w) (at v l) (at w (g.within t v w few is)) answers e same)
+
+  pub graph_means : Means (seen_by guest.code) (told_by guest.code) (Alike guest.code) (seen_start guest One answers) state_of noted threads
+      (length flats)
+  graph_means = record {
+    begins = g.begins (flat_of 0) (at 0 g.some) answers;
+    at_rest = λ v l. subst (λ z. IsAtRest (seen_by z) (state_of v)) (code_at v l)
+        (seen_at_rest (flat_of v) answers (g.nodes.rest v (flat_of v) (at v l)));
+    idle = λ v l e many. never v e.0 l many e refl;
+    stays = λ t v l is e same. elim (cases_lt t threads) [
+      | inl few ↦ subst (λ z. Can (seen_by z) (state_of v) e → ⊥) (code_at v l)
+          (g.leads t v None few is (flat_of v) (at v l) answers e same)
+      | inr many ↦ never v t l many e same
+    ];
+    can = λ t v w l is. elim (cases_lt t threads) [
+      | inl few ↦ (0, (leads_at t v w l few is (t, 0) refl).can)
+      | inr many ↦ absurd (cc (sym (past t v many) ∙ is))
+    ];
+    leads = λ t v w l is e same can. elim (cases_lt t threads) [
+      | inl few ↦ leads_at t v w l few is e same
+      | inr many ↦ absurd (cc (sym (past t v many) ∙ is))
+    ];
+  }
+
+  -- a node where all are done, as the search sees them, is one where all are done
+  really_done : (v : ℕ) → v < length flats → run.IsDone (seen_by guest.code) (state_of v) → run.IsDone (machine (flat_of v)) (tables (flat_of v))
+  really_done v l done t =
+      subst (λ z. run.asked (seen_by z) (state_of v) t ≡ machines.Done → run.asked (machine (flat_of v)) (tables (flat_of v)) t ≡ machines.Done)
+      (code_at v l) ((seen_view (flat_of v).code).done (thread_of (flat_of v) t)).1 (done t)
+
+pub all_listed : (guest : Guest) (flats : List Flat) (noted : ℕ → ℕ → Option (Option ℕ)) (threads : ℕ) → IsGraph guest flats noted threads
+    → ((t v : ℕ) → threads ≤ t → noted t v ≡ Some None) → (origins : List Origin) → AreReached noted origins
+    → length origins ≡ length flats → AreAsked noted threads (length flats) → AllListed guest flats
+all_listed guest flats noted threads g past origins reached all asked answers budget steps counted =
+    let means = graph_means guest flats noted threads g past answers in
+    let f : IsFinished (seen_by guest.code) (told_by guest.code) (Alike guest.code) (seen_start guest One answers)
+    (state_of guest flats noted threads g past answers) (λ v. v < length flats)
+    (Steps (seen_by guest.code) (state_of guest flats noted threads g past answers) noted (length flats)) 0 =
+    asked_finished (seen_by guest.code) (told_by guest.code) (Alike guest.code) (seen_start guest One answers)
+    (state_of guest flats noted threads g past answers) noted threads (length flats) means origins reached all g.some asked in
+    let r = guest_all guest One told answers (state_of guest flats noted threads g past answers) (λ v. v < length flats)
+    (Steps (seen_by guest.code) (state_of guest flats noted threads g past answers) noted (length flats)) 0 f outcome_of
+    (same_outcome guest.code) budget steps counted in (
+      r.0,
+      flat_of guest flats noted threads g past answers r.0,
+      (
+        at guest flats noted threads g past answers r.0 r.1,
+        really_done guest flats noted threads g past answers r.0 r.1 r.2,
+        r.3,
+      ),
+    )
+
+pub within_listed : (guest : Guest) (flats : List Flat) (noted : ℕ → ℕ → Option (Option ℕ)) (threads : ℕ) → IsGraph guest flats noted threads
+    → ((t v : ℕ) → threads ≤ t → noted t v ≡ Some None) → (origins : List Origin) → slice_get origins 0 ≡ Some first_origin
+    → length origins ≤ length flats → (c : ℕ) → Covered noted threads origins c → WithinListed guest flats origins c
+within_listed guest flats noted threads g past origins first few c covered answers budget steps counted less =
+    let means = graph_means guest flats noted threads g past answers in
+    let covers : Covers (seen_by guest.code) (told_by guest.code) (Alike guest.code) (seen_start guest One answers)
+    (state_of guest flats noted threads g past answers) _ 0 c =
+    covered_covers (seen_by guest.code) (told_by guest.code) (Alike guest.code) (seen_start guest One answers)
+    (state_of guest flats noted threads g past answers) noted threads (length flats) means origins c covered first few in
+    let r = guest_within guest One told answers (state_of guest flats noted threads g past answers) _ 0 c covers outcome_of
+    (same_outcome guest.code) budget steps counted less in
+    let v = r.2 in
+    let n = r.4.1 in
+    let l : v < length flats = (let a = slice_less origins v n.0 n.1 in omega (arith, a, few)) in (
+      v,
+      flat_of guest flats noted threads g past answers v,
+      n.0,
+      (
+        at guest flats noted threads g past answers v l,
+        really_done guest flats noted threads g past answers v l r.5,
+        r.6,
+      ),
+      n.1,
+      let a = n.2 in let b = r.3 in omega (arith, a, b),
+    )

@@ -1,0 +1,44 @@
+use Rattle.std.proofs.Common.{◌≡◌, Some, sym, ap, ◌∙◌}
+use Rattle.std.specs.Prelude.{slice_get}
+use Rattle.std.proofs.lemmas.Option.{slice_get-get_or}
+use Rattle.ir_graph.proofs.Found.{leads_nowhere, reached_like, reached_rests, reached_leads}
+use Rattle.ir_graph.proofs.nodes.successor.Goals as goal
+
+pub returns-in-Err-clause-leads : goal.returns-in-Err-clause-leads
+returns-in-Err-clause-leads c =
+    let f = c.in_ok-flat.flat in
+    let at : slice_get c.args.flats.now.items c.args.node ≡ Some f =
+    slice_get-get_or c.args.flats.now.items c.args.node c.index.result.now c.requires.node ∙ ap Some (sym c.index.ensures)
+    ∙ ap Some (sym c.in_ok-flat.ensures) in
+    leads_nowhere c.args.flats.now.items f c.args.thread c.args.node c.requires.nodes at (c.requires.thread f at) c.in-Err.ensures.refused
+
+pub node_of-requires-clause-like : goal.node_of-requires-clause-like
+node_of-requires-clause-like c =
+    let f = c.in_ok-flat.flat in
+    let at : slice_get c.args.flats.now.items c.args.node ≡ Some f =
+    slice_get-get_or c.args.flats.now.items c.args.node c.index.result.now c.requires.node ∙ ap Some (sym c.index.ensures)
+    ∙ ap Some (sym c.in_ok-flat.ensures) in
+    reached_like c.args.flats.now.items f c.step.new.self c.run_to_rest.new.flat c.args.thread c.args.node c.requires.nodes at
+    (c.requires.thread f at) c.in_default.ensures.admitted c.in_default.ensures.taken c.in_default.ensures.code c.in_default.ensures.threads
+    c.in_default.ensures.objects c.run_to_rest.ensures.goes
+
+pub node_of-requires-clause-rest : goal.node_of-requires-clause-rest
+node_of-requires-clause-rest c =
+    let f = c.in_ok-flat.flat in
+    let at : slice_get c.args.flats.now.items c.args.node ≡ Some f =
+    slice_get-get_or c.args.flats.now.items c.args.node c.index.result.now c.requires.node ∙ ap Some (sym c.index.ensures)
+    ∙ ap Some (sym c.in_ok-flat.ensures) in
+    reached_rests c.args.flats.now.items f c.step.new.self c.run_to_rest.new.flat c.args.thread c.args.node c.requires.nodes at
+    (c.requires.thread f at) c.in_default.ensures.admitted c.in_default.ensures.taken c.in_default.ensures.code c.in_default.ensures.threads
+    c.in_default.ensures.objects c.run_to_rest.ensures.goes c.run_to_rest.ensures.others c.in_ok-run_to_rest.ensures.rests
+
+pub returns-clause-leads : goal.returns-clause-leads
+returns-clause-leads c =
+    let f = c.in_ok-flat.flat in
+    let at : slice_get c.args.flats.now.items c.args.node ≡ Some f =
+    slice_get-get_or c.args.flats.now.items c.args.node c.index.result.now c.requires.node ∙ ap Some (sym c.index.ensures)
+    ∙ ap Some (sym c.in_ok-flat.ensures) in
+    reached_leads c.args.flats.now.items f c.step.new.self c.run_to_rest.new.flat c.args.thread c.args.node c.requires.nodes at
+    (c.requires.thread f at) c.in_default.ensures.admitted c.in_default.ensures.taken c.in_default.ensures.code c.in_default.ensures.threads
+    c.in_default.ensures.objects c.run_to_rest.ensures.goes c.node_of.new.flats.items c.in_ok-next.next c.node_of.ensures.stay
+    c.in_ok-next.ensures.alike

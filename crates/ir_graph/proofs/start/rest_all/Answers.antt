@@ -1,0 +1,26 @@
+use Rattle.std.proofs.Common.{inl, inr, sym, ◌∙◌, subst, arith}
+use Rattle.std.proofs.lemmas.Bool.{cases_eq}
+use Rattle.ir_thread.specs.Calls.{ask_of}
+use Rattle.ir_flat.specs.Flat.{thread_of}
+use Rattle.ir_graph.specs.Plain.{Rests}
+use Rattle.ir_graph.proofs.Plain.{plain_more}
+use Rattle.ir_graph.proofs.start.rest_all.Goals as goal
+
+pub returns-in_err-run_to_rest-clause-goes : goal.returns-in_err-run_to_rest-clause-goes
+returns-in_err-run_to_rest-clause-goes c =
+    plain_more c.args.flat.now c.loop-thread.flat c.run_to_rest.new.flat c.loop-thread.invariant.goes c.run_to_rest.ensures.goes
+
+pub loop-thread-preserved : goal.loop-thread-preserved
+loop-thread-preserved c =
+    let f = c.loop-thread.flat in
+    let g = c.run_to_rest.new.flat in record {
+      goes = plain_more c.args.flat.now f g c.loop-thread.invariant.goes c.run_to_rest.ensures.goes;
+      rest = λ t less. elim (cases_eq t c.loop-thread.thread) [
+        | inl same ↦ subst (λ z. Rests (ask_of g.code (thread_of g z))) (sym same) c.in_ok-run_to_rest.ensures.rests
+        | inr other ↦
+            subst (λ z. Rests (ask_of z (thread_of g t))) (sym c.run_to_rest.ensures.goes.code)
+            (subst (λ z. Rests (ask_of f.code z)) (sym (c.run_to_rest.ensures.others t other))
+            (c.loop-thread.invariant.rest t (omega (arith, less, other))))
+      ];
+      threads = c.run_to_rest.ensures.goes.threads ∙ c.loop-thread.invariant.threads;
+    }

@@ -1,0 +1,27 @@
+use Rattle.std.proofs.Common.{◌≡◌, ℕ, ◌<◌, None, [], ◌∷◌, ◌++◌, length, sym, ap, ◌∙◌, subst}
+use Rattle.ir_flat.proofs.CallerLemmas.{threads_length}
+use Rattle.ir_thread.specs.declared.profile.Profile.TheVariants.{One}
+use Rattle.ir_graph.specs.Graph.{IsGraph}
+use Rattle.ir_graph.specs.Notes.{noted_in}
+use Rattle.ir_graph.specs.Plain.{GoesPlain}
+use Rattle.ir_graph.proofs.Grown.{first_graph}
+use Rattle.ir_graph.proofs.start.start_graph.Goals as goal
+
+pub returns-clause-threads : goal.returns-clause-threads
+returns-clause-threads c =
+    c.in_ok-rows.ensures.threads ∙ ap length c.threads.ensures.value ∙ c.in_ok-rest_all.ensures.goes.threads
+    ∙ ap (λ z. length z.threads) c.in_ok-flat.ensures ∙ threads_length c.args.image.now 1000000000000 One 0 (length c.args.image.now.entries)
+
+pub returns-clause-sound : goal.returns-clause-sound
+returns-clause-sound c =
+    let guest = c.args.image.now in
+    let h = c.rest_all.new.flat in
+    let rows = c.in_ok-rows.rows.items in
+    let value = ap length c.threads.ensures.value in
+    let goes = subst (λ z. GoesPlain z h) c.in_ok-flat.ensures c.in_ok-rest_all.ensures.goes in
+    let many : length rows ≡ length h.threads = c.in_ok-rows.ensures.threads ∙ value in
+    let free = subst (λ n. (t v : ℕ) → t < n → noted_in rows t v ≡ None) (sym c.in_ok-rows.ensures.threads) c.in_ok-rows.ensures.free in
+    let flats : c.push.new.self.items ≡ h ∷ [] = c.in_ok-push.ensures.items ∙ ap (λ z. z ++ h ∷ []) c.in_ok-flats.ensures.items in
+    subst (λ z. IsGraph guest z (noted_in rows) (length rows)) (sym flats)
+    (first_graph guest 1000000000000 h (noted_in rows) (length rows) goes c.in_ok-rest_all.ensures.rest (sym many)
+    (many ∙ goes.threads ∙ threads_length guest 1000000000000 One 0 (length guest.entries)) free)

@@ -1,0 +1,35 @@
+use Rattle.std.proofs.Common.{suc, length, sym, ap, ◌∙◌, subst}
+use Rattle.ir_explore.specs.Levels.{AreAsked, AreGoneOver}
+use Rattle.ir_graph.specs.Notes.{noted_in}
+use Rattle.ir_graph.specs.Outcomes.{AllListed, WithinListed}
+use Rattle.ir_graph.proofs.Grown.{noted_past}
+use Rattle.ir_graph.proofs.Listed.{all_listed, within_listed}
+use Rattle.ir_graph.proofs.states.search_states.Goals as goal
+
+pub returns-clause-all : goal.returns-clause-all
+returns-clause-all c = λ done.
+    let graph = c.run_search.new.graph in
+    let rows = graph.rows.items in
+    let flats = graph.flats.items in
+    let sound = c.run_search.ensures.sound in
+    let image = c.run_search.ensures.origin ∙ c.in_ok-graph.ensures.image in
+    let threads = ap length c.entries-threads.ensures.value ∙ ap (λ z. length z.entries) (sym image) ∙ sym sound.number in
+    subst (λ z. AllListed z flats) image
+    (all_listed graph.image.now flats (noted_in rows) (length rows) sound (λ t v l. noted_past rows t v l) c.in_ok-found.found.nodes.items
+    c.in_ok-found.ensures.reached (c.in_ok-found.ensures.all done)
+    (subst (λ z. AreAsked (noted_in rows) z (length flats)) threads (c.in_ok-found.ensures.finished done)))
+
+pub returns-clause-within : goal.returns-clause-within
+returns-clause-within c = λ most levels.
+    let graph = c.run_search.new.graph in
+    let rows = graph.rows.items in
+    let flats = graph.flats.items in
+    let nodes = c.in_ok-found.found.nodes.items in
+    let sound = c.run_search.ensures.sound in
+    let image = c.run_search.ensures.origin ∙ c.in_ok-graph.ensures.image in
+    let threads = ap length c.entries-threads.ensures.value ∙ ap (λ z. length z.entries) (sym image) ∙ sym sound.number in
+    subst (λ z. WithinListed z flats nodes most) image
+    (within_listed graph.image.now flats (noted_in rows) (length rows) sound (λ t v l. noted_past rows t v l) nodes
+    c.in_ok-found.ensures.first c.in_ok-found.ensures.few most
+    (subst (λ z. AreGoneOver (noted_in rows) z nodes (suc most)) threads
+    (subst (AreGoneOver (noted_in rows) _ nodes) levels c.in_ok-found.ensures.gone)))

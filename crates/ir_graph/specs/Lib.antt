@@ -1,0 +1,5 @@
+pub mod Plain
+pub mod Nodes
+pub mod Notes
+pub mod Graph
+pub mod Outcomes

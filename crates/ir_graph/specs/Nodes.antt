@@ -1,0 +1,58 @@
+-- The nodes of a guest's graph: its states at rest, as the threads see them.
+use Rattle.std.specs.Prelude.{◌≡◌, ℕ, ◌<◌, List, [], ◌∷◌, length, Option, Some, None, slice_get}
+use Rattle.ir_runs.specs.Machine.{Machine}
+use Rattle.ir_runs.specs.Run as run
+use Rattle.ir_states.specs.Counting.{Answers}
+use Rattle.ir_states.specs.Looks.{Looks}
+use Rattle.ir_states.specs.Nodes.{LeadsTo}
+use Rattle.ir_states.specs.Sources.{Giving, sourced, by_source}
+use Rattle.ir_states.specs.Views.{viewed, beside}
+use Rattle.ir_thread.specs.Calls.{ask_of}
+use Rattle.ir_thread.specs.State.{State}
+use Rattle.ir_flat.specs.Flat.{Flat, tables, thread_of}
+use Rattle.ir_seen.specs.Seen.{view, seen_machine, Same}
+use Rattle.ir_graph.specs.Plain.{Rests, IsLike}
+
+-- what the world answers a thread, whatever it is: the answers of a list, in turn, and 0 after the last
+abbrev pub told : Giving (List ℕ)
+told kind [] = (0, [])
+told kind (answer ∷ answers) = (answer, answers)
+
+-- the threads that run this code, as a search sees them
+abbrev pub seen_by : List ℕ → Machine (State × List ℕ)
+seen_by code = sourced (seen_machine code) told
+
+abbrev pub told_by : List ℕ → Answers (State × List ℕ)
+told_by code = by_source (seen_machine code) told
+
+-- states that look the same
+abbrev pub Alike : List ℕ → run.State (State × List ℕ) → run.State (State × List ℕ) → Type 0
+Alike code = Looks (Same code)
+
+-- what is seen of a guest beside what its threads will be told
+abbrev pub seen_of : Flat → (ℕ → List ℕ) → run.State (State × List ℕ)
+seen_of f told = beside (viewed view (tables f)) told
+
+-- two moments of a guest look the same to every thread
+abbrev pub LookAlike : Flat → Flat → Type 0
+LookAlike f g = (answers : ℕ → List ℕ) → Alike f.code (seen_of f answers) (seen_of g answers)
+
+-- each thread rests
+abbrev pub AllRest : Flat → Type 0
+AllRest f = (t : ℕ) → t < length f.threads → Rests (ask_of f.code (thread_of f t))
+
+-- states of one guest, at each of which all threads rest
+pub record AreNodes (flats : List Flat) : Type 0 where
+  pub rest : (v : ℕ) (f : Flat) → slice_get flats v ≡ Some f → AllRest f
+  pub like : (u v : ℕ) (f g : Flat) → slice_get flats u ≡ Some f → slice_get flats v ≡ Some g → IsLike f g
+
+-- no more than nodes were added
+abbrev pub Stay : List Flat → List Flat → Type 0
+Stay old new = (v : ℕ) (f : Flat) → slice_get old v ≡ Some f → slice_get new v ≡ Some f
+
+-- where thread t leads from node v: it has no step there, or each of its steps leads to node w, whatever its world answers
+abbrev pub LeadsFrom : List Flat → ℕ → ℕ → Option ℕ → Type 0
+LeadsFrom flats t v None = (f : Flat) → slice_get flats v ≡ Some f → (answers : ℕ → List ℕ) (e : run.Step) → e.0 ≡ t
+    → run.Can (seen_by f.code) (seen_of f answers) e → ⊥
+LeadsFrom flats t v (Some w) = (f g : Flat) → slice_get flats v ≡ Some f → slice_get flats w ≡ Some g → (answers : ℕ → List ℕ) (e : run.Step)
+    → e.0 ≡ t → LeadsTo (seen_by f.code) (told_by f.code) (Alike f.code) (seen_of f answers) e (seen_of g answers)

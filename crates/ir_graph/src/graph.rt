@@ -1,0 +1,49 @@
+//! The graph of a guest, as it grows.
+
+ghost use Rattle.std.specs.Prelude.{length};
+ghost use Rattle.ir_image.specs.Guest.{Guest};
+ghost use Rattle.ir_graph.specs.Graph.{IsGraph};
+ghost use Rattle.ir_graph.specs.Notes.{noted_in};
+
+use crate::nodes::{Bounds, successor};
+use crate::notes::{Row, known, note};
+use ir_explore::{Stop, Successors};
+use ir_flat::Flat;
+use ir_image::Image;
+use std::alloc::Global;
+
+/// The graph of a guest whose threads call no environment: its states at rest, as the threads can tell them apart.
+#[derive(Drop)]
+pub struct Graph<'a> {
+    pub alloc: Global,
+    pub image: &'a Image,
+    pub flats: Vec<Flat<'a>>,
+    pub rows: Vec<Row>,
+    pub bounds: Bounds,
+}
+
+impl<'a> Successors for Graph<'a> {
+    ghost Origin = { Guest };
+
+    ghost origin = { λ g. g.image.now };
+
+    ghost size = { λ g. length g.flats.items };
+
+    ghost most = { λ g. g.bounds.nodes };
+
+    ghost noted = { λ g. noted_in g.rows.items };
+
+    ghost is_sound = { λ g. IsGraph g.image.now g.flats.items (noted_in g.rows.items) (length g.rows.items) };
+
+    fn next(&mut self, thread: usize, node: usize) -> Result<Option<usize>, Stop> {
+        if thread >= self.rows.len() {
+            return Ok(None);
+        }
+        if let Some(next) = known(&self.rows, thread, node) {
+            return Ok(next);
+        }
+        let next = successor(self.alloc, &mut self.flats, thread, node, self.bounds)?;
+        note(&mut self.rows, self.flats.len(), thread, node, next)?;
+        Ok(next)
+    }
+}

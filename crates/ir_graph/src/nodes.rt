@@ -1,0 +1,101 @@
+//! The nodes that were found, and where threads lead from them.
+
+ghost use Rattle.std.specs.Prelude.{◌≡◌, ◌⊎◌, ℕ, suc, ◌<◌, ◌≤◌, Some, None, length, slice_get, IfOk, OnOk, OnErr, IsErrOf};
+ghost use Rattle.std.specs.List.{slice_index_or};
+ghost use Rattle.ir_explore.specs.declared.stop.Stop.TheVariants.{Nodes};
+ghost use Rattle.ir_flat.specs.Flat.{Flat};
+ghost use Rattle.ir_graph.specs.Nodes.{LookAlike, AllRest, AreNodes, Stay, LeadsFrom};
+ghost use Rattle.ir_graph.specs.Plain.{IsLike};
+
+use crate::likeness::same_state;
+use crate::rest::run_to_rest;
+use ir_explore::Stop;
+use ir_flat::Flat;
+use std::alloc::{AllocError, Global};
+
+/// How far a search may go.
+#[derive(Clone, Copy, Debug, PartialEq, Eq)]
+pub struct Bounds {
+    /// How many nodes there may be.
+    pub nodes: usize,
+    /// How many steps a thread may take from one entry to the next.
+    pub private: u64,
+}
+
+// A node that looks the same as this state.
+fn find(alloc: Global, flats: &[Flat<'_>], flat: &Flat<'_>) -> Result<Option<usize>, AllocError>
+    requires { (v : ℕ) (f : Flat) → slice_get flats.now v ≡ Some f → IsLike flat.now f }
+    ensures within { IfOk result (λ found. (v : ℕ) → found ≡ Some v → v < length flats.now) }
+    ensures alike { IfOk result (λ found. (v : ℕ) → found ≡ Some v → (f : Flat) → slice_get flats.now v ≡ Some f → LookAlike flat.now f) }
+{
+    for v in 0..flats.len() {
+        if same_state(alloc, flat, &flats[v])? {
+            return Ok(Some(v));
+        }
+    }
+    Ok(None)
+}
+
+// The node that looks the same as this state, a new one where there is none.
+fn node_of<'a>(
+    alloc: Global,
+    flats: &mut Vec<Flat<'a>>,
+    flat: Flat<'a>,
+    most: usize,
+) -> Result<usize, Stop>
+    requires nodes { AreNodes flats.old.items }
+    requires like { (v : ℕ) (f : Flat) → slice_get flats.old.items v ≡ Some f → IsLike flat f }
+    requires rest { AllRest flat }
+    requires room { length flats.old.items ≤ most }
+    ensures nodes { AreNodes flats.new.items }
+    ensures stay { Stay flats.old.items flats.new.items }
+    ensures within { IfOk result (λ w. w < length flats.new.items) }
+    ensures added { IfOk result (λ w. (length flats.new.items ≡ length flats.old.items) ⊎ ((w ≡ length flats.old.items) × (length flats.new.items ≡ suc (length flats.old.items)))) }
+    ensures alike { IfOk result (λ w. (f : Flat) → slice_get flats.new.items w ≡ Some f → LookAlike flat.entry f) }
+    ensures grown { length flats.old.items ≤ length flats.new.items }
+    ensures room { length flats.new.items ≤ most }
+    ensures full { IsErrOf result Nodes → length flats.new.items ≡ most }
+{
+    if let Some(v) = find(alloc, flats.as_slice(), &flat)? {
+        return Ok(v);
+    }
+    let node = flats.len();
+    if node >= most {
+        return Err(Stop::Nodes);
+    }
+    flats.push(flat)?;
+    Ok(node)
+}
+
+/// Where a thread leads from a node: to no node, to one of these, or to a new one after them.
+///
+/// # Errors
+/// `Nodes` if the new one would be one too many, what `run_to_rest` gives, or out of memory.
+pub fn successor<'a>(
+    alloc: Global,
+    flats: &mut Vec<Flat<'a>>,
+    thread: usize,
+    node: usize,
+    bounds: Bounds,
+) -> Result<Option<usize>, Stop>
+    requires nodes { AreNodes flats.old.items }
+    requires node { node < length flats.old.items }
+    requires thread { (f : Flat) → slice_get flats.old.items node ≡ Some f → thread < length f.threads }
+    requires room { length flats.old.items ≤ bounds.nodes }
+    ensures nodes { AreNodes flats.new.items }
+    ensures stay { Stay flats.old.items flats.new.items }
+    ensures within { IfOk result (λ next. (w : ℕ) → next ≡ Some w → w < length flats.new.items) }
+    ensures added { IfOk result (λ next. (length flats.new.items ≡ length flats.old.items) ⊎ ((next ≡ Some (length flats.old.items)) × (length flats.new.items ≡ suc (length flats.old.items)))) }
+    ensures leads { IfOk result (λ next. LeadsFrom flats.new.items thread node next) }
+    ensures grown { length flats.old.items ≤ length flats.new.items }
+    ensures room { length flats.new.items ≤ bounds.nodes }
+    ensures full { IsErrOf result Nodes → length flats.new.items ≡ bounds.nodes }
+{
+    let mut flat = flats[node].copy()?;
+    if let Err(_) = flat.step(thread, 0) {
+        return Ok(None);
+    }
+    run_to_rest(&mut flat, thread, bounds.private)?;
+    let next = node_of(alloc, flats, flat, bounds.nodes)?;
+    Ok(Some(next))
+}

@@ -1,0 +1,56 @@
+//! A thread that runs on alone to its next entry.
+
+ghost use Rattle.std.specs.Prelude.{◌≡◌, ◌<◌, true, false, length, IfOk, OnOk, IsErrOf};
+ghost use Rattle.ir_explore.specs.declared.stop.Stop.TheVariants.{Nodes};
+ghost use Rattle.ir_flat.specs.Flat.{thread_of};
+ghost use Rattle.ir_graph.specs.Plain.{IsFair, GoesPlain, OthersStay, Rests};
+ghost use Rattle.ir_seen.specs.Seen.{view};
+ghost use Rattle.ir_thread.specs.Calls.{ask_of};
+ghost use Rattle.ir_thread.specs.Instance.{shared_ask};
+
+use ir_explore::Stop;
+use ir_flat::Flat;
+use ir_thread::{Ask, End};
+
+// Whether a thread that asks so rests; if not, it may go on.
+fn rests(thread: usize, asked: Ask) -> Result<bool, Stop>
+    ensures rests { IfOk result (λ rests. rests ≡ true → Rests asked) }
+    ensures plain { IfOk result (λ rests. rests ≡ false → IsFair asked) }
+    ensures err { IsErrOf result Nodes → ⊥ }
+{
+    match asked {
+        Ask::Enter(_, _) | Ask::Done => Ok(true),
+        Ask::Env(_) => Err(Stop::World(thread)),
+        Ask::Try(_) => Err(Stop::Try(thread)),
+        Ask::End(End::BudgetSpent) | Ask::End(End::LogFull) => Err(Stop::Log(thread)),
+        _ => Ok(false),
+    }
+}
+
+/// A thread runs on alone, by at most `limit` steps, to its next entry or until it is done.
+///
+/// # Errors
+/// It takes as many steps without an entry, calls the environment, tries to enter, has a full log or a spent budget.
+pub fn run_to_rest(flat: &mut Flat<'_>, thread: usize, limit: u64) -> Result<(), Stop>
+    requires { thread < length flat.old.threads }
+    ensures goes { GoesPlain flat.old flat.new }
+    ensures others { OthersStay flat.old flat.new thread }
+    ensures rests { OnOk result (Rests (ask_of flat.new.code (thread_of flat.new thread))) }
+    ensures err { IsErrOf result Nodes → ⊥ }
+{
+    let mut left = limit;
+    'private: loop {
+        let (steps, asked) = flat.run_to_ask(thread, left);
+        left -= steps;
+        if rests(thread, asked)? {
+            return Ok(());
+        }
+        if left == 0 {
+            return Err(Stop::Private(thread));
+        }
+        if let Err(_) = flat.take(thread, asked, 0) {
+            return Err(Stop::Private(thread));
+        }
+        left -= 1;
+    }
+}

@@ -1,0 +1,73 @@
+//! The graph at first: the node where a guest comes to rest.
+
+ghost use Rattle.std.specs.Prelude.{◌≡◌, ℕ, ◌<◌, ◌≤◌, [], ◌∷◌, None, length, IfOk, OnOk};
+ghost use Rattle.ir_explore.specs.declared.stop.Stop.TheVariants.{Nodes};
+ghost use Rattle.ir_flat.specs.Flat.{start_flat};
+ghost use Rattle.ir_graph.specs.Graph.{IsGraph};
+ghost use Rattle.ir_graph.specs.Nodes.{AllRest};
+ghost use Rattle.ir_graph.specs.Notes.{noted_in};
+ghost use Rattle.ir_graph.specs.Plain.{GoesPlain};
+ghost use Rattle.ir_thread.specs.Allowed.{IsAllowed};
+ghost use Rattle.ir_thread.specs.declared.profile.Profile.TheVariants.{One};
+
+use crate::graph::Graph;
+use crate::nodes::Bounds;
+use crate::notes::Row;
+use crate::rest::run_to_rest;
+use ir_explore::Stop;
+use ir_flat::Flat;
+use ir_image::Image;
+use ir_thread::Profile;
+use std::alloc::{AllocError, Global};
+
+// As many steps as a thread may take.
+const MOST_BUDGET: u64 = 1_000_000_000_000;
+
+// Each thread runs on alone to its first entry.
+fn rest_all(flat: &mut Flat<'_>, limit: u64) -> Result<(), Stop>
+    ensures goes { GoesPlain flat.old flat.new }
+    ensures rest { OnOk result (AllRest flat.new) }
+{
+    for thread in 0..flat.threads().len() {
+        run_to_rest(flat, thread, limit)?;
+    }
+    Ok(())
+}
+
+// An empty row for each thread.
+fn no_notes(alloc: Global, threads: usize) -> Result<Vec<Row>, AllocError>
+    ensures free { IfOk result (λ rows. (t v : ℕ) → t < threads → noted_in rows.items t v ≡ None) }
+    ensures threads { IfOk result (λ rows. length rows.items ≡ threads) }
+{
+    let mut rows: Vec<Row> = Vec::with_capacity(alloc, threads)?;
+    for _ in 0..threads {
+        rows.push(Vec::new(alloc))?;
+    }
+    Ok(rows)
+}
+
+/// The graph of a guest whose threads make the calls of the first profile: one node, where it comes to rest from its start.
+///
+/// # Errors
+/// What `run_to_rest` gives, or out of memory.
+pub fn start_graph<'a>(alloc: Global, image: &'a Image, bounds: Bounds) -> Result<Graph<'a>, Stop>
+    requires allowed { IsAllowed One image.now }
+    ensures image { IfOk result (λ graph. graph.image.now ≡ image.now) }
+    ensures one { IfOk result (λ graph. length graph.flats.items ≡ 1) }
+    ensures bounds { IfOk result (λ graph. graph.bounds ≡ bounds) }
+    ensures threads { IfOk result (λ graph. length graph.rows.items ≡ length image.now.entries) }
+    ensures sound { IfOk result (λ graph. IsGraph image.now graph.flats.items (noted_in graph.rows.items) (length graph.rows.items)) }
+{
+    let mut flat = Flat::start(alloc, image, MOST_BUDGET, Profile::One)?;
+    rest_all(&mut flat, bounds.private)?;
+    let rows = no_notes(alloc, flat.threads().len())?;
+    let mut flats = Vec::with_capacity(alloc, 1)?;
+    flats.push(flat)?;
+    Ok(Graph {
+        alloc,
+        image,
+        flats,
+        rows,
+        bounds,
+    })
+}

@@ -1,0 +1,94 @@
+//! Guests, and searches over their states.
+
+ghost use Rattle.ir_thread.specs.Allowed.{IsAllowed};
+ghost use Rattle.ir_thread.specs.declared.profile.Profile.TheVariants.{One};
+ghost use Rattle.std.specs.Prelude.{IfOk};
+
+use ir_asm::assemble;
+use ir_graph::{Bounds, States, search_states};
+use ir_image::Image;
+use ir_thread::Profile;
+use std::alloc::Global;
+use std::test::Fail;
+
+// Two threads add one each to word 0 of object 0, which each reads, gives back, and then writes.
+pub const LOST_UPDATE: &str = "
+        .objects 1
+        .thread main
+        .thread main
+main:   addi a0, zero, 0
+        addi a7, zero, 7
+        ecall
+        addi a0, zero, 0
+        addi a1, zero, 0
+        addi a7, zero, 10
+        ecall
+        addi s0, a0, 1
+        addi a0, zero, 0
+        addi a7, zero, 9
+        ecall
+        addi a0, zero, 0
+        addi a7, zero, 8
+        ecall
+        addi a0, zero, 0
+        addi a1, zero, 0
+        addi a2, s0, 0
+        addi a7, zero, 11
+        ecall
+        addi a0, zero, 0
+        addi a7, zero, 9
+        ecall
+        addi a0, zero, 0
+        addi a7, zero, 1
+        ecall
+";
+
+// Three threads enter and leave an object of their own twice.
+pub const OWN_OBJECTS: &str = "
+        .objects 3
+        .thread main
+        .thread main
+        .thread main
+main:   addi a7, zero, 12
+        ecall
+        addi s0, a0, 0
+        addi a7, zero, 8
+        ecall
+        addi a0, s0, 0
+        addi a7, zero, 9
+        ecall
+        addi a0, s0, 0
+        addi a7, zero, 8
+        ecall
+        addi a0, s0, 0
+        addi a7, zero, 9
+        ecall
+        addi a0, zero, 0
+        addi a7, zero, 1
+        ecall
+";
+
+// This guest, which the first profile allows.
+pub fn guest(alloc: Global, text: &str) -> Result<Image, Fail>
+    ensures { IfOk result (λ image. IsAllowed One image) }
+{
+    let image = assemble(alloc, text)?;
+    if !Profile::One.allows(&image) {
+        return Err(Fail::from("too many threads or objects"));
+    }
+    Ok(image)
+}
+
+// Its states, of which there may be 200.
+pub fn states<'a>(alloc: Global, image: &'a Image, switches: usize) -> Result<States<'a>, Fail>
+    requires { IsAllowed One image.now }
+{
+    let bounds = Bounds {
+        nodes: 200,
+        private: 1000,
+    };
+    match search_states(alloc, image, bounds, switches) {
+        Ok(states) => Ok(states),
+        Err(_) => Err(Fail::from("no search")),
+    }
+}

@@ -1,0 +1,7 @@
+//! Tests of searches over the states of guests. They are a crate of their own, since a crate with tests is proved twice.
+#![tactic(auto)]
+
+#[cfg(test)]
+mod guests;
+#[cfg(test)]
+mod states_tests;

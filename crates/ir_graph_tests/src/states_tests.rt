@@ -1,0 +1,63 @@
+//! How many states guests have, and their outcomes.
+
+use crate::guests::{LOST_UPDATE, OWN_OBJECTS, guest, states};
+use ir_explore::Ended;
+use ir_flat::Flat;
+use std::test::Fail;
+
+// Whether all threads are done.
+fn is_done(flat: &Flat<'_>) -> bool {
+    for thread in flat.threads() {
+        if thread.ended().is_none() {
+            return false;
+        }
+    }
+    true
+}
+
+// How many done states have 1 and 2 in word 0 of object 0.
+fn words(flats: &[Flat<'_>]) -> (u32, u32) {
+    let mut ones = 0u32;
+    let mut twos = 0u32;
+    for flat in flats {
+        if is_done(flat) && !flat.objects().is_empty() {
+            match flat.objects()[0].get(0) {
+                1 => ones = ones.saturating_add(1),
+                2 => twos = twos.saturating_add(1),
+                _ => {}
+            }
+        }
+    }
+    (ones, twos)
+}
+
+#[test]
+fn a_lost_update_has_two_outcomes(rt: HostRuntime) -> Result<(), Fail> {
+    let alloc = rt.alloc();
+    let image = guest(alloc, LOST_UPDATE)?;
+    let all = states(alloc, &image, 100)?;
+    assert!(rt; all.found.ended == Ended::Finished);
+    assert_eq!(rt; all.graph.flats.len(), 12);
+    assert_eq!(rt; words(all.graph.flats.as_slice()), (1, 1));
+    Ok(())
+}
+
+#[test]
+fn with_one_switch_no_update_is_lost(rt: HostRuntime) -> Result<(), Fail> {
+    let alloc = rt.alloc();
+    let image = guest(alloc, LOST_UPDATE)?;
+    let some = states(alloc, &image, 1)?;
+    assert!(rt; some.found.ended == Ended::Covered);
+    assert_eq!(rt; words(some.graph.flats.as_slice()), (0, 1));
+    Ok(())
+}
+
+#[test]
+fn threads_that_share_nothing(rt: HostRuntime) -> Result<(), Fail> {
+    let alloc = rt.alloc();
+    let image = guest(alloc, OWN_OBJECTS)?;
+    let all = states(alloc, &image, 100)?;
+    assert!(rt; all.found.ended == Ended::Finished);
+    assert_eq!(rt; all.graph.flats.len(), 27);
+    Ok(())
+}
