@@ -1,0 +1,2 @@
+mod There
+mod Words
