@@ -9,4 +9,4 @@ pub record Serving : Type 0 where
 
 -- the guest at the stub's cut
 abbrev pub IsThere : Serving → Type 0
-IsThere s = StandsAt s.stub.fitted (cut_of s.stub.at) s.state
+IsThere s = StandsAt s.stub.desk.fitted (cut_of s.stub.desk.at) s.state

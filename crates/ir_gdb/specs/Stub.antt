@@ -1,17 +1,19 @@
 -- What is held for gdb beside the run.
-use Rattle.std.specs.Prelude.{◌<◌, ⊤, None, Some, ℕ, zero, suc, ◌+◌, ◌-◌, ◌*◌, ◌/◌, List, [], ◌∷◌, ◌++◌, length, Option}
-use Rattle.ir_fit.specs.Fit.{FittedTrace, HasRun}
-use Rattle.ir_command.specs.declared.command.Point.TheVariants.{Break, Watch}
-use Rattle.ir_hits.specs.Hits.{Numbered}
-use Rattle.ir_timeline.specs.Positions.{threads_of, first_cut, Cuts}
+use Rattle.std.specs.Prelude.{◌<◌, ◌≤◌, ◌+◌, ⊤, None, Some, false, Bool, ℕ, List, [], length, Option}
+use Rattle.std.specs.List.{AllByRecursion}
+use Rattle.ir_mach.specs.Core.{memory_start, memory_size}
+use Rattle.ir_fit.specs.Fit.{FittedTrace}
+use Rattle.ir_timeline.specs.Positions.{threads_of}
+use Rattle.ir_debug.specs.Machine.Desk as desk
+use Rattle.ir_debug.specs.Machine.Desk.{Desk}
+use Rattle.ir_packet.specs.declared.reply.Reason.TheVariants.{Step}
 use Rattle.ir_gdb.specs.declared.point.Breakpoint.{Breakpoint}
 use Rattle.ir_gdb.specs.declared.point.Watched.{Watched}
+use Rattle.ir_gdb.specs.declared.stopped.Told.{Told}
 
 pub record Stub : Type 0 where
-  -- the guest and its trace
-  pub fitted : FittedTrace
-  -- the position of each thread: a consistent cut
-  pub at : List ℕ
+  -- the small machine of a session: the guest, its trace, and the position of each thread
+  pub desk : Desk
   -- the thread of `g`, `p` and `m`
   pub general : ℕ
   -- the thread of `s`, `c`, `bs` and `bc`, if `Hc` named one
@@ -20,55 +22,57 @@ pub record Stub : Type 0 where
   pub current : ℕ
   pub breaks : List Breakpoint
   pub watches : List Watched
+  -- the last stop
+  pub told : Told
+  -- whether the next move is answered as interrupted, and not made
+  pub interrupted : Bool
 
--- all threads at 0, thread 0 current, no points
-abbrev pub stub_of : FittedTrace → Stub
-stub_of f = record {
-  fitted = f;
-  at = first_cut f;
+-- before the first stop
+abbrev pub first_told : Told
+first_told = record { interrupted = false; thread = 0; reason = Step }
+
+-- thread 0 current, no points
+abbrev pub stub_of : Desk → Stub
+stub_of d = record {
+  desk = d;
   general = 0;
   chosen = None;
   current = 0;
   breaks = [];
   watches = [];
+  told = first_told;
+  interrupted = false;
 }
+
+-- after an answer of the small machine that is no move's
+abbrev pub spoken : Stub → Stub
+spoken s = record s { desk = desk.spoken s.desk }
+
+-- the most bytes of a watch
+abbrev pub most_watched : ℕ
+most_watched = 256
 
 -- a thread that `Hc` may have named
 abbrev pub IsChoice : FittedTrace → Option ℕ → Type 0
 IsChoice f None = ⊤
 IsChoice f (Some t) = t < threads_of f
 
+-- the most breakpoints and watches together
+abbrev pub most_points : ℕ
+most_points = 64
+
+-- a watch is of a few bytes, all of private memory
+pub record IsWatched (w : Watched) : Type 0 where
+  pub some : 0 < w.size
+  pub few : w.size ≤ most_watched
+  pub low : memory_start ≤ w.address
+  pub high : w.address + w.size ≤ memory_start + memory_size
+
 -- what is always so
 pub record IsStub (s : Stub) : Type 0 where
-  pub run : HasRun s.fitted
-  pub cut : Cuts s.fitted s.at
-  pub general : s.general < threads_of s.fitted
-  pub chosen : IsChoice s.fitted s.chosen
-  pub current : s.current < threads_of s.fitted
-
--- n words from an address on, for thread t, under one number
-unfoldable pub word_points : ℕ → ℕ → ℕ → ℕ → List Numbered
-word_points t number zero address = []
-word_points t number (suc n) address = record { number = number; point = Watch t address } ∷ word_points t number n (address + 4)
-
--- how many words the bytes of a watch lie in
-abbrev pub words_in : Watched → ℕ
-words_in w = (w.address + w.size + 3) / 4 - w.address / 4
-
--- the watched words of thread t, the first watch by this number, the others by the next
-unfoldable pub watch_points : ℕ → ℕ → List Watched → List Numbered
-watch_points t number [] = []
-watch_points t number (w ∷ ws) = word_points t number (words_in w) (w.address / 4 * 4) ++ watch_points t (number + 1) ws
-
--- the breakpoints of thread t, the first by this number, the others by the next
-unfoldable pub break_points : ℕ → ℕ → List Breakpoint → List Numbered
-break_points t number [] = []
-break_points t number (b ∷ bs) = record { number = number; point = Break t b.address } ∷ break_points t (number + 1) bs
-
--- watches are told before breakpoints
-abbrev pub points_upwards : ℕ → Stub → List Numbered
-points_upwards t s = watch_points t 0 s.watches ++ break_points t (length s.watches) s.breaks
-
--- breakpoints are told before watches
-abbrev pub points_downwards : ℕ → Stub → List Numbered
-points_downwards t s = break_points t 0 s.breaks ++ watch_points t (length s.breaks) s.watches
+  pub general : s.general < threads_of s.desk.fitted
+  pub chosen : IsChoice s.desk.fitted s.chosen
+  pub current : s.current < threads_of s.desk.fitted
+  pub told : s.told.thread < threads_of s.desk.fitted
+  pub watches : AllByRecursion IsWatched s.watches
+  pub few : length s.breaks + length s.watches ≤ most_points

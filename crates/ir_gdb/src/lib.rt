@@ -1,21 +1,22 @@
-//! A recorded run as gdb sees it: where its threads stop, by gdb's breakpoints and watches.
+//! A recorded run as gdb sees it: its threads stop by gdb's breakpoints and watches, and packets of the remote serial protocol are
+//! answered.
 #![tactic(auto)]
 
-ghost use Rattle.std.specs.Prelude.{◌≡◌};
-ghost use Rattle.ir_gdb.specs.Stub.{Stub};
-ghost use Rattle.ir_gdb.specs.Stops.{after_back, stopped};
-ghost use Rattle.ir_packet.specs.declared.reply.Reason.TheVariants.{Begin};
-
+mod connection;
+mod console;
 mod fixed;
+mod holders;
+mod numbered;
 mod point;
 mod registers;
 mod remote;
+mod session;
+mod stopped;
+mod texts;
 
+pub use connection::Connection;
 pub use fixed::fixed_reply;
 pub use point::{Breakpoint, Watched};
 pub use remote::Remote;
-
-/// A thread at 0 stays there when it steps back, whatever is watched.
-pub fn at_0_nothing_is_undone()
-    ensures { (s : Stub) (w : _) → after_back s 0 w ≡ stopped 0 Begin }
-{}
+pub use session::{MOST_INPUT, connect};
+pub use stopped::{Stopped, Told};

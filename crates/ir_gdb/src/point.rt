@@ -13,3 +13,16 @@ pub struct Watched {
     pub address: u32,
     pub size: u32,
 }
+
+/// What becomes of a point that gdb sets.
+#[derive(Clone, Copy, Debug, PartialEq, Eq)]
+pub enum Setting {
+    /// There is no such code or memory.
+    BadAddress,
+    /// It is set already.
+    There,
+    /// There are as many points as there may be.
+    Full,
+    /// It is set.
+    New,
+}

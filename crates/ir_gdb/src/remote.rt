@@ -7,31 +7,37 @@ ghost use Rattle.ir_gdb.specs.Serving.{Serving};
 ghost use Rattle.ir_gdb.specs.Stub.{IsStub};
 ghost use Rattle.ir_gdb.specs.Reads.{thread_of_id};
 
-use crate::point::{Breakpoint, Watched};
-use crate::registers::{put_registers, word_of};
-use ir_cut::Cut;
+use crate::holders::{Breaks, Watches};
+use crate::stopped::Told;
+use ir_debug::Debugger;
 use ir_fit::Fitted;
 use ir_object::Hands;
-use ir_packet::{Reply, Who, put_word};
+use ir_packet::{Reason, Reply, Who};
 use ir_thread::Thread;
-use ir_timeline::{Timeline, first_cut, thread_count};
+use ir_timeline::thread_count;
 use std::alloc::{AllocError, Global};
 use std::marker::Model;
 
-/// The most breakpoints, and the most watches.
-pub const MOST_POINTS: usize = 64;
+mod memory;
+mod moves;
+mod points;
+mod reads;
+mod replies;
+mod stops;
+mod texts;
+mod together;
 
-/// A recorded run that gdb looks at: a position of each thread, gdb's threads and points, and the run in hand, which is
-/// brought to these positions wherever a reply needs it.
+/// A recorded run that gdb looks at: the debugger of a session, gdb's threads and points, and the last stop.
 #[derive(Drop)]
 pub struct Remote {
-    timeline: Timeline,
-    at: Cut,
+    debugger: Debugger,
     general: u32,
     chosen: Option<u32>,
     current: u32,
-    breaks: Vec<Breakpoint>,
-    watches: Vec<Watched>,
+    breaks: Breaks,
+    watches: Watches,
+    told: Told,
+    interrupted: bool,
 }
 
 impl Model for Remote {
@@ -39,25 +45,27 @@ impl Model for Remote {
 
     ghost view = { λ r. record {
       stub = record {
-        fitted = r.timeline.fitted;
-        at = r.at;
+        desk = r.debugger.desk;
         general = r.general;
         chosen = r.chosen;
         current = r.current;
-        breaks = r.breaks.items;
-        watches = r.watches.items;
+        breaks = r.breaks;
+        watches = r.watches;
+        told = r.told;
+        interrupted = r.interrupted;
       };
-      state = r.timeline.state;
+      state = r.debugger.state;
     } };
 
     ghost invariant = { λ r. IsStub (record {
-      fitted = r.timeline.fitted;
-      at = r.at;
+      desk = r.debugger.desk;
       general = r.general;
       chosen = r.chosen;
       current = r.current;
-      breaks = r.breaks.items;
-      watches = r.watches.items;
+      breaks = r.breaks;
+      watches = r.watches;
+      told = r.told;
+      interrupted = r.interrupted;
     }) };
 }
 
@@ -66,6 +74,7 @@ fn known(fitted: &Fitted)
     ensures run { HasRun fitted.now }
     ensures thread { 0 < threads_of fitted.now }
 {
+    fitted.known();
     fitted.image().entries();
 }
 
@@ -84,41 +93,59 @@ fn thread_of_id(fitted: &Fitted, id: u32) -> Option<u32>
 }
 
 impl Remote {
-    ghost use Rattle.std.specs.Prelude.{◌≤◌, ◌+◌, ◌++◌, OnOk, OnErr, IfOk, vec_len, vec_capacity};
+    ghost use Rattle.std.specs.Prelude.{OnOk, OnErr, IfOk, true, false};
     ghost use Rattle.ir_cut.specs.Positions.{EachRun};
-    ghost use Rattle.ir_gdb.specs.Stub.{stub_of};
+    ghost use Rattle.ir_debug.specs.Machine.Desk.{Desk};
+    ghost use Rattle.ir_debug.specs.Debugging.{Debugging};
+    ghost use Rattle.ir_gdb.specs.Stub.{stub_of, spoken};
     ghost use Rattle.ir_gdb.specs.Serving.{IsThere};
-    ghost use Rattle.ir_gdb.specs.Reads.{thread_of_id, reply_to, with_current, general_reply, after_general, chosen_reply, after_chosen, current_of, registers_text, register_text};
+    ghost use Rattle.ir_gdb.specs.Reads.{thread_of_id, reply_to, with_current, general_reply, after_general, chosen_reply, after_chosen, current_of};
 
-    /// All threads at 0, and no points.
+    /// A debugger, with thread 0 current and no points.
     ///
     /// # Errors
     /// Out of memory.
-    pub fn open(alloc: Global, fitted: Fitted) -> Result<Remote, AllocError>
-        ensures { IfOk result (λ r. r.stub ≡ stub_of fitted) }
+    pub fn new(alloc: Global, debugger: Debugger) -> Result<Remote, AllocError>
+        ensures { IfOk result (λ remote. remote.stub ≡ stub_of debugger.desk) }
     {
-        known(&fitted);
-        let at = first_cut(alloc, &fitted)?;
-        let breaks = Vec::with_capacity(alloc, MOST_POINTS)?;
-        let watches = Vec::with_capacity(alloc, MOST_POINTS)?;
-        let timeline = Timeline::open(alloc, fitted)?;
+        known(debugger.fitted());
+        let breaks = Breaks::new(alloc)?;
+        let watches = Watches::new(alloc)?;
+        let told = Told {
+            interrupted: false,
+            thread: 0,
+            reason: Reason::Step,
+        };
         Ok(Remote {
-            timeline,
-            at,
+            debugger,
             general: 0,
             chosen: None,
             current: 0,
             breaks,
             watches,
+            told,
+            interrupted: false,
         })
+    }
+
+    /// The debugger of a session, for its lines.
+    pub fn debugger_mut(&mut self) -> &mut Debugger {
+        &mut self.debugger
+    }
+
+    /// The next move is answered as interrupted, and not made.
+    pub fn interrupt(&mut self)
+        ensures { self.new.stub ≡ record self.old.stub { interrupted = true } }
+    {
+        self.interrupted = true;
     }
 
     /// `T`: whether there is a thread of this id, which is then the current one.
     pub fn alive(&mut self, id: u32) -> Reply
-        ensures reply { result ≡ reply_to (thread_of_id self.old.stub.fitted id) }
-        ensures stub { self.new.stub ≡ with_current self.old.stub (thread_of_id self.old.stub.fitted id) }
+        ensures reply { result ≡ reply_to (thread_of_id self.old.stub.desk.fitted id) }
+        ensures stub { self.new.stub ≡ with_current self.old.stub (thread_of_id self.old.stub.desk.fitted id) }
     {
-        match thread_of_id(self.timeline.fitted(), id) {
+        match thread_of_id(self.debugger.fitted(), id) {
             None => Reply::NotPermitted,
             Some(t) => {
                 self.current = t;
@@ -135,7 +162,7 @@ impl Remote {
         let Who::Thread(id) = who else {
             return Reply::Done;
         };
-        match thread_of_id(self.timeline.fitted(), id) {
+        match thread_of_id(self.debugger.fitted(), id) {
             None => Reply::NotPermitted,
             Some(t) => {
                 self.general = t;
@@ -153,7 +180,7 @@ impl Remote {
             self.chosen = None;
             return Reply::Done;
         };
-        match thread_of_id(self.timeline.fitted(), id) {
+        match thread_of_id(self.debugger.fitted(), id) {
             None => Reply::NotPermitted,
             Some(t) => {
                 self.chosen = Some(t);
@@ -164,56 +191,19 @@ impl Remote {
 
     // Brings the run in hand to the cut.
     fn bring_here<H: Hands>(&mut self, hands: &H) -> Result<(), AllocError>
-        ensures stub { self.new.stub ≡ self.old.stub }
+        ensures stub { self.new.stub ≡ spoken self.old.stub }
         ensures there { OnOk result (IsThere self.new) }
+        ensures lacks { OnErr result (self.old.stub.desk.fresh ≡ false) }
     {
-        self.timeline.go_to(hands, &self.at)
+        self.debugger.bring_here(hands)
     }
 
     // The general thread in hand.
     #[tactic(auto, using(crate::proofs::There::is_current, crate::proofs::There::is_in_hand))]
     fn general_thread(&self) -> &Thread
         requires { IsThere self.now }
-        ensures { EachRun self.now.stub.fitted (λ run. result.now ≡ current_of run self.now.stub self.now.stub.general) }
+        ensures { EachRun self.now.stub.desk.fitted (λ run. result.now ≡ current_of run self.now.stub self.now.stub.general) }
     {
-        &self.timeline.threads()[self.general as usize]
-    }
-
-    /// `g`: puts the registers of the general thread at the end.
-    ///
-    /// # Errors
-    /// Out of memory.
-    pub fn registers<H: Hands>(&mut self, hands: &H, out: &mut Vec<u8>) -> Result<(), AllocError>
-        requires { vec_len out.old + 264 ≤ vec_capacity out.old }
-        ensures stub { self.new.stub ≡ self.old.stub }
-        ensures ok { OnOk result (EachRun self.old.stub.fitted (λ run. out.new.items ≡ out.old.items ++ registers_text run self.old.stub)) }
-        ensures err { OnErr result (out.new.items ≡ out.old.items) }
-        ensures capacity { vec_capacity out.new ≡ vec_capacity out.old }
-    {
-        self.bring_here(hands)?;
-        put_registers(out, self.general_thread().mach());
-        Ok(())
-    }
-
-    /// `p n`: puts register n of the general thread at the end.
-    ///
-    /// # Errors
-    /// Out of memory.
-    pub fn register<H: Hands>(
-        &mut self,
-        hands: &H,
-        n: u32,
-        out: &mut Vec<u8>,
-    ) -> Result<(), AllocError>
-        requires room { vec_len out.old + 8 ≤ vec_capacity out.old }
-        requires number { n < 33 }
-        ensures stub { self.new.stub ≡ self.old.stub }
-        ensures ok { OnOk result (EachRun self.old.stub.fitted (λ run. out.new.items ≡ out.old.items ++ register_text run self.old.stub n)) }
-        ensures err { OnErr result (out.new.items ≡ out.old.items) }
-        ensures capacity { vec_capacity out.new ≡ vec_capacity out.old }
-    {
-        self.bring_here(hands)?;
-        put_word(out, word_of(self.general_thread().mach(), n));
-        Ok(())
+        &self.debugger.threads()[self.general as usize]
     }
 }

@@ -1,0 +1,71 @@
+//! The reply to a request.
+
+use crate::fixed::fixed_reply;
+use crate::point::{Breakpoint, Watched};
+use crate::remote::Remote;
+use crate::texts::{description, supported};
+use ir_object::Hands;
+use ir_packet::{Reply, Request, put_piece, put_text, reply_text};
+use std::alloc::AllocError;
+
+impl Remote {
+    // The reply to a request that neither reads the run nor moves it.
+    fn plain_reply(&mut self, request: Request) -> Option<Reply> {
+        match request {
+            Request::General(who) => Some(self.general(who)),
+            Request::Choose(who) => Some(self.choose(who)),
+            Request::Alive(id) => Some(self.alive(id)),
+            Request::SetBreak(address, hardware) => {
+                Some(self.set_break(Breakpoint { address, hardware }))
+            }
+            Request::ClearBreak(address, hardware) => {
+                Some(self.clear_break(Breakpoint { address, hardware }))
+            }
+            Request::SetWatch(address, size) => { Some(self.set_watch(Watched { address, size })) },
+            Request::ClearWatch(address, size) => {
+                Some(self.clear_watch(Watched { address, size }))
+            },
+            _ => fixed_reply(request),
+        }
+    }
+
+    // Puts the reply to a request that reads the run or moves it at the end.
+    fn put_read<H: Hands>(
+        &mut self,
+        hands: &H,
+        request: Request,
+        out: &mut Vec<u8>,
+    ) -> Result<(), AllocError> {
+        match request {
+            Request::Supported => put_text(out, supported()),
+            Request::Description(from, most) => put_piece(out, description(), from, most),
+            Request::Threads(from, most) => self.threads(hands.alloc(), from, most, out)?,
+            Request::Reason => self.reason(hands, out)?,
+            Request::Registers => self.registers(hands, out)?,
+            Request::Register(number) => self.register(hands, number, out)?,
+            Request::Memory(address, size) => self.memory(hands, address, size, out)?,
+            Request::Move(motion, mover) => self.make_move(hands, motion, mover, out)?,
+            _ => {}
+        }
+        Ok(())
+    }
+
+    /// Puts the reply to a request at the end. One for a session's line has none here.
+    ///
+    /// # Errors
+    /// Out of memory, and nothing has changed.
+    pub fn reply<H: Hands>(
+        &mut self,
+        hands: &H,
+        request: Request,
+        out: &mut Vec<u8>,
+    ) -> Result<(), AllocError> {
+        match self.plain_reply(request) {
+            Some(reply) => {
+                put_text(out, reply_text(reply));
+                Ok(())
+            }
+            None => self.put_read(hands, request, out),
+        }
+    }
+}

@@ -1,0 +1,85 @@
+//! Where threads stop.
+
+ghost use Rattle.std.specs.Prelude.{◌≡◌, true, IsTrue, ◌↔◌, None};
+ghost use Rattle.ir_gdb.specs.Stops.{stop_above, stop_below, watch_reason, break_reason, is_hit};
+
+use crate::point::{Breakpoint, Watched};
+use ir_command::Hit;
+use ir_packet::Reason;
+
+/// A position, and why a thread stops there.
+#[derive(Clone, Copy, Debug, PartialEq, Eq)]
+pub struct Stopped {
+    pub position: u64,
+    pub reason: Reason,
+}
+
+/// The stop that gdb was told last.
+#[derive(Clone, Copy, Debug, PartialEq, Eq)]
+pub struct Told {
+    /// Whether gdb interrupted it.
+    pub interrupted: bool,
+    pub thread: u32,
+    pub reason: Reason,
+}
+
+/// Whether a thread stops there at a hit, and not because its run has no step more in this direction.
+pub fn is_hit(reason: Reason) -> bool
+    ensures { result ≡ is_hit reason }
+{
+    !matches!(reason, Reason::End | Reason::Begin)
+}
+
+/// Why a thread stops at the watch of a number; without one at a point of the session.
+pub fn watch_reason(watches: &[Watched], number: usize) -> Reason
+    ensures { result ≡ watch_reason watches.now number }
+{
+    if number < watches.len() {
+        return Reason::Watch(watches[number].address);
+    }
+    Reason::Step
+}
+
+/// Why a thread stops at the breakpoint of a number; without one at a point of the session.
+pub fn break_reason(breaks: &[Breakpoint], number: usize) -> Reason
+    ensures { result ≡ break_reason breaks.now number }
+{
+    if number >= breaks.len() {
+        return Reason::Step;
+    }
+    if breaks[number].hardware {
+        Reason::HardwareBreak
+    } else {
+        Reason::SoftwareBreak
+    }
+}
+
+/// Where a search upwards stops: a watch before the step that changes its word.
+pub fn stop_above(watches: &[Watched], breaks: &[Breakpoint], hit: Hit) -> Stopped
+    ensures { result ≡ stop_above watches.now breaks.now hit }
+{
+    let number = hit.number as usize;
+    let position = hit.position;
+    if number < watches.len() {
+        return Stopped {
+            position: position.saturating_sub(1),
+            reason: watch_reason(watches, number),
+        };
+    }
+    let reason = break_reason(breaks, number - watches.len());
+    Stopped { position, reason }
+}
+
+/// Where a search downwards stops: a watch after that step.
+pub fn stop_below(watches: &[Watched], breaks: &[Breakpoint], hit: Hit) -> Stopped
+    ensures { result ≡ stop_below watches.now breaks.now hit }
+{
+    let number = hit.number as usize;
+    let position = hit.position;
+    if number < breaks.len() {
+        let reason = break_reason(breaks, number);
+        return Stopped { position, reason };
+    }
+    let reason = watch_reason(watches, number - breaks.len());
+    Stopped { position, reason }
+}
