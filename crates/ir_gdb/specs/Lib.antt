@@ -1,5 +1,11 @@
 pub mod Fixed
 pub mod Stub
-pub mod Stops
 pub mod Serving
 pub mod Reads
+pub mod Points
+pub mod Setting
+pub mod Stops
+pub mod Together
+pub mod Moves
+pub mod Texts
+pub mod Replies

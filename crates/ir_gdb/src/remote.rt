@@ -198,12 +198,28 @@ impl Remote {
         self.debugger.bring_here(hands)
     }
 
-    // The general thread in hand.
+    // A thread in hand.
     #[tactic(auto, using(crate::proofs::There::is_current, crate::proofs::There::is_in_hand))]
+    fn thread(&self, thread: u32) -> &Thread
+        requires there { IsThere self.now }
+        requires thread { thread < threads_of self.now.stub.desk.fitted }
+        ensures { EachRun self.now.stub.desk.fitted (λ run. result.now ≡ current_of run self.now.stub thread) }
+    {
+        &self.debugger.threads()[thread as usize]
+    }
+
+    // The general thread in hand.
     fn general_thread(&self) -> &Thread
         requires { IsThere self.now }
         ensures { EachRun self.now.stub.desk.fitted (λ run. result.now ≡ current_of run self.now.stub self.now.stub.general) }
     {
-        &self.debugger.threads()[self.general as usize]
+        self.thread(self.general)
+    }
+
+    // Counts as an answer that is no move's.
+    fn speak(&mut self)
+        ensures { self.new.stub ≡ spoken self.old.stub }
+    {
+        self.debugger.speak();
     }
 }

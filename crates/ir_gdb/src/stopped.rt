@@ -23,6 +23,13 @@ pub struct Told {
     pub reason: Reason,
 }
 
+/// The thread that moves, and whether the others may be stopped at their hits.
+#[derive(Clone, Copy, Debug, PartialEq, Eq)]
+pub struct Moving {
+    pub thread: u32,
+    pub among: bool,
+}
+
 /// Whether a thread stops there at a hit, and not because its run has no step more in this direction.
 pub fn is_hit(reason: Reason) -> bool
     ensures { result ≡ is_hit reason }

@@ -18,6 +18,13 @@ use ir_object::Hands;
 use std::alloc::{AllocError, Global};
 
 impl Debugger {
+    /// Counts as an answer that is no move's.
+    pub fn speak(&mut self)
+        ensures { self.new.desk ≡ spoken self.old.desk }
+    {
+        self.fresh = false;
+    }
+
     /// The cut at which all threads are when one that moves from the debugger's cut in this direction is at a position.
     ///
     /// # Errors

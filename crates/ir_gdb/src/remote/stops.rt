@@ -1,13 +1,11 @@
 //! Where a thread stops that moves alone.
 
-ghost use Rattle.std.specs.Prelude.{◌≡◌, ◌<◌, ◌≤◌, ◌+◌, IfOk};
+ghost use Rattle.std.specs.Prelude.{◌≡◌, ◌<◌, ◌≤◌, ◌+◌, ◌-◌, IfOk};
 ghost use Rattle.ir_cut.specs.Positions.{EachRun, cut_of};
-ghost use Rattle.ir_hits.specs.Hits.{AreWatchable};
-ghost use Rattle.ir_hits.specs.Searching.{IsNextHit};
+ghost use Rattle.ir_hits.specs.Hits.{AreWatchable, thread_at};
 ghost use Rattle.ir_timeline.specs.Positions.{Cuts, threads_of, last_of};
 ghost use Rattle.ir_gdb.specs.Stub.{spoken};
-ghost use Rattle.ir_gdb.specs.Stops.{watches_if, Leaves, Halting, WatchNext, position_of, StepsTo, RangesTo, ContinuesTo, StepsBackTo, ContinuesBackTo, MovesTo, upwards_of, downwards_of};
-ghost use Rattle.ir_gdb.specs.Points.{points_upwards, points_downwards};
+ghost use Rattle.ir_gdb.specs.Stops.{watches_if, Leaves, WatchNext, position_of, StepsTo, RangesTo, ContinuesTo, StepsBackTo, StopsBelow, ContinuesBackTo, GoesTo, MovesTo, upwards_of};
 
 use crate::numbered::{Halts, points_downwards, points_upwards, watch_points};
 use crate::point::Watched;
@@ -50,7 +48,11 @@ impl Remote {
     }
 
     // What may stop a thread.
-    fn halts(&self, watched: bool) -> Halts<'_> {
+    fn halts(&self, watched: bool) -> Halts<'_>
+        ensures watches { result.watches.now ≡ watches_if self.now.stub watched }
+        ensures breaks { result.breaks.now ≡ self.now.stub.breaks }
+        ensures own { result.own.now ≡ self.now.stub.desk.points }
+    {
         Halts {
             watches: self.watches_if(watched),
             breaks: self.breaks.as_slice(),
@@ -85,6 +87,7 @@ impl Remote {
         ensures stub { self.new.stub ≡ spoken self.old.stub }
         ensures watch { IfOk result (λ reason. EachRun self.old.stub.desk.fitted (λ run. WatchNext run self.old.stub thread watched (cut_of from.now thread) reason)) }
     {
+        self.speak();
         let points = watch_points(hands.alloc(), thread, self.watches_if(watched))?;
         if points.is_empty() {
             return Ok(None);
@@ -108,6 +111,7 @@ impl Remote {
         ensures stops { IfOk result (λ to. EachRun self.old.stub.desk.fitted (λ run. StepsTo run self.old.stub thread watched to)) }
         ensures within { IfOk result (λ to. to.position ≤ last_of self.old.stub.desk.fitted thread) }
     {
+        self.speak();
         let position = self.position(thread);
         if position == self.last(thread) {
             let reason = Reason::End;
@@ -129,7 +133,12 @@ impl Remote {
         hands: &H,
         thread: u32,
         position: u64,
-    ) -> Result<u32, AllocError> {
+    ) -> Result<u32, AllocError>
+        requires thread { thread < threads_of self.old.stub.desk.fitted }
+        requires within { (position_of self.old.stub thread ≤ position) × (position ≤ last_of self.old.stub.desk.fitted thread) }
+        ensures stub { self.new.stub ≡ spoken self.old.stub }
+        ensures pc { IfOk result (λ pc. EachRun self.old.stub.desk.fitted (λ run. pc ≡ (thread_at self.old.stub.desk.fitted run thread position).core.pc)) }
+    {
         let alloc = hands.alloc();
         let forwards = Direction::Forwards;
         let cut = self.debugger.cut_with(alloc, thread, forwards, position)?;
@@ -149,6 +158,7 @@ impl Remote {
         ensures stub { self.new.stub ≡ spoken self.old.stub }
         ensures leaves { IfOk result (λ left. EachRun self.old.stub.desk.fitted (λ run. Leaves run self.old.stub thread low high left)) }
     {
+        self.speak();
         let last = self.last(thread);
         let mut position = self.position(thread);
         'steps: while position < last {
@@ -209,6 +219,7 @@ impl Remote {
         ensures stops { IfOk result (λ to. EachRun self.old.stub.desk.fitted (λ run. ContinuesTo run self.old.stub thread watched to)) }
         ensures within { IfOk result (λ to. to.position ≤ last_of self.old.stub.desk.fitted thread) }
     {
+        self.speak();
         let points = self.upwards(hands.alloc(), thread, watched)?;
         let forwards = Direction::Forwards;
         let points = points.as_slice();
@@ -233,6 +244,7 @@ impl Remote {
         ensures stub { self.new.stub ≡ spoken self.old.stub }
         ensures watch { IfOk result (λ reason. EachRun self.old.stub.desk.fitted (λ run. WatchNext run self.old.stub thread watched (position_of self.old.stub thread - 1) reason)) }
     {
+        self.speak();
         if self.watches_if(watched).is_empty() {
             return Ok(None);
         }
@@ -255,6 +267,7 @@ impl Remote {
         ensures stops { IfOk result (λ to. EachRun self.old.stub.desk.fitted (λ run. StepsBackTo run self.old.stub thread watched to)) }
         ensures within { IfOk result (λ to. to.position ≤ last_of self.old.stub.desk.fitted thread) }
     {
+        self.speak();
         let position = self.position(thread);
         if position == 0 {
             let reason = Reason::Begin;
@@ -275,7 +288,13 @@ impl Remote {
         hands: &H,
         thread: u32,
         watched: bool,
-    ) -> Result<Stopped, AllocError> {
+    ) -> Result<Stopped, AllocError>
+        requires { thread < threads_of self.old.stub.desk.fitted }
+        ensures stub { self.new.stub ≡ spoken self.old.stub }
+        ensures stops { IfOk result (λ to. EachRun self.old.stub.desk.fitted (λ run. StopsBelow run self.old.stub thread watched to)) }
+        ensures within { IfOk result (λ to. to.position ≤ last_of self.old.stub.desk.fitted thread) }
+    {
+        self.speak();
         let points = points_downwards(hands.alloc(), thread, self.halts(watched))?;
         let backwards = Direction::Backwards;
         let points = points.as_slice();
@@ -316,7 +335,12 @@ impl Remote {
         thread: u32,
         direction: Direction,
         watched: bool,
-    ) -> Result<Stopped, AllocError> {
+    ) -> Result<Stopped, AllocError>
+        requires { thread < threads_of self.old.stub.desk.fitted }
+        ensures stub { self.new.stub ≡ spoken self.old.stub }
+        ensures stops { IfOk result (λ to. EachRun self.old.stub.desk.fitted (λ run. GoesTo direction run self.old.stub thread watched to)) }
+        ensures within { IfOk result (λ to. to.position ≤ last_of self.old.stub.desk.fitted thread) }
+    {
         match direction {
             Direction::Forwards => self.above(hands, thread, watched),
             Direction::Backwards => self.below(hands, thread, watched),

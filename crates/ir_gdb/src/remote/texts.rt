@@ -1,9 +1,9 @@
 //! The list of threads.
 
-ghost use Rattle.std.specs.Prelude.{◌≡◌, ◌≤◌, ◌<◌, ◌+◌, ◌*◌, ◌++◌, OnOk, OnErr, vec_len, vec_capacity};
+ghost use Rattle.std.specs.Prelude.{◌≡◌, ◌≤◌, ◌<◌, ◌+◌, ◌++◌, OnOk, OnErr, IfOk, vec_len, vec_capacity};
 ghost use Rattle.ir_timeline.specs.Positions.{threads_of};
 ghost use Rattle.ir_packet.specs.Replies.{piece_text};
-ghost use Rattle.ir_gdb.specs.Texts.{thread_text, threads_text};
+ghost use Rattle.ir_gdb.specs.Texts.{place_text, thread_text, threads_text};
 
 use crate::remote::Remote;
 use ir_packet::{put_number, put_piece, put_text};
@@ -17,7 +17,13 @@ const MOST_LIST: usize = 2000;
 
 impl Remote {
     // Puts the name and the position of a thread at the end, as text of its element.
-    fn put_place(&self, out: &mut Vec<u8>, thread: u32) {
+    fn put_place(&self, out: &mut Vec<u8>, thread: u32)
+        requires thread { thread < threads_of self.now.stub.desk.fitted }
+        requires room { vec_len out.old + 89 ≤ vec_capacity out.old }
+        ensures bytes { out.new.items ≡ out.old.items ++ place_text self.now.stub thread }
+        ensures len { vec_len out.new ≤ vec_len out.old + 89 }
+        ensures capacity { vec_capacity out.new ≡ vec_capacity out.old }
+    {
         let mut text = Text::new();
         let position = self.position(thread);
         let last = self.last(thread);
@@ -31,7 +37,14 @@ impl Remote {
     }
 
     // Puts the element of a thread at the end.
-    fn put_thread(&self, out: &mut Vec<u8>, thread: u32) {
+    fn put_thread(&self, out: &mut Vec<u8>, thread: u32)
+        requires thread { thread < threads_of self.now.stub.desk.fitted }
+        requires small { thread < 16 }
+        requires room { vec_len out.old + 118 ≤ vec_capacity out.old }
+        ensures bytes { out.new.items ≡ out.old.items ++ thread_text self.now.stub thread }
+        ensures len { vec_len out.new ≤ vec_len out.old + 118 }
+        ensures capacity { vec_capacity out.new ≡ vec_capacity out.old }
+    {
         put_text(out, b"<thread id=\"");
         put_number(out, thread + 1);
         self.put_place(out, thread);
@@ -39,7 +52,10 @@ impl Remote {
     }
 
     // The list of threads.
-    fn thread_list(&self, alloc: Global) -> Result<Vec<u8>, AllocError> {
+    fn thread_list(&self, alloc: Global) -> Result<Vec<u8>, AllocError>
+        ensures text { IfOk result (λ list. list.items ≡ threads_text self.now.stub) }
+        ensures len { IfOk result (λ list. vec_len list ≤ 2000) }
+    {
         let mut list = Vec::with_capacity(alloc, MOST_LIST)?;
         put_text(&mut list, b"<?xml version=\"1.0\"?><threads>");
         'threads: for thread in 0..thread_count(self.debugger.fitted()) as u32 {
@@ -59,7 +75,12 @@ impl Remote {
         from: u32,
         most: u32,
         out: &mut Vec<u8>,
-    ) -> Result<(), AllocError> {
+    ) -> Result<(), AllocError>
+        requires { vec_len out.old + 2001 ≤ vec_capacity out.old }
+        ensures ok { OnOk result (out.new.items ≡ out.old.items ++ piece_text (threads_text self.now.stub) from most) }
+        ensures err { OnErr result (out.new.items ≡ out.old.items) }
+        ensures capacity { vec_capacity out.new ≡ vec_capacity out.old }
+    {
         let list = self.thread_list(alloc)?;
         put_piece(out, list.as_slice(), from, most);
         Ok(())
