@@ -7,5 +7,6 @@ pub mod Setting
 pub mod Stops
 pub mod Together
 pub mod Moves
+pub mod Restarts
 pub mod Texts
 pub mod Replies

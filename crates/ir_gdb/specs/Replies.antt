@@ -17,6 +17,7 @@ use Rattle.ir_gdb.specs.Reads.{thread_of_id, reply_to, with_current, general_rep
 use Rattle.ir_gdb.specs.Setting.{break_setting, watch_setting, setting_reply, with_break, with_watch, clear_break_reply, clear_watch_reply, without_break, without_watch}
 use Rattle.ir_gdb.specs.Texts.{supported_text, description_text, threads_text}
 use Rattle.ir_gdb.specs.Moves.{told_text, moving_of, Moves}
+use Rattle.ir_gdb.specs.Restarts.{with_extension, end_reply, RepliesToRestart}
 
 -- this is replied, and the stub is then so
 abbrev pub Gives : List ℕ → Stub → List ℕ → Stub → Type 0
@@ -46,6 +47,8 @@ plain_reply s (request.SetBreak address hardware) = Some (setting_reply (break_s
 plain_reply s (request.ClearBreak address hardware) = Some (clear_break_reply s (breakpoint address hardware))
 plain_reply s (request.SetWatch address size) = Some (setting_reply (watch_setting s (watched address size)))
 plain_reply s (request.ClearWatch address size) = Some (clear_watch_reply (watched address size))
+plain_reply s request.Extended = Some reply.Done
+plain_reply s request.EndProcess = Some (end_reply s)
 plain_reply s asked = fixed_reply asked
 
 -- the stub behind it
@@ -57,6 +60,7 @@ after_plain s (request.SetBreak address hardware) = with_break s (breakpoint add
 after_plain s (request.ClearBreak address hardware) = without_break s (breakpoint address hardware)
 after_plain s (request.SetWatch address size) = with_watch s (watched address size)
 after_plain s (request.ClearWatch address size) = without_watch s (watched address size)
+after_plain s request.Extended = with_extension s
 after_plain s asked = s
 
 abbrev pub SaysPlain : Option Reply → Stub → List ℕ → Stub → Type 0
@@ -73,6 +77,8 @@ CarriesOut run s request.Registers text next = Gives (registers_text run s) (spo
 CarriesOut run s (request.Register n) text next = Gives (register_text run s n) (spoken s) text next
 CarriesOut run s (request.Memory address size) text next = Gives (memory_text run s address size) (spoken s) text next
 CarriesOut run s (request.Move m who) text next = RepliesToMove (moving_of s who) run s m text next
+CarriesOut run s request.Restart text next = RepliesToRestart run s None text next
+CarriesOut run s (request.RestartAt n) text next = RepliesToRestart run s (Some n) text next
 CarriesOut run s asked text next = SaysPlain (plain_reply s asked) (after_plain s asked) text next
 
 -- whether a request has one reply: a session's line has many packets, and `k` has none
@@ -89,6 +95,8 @@ may_lack request.Registers = true
 may_lack (request.Register n) = true
 may_lack (request.Memory address size) = true
 may_lack (request.Move m who) = true
+may_lack request.Restart = true
+may_lack (request.RestartAt n) = true
 may_lack asked = false
 
 -- out of memory, and nothing has changed

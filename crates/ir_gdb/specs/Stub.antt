@@ -26,6 +26,8 @@ pub record Stub : Type 0 where
   pub told : Told
   -- whether the next move is answered as interrupted, and not made
   pub interrupted : Bool
+  -- whether gdb may run the program again: after `!`
+  pub extended : Bool
 
 -- before the first stop
 abbrev pub first_told : Told
@@ -42,6 +44,7 @@ stub_of d = record {
   watches = [];
   told = first_told;
   interrupted = false;
+  extended = false;
 }
 
 -- after an answer of the small machine that is no move's

@@ -28,24 +28,20 @@ pub fn is_same_watch(a: Watched, b: Watched) -> bool
 pub fn has_break(breaks: &[Breakpoint], point: Breakpoint) -> bool
     ensures { result ≡ has_break breaks.now point }
 {
-    for each in breaks {
-        if is_same_break(*each, point) {
-            return true;
-        }
+    match breaks {
+        [] => false,
+        [first, rest @ ..] => is_same_break(*first, point) || has_break(rest, point),
     }
-    false
 }
 
 // Whether there is such a watch.
 pub fn has_watch(watches: &[Watched], watched: Watched) -> bool
     ensures { result ≡ has_watch watches.now watched }
 {
-    for each in watches {
-        if is_same_watch(*each, watched) {
-            return true;
-        }
+    match watches {
+        [] => false,
+        [first, rest @ ..] => is_same_watch(*first, watched) || has_watch(rest, watched),
     }
-    false
 }
 
 /// The breakpoints that are set, the last at the end, with room for all that may be.

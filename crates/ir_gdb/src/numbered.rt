@@ -1,6 +1,8 @@
 //! Points of gdb and of a session as the points of one search, each with a number that says which it is.
 
-ghost use Rattle.std.specs.Prelude.{◌≡◌, ◌≤◌, ◌+◌, ◌<◌, ◌++◌, OnOk, IfOk, length};
+ghost use Rattle.std.specs.Prelude.{◌≡◌, ◌≤◌, ◌+◌, ◌*◌, ◌^◌, ◌<◌, ◌++◌, OnOk, IfOk, length};
+ghost use Rattle.std.specs.List.{AllByRecursion};
+ghost use Rattle.ir_gdb.specs.Stub.{IsWatched};
 ghost use Rattle.ir_hits.specs.Hits.{AreWatchable};
 ghost use Rattle.ir_gdb.specs.Points.{word_points, watch_points, break_points, own_points, words_in, points_upwards, points_downwards};
 
@@ -22,12 +24,14 @@ pub struct Halts<'a> {
 
 // How many words the bytes of a watch lie in.
 fn words_in(watched: Watched) -> u32
+    requires { IsWatched watched }
     ensures { result ≡ words_in watched }
 {
     (watched.address + watched.size + 3) / 4 - watched.address / 4
 }
 
 // Puts this many words from an address on at the end, under one number.
+#[tactic(auto, unfolding(crate::specs::Points::word_points))]
 fn put_words(
     out: &mut Vec<NumberedPoint>,
     thread: u32,
@@ -38,52 +42,58 @@ fn put_words(
     requires { address + 4 * count < 2 ^ 32 }
     ensures { OnOk result (out.new.items ≡ out.old.items ++ word_points thread number count address) }
 {
-    'words: for i in 0..count {
-        let address = address + 4 * i;
-        out.push(NumberedPoint::new(number, Point::Watch { thread, address }))?;
+    if count == 0 {
+        return Ok(());
     }
-    Ok(())
+    out.push(NumberedPoint::new(number, Point::Watch { thread, address }))?;
+    put_words(out, thread, number, count - 1, address + 4)
 }
 
 // Puts the watched words of a thread at the end, the first watch by this number, the others by the next.
+#[tactic(auto, unfolding(crate::specs::Points::watch_points))]
 fn put_watches(
     out: &mut Vec<NumberedPoint>,
     thread: u32,
     number: u32,
     watches: &[Watched],
 ) -> Result<(), AllocError>
-    requires { number + length watches.now < 2 ^ 32 }
+    requires few { number + length watches.now ≤ 64 }
+    requires watched { AllByRecursion IsWatched watches.now }
     ensures { OnOk result (out.new.items ≡ out.old.items ++ watch_points thread number watches.now) }
 {
-    let mut next = number;
-    'watches: for watched in watches {
-        let first = watched.address / 4 * 4;
-        put_words(out, thread, next, words_in(*watched), first)?;
-        next += 1;
+    match watches {
+        [] => Ok(()),
+        [first, rest @ ..] => {
+            let address = first.address / 4 * 4;
+            put_words(out, thread, number, words_in(*first), address)?;
+            put_watches(out, thread, number + 1, rest)
+        }
     }
-    Ok(())
 }
 
 // Puts the breakpoints of a thread at the end, the first by this number, the others by the next.
+#[tactic(auto, unfolding(crate::specs::Points::break_points))]
 fn put_breaks(
     out: &mut Vec<NumberedPoint>,
     thread: u32,
     number: u32,
     breaks: &[Breakpoint],
 ) -> Result<(), AllocError>
-    requires { number + length breaks.now < 2 ^ 32 }
+    requires { number + length breaks.now ≤ 64 }
     ensures { OnOk result (out.new.items ≡ out.old.items ++ break_points thread number breaks.now) }
 {
-    let mut next = number;
-    'breaks: for each in breaks {
-        let address = each.address;
-        out.push(NumberedPoint::new(next, Point::Break { thread, address }))?;
-        next += 1;
+    match breaks {
+        [] => Ok(()),
+        [first, rest @ ..] => {
+            let address = first.address;
+            out.push(NumberedPoint::new(number, Point::Break { thread, address }))?;
+            put_breaks(out, thread, number + 1, rest)
+        }
     }
-    Ok(())
 }
 
 // Puts points of a session at the end, under one number.
+#[tactic(auto, unfolding(crate::specs::Points::own_points))]
 fn put_own(
     out: &mut Vec<NumberedPoint>,
     number: u32,
@@ -91,10 +101,13 @@ fn put_own(
 ) -> Result<(), AllocError>
     ensures { OnOk result (out.new.items ≡ out.old.items ++ own_points number points.now) }
 {
-    'points: for each in points {
-        out.push(NumberedPoint::new(number, each.point()))?;
+    match points {
+        [] => Ok(()),
+        [first, rest @ ..] => {
+            out.push(NumberedPoint::new(number, first.point()))?;
+            put_own(out, number, rest)
+        }
     }
-    Ok(())
 }
 
 /// The points of a thread that watches alone make.
@@ -106,7 +119,8 @@ pub fn watch_points(
     thread: u32,
     watches: &[Watched],
 ) -> Result<Vec<NumberedPoint>, AllocError>
-    requires { length watches.now ≤ 64 }
+    requires few { length watches.now ≤ 64 }
+    requires watched { AllByRecursion IsWatched watches.now }
     ensures points { IfOk result (λ v. v.items ≡ watch_points thread 0 watches.now) }
     ensures watchable { IfOk result (λ v. AreWatchable v.items) }
 {
@@ -125,6 +139,7 @@ pub fn points_upwards(
     halts: Halts<'_>,
 ) -> Result<Vec<NumberedPoint>, AllocError>
     requires few { length halts.watches.now + length halts.breaks.now ≤ 64 }
+    requires watched { AllByRecursion IsWatched halts.watches.now }
     requires own { AreWatchable halts.own.now }
     ensures points { IfOk result (λ v. v.items ≡ points_upwards thread halts.watches.now halts.breaks.now halts.own.now) }
     ensures watchable { IfOk result (λ v. AreWatchable v.items) }
@@ -148,6 +163,7 @@ pub fn points_downwards(
     halts: Halts<'_>,
 ) -> Result<Vec<NumberedPoint>, AllocError>
     requires few { length halts.watches.now + length halts.breaks.now ≤ 64 }
+    requires watched { AllByRecursion IsWatched halts.watches.now }
     requires own { AreWatchable halts.own.now }
     ensures points { IfOk result (λ v. v.items ≡ points_downwards thread halts.watches.now halts.breaks.now halts.own.now) }
     ensures watchable { IfOk result (λ v. AreWatchable v.items) }

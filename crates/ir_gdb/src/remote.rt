@@ -23,6 +23,7 @@ mod moves;
 mod points;
 mod reads;
 mod replies;
+mod restarts;
 mod stops;
 mod texts;
 mod together;
@@ -38,6 +39,7 @@ pub struct Remote {
     watches: Watches,
     told: Told,
     interrupted: bool,
+    extended: bool,
 }
 
 impl Model for Remote {
@@ -53,6 +55,7 @@ impl Model for Remote {
         watches = r.watches;
         told = r.told;
         interrupted = r.interrupted;
+        extended = r.extended;
       };
       state = r.debugger.state;
     } };
@@ -66,6 +69,7 @@ impl Model for Remote {
       watches = r.watches;
       told = r.told;
       interrupted = r.interrupted;
+      extended = r.extended;
     }) };
 }
 
@@ -125,6 +129,7 @@ impl Remote {
             watches,
             told,
             interrupted: false,
+            extended: false,
         })
     }
 

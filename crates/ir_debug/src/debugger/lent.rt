@@ -1,16 +1,17 @@
 //! What a debugger lends to another front than a session's: the run at any cut, and searches with points that aren't its own.
 
-ghost use Rattle.std.specs.Prelude.{◌≡◌, ◌<◌, ◌≤◌, length, IfOk, OnOk};
+ghost use Rattle.std.specs.Prelude.{◌≡◌, ◌<◌, ◌≤◌, length, None, Some, IfOk, IfSome, MatchOption, OnOk};
 ghost use Rattle.ir_cut.specs.Positions.{EachRun, IsConsistentCut, cut_of};
 ghost use Rattle.ir_weave.specs.Standing.{StandsAt};
 ghost use Rattle.ir_hits.specs.Hits.{AreWatchable};
 ghost use Rattle.ir_hits.specs.Searching.{IsNextHit};
 ghost use Rattle.ir_timeline.specs.Positions.{Cuts, Finds, last_of, threads_of};
-ghost use Rattle.ir_debug.specs.Machine.Desk.{spoken};
+ghost use Rattle.ir_debug.specs.Machine.Desk.{kept_cut, spoken};
 ghost use Rattle.ir_debug.specs.Machine.Moves.{StopsAt};
 
 use crate::debugger::Debugger;
 use crate::destinations::stop_at;
+use crate::kept::kept_cut;
 use ir_command::{Direction, Hit};
 use ir_cut::Cut;
 use ir_hits::NumberedPoint;
@@ -23,6 +24,14 @@ impl Debugger {
         ensures { self.new.desk ≡ spoken self.old.desk }
     {
         self.fresh = false;
+    }
+
+    /// The kept cut of a number, if there is one.
+    pub fn kept_cut(&self, number: u32) -> Option<&Cut>
+        ensures value { MatchOption result (kept_cut self.now.desk.kept number ≡ None) (λ cut. kept_cut self.now.desk.kept number ≡ Some cut.now) }
+        ensures cuts { IfSome result (λ cut. Cuts self.now.desk.fitted cut.now) }
+    {
+        kept_cut(self.kept.as_slice(), number)
     }
 
     /// The cut at which all threads are when one that moves from the debugger's cut in this direction is at a position.

@@ -98,7 +98,7 @@ impl Remote {
     }
 
     // All threads go to a cut, where one of them stops.
-    fn settle<H: Hands>(
+    pub(crate) fn settle<H: Hands>(
         &mut self,
         hands: &H,
         cut: Cut,
@@ -118,6 +118,20 @@ impl Remote {
             reason,
         });
         Ok(())
+    }
+
+    // Puts the last stop at the end, just after a move.
+    pub(crate) fn put_stop_here<H: Hands>(&mut self, hands: &H, out: &mut Vec<u8>)
+        requires moved { self.old.stub.desk.fresh ≡ true }
+        requires room { vec_len out.old + 96 ≤ vec_capacity out.old }
+        ensures stub { self.new.stub ≡ spoken self.old.stub }
+        ensures bytes { EachRun self.old.stub.desk.fitted (λ run. out.new.items ≡ out.old.items ++ told_text run self.old.stub) }
+        ensures capacity { vec_capacity out.new ≡ vec_capacity out.old }
+    {
+        match self.reason(hands, out) {
+            Ok(()) => {}
+            Err(AllocError) => unreachable!(),
+        }
     }
 
     // A move of one thread, which no other stops.
@@ -341,12 +355,7 @@ impl Remote {
     }
 
     // A thread moves, and the others as far as they must or up to a stop.
-    fn travel<H: Hands>(
-        &mut self,
-        hands: &H,
-        who: Moving,
-        motion: Motion,
-    ) -> Result<(), AllocError>
+    fn travel<H: Hands>(&mut self, hands: &H, who: Moving, motion: Motion) -> Result<(), AllocError>
         requires { who.thread < threads_of self.old.stub.desk.fitted }
         ensures ok { OnOk result ((h : Halt) × EachRun self.old.stub.desk.fitted (λ run. Leads run self.old.stub who.among who.thread motion h) × (self.new.stub ≡ settled self.old.stub h)) }
         ensures err { OnErr result (self.new.stub ≡ spoken self.old.stub) }
@@ -378,10 +387,8 @@ impl Remote {
             return Ok(());
         }
         self.travel(hands, who, motion)?;
-        match self.reason(hands, out) {
-            Ok(()) => Ok(()),
-            Err(AllocError) => unreachable!(),
-        }
+        self.put_stop_here(hands, out);
+        Ok(())
     }
 
     /// A move: puts the stop that ends it at the end.

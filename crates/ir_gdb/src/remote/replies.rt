@@ -23,6 +23,8 @@ impl Remote {
             Request::General(who) => Some(self.general(who)),
             Request::Choose(who) => Some(self.choose(who)),
             Request::Alive(id) => Some(self.alive(id)),
+            Request::Extended => Some(self.extend()),
+            Request::EndProcess => Some(self.end_process()),
             Request::SetBreak(address, hardware) => {
                 Some(self.set_break(Breakpoint { address, hardware }))
             }
@@ -61,6 +63,8 @@ impl Remote {
             Request::Register(number) => self.register(hands, number, out)?,
             Request::Memory(address, size) => self.memory(hands, address, size, out)?,
             Request::Move(motion, mover) => self.make_move(hands, motion, mover, out)?,
+            Request::Restart => self.restart(hands, None, out)?,
+            Request::RestartAt(number) => self.restart(hands, Some(number), out)?,
             _ => unreachable!(),
         }
         Ok(())

@@ -128,12 +128,7 @@ impl Remote {
     }
 
     // The pc of a thread at a position that isn't below its own.
-    fn pc_at<H: Hands>(
-        &mut self,
-        hands: &H,
-        thread: u32,
-        position: u64,
-    ) -> Result<u32, AllocError>
+    fn pc_at<H: Hands>(&mut self, hands: &H, thread: u32, position: u64) -> Result<u32, AllocError>
         requires thread { thread < threads_of self.old.stub.desk.fitted }
         requires within { (position_of self.old.stub thread ≤ position) × (position ≤ last_of self.old.stub.desk.fitted thread) }
         ensures stub { self.new.stub ≡ spoken self.old.stub }
