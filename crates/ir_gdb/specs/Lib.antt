@@ -10,3 +10,4 @@ pub mod Moves
 pub mod Restarts
 pub mod Texts
 pub mod Replies
+pub mod Connection

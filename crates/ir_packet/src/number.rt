@@ -1,7 +1,7 @@
 //! Hexadecimal numbers and bytes of packets.
 
 ghost use Rattle.std.specs.Prelude.{◌≡◌, ◌≤◌, ◌<◌, ◌+◌, ◌*◌, ◌++◌, ℕ, List, length, vec_len, vec_capacity, is_some, Some, None, IfSome, OnSome};
-ghost use Rattle.ir_packet.specs.Numbers.{value_from, number, decimal_value, decimal_from, decimal_number, index_of, bytes_of_pairs};
+ghost use Rattle.ir_packet.specs.Numbers.{value_from, number, decimal_digit, decimal_from, decimal_number, index_of, bytes_of_pairs};
 ghost use Rattle.ir_packet.specs.Numbers as numbers;
 
 use crate::raw::{digit_value, two_digits};
@@ -34,11 +34,12 @@ pub fn number(digits: &[u8]) -> Option<u32>
     }
 }
 
-// A decimal digit, by its code.
-fn decimal_value(code: Option<u8>) -> Option<u8>
-    ensures { result ≡ decimal_value code }
+// A decimal digit, by its code as a pair of digits.
+#[tactic(auto, unfolding(crate::specs::Numbers::decimal_digit))]
+fn decimal_digit(high: u8, low: u8) -> Option<u8>
+    ensures { result ≡ decimal_digit high low }
 {
-    match code {
+    match two_digits(high, low) {
         Some(code) if 48 <= code && code <= 57 => Some(code - 48),
         _ => None,
     }
@@ -53,7 +54,7 @@ fn decimal_from(before: u32, digits: &[u8]) -> Option<u32>
         [] => Some(before),
         [_] => None,
         [high, low, rest @ ..] => {
-            let value = u64::from(before) * 10 + u64::from(decimal_value(two_digits(*high, *low))?);
+            let value = u64::from(before) * 10 + u64::from(decimal_digit(*high, *low)?);
             if value > u64::from(u32::MAX) {
                 return None;
             }
