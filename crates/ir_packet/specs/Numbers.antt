@@ -26,12 +26,15 @@ decimal_value (Some code) = if nat_le 48 code && nat_le code 57 then Some (code 
 unfoldable pub decimal_digit : ℕ → ℕ → Option ℕ
 decimal_digit a b = decimal_value (two_digits a b)
 
+-- the number that a decimal digit writes behind those that wrote n
+unfoldable pub decimal_more : ℕ → ℕ → ℕ → Option ℕ
+decimal_more n a b = option_and_then (λ v. if nat_lt (n * 10 + v) number_limit then Some (n * 10 + v) else None) (decimal_digit a b)
+
 -- the number that decimal digits write behind those that wrote n, the code of each as a pair of digits
 unfoldable pub decimal_from : ℕ → List ℕ → Option ℕ
 decimal_from n [] = Some n
 decimal_from n (a ∷ []) = None
-decimal_from n (a ∷ b ∷ digits) =
-    option_and_then (λ v. if nat_lt (n * 10 + v) number_limit then decimal_from (n * 10 + v) digits else None) (decimal_digit a b)
+decimal_from n (a ∷ b ∷ digits) = option_and_then (λ m. decimal_from m digits) (decimal_more n a b)
 
 -- the number below 2^32 that one or more of them write
 unfoldable pub decimal_number : List ℕ → Option ℕ
