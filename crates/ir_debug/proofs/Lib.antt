@@ -11,3 +11,4 @@ mod RowsOne
 mod RowsTwo
 mod Here
 mod Passed
+pub mod CallerLemmas
