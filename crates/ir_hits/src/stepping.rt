@@ -11,7 +11,7 @@ ghost use Rattle.ir_hits.specs.Searching.{AreLast};
 use ir_cut::{Cut, least};
 use ir_fit::Fitted;
 use ir_mach::MarkedCode;
-use ir_object::Hands;
+use ir_object::{Hands, MOST_UNTOLD};
 use ir_replay::{Pace, State, advance, advance_alone, advance_unmarked};
 use ir_thread::Thread;
 use std::alloc::{AllocError, Global};
@@ -131,13 +131,14 @@ pub fn take_steps<H: Hands>(
     ensures passed { OnOk result (HasPassed code.now t to (flat_in fitted.now state.old) (flat_in fitted.now state.new)) }
 {
     fitted.known();
-    let most = to - thread_of(state, t).steps();
+    let most = (to - thread_of(state, t).steps()).min(MOST_UNTOLD);
     let alloc = hands.alloc();
     let none = State::build(Vec::new(alloc), Vec::new(alloc));
     let here = mem::replace(state, none);
     let (there, taken) = advance_unmarked(fitted, here, t, last, code, most);
     *state = there;
     if taken > 0 {
+        hands.stepped(thread_of(state, t).number(), taken);
         return Ok(());
     }
     take_step(hands, fitted, state, t, last)

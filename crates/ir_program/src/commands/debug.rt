@@ -8,10 +8,9 @@ use ir_arguments::DebugArguments;
 use ir_debug::{Sink, Source};
 use ir_files::{ExitStatus, Folder, MOST_BYTES};
 use ir_image::read_image;
+use ir_object::Hands;
 use ir_trace::read_trace;
 use std::alloc::{AllocError, Global};
-use std::thread::Threads;
-use std::time::Clock;
 
 // What a session reads.
 #[derive(Clone, Copy)]
@@ -72,8 +71,8 @@ pub fn explain_files<E: Sink>(
 }
 
 // The session of an image and a trace in files. If a person looks on, it is said in words why nothing was opened.
-pub fn debug_files<R, D, I, O, E>(
-    rt: &R,
+pub fn debug_files<H, D, I, O, E>(
+    hands: &H,
     folder: &D,
     arguments: &DebugArguments,
     explains: bool,
@@ -82,7 +81,7 @@ pub fn debug_files<R, D, I, O, E>(
     faults: &mut E,
 ) -> ExitStatus
 where
-    R: Threads + Clock + Sync + AllocGlobal,
+    H: Hands,
     D: Folder,
     I: Source,
     O: Sink,
@@ -91,7 +90,7 @@ where
     requires writes { O.broken out.old ≡ false }
     requires reports { E.broken faults.old ≡ false }
 {
-    let alloc = rt.alloc();
+    let alloc = hands.alloc();
     let Some(image) = bytes_of(alloc, folder, faults, arguments.image.as_str(), MOST_BYTES) else {
         return ExitStatus::Failed;
     };
@@ -99,7 +98,7 @@ where
         return ExitStatus::Failed;
     };
     let (image, trace) = (image.as_slice(), trace.as_slice());
-    let status = debug_run(rt, image, trace, reader, out, faults);
+    let status = debug_run(hands, image, trace, reader, out, faults);
     if explains {
         explain_files(alloc, image, trace, status, faults);
     }
