@@ -155,30 +155,21 @@ where
     requires writes { O.broken out.old ≡ false }
     requires reports { E.broken faults.old ≡ false }
 {
-    let Surroundings { rt, folder, gate } = around;
+    let (rt, folder) = (around.rt, around.folder);
     let alloc = rt.alloc();
-    let hands = Given::new(rt, alloc, gate);
+    let hands = Given::new(rt, alloc, around.gate);
     let terminals = invocation.terminals;
     match parsed(alloc, invocation.arguments) {
         Asked::Session => bundled_session(rt, &hands, terminals.input, input, out, faults),
         Asked::Make(what) => make(alloc, folder, &what, terminals.faults, faults),
-        Asked::Record(arguments) => record_file(
-            rt,
-            folder,
-            gate,
-            &arguments,
-            terminals.faults,
-            out,
-            faults,
-        ),
-        Asked::Hunt(arguments) => {
-            hunt_file(rt, folder, &arguments, terminals.faults, out, faults)
+        Asked::Record(arguments) => {
+            record_file(&around, &arguments, terminals.faults, out, faults)
         }
+        Asked::Hunt(arguments) => hunt_file(&around, &arguments, terminals.faults, out, faults),
         Asked::Debug(arguments) => {
             let mut input = Prompting::new(input, rt, terminals.input);
             debug_files(
-                &hands,
-                folder,
+                &around,
                 &arguments,
                 terminals.faults,
                 &mut input,

@@ -18,7 +18,7 @@ impl Follower<'_> {
         ensures trace { self.new.trace ≡ self.old.trace }
         ensures sized { IsSized self.new }
     {
-        let number = t as u8;
+        let number = self.flat.threads()[t].number();
         let mut untold = Untold::new();
         'steps: loop {
             let ahead = self.steps_left(t);

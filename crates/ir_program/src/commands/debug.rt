@@ -4,13 +4,16 @@ ghost use Rattle.std.specs.Prelude.{◌≡◌, false};
 
 use crate::commands::{bytes_of, say};
 use crate::debugging::debug_run;
+use crate::dispatch::Surroundings;
 use ir_arguments::DebugArguments;
 use ir_debug::{Sink, Source};
 use ir_files::{ExitStatus, Folder, MOST_BYTES};
 use ir_image::read_image;
-use ir_object::Hands;
+use ir_object::{Gate, Given};
 use ir_trace::read_trace;
 use std::alloc::{AllocError, Global};
+use std::thread::Threads;
+use std::time::Clock;
 
 // What a session reads.
 #[derive(Clone, Copy)]
@@ -71,9 +74,8 @@ pub fn explain_files<E: Sink>(
 }
 
 // The session of an image and a trace in files. If a person looks on, it is said in words why nothing was opened.
-pub fn debug_files<H, D, I, O, E>(
-    hands: &H,
-    folder: &D,
+pub fn debug_files<R, D, G, I, O, E>(
+    around: &Surroundings<'_, R, D, G>,
     arguments: &DebugArguments,
     explains: bool,
     reader: &mut I,
@@ -81,8 +83,9 @@ pub fn debug_files<H, D, I, O, E>(
     faults: &mut E,
 ) -> ExitStatus
 where
-    H: Hands,
+    R: Threads + Clock + Sync + AllocGlobal,
     D: Folder,
+    G: Gate + Sync,
     I: Source,
     O: Sink,
     E: Sink,
@@ -90,7 +93,8 @@ where
     requires writes { O.broken out.old ≡ false }
     requires reports { E.broken faults.old ≡ false }
 {
-    let alloc = hands.alloc();
+    let alloc = around.rt.alloc();
+    let folder = around.folder;
     let Some(image) = bytes_of(alloc, folder, faults, arguments.image.as_str(), MOST_BYTES) else {
         return ExitStatus::Failed;
     };
@@ -98,7 +102,8 @@ where
         return ExitStatus::Failed;
     };
     let (image, trace) = (image.as_slice(), trace.as_slice());
-    let status = debug_run(hands, image, trace, reader, out, faults);
+    let hands = Given::new(around.rt, alloc, around.gate);
+    let status = debug_run(&hands, image, trace, reader, out, faults);
     if explains {
         explain_files(alloc, image, trace, status, faults);
     }
