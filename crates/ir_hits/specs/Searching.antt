@@ -20,11 +20,11 @@ pub record AreLast (f : FittedTrace) (last : List ℕ) : Type 0 where
 -- a search for hits of thread t up to a position, over code that is marked wherever a point may hit it
 pub record IsSearch (f : FittedTrace) (t to : ℕ) (last : List ℕ) (code : Marked) (points : List Numbered) : Type 0 where
   pub thread : t < length f.guest.entries
-  pub last : AreLast f last
+  pub ends : AreLast f last
   pub within : to ≤ cut_of last t
-  pub code : code.words ≡ f.guest.code
+  pub words : code.words ≡ f.guest.code
   pub covered : AreCovered code t points
-  pub points : AreWatchable points
+  pub watchable : AreWatchable points
 
 -- no point hits thread t anywhere
 abbrev pub NeverHits : FittedTrace → List Step → List Numbered → ℕ → Type 0

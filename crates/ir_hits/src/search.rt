@@ -41,8 +41,8 @@ fn next_hit<H: Hands>(
     requires within { positions (flat_in search.fitted.now state.old) search.t ≤ search.to }
     requires size { length notes.old ≡ length search.points.now }
     ensures stands { StandsAt search.entry.fitted.now (positions (flat_in search.entry.fitted.now state.new)) state.new }
-    ensures hit { IfOk result (λ h. EachRun search.entry.fitted.now (λ run. IsNextHit search.entry.fitted.now run search.entry.points.now search.t (positions (flat_in search.entry.fitted.now state.old) search.t) search.to h)) }
-    ensures reached { IfOk result (λ h. positions (flat_in search.entry.fitted.now state.new) search.t ≡ reached search.to h) }
+    ensures hit { IfOk result (λ h. EachRun search.entry.fitted.now (λ run. IsNextHit search.entry.fitted.now run search.entry.points.now search.entry.t (positions (flat_in search.entry.fitted.now state.old) search.entry.t) search.entry.to h)) }
+    ensures reached { IfOk result (λ h. positions (flat_in search.entry.fitted.now state.new) search.entry.t ≡ reached search.entry.to h) }
     ensures size { length notes.new ≡ length notes.old }
 {
     let t = search.t;
@@ -132,8 +132,8 @@ fn last_in<H: Hands>(
     requires size { length notes.old ≡ length search.points.now }
     requires found { EachRun search.fitted.now (λ run. IsLastFrom search.fitted.now run search.points.now search.t (window_start (positions (flat_in search.fitted.now state.old) search.t)) (positions (flat_in search.fitted.now state.old) search.t + 1) found) }
     ensures stands { StandsAt search.entry.fitted.now (positions (flat_in search.entry.fitted.now state.new)) state.new }
-    ensures hit { IfOk result (λ h. EachRun search.entry.fitted.now (λ run. IsLastFrom search.entry.fitted.now run search.entry.points.now search.t (window_start (positions (flat_in search.entry.fitted.now state.old) search.t)) (search.to + 1) h)) }
-    ensures reached { OnOk result (positions (flat_in search.entry.fitted.now state.new) search.t ≡ search.to) }
+    ensures hit { IfOk result (λ h. EachRun search.entry.fitted.now (λ run. IsLastFrom search.entry.fitted.now run search.entry.points.now search.entry.t (window_start (positions (flat_in search.entry.fitted.now state.old) search.entry.t)) (search.entry.to + 1) h)) }
+    ensures reached { OnOk result (positions (flat_in search.entry.fitted.now state.new) search.entry.t ≡ search.entry.to) }
 {
     search.fitted.known();
     let mut found = found;

@@ -136,7 +136,7 @@ pub fn take_steps<H: Hands>(
     requires stands { StandsAt search.fitted.now (positions (flat_in search.fitted.now state.old)) state.old }
     requires below { positions (flat_in search.fitted.now state.old) search.t < search.to }
     ensures stands { StandsAt search.entry.fitted.now (positions (flat_in search.entry.fitted.now state.new)) state.new }
-    ensures passed { OnOk result (HasPassed search.entry.code.now search.t search.to (flat_in search.entry.fitted.now state.old) (flat_in search.entry.fitted.now state.new)) }
+    ensures passed { OnOk result (HasPassed search.entry.code.now search.entry.t search.entry.to (flat_in search.entry.fitted.now state.old) (flat_in search.entry.fitted.now state.new)) }
 {
     let Search {
         fitted,

@@ -16,7 +16,7 @@ returns-in-Some-clause-hit g c =
     let x = c.thread_of-in-steps in
     let y = c.thread_of-thread in
     let passage = is_passage f c.args.search.last.now c.args.search.code.now c.args.search.points.now c.note_all.new.notes t c.args.search.to old new x.result.now
-    x.ensures c.requires.search.last c.requires.search.code c.requires.search.covered c.steps.invariant.stands c.take_steps.ensures.stands
+    x.ensures c.requires.search.ends c.requires.search.words c.requires.search.covered c.steps.invariant.stands c.take_steps.ensures.stands
     c.in_ok-take_steps.ensures.passed c.note_all.ensures in
     next_found f c.args.search.last.now c.args.search.code.now c.args.search.points.now c.note_all.new.notes t c.args.search.to old new c.position-end.result
     (positions (flat_in f c.args.state.now) t) y.result.now h y.ensures passage c.position-end.ensures c.steps.invariant.above
@@ -34,7 +34,7 @@ steps-preserved g c =
     let above = c.steps.invariant.above in
     let passed = c.in_ok-take_steps.ensures.passed in
     let passage = is_passage f c.args.search.last.now c.args.search.code.now c.args.search.points.now c.note_all.new.notes t c.args.search.to old new x.result.now
-    x.ensures c.requires.search.last c.requires.search.code c.requires.search.covered c.steps.invariant.stands c.take_steps.ensures.stands passed
+    x.ensures c.requires.search.ends c.requires.search.words c.requires.search.covered c.steps.invariant.stands c.take_steps.ensures.stands passed
     c.note_all.ensures in
     record {
       stands = c.take_steps.ensures.stands;

@@ -9,7 +9,7 @@ use Rattle.ir_hits.proofs.stepping.take_steps.Goals as goal
 
 pub advance_unmarked-there-requires-clause-target : goal.advance_unmarked-there-requires-clause-target
 advance_unmarked-there-requires-clause-target g c =
-    (c.requires.search.last.size, last_consistent c.args.search.fitted.now c.args.search.last.now c.requires.search.last)
+    (c.requires.search.ends.size, last_consistent c.args.search.fitted.now c.args.search.last.now c.requires.search.ends)
 
 pub returns-then-taken-gt0-clause-passed : goal.returns-then-taken-gt0-clause-passed
 returns-then-taken-gt0-clause-passed g c =
