@@ -7,6 +7,7 @@ ghost use Rattle.ir_cut.specs.Positions.{EachRun};
 ghost use Rattle.ir_weave.specs.Standing.{flat_in};
 ghost use Rattle.ir_weave.specs.States.{positions};
 ghost use Rattle.ir_hits.specs.Hits.{AreWatchable, IsFirstHit, IsLastHit};
+ghost use Rattle.ir_hits.specs.Searching.{IsNextHit};
 ghost use Rattle.ir_timeline.specs.Hand.{IsInHand};
 ghost use Rattle.ir_timeline.specs.Positions.{last_of, threads_of};
 
@@ -73,6 +74,29 @@ pub fn hit_above<H: Hands>(
         hand.checkpoints.pass(fitted, &hand.state);
     }
     Ok(None)
+}
+
+/// Where a point first hits thread t above its present position and at most at another, if one does. The threads and objects advance to
+/// there, or to that other position; the other threads as far as its steps need.
+///
+/// # Errors
+/// Out of memory, with the threads and objects at some consistent cut.
+pub fn hit_up_to<H: Hands>(
+    hands: &H,
+    fitted: &Fitted,
+    hand: &mut InHand,
+    t: usize,
+    to: u64,
+    points: &[NumberedPoint],
+) -> Result<Option<Hit>, AllocError>
+    requires hand { IsInHand fitted.now hand.old }
+    requires thread { t < threads_of fitted.now }
+    requires within { (positions (flat_in fitted.now hand.old.state) t ≤ to) × (to ≤ last_of fitted.now t) }
+    requires points { AreWatchable points.now }
+    ensures hand { IsInHand fitted.now hand.new }
+    ensures hit { IfOk result (λ h. EachRun fitted.now (λ run. IsNextHit fitted.now run points.now t (positions (flat_in fitted.now hand.old.state) t) to h)) }
+{
+    first_hit(hands, fitted, &mut hand.state, t, to, points)
 }
 
 /// Where a point last hits thread t below a position, if one does. It looks at one window after the other, downwards, each from a state

@@ -6,7 +6,7 @@ ghost use Rattle.ir_timeline.specs.Hand.{IsInHand};
 ghost use Rattle.ir_timeline.specs.Replaying.{Replaying, IsReplaying};
 
 use crate::hand::InHand;
-use crate::searching::{hit_above, hit_below};
+use crate::searching::{hit_above, hit_below, hit_up_to};
 use ir_checkpoint::Checkpoints;
 use ir_command::{Direction, Hit};
 use ir_cut::Cut;
@@ -35,10 +35,11 @@ impl Model for Timeline {
 }
 
 impl Timeline {
-    ghost use Rattle.std.specs.Prelude.{◌<◌, IfOk, IsOk, OnOk};
+    ghost use Rattle.std.specs.Prelude.{◌<◌, ◌≤◌, IfOk, IsOk, OnOk};
     ghost use Rattle.ir_cut.specs.Positions.{EachRun, cut_of};
     ghost use Rattle.ir_hits.specs.Hits.{AreWatchable};
-    ghost use Rattle.ir_timeline.specs.Positions.{Cuts, Finds, first_cut, threads_of};
+    ghost use Rattle.ir_hits.specs.Searching.{IsNextHit};
+    ghost use Rattle.ir_timeline.specs.Positions.{Cuts, Finds, first_cut, last_of, threads_of};
     ghost use Rattle.ir_timeline.specs.Replaying.{IsThere};
 
     /// The guest at its start.
@@ -146,6 +147,31 @@ impl Timeline {
             return Err(AllocError);
         }
         self.find(hands, at, thread, direction, points)
+    }
+
+    /// The hit that a thread finds from its position in a cut upwards, at most at another position. The threads and objects are then at
+    /// some consistent cut.
+    ///
+    /// # Errors
+    /// Out of memory.
+    pub fn search_up_to<H: Hands>(
+        &mut self,
+        hands: &H,
+        at: &Cut,
+        thread: u32,
+        to: u64,
+        points: &[NumberedPoint],
+    ) -> Result<Option<Hit>, AllocError>
+        requires cut { Cuts self.old.fitted at.now }
+        requires thread { thread < threads_of self.old.fitted }
+        requires within { (cut_of at.now thread ≤ to) × (to ≤ last_of self.old.fitted thread) }
+        requires points { AreWatchable points.now }
+        ensures fitted { self.new.fitted ≡ self.old.fitted }
+        ensures finds { IfOk result (λ hit. EachRun self.old.fitted (λ run. IsNextHit self.old.fitted run points.now thread (cut_of at.now thread) to hit)) }
+    {
+        self.go_to(hands, at)?;
+        let t = thread as usize;
+        hit_up_to(hands, &self.fitted, &mut self.hand, t, to, points)
     }
 
     /// Keeps the state in hand, under the next number from 1 on. Beside the start 64 are kept at most.
