@@ -16,7 +16,6 @@ mod serving;
 mod sessions;
 mod showing;
 
-pub use announcing::announce;
 pub use answer::Answer;
 pub use answering::write_answer;
 pub use debugger::Debugger;
@@ -24,7 +23,4 @@ pub use ended::{Ended, SessionErr};
 pub use ir_command::{Command, Hit, Refusal, parse_line};
 pub use ir_hits::NumberedPoint;
 pub use ir_stream::{DeviceErr, FromStd, Sink, Source};
-pub use open::open;
-pub use opening::Opened;
-pub use serving::respond;
 pub use sessions::{MOST_INPUT, session, session_up_to};
