@@ -84,7 +84,7 @@ fn is_cut(fitted: &Fitted, cut: &Cut) -> bool
 
 // How many steps all threads take of a trace that fits.
 fn fitted(alloc: Global, image: Image, trace: Trace) -> Result<u64> {
-    let fitted = fit(alloc, image, trace).ok().context("a trace that fits")?;
+    let fitted = fit(alloc, image, trace, &OpenGate).ok().context("a trace that fits")?;
     Ok(all_steps(fitted.trace()))
 }
 
@@ -105,7 +105,7 @@ fn ends(alloc: Global, threads: &[ThreadTrace]) -> Result<Vec<u64>> {
 }
 
 fn to_the_end(alloc: Global, image: Image, trace: Trace) -> Result<Replay> {
-    let fitted = fit(alloc, image, trace).ok().context("a trace that fits")?;
+    let fitted = fit(alloc, image, trace, &OpenGate).ok().context("a trace that fits")?;
     let last = ends(alloc, fitted.trace().threads())?;
     Ok(Replay {
         fitted,

@@ -8,7 +8,7 @@ use ir_arguments::collected;
 use ir_files::ExitStatus;
 use ir_program::{Invocation, Surroundings, Terminals, program};
 use ir_stream::FromStd;
-use progress::Progress;
+use progress::{Progress, Wiping};
 use standard::stand_ins;
 use std::io::{self, BufReader, ErrorKind, IsTerminal};
 use std::process::ExitCode;
@@ -42,13 +42,13 @@ fn run<R: Threads + Wait + Sync + Clock + Eprint + AllocGlobal>(
         complain(rt, "memory ran out");
         return ExitStatus::Failed;
     };
-    let mut out = FromStd::new(io::writer(rt));
-    let mut faults = FromStd::new(rt.stderr());
     let terminals = Terminals {
         input: rt.stdin().is_terminal(),
         faults: rt.stderr().is_terminal(),
     };
     let progress = Progress::new(threads, terminals.faults);
+    let mut out = Wiping::new(FromStd::new(io::writer(rt)), &progress);
+    let mut faults = Wiping::new(FromStd::new(rt.stderr()), &progress);
     program(
         Surroundings {
             rt: threads,

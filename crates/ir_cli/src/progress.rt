@@ -1,18 +1,28 @@
-//! How far a long recording is.
+//! How far what takes long is.
+
+ghost use Rattle.std.specs.Prelude.{◌≡◌};
 
 use crossbeam_utils::CachePadded;
 use ir_image::MOST_THREADS;
 use ir_object::Gate;
 use ir_runs::Access;
 use ir_sources::millis_since;
+use ir_stream::{DeviceErr, Sink};
 use std::array;
-use std::sync::atomic::{AtomicU32, AtomicU64, Ordering};
+use std::sync::atomic::{AtomicBool, AtomicU32, AtomicU64, Ordering};
 use std::time::{Clock, Instant};
 
 // A thread looks at the clock once in this number of its steps.
 const STEPS_FOR_A_LOOK: u64 = 1 << 22;
 
-/// Shows on standard error, once a second, how many private steps all threads of a recording have taken.
+// Stands for the second of a show where there was none yet.
+const NEVER: u32 = u32::MAX;
+
+// As long as the longest line.
+const BLANKS: &str = "                              ";
+
+/// Shows on standard error, once a second, how many steps all threads have taken since the program wrote something last: of a
+/// recording the private ones.
 #[derive(Drop)]
 pub struct Progress<'a, R> {
     rt: &'a R,
@@ -22,6 +32,8 @@ pub struct Progress<'a, R> {
     steps: [CachePadded<AtomicU64>; MOST_THREADS as usize],
     // The second in which it was shown last.
     shown: AtomicU32,
+    // Whether its line stands on the terminal.
+    stands: AtomicBool,
 }
 
 impl<'a, R: Clock> Progress<'a, R> {
@@ -36,13 +48,14 @@ impl<'a, R: Clock> Progress<'a, R> {
             rt,
             start,
             steps: array::from_fn(|_| CachePadded::new(AtomicU64::new(0))),
-            shown: AtomicU32::new(0),
+            shown: AtomicU32::new(NEVER),
+            stands: AtomicBool::new(false),
         }
     }
 }
 
 impl<R: Clock + Eprint> Progress<'_, R> {
-    // Shows the sum, if none was shown in this second. What is printed next on the terminal takes its place.
+    // Shows the sum, if none was shown in this second. The first second is that of the first look.
     fn show(&self, start: Instant) {
         let Some(millis) = millis_since(self.rt, start) else {
             return;
@@ -53,15 +66,30 @@ impl<R: Clock + Eprint> Progress<'_, R> {
             .shown
             .compare_exchange(last, second, Ordering::Relaxed, Ordering::Relaxed)
             .is_ok();
-        if second == last || !is_first {
+        if second == last || last == NEVER || !is_first {
             return;
         }
+        self.stands.store(true, Ordering::Relaxed);
         let mut sum = 0u64;
         for steps in &self.steps {
             sum = sum.saturating_add(steps.load(Ordering::Relaxed));
         }
         let millions = sum / 1_000_000;
         let _ = self.rt.eprint(format_args!("{millions} million steps\r"));
+    }
+
+    // Takes its line off the terminal, if one stands there, and counts anew.
+    fn begin_anew(&self) {
+        if self.start.is_none() {
+            return;
+        }
+        if self.stands.swap(false, Ordering::Relaxed) {
+            let _ = self.rt.eprint(format_args!("{BLANKS}\r"));
+        }
+        for steps in &self.steps {
+            steps.store(0, Ordering::Relaxed);
+        }
+        self.shown.store(NEVER, Ordering::Relaxed);
     }
 }
 
@@ -83,5 +111,37 @@ impl<R: Clock + Eprint> Gate for Progress<'_, R> {
         if before / STEPS_FOR_A_LOOK != after / STEPS_FOR_A_LOOK {
             self.show(start);
         }
+    }
+}
+
+/// A sink that takes the line of the progress off the terminal before it writes, and lets it count anew.
+#[derive(Drop)]
+pub struct Wiping<'a, S, R> {
+    sink: S,
+    progress: &'a Progress<'a, R>,
+}
+
+impl<'a, S: Sink, R> Wiping<'a, S, R> {
+    /// The sink, beside the progress.
+    pub fn new(sink: S, progress: &'a Progress<'a, R>) -> Wiping<'a, S, R>
+        ensures written { S.written result.sink ≡ S.written sink }
+        ensures broken { S.broken result.sink ≡ S.broken sink }
+    {
+        Wiping { sink, progress }
+    }
+}
+
+impl<S: Sink, R: Clock + Eprint> Sink for Wiping<'_, S, R> {
+    ghost written = { λ w. S.written w.sink };
+
+    ghost broken = { λ w. S.broken w.sink };
+
+    fn write(&mut self, bytes: &[u8]) -> Result<usize, DeviceErr> {
+        self.progress.begin_anew();
+        self.sink.write(bytes)
+    }
+
+    fn failed(&self) -> bool {
+        self.sink.failed()
     }
 }

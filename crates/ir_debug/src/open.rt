@@ -9,39 +9,42 @@ use crate::debugger::Debugger;
 use crate::opening::Opened;
 use ir_fit::{FitErr, fit};
 use ir_image::{Image, ImageErr, read_image};
+use ir_object::Hands;
 use ir_trace::{Trace, TraceErr, read_trace};
-use std::alloc::{AllocError, Global};
+use std::alloc::AllocError;
 
-fn open_fitted(alloc: Global, image: Image, trace: Trace) -> Result<Opened, AllocError>
+fn open_fitted<H: Hands>(hands: &H, image: Image, trace: Trace) -> Result<Opened, AllocError>
     ensures { IfOk result (λ opened. OpensFit image trace (opening_of opened)) }
 {
-    match fit(alloc, image, trace) {
+    let alloc = hands.alloc();
+    match fit(alloc, image, trace, hands) {
         Ok(fitted) => Ok(Opened::Ready(Debugger::open(alloc, fitted)?)),
         Err(FitErr::Refused(verdict)) => Ok(Opened::Unfit(verdict)),
         Err(FitErr::NoMem) => Err(AllocError),
     }
 }
 
-fn open_trace(alloc: Global, image: Image, trace: &[u8]) -> Result<Opened, AllocError>
+fn open_trace<H: Hands>(hands: &H, image: Image, trace: &[u8]) -> Result<Opened, AllocError>
     ensures { IfOk result (λ opened. OpensTrace image (recorded_at trace.now) (opening_of opened)) }
 {
-    match read_trace(alloc, trace) {
-        Ok(trace) => open_fitted(alloc, image, trace),
+    match read_trace(hands.alloc(), trace) {
+        Ok(trace) => open_fitted(hands, image, trace),
         Err(TraceErr::NoMem) => Err(AllocError),
         Err(error) => Ok(Opened::TraceRefused(error)),
     }
 }
 
-/// What the bytes of an image and of a trace open: the image is judged first, then the trace, then the fit.
+/// What the bytes of an image and of a trace open: the image is judged first, then the trace, then the fit. The gate is told of the steps
+/// of the fit.
 ///
 /// # Errors
 /// Out of memory.
 #[tactic(auto, unfolding(crate::specs::Machine::Opening::Opens))]
-pub fn open(alloc: Global, image: &[u8], trace: &[u8]) -> Result<Opened, AllocError>
+pub fn open<H: Hands>(hands: &H, image: &[u8], trace: &[u8]) -> Result<Opened, AllocError>
     ensures { IfOk result (λ opened. Opens image.now trace.now (opening_of opened)) }
 {
-    match read_image(alloc, image) {
-        Ok(image) => open_trace(alloc, image, trace),
+    match read_image(hands.alloc(), image) {
+        Ok(image) => open_trace(hands, image, trace),
         Err(ImageErr::NoMem) => Err(AllocError),
         Err(error) => Ok(Opened::ImageRefused(error)),
     }

@@ -71,7 +71,7 @@ pub fn session_up_to<H: Hands, R: Source, W: Sink>(
         × Reads limit (R.left reader.old) (R.left reader.new)
         (AnsweredInPart image.now trace.now (R.left reader.new) (W.written writer.old) (W.written writer.new)) }
 {
-    let Ok(opened) = open(hands.alloc(), image, trace) else {
+    let Ok(opened) = open(hands, image, trace) else {
         return Err(SessionErr::NoMem);
     };
     match announce(&opened, writer) {

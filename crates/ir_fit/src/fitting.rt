@@ -16,6 +16,7 @@ use crate::follower::growing::{GrowingPlaces, all_grown};
 use crate::header::same_header;
 use crate::verdict::Verdict;
 use ir_image::Image;
+use ir_object::Gate;
 use ir_runs::ThreadVerdict;
 use ir_trace::Trace;
 use std::alloc::{AllocError, Global};
@@ -60,14 +61,14 @@ fn all_same(verdicts: &[ThreadVerdict]) -> bool
 }
 
 /// Whether a trace is that of a complete run of a guest's, under the budget that the trace names. The guest is run once,
-/// on this thread.
+/// on this thread, and the gate is told now and then of its steps, but of no entry and leave.
 ///
 /// # Errors
 /// `FitErr::NoMem` if memory runs out. Else `FitErr::Refused`, if no run of the guest has the trace. It comes with
 /// `Verdict::Header` if the trace has another number of threads or of objects, and with `Verdict::Incoherent` as from
 /// `coherent`. It comes with `Verdict::Threads` if not all threads of a run that follows the trace as far as any can are
 /// the same. Both image and trace are dropped.
-pub fn fit(alloc: Global, image: Image, trace: Trace) -> Result<Fitted, FitErr>
+pub fn fit<G: Gate>(alloc: Global, image: Image, trace: Trace, gate: &G) -> Result<Fitted, FitErr>
     ensures fits { IfOk result (λ f. (f.guest ≡ image) × (f.recorded ≡ trace)) }
     // A complete run of the guest has the trace.
     ensures run { IfOk result HasRun }
@@ -77,7 +78,7 @@ pub fn fit(alloc: Global, image: Image, trace: Trace) -> Result<Fitted, FitErr>
         return Err(FitErr::Refused(Verdict::Header(cause)));
     }
     coherent(alloc, &trace)?;
-    let follower = followed(alloc, &image, trace)?;
+    let follower = followed(alloc, &image, trace, gate)?;
     let verdicts = follower.verdicts(alloc)?;
     if !all_same(&verdicts) {
         return Err(FitErr::Refused(Verdict::Threads(verdicts)));

@@ -13,6 +13,7 @@ use crate::opened::{Opened, Refusal};
 use ir_files::ExitStatus;
 use ir_fit::{FitErr, fit};
 use ir_image::{Image, read_image};
+use ir_object::OpenGate;
 use ir_past::PastErr;
 use ir_stream::{DeviceErr, Sink, write_all};
 use ir_text::{refusal_line, write_verdict};
@@ -23,7 +24,7 @@ use std::alloc::{AllocError, Global};
 fn open_both(alloc: Global, image: Image, trace: Trace) -> Result<Opened, AllocError>
     ensures { IfOk result (λ o. (i t : List ℕ) → guest_at i ≡ Ok image → recorded_at t ≡ Ok trace → IsOpened i t o) }
 {
-    match fit(alloc, image, trace) {
+    match fit(alloc, image, trace, &OpenGate) {
         Ok(fitted) => {
             fitted.known();
             Ok(Opened::Fits(fitted))

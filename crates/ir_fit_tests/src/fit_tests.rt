@@ -5,6 +5,7 @@ use crate::guests::{
 };
 use ir_fit::{Cause, FitErr, Fitted, HeaderCause, Leave, Verdict, fit};
 use ir_image::Image;
+use ir_object::OpenGate;
 use ir_runs::{Access, ThreadVerdict};
 use ir_trace::read_trace;
 use std::alloc::Global;
@@ -37,7 +38,7 @@ fn said(verdict: &Verdict) -> Judged {
 // What `fit` answers of the guest and the trace of these bytes.
 pub fn answer_of(alloc: Global, image: Image, bytes: &[u8]) -> Result<Judged, Fail> {
     let trace = read_trace(alloc, bytes)?;
-    let answer = fit(alloc, image, trace);
+    let answer = fit(alloc, image, trace, &OpenGate);
     Ok(match &answer {
         Ok(_) => Judged::Fits,
         Err(FitErr::NoMem) => Judged::NoMem,
@@ -199,7 +200,7 @@ fn read_and_write_places(alloc: Global) -> Result<([u64; 2], [Option<Leave>; 3])
         11, 0, 0, 0, 0, 0, 0, 0, 1, 0, 0, 0, 0, 2, 0, 0, 0, // the thread
         4, 0, 0, 0, 0, 0, 5, 0, 0, 0, 0, 0, 1, 0, 0, 0, // its entries
     ];
-    let answer = fit(alloc, image, read_trace(alloc, &bytes)?);
+    let answer = fit(alloc, image, read_trace(alloc, &bytes)?, &OpenGate);
     Ok(match &answer {
         Ok(fitted) => first_places(fitted),
         Err(_) => ([0, 0], [None, None, None]),

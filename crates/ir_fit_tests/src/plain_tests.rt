@@ -6,6 +6,7 @@ use crate::plain_fit::{Answer, broken, standing};
 use ir_fit::{Cause, FitErr, Verdict, fit};
 use ir_flat::Flat;
 use ir_log::Event;
+use ir_object::OpenGate;
 use ir_runs::{EnvKind, ThreadVerdict};
 use ir_thread::Profile;
 use ir_trace::{Trace, read_trace};
@@ -151,7 +152,7 @@ fn refused(verdict: &Verdict) -> Answer {
 // What `fit` answers.
 fn by_fit(alloc: Global, starts: [u8; 2], trace: Trace) -> Result<Answer, Fail> {
     let image = guest(alloc, &starts, 1, &CODE)?;
-    match fit(alloc, image, trace) {
+    match fit(alloc, image, trace, &OpenGate) {
         Ok(_) => Ok(Answer::Fits),
         Err(FitErr::Refused(verdict)) => Ok(refused(&verdict)),
         Err(FitErr::NoMem) => Ok(Answer::Unsettled),

@@ -4,6 +4,7 @@ use crate::fit_tests::{CROSSED, READ_AND_WRITE, crossed_trace};
 use crate::guests::guest;
 use ir_fit::{Fitted, Place, fit};
 use ir_image::Image;
+use ir_object::OpenGate;
 use ir_runs::Access;
 use ir_trace::read_trace;
 use std::alloc::Global;
@@ -65,7 +66,7 @@ fn found_in(
     object: u8,
     access: Access,
 ) -> Result<Option<Found>, Fail> {
-    let answer = fit(alloc, image, read_trace(alloc, bytes)?);
+    let answer = fit(alloc, image, read_trace(alloc, bytes)?, &OpenGate);
     Ok(match &answer {
         Ok(fitted) => Some(found_of(fitted, object, access)),
         Err(_) => None,

@@ -7,13 +7,24 @@ use Rattle.ir_cut.specs.Positions.{cut_of}
 use Rattle.ir_thread.specs.State.{State}
 use Rattle.ir_hits.specs.declared.before.Before.{Before}
 use Rattle.ir_hits.specs.Seeing.{IsLowestOf}
-use Rattle.ir_hits.specs.Hits.{Numbered, HitByNumber, NoneWithin, IsLowest}
+use Rattle.ir_mach.specs.Marks.{Marked}
+use Rattle.ir_hits.specs.Hits.{Numbered, AreWatchable, HitByNumber, NoneWithin, IsLowest}
+use Rattle.ir_hits.specs.Passing.{AreCovered}
 use Rattle.ir_command.specs.declared.hit.Hit.{Hit}
 
 -- the last positions of the guest's threads
 pub record AreLast (f : FittedTrace) (last : List ℕ) : Type 0 where
   pub size : length last ≡ length f.guest.entries
   pub steps : (t : ℕ) → t < length f.guest.entries → cut_of last t ≡ (recorded_thread f.recorded t).steps
+
+-- a search for hits of thread t up to a position, over code that is marked wherever a point may hit it
+pub record IsSearch (f : FittedTrace) (t to : ℕ) (last : List ℕ) (code : Marked) (points : List Numbered) : Type 0 where
+  pub thread : t < length f.guest.entries
+  pub ends : AreLast f last
+  pub within : to ≤ cut_of last t
+  pub words : code.words ≡ f.guest.code
+  pub covered : AreCovered code t points
+  pub watchable : AreWatchable points
 
 -- no point hits thread t anywhere
 abbrev pub NeverHits : FittedTrace → List Step → List Numbered → ℕ → Type 0

@@ -4,22 +4,19 @@ ghost use Rattle.std.specs.Prelude.{◌≡◌, ◌<◌, ◌≤◌, ◌+◌, List
 ghost use Rattle.ir_runs.specs.Run.{Step};
 ghost use Rattle.ir_fit.specs.Fit.{FittedTrace};
 ghost use Rattle.ir_trace.specs.TraceOf.{recorded_thread};
-ghost use Rattle.ir_cut.specs.Positions.{EachRun, cut_of};
+ghost use Rattle.ir_cut.specs.Positions.{EachRun};
 ghost use Rattle.ir_weave.specs.Standing.{StandsAt, flat_in};
 ghost use Rattle.ir_weave.specs.States.{positions};
 ghost use Rattle.ir_hits.specs.Hits.{AreWatchable};
-ghost use Rattle.ir_hits.specs.Passing.{AreCovered};
-ghost use Rattle.ir_hits.specs.Searching.{AreLast, IsLastFrom, IsNextHit, IsStartHit, NeverHits, reached, window_start};
+ghost use Rattle.ir_hits.specs.Searching.{IsLastFrom, IsNextHit, IsSearch, IsStartHit, NeverHits, reached, window_start};
 
 use crate::before::Before;
 use crate::marking::marked_code;
 use crate::point::NumberedPoint;
 use crate::seeing::{lowest, note_all, some_concerns};
-use crate::stepping::{last_cut, take_steps, thread_of};
+use crate::stepping::{Search, last_cut, take_steps, thread_of};
 use ir_command::Hit;
-use ir_cut::Cut;
 use ir_fit::Fitted;
-use ir_mach::MarkedCode;
 use ir_object::Hands;
 use ir_replay::State;
 use ir_thread::Thread;
@@ -32,37 +29,29 @@ pub fn may_hit(t: usize, points: &[NumberedPoint]) -> bool
     some_concerns(t, points)
 }
 
-// Where a point hits thread t next, at most at a position. The thread advances to there, or to that position if none does.
+// Where a point hits the thread next. The thread advances to there, or to the end of the search if none does.
 fn next_hit<H: Hands>(
     hands: &H,
-    fitted: &Fitted,
+    search: Search<'_>,
     state: &mut State,
-    t: usize,
-    to: u64,
-    last: &Cut,
-    code: &MarkedCode<'_>,
-    points: &[NumberedPoint],
     notes: &mut [Before],
 ) -> Result<Option<Hit>, AllocError>
-    requires stands { StandsAt fitted.now (positions (flat_in fitted.now state.old)) state.old }
-    requires thread { t < length fitted.now.guest.entries }
-    requires last { AreLast fitted.now last.now }
-    requires within { (positions (flat_in fitted.now state.old) t ≤ to) × (to ≤ cut_of last.now t) }
-    requires code { code.now.words ≡ fitted.now.guest.code }
-    requires covered { AreCovered code.now t points.now }
-    requires points { AreWatchable points.now }
-    requires size { length notes.old ≡ length points.now }
-    ensures stands { StandsAt fitted.now (positions (flat_in fitted.now state.new)) state.new }
-    ensures hit { IfOk result (λ h. EachRun fitted.now (λ run. IsNextHit fitted.now run points.now t (positions (flat_in fitted.now state.old) t) to h)) }
-    ensures reached { IfOk result (λ h. positions (flat_in fitted.now state.new) t ≡ reached to h) }
+    requires search { IsSearch search.fitted.now search.t search.to search.last.now search.code.now search.points.now }
+    requires stands { StandsAt search.fitted.now (positions (flat_in search.fitted.now state.old)) state.old }
+    requires within { positions (flat_in search.fitted.now state.old) search.t ≤ search.to }
+    requires size { length notes.old ≡ length search.points.now }
+    ensures stands { StandsAt search.entry.fitted.now (positions (flat_in search.entry.fitted.now state.new)) state.new }
+    ensures hit { IfOk result (λ h. EachRun search.entry.fitted.now (λ run. IsNextHit search.entry.fitted.now run search.entry.points.now search.entry.t (positions (flat_in search.entry.fitted.now state.old) search.entry.t) search.entry.to h)) }
+    ensures reached { IfOk result (λ h. positions (flat_in search.entry.fitted.now state.new) search.entry.t ≡ reached search.entry.to h) }
     ensures size { length notes.new ≡ length notes.old }
 {
-    let end = last.position(t);
-    'steps: while thread_of(state, t).steps() < to {
-        note_all(thread_of(state, t), t, points, notes);
-        take_steps(hands, fitted, state, t, to, last, code)?;
+    let t = search.t;
+    let end = search.last.position(t);
+    'steps: while thread_of(state, t).steps() < search.to {
+        note_all(thread_of(state, t), t, search.points, notes);
+        take_steps(hands, search, state)?;
         let thread = thread_of(state, t);
-        if let Some(number) = lowest(thread, t, end, points, notes) {
+        if let Some(number) = lowest(thread, t, end, search.points, notes) {
             let position = thread.steps();
             return Ok(Some(Hit { position, number }));
         }
@@ -95,9 +84,15 @@ pub fn first_hit<H: Hands>(
     let last = last_cut(alloc, fitted)?;
     let code = marked_code(alloc, fitted.image().code(), t, points)?;
     let mut notes = vec![in alloc; Before::Nothing; points.len()]?;
-    next_hit(
-        hands, fitted, state, t, to, &last, &code, points, &mut notes,
-    )
+    let search = Search {
+        fitted,
+        t,
+        to,
+        last: &last,
+        code: &code,
+        points,
+    };
+    next_hit(hands, search, state, &mut notes)
 }
 
 // The hit of thread t at its present position, if that is its start and a point hits there.
@@ -123,35 +118,26 @@ fn start_hit(
     })
 }
 
-// Where a point last hits thread t in a window that ends at a position, where `found` is the last hit so far.
+// Where a point last hits the thread up to the end of the search, where `found` is the last hit so far.
 fn last_in<H: Hands>(
     hands: &H,
-    fitted: &Fitted,
+    search: Search<'_>,
     state: &mut State,
-    t: usize,
-    to: u64,
-    last: &Cut,
-    code: &MarkedCode<'_>,
-    points: &[NumberedPoint],
     notes: &mut [Before],
     found: Option<Hit>,
 ) -> Result<Option<Hit>, AllocError>
-    requires stands { StandsAt fitted.now (positions (flat_in fitted.now state.old)) state.old }
-    requires thread { t < length fitted.now.guest.entries }
-    requires last { AreLast fitted.now last.now }
-    requires within { (positions (flat_in fitted.now state.old) t ≤ to) × (to ≤ cut_of last.now t) }
-    requires code { code.now.words ≡ fitted.now.guest.code }
-    requires covered { AreCovered code.now t points.now }
-    requires points { AreWatchable points.now }
-    requires size { length notes.old ≡ length points.now }
-    requires found { EachRun fitted.now (λ run. IsLastFrom fitted.now run points.now t (window_start (positions (flat_in fitted.now state.old) t)) (positions (flat_in fitted.now state.old) t + 1) found) }
-    ensures stands { StandsAt fitted.now (positions (flat_in fitted.now state.new)) state.new }
-    ensures hit { IfOk result (λ h. EachRun fitted.now (λ run. IsLastFrom fitted.now run points.now t (window_start (positions (flat_in fitted.now state.old) t)) (to + 1) h)) }
-    ensures reached { OnOk result (positions (flat_in fitted.now state.new) t ≡ to) }
+    requires search { IsSearch search.fitted.now search.t search.to search.last.now search.code.now search.points.now }
+    requires stands { StandsAt search.fitted.now (positions (flat_in search.fitted.now state.old)) state.old }
+    requires within { positions (flat_in search.fitted.now state.old) search.t ≤ search.to }
+    requires size { length notes.old ≡ length search.points.now }
+    requires found { EachRun search.fitted.now (λ run. IsLastFrom search.fitted.now run search.points.now search.t (window_start (positions (flat_in search.fitted.now state.old) search.t)) (positions (flat_in search.fitted.now state.old) search.t + 1) found) }
+    ensures stands { StandsAt search.entry.fitted.now (positions (flat_in search.entry.fitted.now state.new)) state.new }
+    ensures hit { IfOk result (λ h. EachRun search.entry.fitted.now (λ run. IsLastFrom search.entry.fitted.now run search.entry.points.now search.entry.t (window_start (positions (flat_in search.entry.fitted.now state.old) search.entry.t)) (search.entry.to + 1) h)) }
+    ensures reached { OnOk result (positions (flat_in search.entry.fitted.now state.new) search.entry.t ≡ search.entry.to) }
 {
-    fitted.known();
+    search.fitted.known();
     let mut found = found;
-    'hits: while let Some(hit) = next_hit(hands, fitted, state, t, to, last, code, points, notes)? {
+    'hits: while let Some(hit) = next_hit(hands, search, state, notes)? {
         found = Some(hit);
     }
     Ok(found)
@@ -184,7 +170,13 @@ pub fn last_hit<H: Hands>(
     let mut notes = vec![in alloc; Before::Nothing; points.len()]?;
     let end = last.position(t);
     let found = start_hit(thread_of(state, t), t, end, points, &notes);
-    last_in(
-        hands, fitted, state, t, to, &last, &code, points, &mut notes, found,
-    )
+    let search = Search {
+        fitted,
+        t,
+        to,
+        last: &last,
+        code: &code,
+        points,
+    };
+    last_in(hands, search, state, &mut notes, found)
 }

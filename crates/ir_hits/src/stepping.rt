@@ -6,16 +6,30 @@ ghost use Rattle.ir_flat.specs.Flat.{idle};
 ghost use Rattle.ir_weave.specs.Standing.{StandsAt, flat_in};
 ghost use Rattle.ir_weave.specs.States.{positions};
 ghost use Rattle.ir_hits.specs.Passing.{HasPassed};
-ghost use Rattle.ir_hits.specs.Searching.{AreLast};
+ghost use Rattle.ir_hits.specs.Searching.{AreLast, IsSearch};
 
+use crate::point::NumberedPoint;
 use ir_cut::{Cut, least};
 use ir_fit::Fitted;
 use ir_mach::MarkedCode;
-use ir_object::Hands;
+use ir_object::{Hands, MOST_UNTOLD};
 use ir_replay::{Pace, State, advance, advance_alone, advance_unmarked};
 use ir_thread::Thread;
 use std::alloc::{AllocError, Global};
 use std::mem;
+
+// A search for where points hit thread t, up to a position.
+#[derive(Clone, Copy)]
+pub struct Search<'a> {
+    pub fitted: &'a Fitted,
+    pub t: usize,
+    pub to: u64,
+    // The last position of each thread.
+    pub last: &'a Cut,
+    // The guest's code, marked wherever a point may hit thread t.
+    pub code: &'a MarkedCode<'a>,
+    pub points: &'a [NumberedPoint],
+}
 
 // Thread t.
 pub fn thread_of(state: &State, t: usize) -> &Thread
@@ -111,33 +125,34 @@ fn take_step<H: Hands>(
     bring(hands, fitted, state, &next)
 }
 
-// Thread t advances, at most to a position: over instructions none of which is marked; or by its next step, if that isn't such a one.
-// The others stay, or advance as far as that step needs them.
+// The thread advances, at most to the end of the search: over instructions none of which is marked; or by its next step, if that isn't such
+// a one. The others stay, or advance as far as that step needs them.
 pub fn take_steps<H: Hands>(
     hands: &H,
-    fitted: &Fitted,
+    search: Search<'_>,
     state: &mut State,
-    t: usize,
-    to: u64,
-    last: &Cut,
-    code: &MarkedCode<'_>,
 ) -> Result<(), AllocError>
-    requires stands { StandsAt fitted.now (positions (flat_in fitted.now state.old)) state.old }
-    requires thread { t < length fitted.now.guest.entries }
-    requires last { AreLast fitted.now last.now }
-    requires code { code.now.words ≡ fitted.now.guest.code }
-    requires within { (positions (flat_in fitted.now state.old) t < to) × (to ≤ cut_of last.now t) }
-    ensures stands { StandsAt fitted.now (positions (flat_in fitted.now state.new)) state.new }
-    ensures passed { OnOk result (HasPassed code.now t to (flat_in fitted.now state.old) (flat_in fitted.now state.new)) }
+    requires search { IsSearch search.fitted.now search.t search.to search.last.now search.code.now search.points.now }
+    requires stands { StandsAt search.fitted.now (positions (flat_in search.fitted.now state.old)) state.old }
+    requires below { positions (flat_in search.fitted.now state.old) search.t < search.to }
+    ensures stands { StandsAt search.entry.fitted.now (positions (flat_in search.entry.fitted.now state.new)) state.new }
+    ensures passed { OnOk result (HasPassed search.entry.code.now search.entry.t search.entry.to (flat_in search.entry.fitted.now state.old) (flat_in search.entry.fitted.now state.new)) }
 {
+    let Search {
+        fitted,
+        t,
+        last,
+        ..
+    } = search;
     fitted.known();
-    let most = to - thread_of(state, t).steps();
+    let most = (search.to - thread_of(state, t).steps()).min(MOST_UNTOLD);
     let alloc = hands.alloc();
     let none = State::build(Vec::new(alloc), Vec::new(alloc));
     let here = mem::replace(state, none);
-    let (there, taken) = advance_unmarked(fitted, here, t, last, code, most);
+    let (there, taken) = advance_unmarked(fitted, here, t, last, search.code, most);
     *state = there;
     if taken > 0 {
+        hands.stepped(thread_of(state, t).number(), taken);
         return Ok(());
     }
     take_step(hands, fitted, state, t, last)

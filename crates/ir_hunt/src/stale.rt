@@ -9,6 +9,7 @@ ghost use Rattle.ir_thread.specs.Allowed.{IsAllowed};
 
 use ir_fit::{FitErr, fit};
 use ir_image::{Code, Image};
+use ir_object::OpenGate;
 use ir_record::{Turns, record_in_turns};
 use ir_record_run::RecordPlan;
 use ir_rests::has_rests;
@@ -68,7 +69,7 @@ fn has_stale<C: Clock>(
     ensures { IfOk result (HasStaleBy image.now plan.now (order_of_turns turns.now)) }
 {
     let trace = trace_of(alloc, clock, image, plan, turns)?;
-    match fit(alloc, copy_of(alloc, image)?, trace) {
+    match fit(alloc, copy_of(alloc, image)?, trace, &OpenGate) {
         Ok(fitted) => has_rests(alloc, &fitted),
         Err(FitErr::NoMem) => Err(AllocError),
         // It is the trace of a run.

@@ -10,8 +10,8 @@ pub trait Gate {
     /// The thread is about to leave the object.
     fn leaving(&self, thread: u8, object: u8, access: Access);
 
-    /// The thread has taken `_steps` private steps more. It is reported before each other step, and now and then when there is
-    /// none, while a recording is made, opened, moved through or searched.
+    /// The thread has taken `_steps` steps more. A recording reports private ones, before each other step and now and then when
+    /// there is none; what opens a recording, moves through it or searches it reports steps of all kinds, now and then.
     fn stepped(&self, _thread: u8, _steps: u64) {}
 }
 

@@ -13,10 +13,8 @@ use crate::fault::BundleErr;
 use crate::line::{bytes_of, read_line};
 use ir_debug::{Ended, Sink, Source, session};
 use ir_files::{ExitStatus, tell};
-use ir_object::{Given, OpenGate};
+use ir_object::Hands;
 use std::alloc::Global;
-use std::thread::Threads;
-use std::time::Clock;
 
 // The bytes of the next line of hexadecimal digits.
 fn next_bytes<R: Source>(alloc: Global, reader: &mut R) -> Result<Vec<u8>, BundleErr>
@@ -35,9 +33,8 @@ fn next_bytes<R: Source>(alloc: Global, reader: &mut R) -> Result<Vec<u8>, Bundl
 /// # Errors
 /// `BadLine`, with nothing written, where one of the two lines is no text of whole bytes in at most 4,194,304 digits of
 /// either case; out of memory; a fault of the session.
-pub fn bundled<T: Threads + Clock + Sync, R: Source, W: Sink>(
-    rt: &T,
-    alloc: Global,
+pub fn bundled<H: Hands, R: Source, W: Sink>(
+    hands: &H,
     reader: &mut R,
     writer: &mut W,
 ) -> Result<Ended, BundleErr>
@@ -52,11 +49,11 @@ pub fn bundled<T: Threads + Clock + Sync, R: Source, W: Sink>(
         (reader_of (R.left reader.old) (R.left reader.new) (R.broken reader.new))
         (writer_of (W.written writer.old) (W.written writer.new) (W.broken writer.new)) (writer.new ≡ writer.old)) }
 {
+    let alloc = hands.alloc();
     let image = next_bytes(alloc, reader)?;
     let trace = next_bytes(alloc, reader)?;
     let (image, trace) = (image.as_slice(), trace.as_slice());
-    let hands = Given::new(rt, alloc, &OpenGate);
-    let ended = session(&hands, image, trace, reader, writer)?;
+    let ended = session(hands, image, trace, reader, writer)?;
     Ok(ended)
 }
 
@@ -73,9 +70,8 @@ pub fn status(ended: Ended) -> ExitStatus
 
 /// Runs a bundled session, and gives the exit status: that of the session if it ended, and `Failed` for a fault, which is
 /// reported in one line.
-pub fn bundle<T: Threads + Clock + Sync, R: Source, W: Sink, E: Sink>(
-    rt: &T,
-    alloc: Global,
+pub fn bundle<H: Hands, R: Source, W: Sink, E: Sink>(
+    hands: &H,
     reader: &mut R,
     writer: &mut W,
     faults: &mut E,
@@ -93,7 +89,7 @@ pub fn bundle<T: Threads + Clock + Sync, R: Source, W: Sink, E: Sink>(
         (writer_of (W.written writer.old) (W.written writer.new) (W.broken writer.new)) (writer.new ≡ writer.old)
         × Reports (writer_of (E.written faults.old) (E.written faults.new) (E.broken faults.new)) (fault_text (fault_words e)) }
 {
-    match bundled(rt, alloc, reader, writer) {
+    match bundled(hands, reader, writer) {
         Ok(ended) => status(ended),
         Err(why) => {
             tell(faults, why.words());

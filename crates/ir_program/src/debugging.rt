@@ -13,14 +13,12 @@ use crate::bundles::status;
 use crate::fault::BundleErr;
 use ir_debug::{Sink, Source, session};
 use ir_files::{ExitStatus, tell};
-use ir_object::{Given, OpenGate};
-use std::thread::Threads;
-use std::time::Clock;
+use ir_object::Hands;
 
 /// Runs the session of an image and a trace over the lines of the reader, and gives the exit status: that of the session
 /// if it ended, and `Failed` for a fault, which is reported in one line.
-pub fn debug_run<T: Threads + Clock + Sync + AllocGlobal, R: Source, W: Sink, E: Sink>(
-    rt: &T,
+pub fn debug_run<H: Hands, R: Source, W: Sink, E: Sink>(
+    hands: &H,
     image: &[u8],
     trace: &[u8],
     reader: &mut R,
@@ -40,8 +38,7 @@ pub fn debug_run<T: Threads + Clock + Sync + AllocGlobal, R: Source, W: Sink, E:
         (writer_of (W.written writer.old) (W.written writer.new) (W.broken writer.new)) ((reader.new ≡ reader.old) × (writer.new ≡ writer.old))
         × Reports (writer_of (E.written faults.old) (E.written faults.new) (E.broken faults.new)) (fault_text (fault_words (fault_of e))) }
 {
-    let hands = Given::new(rt, rt.alloc(), &OpenGate);
-    match session(&hands, image, trace, reader, writer) {
+    match session(hands, image, trace, reader, writer) {
         Ok(ended) => status(ended),
         Err(error) => {
             tell(faults, BundleErr::from(error).words());

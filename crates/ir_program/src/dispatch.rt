@@ -18,7 +18,7 @@ use crate::prompting::Prompting;
 use ir_arguments::{Asked, Make, Print, parsed};
 use ir_debug::{Sink, Source};
 use ir_files::{ExitStatus, Folder};
-use ir_object::Gate;
+use ir_object::{Gate, Given};
 use ir_stream::write_all;
 use std::alloc::Global;
 use std::sync::Wait;
@@ -61,15 +61,17 @@ fn help<O: Sink, E: Sink>(text: &str, out: &mut O, faults: &mut E) -> ExitStatus
 }
 
 // The session of what is read, an image and a trace as lines of digits and then commands.
-fn bundled_session<R, I, O, E>(
+fn bundled_session<R, H, I, O, E>(
     rt: &R,
+    hands: &H,
     at_terminal: bool,
     input: I,
     out: &mut O,
     faults: &mut E,
 ) -> ExitStatus
 where
-    R: Threads + Wait + Sync + Clock + Eprint + AllocGlobal,
+    R: Eprint,
+    H: Hands,
     I: Source + Drop,
     O: Sink,
     E: Sink,
@@ -81,7 +83,7 @@ where
     if at_terminal {
         let _ = rt.eprint(format_args!("{WAITS}"));
     }
-    bundle(rt, rt.alloc(), &mut input, out, faults)
+    bundle(hands, &mut input, out, faults)
 }
 
 // Makes an image.
@@ -131,7 +133,7 @@ pub struct Surroundings<'a, R, D, G> {
     pub rt: &'a R,
     /// The files that the arguments name.
     pub folder: &'a D,
-    /// What is notified of what threads do while they record.
+    /// What is told of what threads do while they record, or while a session opens a recording, moves and searches.
     pub gate: &'a G,
 }
 
@@ -154,29 +156,21 @@ where
     requires writes { O.broken out.old ≡ false }
     requires reports { E.broken faults.old ≡ false }
 {
-    let Surroundings { rt, folder, gate } = around;
+    let (rt, folder) = (around.rt, around.folder);
     let alloc = rt.alloc();
+    let hands = Given::new(rt, alloc, around.gate);
     let terminals = invocation.terminals;
     match parsed(alloc, invocation.arguments) {
-        Asked::Session => bundled_session(rt, terminals.input, input, out, faults),
+        Asked::Session => bundled_session(rt, &hands, terminals.input, input, out, faults),
         Asked::Make(what) => make(alloc, folder, &what, terminals.faults, faults),
-        Asked::Record(arguments) => record_file(
-            rt,
-            folder,
-            gate,
-            &arguments,
-            terminals.faults,
-            out,
-            faults,
-        ),
-        Asked::Hunt(arguments) => {
-            hunt_file(rt, folder, &arguments, terminals.faults, out, faults)
+        Asked::Record(arguments) => {
+            record_file(&around, &arguments, terminals.faults, out, faults)
         }
+        Asked::Hunt(arguments) => hunt_file(&around, &arguments, terminals.faults, out, faults),
         Asked::Debug(arguments) => {
             let mut input = Prompting::new(input, rt, terminals.input);
             debug_files(
-                rt,
-                folder,
+                &around,
                 &arguments,
                 terminals.faults,
                 &mut input,

@@ -4,6 +4,7 @@ ghost use Rattle.std.specs.Prelude.{◌≡◌, false};
 
 use ir_debug::{DeviceErr, Sink, Source};
 use ir_files::WholeSink;
+use ir_object::{Given, OpenGate};
 use ir_program::{BundleErr, bundle, bundled};
 use std::test::Fail;
 use std::thread::Threads;
@@ -165,7 +166,12 @@ fn answered<R: AllocGlobal + Threads + Clock + Sync>(
     };
     let mut writer = empty_page(rt, most, ENDLESS);
     let mut faults = empty_page(rt, most, ENDLESS);
-    let status = bundle(rt, rt.alloc(), &mut reader, &mut writer, &mut faults);
+    let status = bundle(
+        &Given::new(rt, rt.alloc(), &OpenGate),
+        &mut reader,
+        &mut writer,
+        &mut faults,
+    );
     Ok((writer, faults, status.number()))
 }
 
@@ -240,7 +246,12 @@ fn lines_of_digits(rt: HostRuntime) {
         };
         let mut writer = empty_page(&rt, 100, ENDLESS);
         let mut faults = empty_page(&rt, 100, ENDLESS);
-        let status = bundle(&rt, rt.alloc(), &mut reader, &mut writer, &mut faults);
+        let status = bundle(
+            &Given::new(&rt, rt.alloc(), &OpenGate),
+            &mut reader,
+            &mut writer,
+            &mut faults,
+        );
         assert_eq!(rt; writer.bytes.as_slice(), answers);
         assert_eq!(rt; status.number(), wanted);
         let is_told = faults.bytes.as_slice().starts_with(b"ir: a line of the");
@@ -259,7 +270,11 @@ fn each_read_fails(rt: HostRuntime) -> Result<(), Fail> {
             failed: false,
         };
         let mut writer = empty_page(&rt, 100, ENDLESS);
-        let ended = bundled(&rt, rt.alloc(), &mut reader, &mut writer);
+        let ended = bundled(
+            &Given::new(&rt, rt.alloc(), &OpenGate),
+            &mut reader,
+            &mut writer,
+        );
         assert!(rt; matches!(ended, Err(BundleErr::Read)));
         assert!(rt; ANSWERS.starts_with(writer.bytes.as_slice()));
     }
@@ -276,7 +291,11 @@ fn each_write_fails(rt: HostRuntime) -> Result<(), Fail> {
             failed: false,
         };
         let mut writer = empty_page(&rt, 1, calls_left);
-        let ended = bundled(&rt, rt.alloc(), &mut reader, &mut writer);
+        let ended = bundled(
+            &Given::new(&rt, rt.alloc(), &OpenGate),
+            &mut reader,
+            &mut writer,
+        );
         assert!(rt; matches!(ended, Err(BundleErr::Write)));
         assert_eq!(rt; writer.bytes.len() as u64, calls_left);
         assert!(rt; ANSWERS.starts_with(writer.bytes.as_slice()));

@@ -9,7 +9,7 @@ ghost use Rattle.ir_weave.specs.Stepping.{steps_left};
 ghost use Rattle.ir_replay.specs.Rounds.{IsBetween, OneIsBelow, Goes};
 
 use crate::meter::Meter;
-use crate::pace::Pace;
+use crate::pace::{LONGEST_STRETCH, Pace};
 use crate::passes::{finish, follow};
 use crate::round::round;
 use crate::stretch::{known, stretch, with_code, without_code};
@@ -94,7 +94,7 @@ fn turn<H: Hands>(
     ensures alone { OneIsBelow target.now (positions (flat_in fitted.now state)) → IsOk result }
 {
     if is_alone(state.threads(), target) {
-        return Ok(stretch(fitted, state, target, u64::MAX, hands));
+        return Ok(stretch(fitted, state, target, LONGEST_STRETCH, hands));
     }
     let meter = Meter::start(hands, steps_of(state.threads()));
     let most = pace.stretch();
@@ -111,7 +111,7 @@ fn turn<H: Hands>(
 /// Brings the threads and objects to the target by rounds of workers, one for each thread, over a table that they share.
 /// A worker whose next step isn't admitted looks again for some milliseconds, then ends its round. Where the caller by itself is faster, it
 /// takes ever longer stretches of steps between rounds; where one thread alone has steps to take, it takes them all. What was found of this is
-/// in the pace, for the next part of a long move. Each entry and leave is reported to the gate.
+/// in the pace, for the next part of a long move. Each entry and leave is reported to the gate, and the steps now and then.
 ///
 /// # Errors
 /// Out of memory, with the state at a consistent cut between.

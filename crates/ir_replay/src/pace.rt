@@ -3,8 +3,8 @@
 // How many steps the caller takes by itself to see how fast it is.
 const TRIAL: u64 = 1 << 18;
 
-// At most so many it takes before the workers are tried again.
-const LONGEST_STRETCH: u64 = 1 << 25;
+// At most so many it takes before the workers are tried again, and at once: some tenths of a second.
+pub(crate) const LONGEST_STRETCH: u64 = 1 << 25;
 
 // It takes as many as it takes in so many times as long as the workers' round, so that their rounds are a small part of a move that is
 // the caller's.
@@ -15,6 +15,9 @@ const FIRST_ROUND: u32 = 5;
 
 // The longest.
 const LONGEST_ROUND: u32 = 1000;
+
+// After a round of so many milliseconds the caller shows anew how fast it is, since threads go through phases.
+const LONG_ROUND: u32 = 80;
 
 // Whose turn it is.
 #[derive(Clone, Copy)]
@@ -51,7 +54,7 @@ impl Pace {
     }
 
     // How many steps the caller takes now; none where it is the workers' turn.
-    pub fn stretch(self) -> u64 {
+    pub(crate) fn stretch(self) -> u64 {
         match self.turn {
             Turn::Workers => 0,
             Turn::Trial => TRIAL,
@@ -60,7 +63,7 @@ impl Pace {
     }
 
     // How many milliseconds the workers' turn may last, if some of them wait.
-    pub fn millis(self) -> u32 {
+    pub(crate) fn millis(self) -> u32 {
         self.millis
     }
 
@@ -77,17 +80,19 @@ impl Pace {
     }
 
     // After a round of so many steps in a millisecond, if that is known.
-    pub fn after_round(&mut self, rate: Option<u64>) {
+    pub(crate) fn after_round(&mut self, rate: Option<u64>) {
         self.together = rate;
         match (rate, self.alone) {
-            (Some(together), Some(alone)) => self.choose(together, alone),
-            (Some(_), None) => self.turn = Turn::Trial,
+            (Some(together), Some(alone)) if self.millis < LONG_ROUND => {
+                self.choose(together, alone)
+            }
+            (Some(_), _) => self.turn = Turn::Trial,
             (None, _) => self.turn = Turn::Workers,
         }
     }
 
     // After a stretch of so many steps in a millisecond, if that is known.
-    pub fn after_stretch(&mut self, rate: Option<u64>) {
+    pub(crate) fn after_stretch(&mut self, rate: Option<u64>) {
         self.alone = rate;
         match (self.turn, self.together, rate) {
             (Turn::Trial, Some(together), Some(alone)) => self.choose(together, alone),

@@ -7,6 +7,7 @@ ghost use Rattle.ir_weave.specs.Stepping.{IsTarget, IsUnder, Rests, steps_left};
 ghost use Rattle.ir_replay.specs.Passes.{IsPass};
 
 use crate::stepping::{go, step};
+use crate::telling::tell_steps;
 use ir_fit::Fitted;
 use ir_flat::Flat;
 use ir_object::{Gate, OpenGate};
@@ -25,7 +26,8 @@ pub fn follow(fitted: &Fitted, target: &[u64], flat: &mut Flat<'_>, order: &[u8]
     }
 }
 
-// Each thread in turn advances as far as it can by itself, all together by at most `most` steps. How many they took.
+// Each thread in turn advances as far as it can by itself, all together by at most `most` steps, of which the gate is told. How many they
+// took.
 fn pass<G: Gate>(fitted: &Fitted, target: &[u64], flat: &mut Flat<'_>, most: u64, gate: &G) -> u64
     requires target { IsTarget fitted.now target.now }
     requires under { IsUnder fitted.now target.now flat.old }
@@ -34,7 +36,9 @@ fn pass<G: Gate>(fitted: &Fitted, target: &[u64], flat: &mut Flat<'_>, most: u64
 {
     let mut taken = 0;
     for t in 0..target.len() {
-        taken += go(fitted, target, flat, t, most - taken, gate);
+        let more = go(fitted, target, flat, t, most - taken, gate);
+        tell_steps(gate, &flat.threads()[t], more);
+        taken += more;
     }
     taken
 }

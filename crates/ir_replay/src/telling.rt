@@ -22,3 +22,10 @@ pub fn tell_entry<G: Gate>(gate: &G, thread: &Thread, asked: Ask) {
         _ => {}
     }
 }
+
+// Reports steps that the thread has taken.
+pub fn tell_steps<G: Gate>(gate: &G, thread: &Thread, steps: u64) {
+    if steps > 0 {
+        gate.stepped(thread.number(), steps);
+    }
+}

@@ -13,7 +13,7 @@ use crate::telling::{tell_entry, tell_leave};
 use crossbeam_utils::{Backoff, CachePadded};
 use ir_cut::Cut;
 use ir_fit::Fitted;
-use ir_object::Hands;
+use ir_object::{Hands, MOST_UNTOLD, Untold};
 use ir_thread::{Ask, Thread};
 use ir_weave::{Tried, Weave, WeaveSeat};
 use std::thread;
@@ -72,19 +72,24 @@ fn work<H: Hands>(
     requires ready { IsReady weave.now.table.shared.table_id weave.now.table.shared.key target.now worker.old }
     ensures { HasWorked weave.now.table.shared.table_id weave.now.table.shared.key target.now worker.old worker.new }
 {
+    let number = worker.thread.number();
     let mut patience = Patience::new(limit);
+    let mut untold = Untold::new();
     'steps: loop {
-        let (_, asked) = weave.run(&worker.seat, &mut worker.thread, fitted, target);
-        let number = worker.thread.number();
+        let (seat, thread) = (&worker.seat, &mut worker.thread);
+        let (taken, asked) = weave.run(seat, thread, fitted, target, MOST_UNTOLD);
+        untold.add(hands, number, taken);
         if worker.thread.steps() >= target.position(number as usize) {
-            return;
+            break;
         }
         tell_leave(hands, number, asked);
         match try_again(hands, weave, worker, fitted, target, asked, &mut patience) {
             Tried::Stepped => tell_entry(hands, &worker.thread, asked),
-            Tried::NotNow | Tried::AtTarget => return,
+            Tried::NotNow | Tried::AtTarget => break,
         }
+        untold.add(hands, number, 1);
     }
+    untold.tell(hands, number);
 }
 
 // Each worker runs in a thread of its own, if one can be made, and otherwise on the caller's. Once so many milliseconds have passed, a worker

@@ -77,7 +77,7 @@ fn trace(alloc: Global, row: TraceRow) -> Result<Trace, Short> {
 // The guest of the source with its trace.
 fn fitted(alloc: Global, source: Source, row: TraceRow) -> Result<Fitted, Short> {
     let trace = trace(alloc, row)?;
-    match fit(alloc, guest(alloc, source)?, trace) {
+    match fit(alloc, guest(alloc, source)?, trace, &OpenGate) {
         Ok(fitted) => Ok(fitted),
         Err(FitErr::NoMem) => Err(Short::Memory),
         Err(_) => Err(Short::Wrong),

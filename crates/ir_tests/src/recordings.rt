@@ -110,7 +110,7 @@ pub fn fitted_by_threads<R: Threads + Wait + Sync>(
     let image = image_of(alloc, source)?;
     let recorded = counting_by_threads(rt, alloc, &image, &OpenGate, BUDGET, Profile::One);
     let (trace, outputs) = recorded?;
-    Ok((fit(alloc, image, trace)?, outputs))
+    Ok((fit(alloc, image, trace, &OpenGate)?, outputs))
 }
 
 /// The same in the second profile, with a gate.
@@ -123,7 +123,7 @@ pub fn tried_by_threads<R: Threads + Wait + Sync, G: Gate + Sync>(
     let image = image_for(alloc, Profile::Two, source)?;
     let recorded = counting_by_threads(rt, alloc, &image, gate, TRYING_BUDGET, Profile::Two);
     let (trace, outputs) = recorded?;
-    Ok((fit(alloc, image, trace)?, outputs))
+    Ok((fit(alloc, image, trace, &OpenGate)?, outputs))
 }
 
 /// The source's guest recorded in an order, whose trace fits.
@@ -137,7 +137,7 @@ pub fn fitted_in_order(
 {
     let image = image_of(alloc, source)?;
     let (trace, _outputs) = counting_in_order(alloc, &image, order, budget, Profile::One)?;
-    Ok(fit(alloc, image, trace)?)
+    Ok(fit(alloc, image, trace, &OpenGate)?)
 }
 
 /// The same in the second profile.
@@ -151,5 +151,5 @@ pub fn tried_in_order(
 {
     let image = image_for(alloc, Profile::Two, source)?;
     let (trace, _outputs) = counting_in_order(alloc, &image, order, budget, Profile::Two)?;
-    Ok(fit(alloc, image, trace)?)
+    Ok(fit(alloc, image, trace, &OpenGate)?)
 }

@@ -19,7 +19,7 @@ use std::time::Clock;
 // The guest with its trace, which fits.
 pub fn fitted(alloc: Global, source: &[&str], trace: TraceRow) -> Result<Fitted, Fail> {
     let trace = trace_of(alloc, trace)?;
-    Ok(fit(alloc, image_of(alloc, source)?, trace)?)
+    Ok(fit(alloc, image_of(alloc, source)?, trace, &OpenGate)?)
 }
 
 // Whether the cut has a position for each thread, and is consistent.

@@ -285,14 +285,15 @@ impl Weave {
         self.try_asked(seat, thread, fitted, target, asked)
     }
 
-    /// Takes private steps, up to the thread's target, until its next step is another: how many they are, and what the
-    /// thread asks then. They touch no word of the table.
+    /// Takes private steps, up to the thread's target and at most so many, until its next step is another: how many they are,
+    /// and what the thread asks then. They touch no word of the table.
     pub fn run(
         &self,
         seat: &WeaveSeat,
         thread: &mut Thread,
         fitted: &Fitted,
         target: &Cut,
+        most: u64,
     ) -> (u64, Ask)
         requires table { IsFor self.now.table.shared.key fitted.now }
         requires thread { IsSeated self.now.table.shared.key seat.now.me.0 thread.old }
@@ -301,10 +302,11 @@ impl Weave {
         ensures ran { HasRunOn self.now.table.shared.key seat.now.me.0 thread.old thread.new result.0 }
         ensures below { thread.new.steps ≤ cut_of target.now thread.new.number }
         ensures asked { result.1 ≡ ask_of fitted.now.guest.code thread.new }
-        // Why it stopped below the target.
-        ensures stops { thread.new.steps < cut_of target.now thread.new.number → result.1 ≢ ask.Private }
+        ensures few { result.0 ≤ most }
+        // Why it stopped below the target, with fewer.
+        ensures stops { thread.new.steps < cut_of target.now thread.new.number → result.0 < most → result.1 ≢ ask.Private }
     {
-        let limit = target.position(thread.number() as usize) - thread.steps();
-        thread.run(fitted.image().code(), limit)
+        let left = target.position(thread.number() as usize) - thread.steps();
+        thread.run(fitted.image().code(), left.min(most))
     }
 }

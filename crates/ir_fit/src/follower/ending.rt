@@ -15,6 +15,7 @@ use crate::follower::look::Look;
 use crate::follower::readiness::Readiness;
 use ir_flat::Flat;
 use ir_image::Image;
+use ir_object::Gate;
 use ir_runs::ThreadVerdict;
 use ir_trace::{ThreadTrace, Trace};
 use std::alloc::{AllocError, Global};
@@ -31,10 +32,11 @@ fn rooms(alloc: Global, emitted: &[ThreadTrace]) -> Result<Vec<GrowingPlaces>, A
 }
 
 // The guest of the image, run along the trace as far as any run can that follows it.
-pub fn followed<'a>(
+pub fn followed<'a, G: Gate>(
     alloc: Global,
     image: &'a Image,
     trace: Trace,
+    gate: &G,
 ) -> Result<Follower<'a>, AllocError>
     requires { HasHeader image.now trace }
     ensures followed { IfOk result (λ f. IsFollowed image.now trace f.flat f.places.items) }
@@ -53,7 +55,7 @@ pub fn followed<'a>(
         waiting: 0,
         places,
     };
-    follower.follow();
+    follower.follow(gate);
     Ok(follower)
 }
 

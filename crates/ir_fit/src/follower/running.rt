@@ -7,22 +7,28 @@ ghost use Rattle.ir_fit.specs.Follower.{GoesOn, IsSized};
 use crate::follower::Follower;
 use crate::follower::look::{Look, Move};
 use crate::follower::readiness::Readiness;
+use ir_object::{Gate, MOST_UNTOLD, Untold};
 
 impl Follower<'_> {
-    // Thread t continues while its steps follow the trace.
-    pub fn advance(&mut self, t: usize)
+    // Thread t continues while its steps follow the trace. The gate is told of its steps now and then.
+    pub fn advance<G: Gate>(&mut self, t: usize, gate: &G)
         requires sized { IsSized self.old }
         requires thread { t < length self.old.flat.threads }
         ensures goes { GoesOn self.old.trace self.old.flat self.old.places.items self.new.flat self.new.places.items }
         ensures trace { self.new.trace ≡ self.old.trace }
         ensures sized { IsSized self.new }
     {
+        let number = self.flat.threads()[t].number();
+        let mut untold = Untold::new();
         'steps: loop {
-            let left = self.steps_left(t);
-            let (_, asked) = self.flat.run_to_ask(t, left);
+            let ahead = self.steps_left(t);
+            let (taken, asked) = self.flat.run_to_ask(t, ahead.min(MOST_UNTOLD));
+            // With the step that it took before.
+            untold.add(gate, number, taken.saturating_add(1));
             let look = self.look_at(t, asked);
             let Look::Goes(next) = look else {
                 self.note(t, look);
+                untold.tell(gate, number);
                 return;
             };
             self.take(next);
@@ -82,7 +88,7 @@ impl Follower<'_> {
     }
 
     // Continues while any thread has a step that follows.
-    pub fn follow(&mut self)
+    pub fn follow<G: Gate>(&mut self, gate: &G)
         requires { IsSized self.old }
         ensures goes { GoesOn self.old.trace self.old.flat self.old.places.items self.new.flat self.new.places.items }
         ensures trace { self.new.trace ≡ self.old.trace }
@@ -91,7 +97,7 @@ impl Follower<'_> {
     {
         'moves: while let Some(next) = self.next() {
             self.take(next);
-            self.advance(next.thread);
+            self.advance(next.thread, gate);
         }
     }
 }

@@ -4,10 +4,12 @@ ghost use Rattle.std.specs.Prelude.{◌≡◌, false};
 
 use crate::commands::{bytes_of, say};
 use crate::debugging::debug_run;
+use crate::dispatch::Surroundings;
 use ir_arguments::DebugArguments;
 use ir_debug::{Sink, Source};
 use ir_files::{ExitStatus, Folder, MOST_BYTES};
 use ir_image::read_image;
+use ir_object::{Gate, Given};
 use ir_trace::read_trace;
 use std::alloc::{AllocError, Global};
 use std::thread::Threads;
@@ -72,9 +74,8 @@ pub fn explain_files<E: Sink>(
 }
 
 // The session of an image and a trace in files. If a person looks on, it is said in words why nothing was opened.
-pub fn debug_files<R, D, I, O, E>(
-    rt: &R,
-    folder: &D,
+pub fn debug_files<R, D, G, I, O, E>(
+    around: &Surroundings<'_, R, D, G>,
     arguments: &DebugArguments,
     explains: bool,
     reader: &mut I,
@@ -84,6 +85,7 @@ pub fn debug_files<R, D, I, O, E>(
 where
     R: Threads + Clock + Sync + AllocGlobal,
     D: Folder,
+    G: Gate + Sync,
     I: Source,
     O: Sink,
     E: Sink,
@@ -91,7 +93,8 @@ where
     requires writes { O.broken out.old ≡ false }
     requires reports { E.broken faults.old ≡ false }
 {
-    let alloc = rt.alloc();
+    let alloc = around.rt.alloc();
+    let folder = around.folder;
     let Some(image) = bytes_of(alloc, folder, faults, arguments.image.as_str(), MOST_BYTES) else {
         return ExitStatus::Failed;
     };
@@ -99,7 +102,8 @@ where
         return ExitStatus::Failed;
     };
     let (image, trace) = (image.as_slice(), trace.as_slice());
-    let status = debug_run(rt, image, trace, reader, out, faults);
+    let hands = Given::new(around.rt, alloc, around.gate);
+    let status = debug_run(&hands, image, trace, reader, out, faults);
     if explains {
         explain_files(alloc, image, trace, status, faults);
     }

@@ -11,6 +11,7 @@ use ir_events::{events_text, pcs};
 use ir_files::{ExitStatus, Folder, MOST_BYTES};
 use ir_fit::{FitErr, Fitted, fit};
 use ir_image::{Image, ImageErr, read_image};
+use ir_object::OpenGate;
 use ir_stream::{Sink, write_all};
 use ir_symbols::SymbolTable;
 use ir_text::{refusal_line, write_verdict};
@@ -38,7 +39,7 @@ fn print_fit<O: Sink>(
     symbols: &SymbolTable,
     out: &mut O,
 ) -> Result<ExitStatus, ListErr> {
-    match fit(alloc, image, trace) {
+    match fit(alloc, image, trace, &OpenGate) {
         Ok(fitted) => print_run(alloc, &fitted, symbols, out),
         Err(FitErr::Refused(verdict)) => {
             write_verdict(&verdict, out)?;

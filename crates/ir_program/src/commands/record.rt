@@ -4,6 +4,7 @@ ghost use Rattle.std.specs.Prelude.{◌≡◌, OnOk, false};
 
 use crate::commands::recording::{RecordingPaths, input_of, loses_input, output_places};
 use crate::commands::{bytes_of, say};
+use crate::dispatch::Surroundings;
 use crate::ends::{all_ended, tell_ends};
 use ir_arguments::{Chaos, RecordArguments};
 use ir_files::{ExitStatus, Folder, MOST_BYTES, OutputFiles, WholeFile};
@@ -174,9 +175,7 @@ fn status_of<E: Sink>(
 
 // Records a guest into a file, and what its threads print into others where they are asked for.
 pub fn record_file<R, D, G, O, E>(
-    rt: &R,
-    folder: &D,
-    gate: &G,
+    around: &Surroundings<'_, R, D, G>,
     arguments: &RecordArguments,
     explains: bool,
     out: &mut O,
@@ -191,6 +190,7 @@ where
     requires writes { O.broken out.old ≡ false }
     requires reports { E.broken faults.old ≡ false }
 {
+    let (rt, folder) = (around.rt, around.folder);
     let alloc = rt.alloc();
     let place = arguments.trace.as_str();
     if loses_input(folder, faults, &paths(arguments)) {
@@ -212,7 +212,7 @@ where
     let mut outputs = OutputFiles::new(folder, paths, place);
     match record_run(
         rt,
-        gate,
+        around.gate,
         &image,
         &plan,
         &mut trace,

@@ -11,14 +11,14 @@ use Rattle.ir_fit.proofs.Furthest.{breaks_refuse, threads_refuse, threads_accept
 use Rattle.ir_fit.proofs.fitting.fit.Goals as goal
 
 pub returns-in_err-coherent-clause-refused : goal.returns-in_err-coherent-clause-refused
-returns-in_err-coherent-clause-refused c =
+returns-in_err-coherent-clause-refused g c =
     let p = err_from_is_err_and c.from_residual.result c.from_residual.ensures.1 in
     subst (λ z. IfErr z (IsRefused c.args.image c.args.trace)) (sym p.1)
     (subst (IsRefused c.args.image c.args.trace) (sym p.2)
     (breaks_refuse c.args.image c.args.trace c.in_default.ensures.same c.in_err-coherent.field-0.0 c.in_err-coherent.ensures.breaks))
 
 pub returns-then-not-all_same-clause-refused : goal.returns-then-not-all_same-clause-refused
-returns-then-not-all_same-clause-refused c =
+returns-then-not-all_same-clause-refused g c =
     let r : Recorded = c.args.trace in
     let vs : List ThreadVerdict = c.in_ok-verdicts.verdicts.items in
     let is : IsRecorded r = subst IsRecorded c.trace.view_is c.trace.invariant in
@@ -34,7 +34,7 @@ returns-then-not-all_same-clause-refused c =
     (subst (λ xs. slice_get xs w.0 ≡ Some w.1) c.deref.ensures.value w.2) w.3
 
 pub new-requires : goal.new-requires
-new-requires c =
+new-requires g c =
     let vs : List ThreadVerdict = c.in_ok-verdicts.verdicts.items in
     let stand : AreStanding c.args.trace c.in_ok-follower.follower.flat c.in_ok-follower.follower.places.items vs =
     subst (λ z. AreStanding z c.in_ok-follower.follower.flat c.in_ok-follower.follower.places.items vs) c.in_ok-follower.ensures.trace

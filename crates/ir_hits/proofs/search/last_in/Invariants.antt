@@ -7,13 +7,13 @@ use Rattle.ir_hits.proofs.search.last_in.Given as goal
 
 abbrev pub invariant-hits : goal.invariant-hits
 invariant-hits g l = record {
-  stands : StandsAt l.fitted (positions (flat_in l.fitted l.state)) l.state;
-  within : positions (flat_in l.fitted l.state) l.t ≤ l.to;
-  above : positions (flat_in l.fitted l.fn.state) l.t ≤ positions (flat_in l.fitted l.state) l.t;
-  last : EachRun l.fitted (λ run. IsLastFrom l.fitted run l.points l.t (window_start (positions (flat_in l.fitted l.fn.state) l.t))
-      (positions (flat_in l.fitted l.state) l.t + 1) l.found);
-  size : length l.notes ≡ length l.points;
+  stands : StandsAt l.search.fitted.now (positions (flat_in l.search.fitted.now l.state)) l.state;
+  within : positions (flat_in l.search.fitted.now l.state) l.search.t ≤ l.search.to;
+  above : positions (flat_in l.search.fitted.now l.fn.state) l.search.t ≤ positions (flat_in l.search.fitted.now l.state) l.search.t;
+  last : EachRun l.search.fitted.now (λ run. IsLastFrom l.search.fitted.now run l.search.points.now l.search.t (window_start (positions (flat_in l.search.fitted.now l.fn.state) l.search.t))
+      (positions (flat_in l.search.fitted.now l.state) l.search.t + 1) l.found);
+  size : length l.notes ≡ length l.search.points.now;
 }
 
 abbrev pub decreases-hits : goal.decreases-hits
-decreases-hits g l = l.to - positions (flat_in l.fitted l.state) l.t
+decreases-hits g l = l.search.to - positions (flat_in l.search.fitted.now l.state) l.search.t

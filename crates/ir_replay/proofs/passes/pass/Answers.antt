@@ -6,8 +6,8 @@ pub loop-t-preserved : goal.loop-t-preserved
 loop-t-preserved g c =
     let i = c.loop-t.invariant in
     record {
-      within = let a = i.within in let b = c.go-taken.ensures.within in omega (arith, a, b);
-      passed = pass_on c.args.fitted.now c.args.target.now c.args.flat.now c.loop-t.flat c.go-taken.new.flat c.loop-t.taken c.args.most
-          c.loop-t.t c.go-taken.result i.passed c.loop-t-test.true c.go-taken.ensures.under c.go-taken.ensures.gone
-          c.go-taken.ensures.rests;
+      within = let a = i.within in let b = c.go-more.ensures.within in omega (arith, a, b);
+      passed = pass_on c.args.fitted.now c.args.target.now c.args.flat.now c.loop-t.flat c.go-more.new.flat c.loop-t.taken c.args.most
+          c.loop-t.t c.go-more.result i.passed c.loop-t-test.true c.go-more.ensures.under c.go-more.ensures.gone
+          c.go-more.ensures.rests;
     }

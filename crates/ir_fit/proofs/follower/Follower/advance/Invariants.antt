@@ -3,11 +3,11 @@ use Rattle.ir_fit.specs.Follower.{all_ahead, GoesOn, IsSized}
 use Rattle.ir_fit.proofs.follower.Follower.advance.Given as goal
 
 abbrev pub invariant-steps : goal.invariant-steps
-invariant-steps l = record {
+invariant-steps g l = record {
   goes : GoesOn l.fn.self.trace l.fn.self.flat l.fn.self.places.items l.self.flat l.self.places.items;
   trace : l.self.trace ≡ l.fn.self.trace;
   sized : IsSized l.self;
 }
 
 abbrev pub decreases-steps : goal.decreases-steps
-decreases-steps l = all_ahead l.self.trace l.self.flat
+decreases-steps g l = all_ahead l.self.trace l.self.flat

@@ -3,7 +3,7 @@ use Rattle.ir_fit.proofs.Moves.{stays, chained, chained_less}
 use Rattle.ir_fit.proofs.follower.Follower.follow.Goals as goal
 
 pub moves-init : goal.moves-init
-moves-init c = record {
+moves-init g c = record {
   goes = stays c.args.self.now.trace c.args.self.now.flat c.args.self.now.places.items;
   trace = refl;
   sized =
@@ -11,7 +11,7 @@ moves-init c = record {
 }
 
 pub moves-preserved : goal.moves-preserved
-moves-preserved c = record {
+moves-preserved g c = record {
   goes = chained c.args.self.now.trace c.next.new.self.trace c.take.new.self.trace c.args.self.now.flat c.moves.self.flat
       c.next.new.self.flat c.take.new.self.flat c.advance.new.self.flat
       c.args.self.now.places.items c.moves.self.places.items c.next.new.self.places.items c.take.new.self.places.items
@@ -23,6 +23,6 @@ moves-preserved c = record {
 }
 
 pub moves-smaller : goal.moves-smaller
-moves-smaller c = chained_less c.moves.self.trace c.next.new.self.trace c.take.new.self.trace c.advance.new.self.trace c.moves.self.flat
+moves-smaller g c = chained_less c.moves.self.trace c.next.new.self.trace c.take.new.self.trace c.advance.new.self.trace c.moves.self.flat
     c.next.new.self.flat c.take.new.self.flat c.advance.new.self.flat c.take.new.self.places.items c.advance.new.self.places.items
     c.next.ensures.flat c.next.ensures.trace c.take.ensures.fewer c.advance.ensures.goes c.advance.ensures.trace

@@ -9,11 +9,11 @@ use Rattle.ir_fit.proofs.Moves.{followed_there, start_placed, start_none, room_f
 use Rattle.ir_fit.proofs.follower.ending.followed.Goals as goal
 
 pub start-requires-clause-allowed : goal.start-requires-clause-allowed
-start-requires-clause-allowed c = subst (λ (p : Profile). IsAllowed p c.args.image.now) (sym c.profile.ensures)
+start-requires-clause-allowed g c = subst (λ (p : Profile). IsAllowed p c.args.image.now) (sym c.profile.ensures)
     (allowed c.args.image.now c.args.trace c.budget.ensures.within c.requires)
 
 pub follow-requires : goal.follow-requires
-follow-requires c =
+follow-requires g c =
     let start : c.in_ok-flat.flat ≡ start_flat c.args.image.now c.budget.result c.profile.result = c.in_ok-flat.ensures in
     let threads : length c.in_ok-flat.flat.threads ≡ length c.args.image.now.entries = ap (λ f. length f.threads) start
     ∙ threads_length c.args.image.now c.budget.result c.profile.result 0 (length c.args.image.now.entries) in
@@ -29,7 +29,7 @@ follow-requires c =
     }
 
 pub returns-clause-followed : goal.returns-clause-followed
-returns-clause-followed c =
+returns-clause-followed g c =
     let start : c.in_ok-flat.flat ≡ start_flat c.args.image.now c.args.trace.budget c.args.trace.profile = c.in_ok-flat.ensures
     ∙ (λ i. start_flat c.args.image.now (c.budget.ensures.value i) (c.profile.ensures i)) in
     let rooms : c.in_ok-places.places.items ≡ map room_for c.args.trace.threads = c.in_ok-places.ensures

@@ -9,7 +9,7 @@ use Rattle.ir_weave.proofs.weave.Weave.run.Goals.{After-run}
 room : (c : After-run) → c.args.thread.now.steps + c.run.result.0 ≤ cut_of c.args.target.now c.args.thread.now.number
 room c = let at : c.position.result ≡ cut_of c.args.target.now c.args.thread.now.number = c.position.ensures
     ∙ ap (cut_of c.args.target.now) c.number.ensures in
-    let few = c.run.ensures.within in let now = c.steps.ensures.value in let below = c.requires.below in omega (arith, at, few, now, below)
+    let few = c.run.ensures.within in let m = c.min.ensures in let now = c.steps.ensures.value in let below = c.requires.below in omega (arith, at, few, m, now, below)
 
 ran : (c : After-run) → HasRunOn c.args.self.now.table.shared.key c.args.seat.now.me.0 c.args.thread.now c.run.new.self c.run.result.0
 ran c = runs_on c.args.self.now.table.shared.key c.args.fitted.now c.code.result.now c.args.seat.now.me.0
@@ -28,7 +28,7 @@ returns-clause-asked c = c.run.ensures.asked
     ∙ ap (λ (k : List ℕ). ask_of k c.run.new.self) (c.code.ensures.value ∙ ap (λ g. g.code) c.image.ensures.value)
 
 pub returns-clause-stops : goal.returns-clause-stops
-returns-clause-stops c = λ below.
+returns-clause-stops c = λ below fewer.
     let r = ran c in
     let at : c.position.result ≡ cut_of c.args.target.now c.args.thread.now.number = c.position.ensures
     ∙ ap (cut_of c.args.target.now) c.number.ensures in
@@ -36,4 +36,5 @@ returns-clause-stops c = λ below.
     let steps = r.steps in
     let short : c.run.new.self.steps < cut_of c.args.target.now c.args.thread.now.number =
     subst (λ t. c.run.new.self.steps < cut_of c.args.target.now t) r.number below in
-    c.run.ensures.stops (omega (arith, at, now, steps, short))
+    let m = c.min.ensures in
+    c.run.ensures.stops (omega (arith, at, now, steps, short, m, fewer))
