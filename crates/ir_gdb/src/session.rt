@@ -68,7 +68,7 @@ pub fn connect<H: Hands, R: Source, W: Sink, E: Sink>(
     requires reads { R.broken reader.old ≡ false }
     requires writes { W.broken writer.old ≡ false }
 {
-    let Ok(opened) = open(hands.alloc(), image, trace) else {
+    let Ok(opened) = open(hands, image, trace) else {
         return Err(SessionErr::NoMem);
     };
     match opened {
