@@ -1,4 +1,4 @@
-mod Opened
+mod Openings
 mod Replying
 mod Machine
 mod Desks

@@ -1,2 +1,3 @@
 mod There
 mod Words
+mod Stubs

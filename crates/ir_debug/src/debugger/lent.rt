@@ -51,8 +51,9 @@ impl Debugger {
         ensures size { IfOk result (λ c. length c ≡ threads_of self.now.desk.fitted) }
         ensures consistent { IfOk result (λ c. IsConsistentCut self.now.desk.fitted c) }
     {
+        let fitted = self.timeline.fitted();
         let t = thread as usize;
-        stop_at(alloc, self.fitted(), &self.at, t, direction, position)
+        stop_at(alloc, fitted, &self.at, t, direction, position)
     }
 
     /// Brings the run in hand to a cut that isn't the debugger's, which stays.

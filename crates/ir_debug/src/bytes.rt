@@ -3,7 +3,7 @@
 ghost use Rattle.std.specs.Prelude.{◌≡◌, IfOk, Ok};
 ghost use Rattle.ir_trace.specs.Reading.{recorded_at};
 ghost use Rattle.ir_debug.specs.Machine.Opening.{Opens, OpensImage, OpensTrace, OpensFit};
-ghost use Rattle.ir_debug.specs.Opened.{opening_of};
+ghost use Rattle.ir_debug.specs.Openings.{opening_of};
 
 use crate::debugger::Debugger;
 use crate::opening::Opened;

@@ -15,7 +15,7 @@ use Rattle.ir_debug.specs.Machine.Desk.{Desk}
 use Rattle.ir_debug.specs.Machine.Answers.{Replies, quits}
 use Rattle.ir_debug.specs.Machine.Opening.{Opening, ImageRefused, TraceRefused, Unfit, Ready, Opens, opening_text}
 use Rattle.ir_debug.specs.Debugging.{Debugging}
-use Rattle.ir_debug.specs.Opened.{opening_of}
+use Rattle.ir_debug.specs.Openings.{opening_of}
 use Rattle.ir_debug.specs.declared.opening.Opened.{Opened}
 use Rattle.ir_debug.specs.declared.opening.Opened.TheVariants as opened
 use Rattle.ir_debug.specs.Session.{Session, AnsweredInPart, SessionText, Writes, WritesInPart, IfServed, ended_by, ending_of}
