@@ -1,3 +1,4 @@
 mod There
 mod Words
 mod Stubs
+mod Numbered

@@ -58,9 +58,9 @@ abbrev pub AnswersLine : Bool → Link → List ℕ → List ℕ → Link → Ty
 AnswersLine true l line text next = (text ≡ packet_of (reply_text reply.NotPermitted)) × (next ≡ sent l l.stub)
 AnswersLine false l line text next =
     ((answer : List ℕ) × (d : Desk) × session.Replies l.stub.desk line answer d
-        × (text ≡ answer_text answer ++ packet_of (reply_text reply.Done)) × (next ≡ sent l (with_desk l.stub d)))
+    × (text ≡ answer_text answer ++ packet_of (reply_text reply.Done)) × (next ≡ sent l (with_desk l.stub d)))
     ⊎ (((next ≡ sent l l.stub) ⊎ ((answer : List ℕ) × (d : Desk) × session.Replies l.stub.desk line answer d × (next ≡ sent l (with_desk l.stub d))))
-        × (text ≡ packet_of (reply_text reply.NoMemory)))
+    × (text ≡ packet_of (reply_text reply.NoMemory)))
 
 -- ---- packets
 

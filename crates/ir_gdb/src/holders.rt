@@ -1,7 +1,8 @@
 //! The breakpoints and the watches that gdb has set.
 
 ghost use Rattle.std.specs.Prelude.{◌≡◌};
-ghost use Rattle.ir_gdb.specs.Setting.{is_same_break, is_same_watch, has_break, has_watch, breaks_without, watches_without, most_points};
+ghost use Rattle.ir_gdb.specs.Setting.{is_same_break, is_same_watch, has_break, has_watch, breaks_without, watches_without};
+ghost use Rattle.ir_gdb.specs.Stub.{most_points};
 
 use crate::point::{Breakpoint, Watched};
 use std::alloc::{AllocError, Global};
@@ -54,7 +55,7 @@ impl Model for Breaks {
     ghost use Rattle.std.specs.Prelude.{◌≤◌, List};
     ghost use Rattle.std.specs.Vec.{vec_capacity};
     ghost use Rattle.ir_gdb.specs.declared.point.Breakpoint.{Breakpoint};
-    ghost use Rattle.ir_gdb.specs.Setting.{most_points};
+    ghost use Rattle.ir_gdb.specs.Stub.{most_points};
 
     ghost Value = { List Breakpoint };
 
@@ -110,7 +111,7 @@ impl Model for Watches {
     ghost use Rattle.std.specs.Prelude.{◌≤◌, List};
     ghost use Rattle.std.specs.Vec.{vec_capacity};
     ghost use Rattle.ir_gdb.specs.declared.point.Watched.{Watched};
-    ghost use Rattle.ir_gdb.specs.Setting.{most_points};
+    ghost use Rattle.ir_gdb.specs.Stub.{most_points};
 
     ghost Value = { List Watched };
 

@@ -141,7 +141,7 @@ pub fn points_upwards(
     requires few { length halts.watches.now + length halts.breaks.now ≤ 64 }
     requires watched { AllByRecursion IsWatched halts.watches.now }
     requires own { AreWatchable halts.own.now }
-    ensures points { IfOk result (λ v. v.items ≡ points_upwards thread halts.watches.now halts.breaks.now halts.own.now) }
+    ensures points { IfOk result (λ v. v.items ≡ points_upwards thread halts.entry.watches.now halts.entry.breaks.now halts.entry.own.now) }
     ensures watchable { IfOk result (λ v. AreWatchable v.items) }
 {
     let mut points = Vec::new(alloc);
@@ -165,7 +165,7 @@ pub fn points_downwards(
     requires few { length halts.watches.now + length halts.breaks.now ≤ 64 }
     requires watched { AllByRecursion IsWatched halts.watches.now }
     requires own { AreWatchable halts.own.now }
-    ensures points { IfOk result (λ v. v.items ≡ points_downwards thread halts.watches.now halts.breaks.now halts.own.now) }
+    ensures points { IfOk result (λ v. v.items ≡ points_downwards thread halts.entry.watches.now halts.entry.breaks.now halts.entry.own.now) }
     ensures watchable { IfOk result (λ v. AreWatchable v.items) }
 {
     let mut points = Vec::new(alloc);
