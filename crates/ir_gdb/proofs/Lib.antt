@@ -1,4 +1,4 @@
 mod There
 mod Words
 mod Stubs
-mod Numbered
+mod SearchPoints

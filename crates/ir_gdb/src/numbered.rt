@@ -138,7 +138,7 @@ pub fn points_upwards(
     thread: u32,
     halts: Halts<'_>,
 ) -> Result<Vec<NumberedPoint>, AllocError>
-    requires few { length halts.watches.now + length halts.breaks.now ≤ 64 }
+    requires few { length halts.breaks.now + length halts.watches.now ≤ 64 }
     requires watched { AllByRecursion IsWatched halts.watches.now }
     requires own { AreWatchable halts.own.now }
     ensures points { IfOk result (λ v. v.items ≡ points_upwards thread halts.entry.watches.now halts.entry.breaks.now halts.entry.own.now) }
@@ -162,7 +162,7 @@ pub fn points_downwards(
     thread: u32,
     halts: Halts<'_>,
 ) -> Result<Vec<NumberedPoint>, AllocError>
-    requires few { length halts.watches.now + length halts.breaks.now ≤ 64 }
+    requires few { length halts.breaks.now + length halts.watches.now ≤ 64 }
     requires watched { AllByRecursion IsWatched halts.watches.now }
     requires own { AreWatchable halts.own.now }
     ensures points { IfOk result (λ v. v.items ≡ points_downwards thread halts.entry.watches.now halts.entry.breaks.now halts.entry.own.now) }

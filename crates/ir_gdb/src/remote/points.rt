@@ -6,17 +6,17 @@ ghost use Rattle.ir_gdb.specs.Setting.{is_code_word, can_watch, room_setting, br
 use crate::holders::{MOST_POINTS, has_break, has_watch};
 use crate::point::{Breakpoint, Setting, Watched};
 use crate::remote::Remote;
-use ir_image::{CODE_START, Code, MEMORY_SIZE, MEMORY_START};
+use ir_image::{CODE_START, Image, MEMORY_SIZE, MEMORY_START};
 use ir_packet::Reply;
 
 // The most bytes of a watch.
 const MOST_WATCHED: u32 = 256;
 
 // Whether an address is that of a word of the code.
-fn is_code_word(code: &Code, address: u32) -> bool
-    ensures { result ≡ is_code_word code.now address }
+fn is_code_word(image: &Image, address: u32) -> bool
+    ensures { result ≡ is_code_word image.now address }
 {
-    let code_end = u64::from(CODE_START) + 4 * code.words().len() as u64;
+    let code_end = u64::from(CODE_START) + 4 * image.code().words().len() as u64;
     address % 4 == 0 && CODE_START <= address && u64::from(address) + 4 <= code_end
 }
 
@@ -61,7 +61,7 @@ impl Remote {
     fn break_setting(&self, point: Breakpoint) -> Setting
         ensures { result ≡ break_setting self.now.stub point }
     {
-        if !is_code_word(self.debugger.fitted().image().code(), point.address) {
+        if !is_code_word(self.debugger.fitted().image(), point.address) {
             return Setting::BadAddress;
         }
         self.setting(has_break(self.breaks.as_slice(), point))
@@ -94,7 +94,7 @@ impl Remote {
         ensures reply { result ≡ clear_break_reply self.old.stub point }
         ensures stub { self.new.stub ≡ without_break self.old.stub point }
     {
-        if !is_code_word(self.debugger.fitted().image().code(), point.address) {
+        if !is_code_word(self.debugger.fitted().image(), point.address) {
             return Reply::BadAddress;
         }
         self.breaks.clear(point);

@@ -1,10 +1,11 @@
 //! Where a thread stops that moves alone.
 
-ghost use Rattle.std.specs.Prelude.{◌≡◌, ◌<◌, ◌≤◌, ◌+◌, ◌-◌, IfOk};
+ghost use Rattle.std.specs.Prelude.{◌≡◌, ◌<◌, ◌≤◌, ◌+◌, ◌-◌, length, IfOk};
+ghost use Rattle.std.specs.List.{AllByRecursion};
 ghost use Rattle.ir_cut.specs.Positions.{EachRun, cut_of};
 ghost use Rattle.ir_hits.specs.Hits.{AreWatchable, thread_at};
 ghost use Rattle.ir_timeline.specs.Positions.{Cuts, threads_of, last_of};
-ghost use Rattle.ir_gdb.specs.Stub.{spoken};
+ghost use Rattle.ir_gdb.specs.Stub.{IsWatched, most_points, spoken};
 ghost use Rattle.ir_gdb.specs.Stops.{watches_if, Leaves, WatchNext, position_of, StepsTo, RangesTo, ContinuesTo, StepsBackTo, StopsBelow, ContinuesBackTo, GoesTo, MovesTo, upwards_of};
 
 use crate::numbered::{Halts, points_downwards, points_upwards, watch_points};
@@ -39,7 +40,9 @@ impl Remote {
 
     // The watches, if they count.
     fn watches_if(&self, watched: bool) -> &[Watched]
-        ensures { result.now ≡ watches_if self.now.stub watched }
+        ensures value { result.now ≡ watches_if self.now.stub watched }
+        ensures watched { AllByRecursion IsWatched result.now }
+        ensures few { length self.now.stub.breaks + length result.now ≤ most_points }
     {
         if watched {
             return self.watches.as_slice();
@@ -52,6 +55,9 @@ impl Remote {
         ensures watches { result.watches.now ≡ watches_if self.now.stub watched }
         ensures breaks { result.breaks.now ≡ self.now.stub.breaks }
         ensures own { result.own.now ≡ self.now.stub.desk.points }
+        ensures watched { AllByRecursion IsWatched result.watches.now }
+        ensures few { length result.breaks.now + length result.watches.now ≤ most_points }
+        ensures watchable { AreWatchable result.own.now }
     {
         Halts {
             watches: self.watches_if(watched),

@@ -1,5 +1,5 @@
 use Rattle.std.proofs.lemmas.Result.{on_ok_weaker}
-use Rattle.ir_gdb.proofs.Numbered.{words-more, put_more}
+use Rattle.ir_gdb.proofs.SearchPoints.{words-more, put_more}
 use Rattle.ir_gdb.proofs.numbered.+put_words.Goals as goal
 
 pub returns : goal.returns

@@ -1,6 +1,6 @@
 use Rattle.std.proofs.Common.{rules, ◌≡◌}
 use Rattle.ir_gdb.specs.Points.{points_downwards}
-use Rattle.ir_gdb.proofs.Numbered.{downwards_watchable}
+use Rattle.ir_gdb.proofs.SearchPoints.{downwards_watchable}
 use Rattle.ir_gdb.proofs.numbered.points_downwards.Goals as goal
 
 pub returns-clause-watchable : goal.returns-clause-watchable

@@ -1,6 +1,6 @@
 use Rattle.std.proofs.Common.{rules, ◌≡◌}
 use Rattle.ir_gdb.specs.Points.{points_upwards}
-use Rattle.ir_gdb.proofs.Numbered.{upwards_watchable}
+use Rattle.ir_gdb.proofs.SearchPoints.{upwards_watchable}
 use Rattle.ir_gdb.proofs.numbered.points_upwards.Goals as goal
 
 pub returns-clause-watchable : goal.returns-clause-watchable

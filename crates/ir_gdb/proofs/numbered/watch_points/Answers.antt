@@ -1,6 +1,6 @@
 use Rattle.std.proofs.Common.{rules, ◌≡◌}
 use Rattle.ir_gdb.specs.Points.{watch_points}
-use Rattle.ir_gdb.proofs.Numbered.{watch_watchable}
+use Rattle.ir_gdb.proofs.SearchPoints.{watch_watchable}
 use Rattle.ir_gdb.proofs.numbered.watch_points.Goals as goal
 
 pub returns-clause-watchable : goal.returns-clause-watchable
