@@ -17,7 +17,7 @@ use crate::prompting::Prompting;
 use ir_arguments::{Asked, Make, Print, parsed};
 use ir_debug::{Sink, Source};
 use ir_files::{ExitStatus, Folder};
-use ir_object::{Gate, Given};
+use ir_object::{Gate, Given, Hands};
 use ir_stream::write_all;
 use std::alloc::Global;
 use std::sync::Wait;

@@ -76,17 +76,11 @@ fn conditions_of<'a, E: Sink>(
     }
 }
 
-// Where the trace goes, and what each thread prints, if that is asked for.
-#[derive(Clone, Copy)]
-struct Places<'a> {
-    trace: &'a str,
-    outputs: Option<&'a [String]>,
-}
-
 // Hunts for a run of a guest, whose trace and outputs go into files at these paths.
-fn hunted_into<R, D, G, O, E>(
-    around: &Surroundings<'_, R, D, G>,
-    places: Places<'_>,
+fn hunted_into<'a, R, D, G, O, E>(
+    around: &Surroundings<'a, R, D, G>,
+    place: &'a str,
+    places: Option<&'a [String]>,
     image: &ParsedImage<'_>,
     plan: &HuntPlan<'_>,
     out: &mut O,
@@ -101,9 +95,9 @@ where
     requires writes { O.broken out.old ≡ false }
     requires reports { E.broken faults.old ≡ false }
 {
-    let Surroundings { rt, folder, .. } = around;
-    let mut trace = WholeFile::new(rt.alloc(), folder, places.trace);
-    let mut outputs = OutputFiles::new(folder, places.outputs, places.trace);
+    let (rt, folder) = (around.rt, around.folder);
+    let mut trace = WholeFile::new(rt.alloc(), folder, place);
+    let mut outputs = OutputFiles::new(folder, places, place);
     hunt_run(rt, image, plan, &mut trace, &mut outputs, out, faults)
 }
 
@@ -153,11 +147,9 @@ where
         stale: arguments.stale,
         is_shown: explains,
     };
-    let places = Places {
-        trace: arguments.trace.as_str(),
-        outputs: outputs.as_ref().map(|each| each.as_slice()),
-    };
-    match hunted_into(around, places, &image, &plan, out, faults) {
+    let place = arguments.trace.as_str();
+    let places = outputs.as_ref().map(|each| each.as_slice());
+    match hunted_into(around, place, places, &image, &plan, out, faults) {
         Ok(Some(recorded)) => {
             if explains {
                 tell_ends(alloc, &recorded, faults);
