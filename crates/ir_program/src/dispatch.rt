@@ -165,7 +165,7 @@ where
         Asked::Record(arguments) => {
             record_file(&around, &arguments, terminals.faults, out, faults)
         }
-        Asked::Hunt(arguments) => hunt_file(&around, &arguments, terminals.faults, out, faults),
+        Asked::Hunt(arguments) => hunt_file(rt, folder, &arguments, terminals.faults, out, faults),
         Asked::Debug(arguments) => {
             let mut input = Prompting::new(input, rt, terminals.input);
             debug_files(
