@@ -1,6 +1,6 @@
 -- Kept cuts, found and left out by their numbers.
 use Rattle.std.proofs.Common.{◌≡◌, ◌≢◌, ◌<◌, ◌≤◌, ◌+◌, ◌==◌, ℕ, suc, Bool, true, false, List, [], ◌∷◌, ◌++◌, length, drop, Option, Some, None, refl, sym, ap, ◌∙◌, subst, arith, get_or}
-use Rattle.std.specs.Prelude.{not, find, cond, option_map, is_some, MatchOption, IsSome}
+use Rattle.std.specs.Prelude.{not, find, cond, option_map, is_some, MatchOption, IsSome, IfSome}
 use Rattle.std.specs.List.{AllByRecursion}
 use Rattle.std.proofs.lemmas.List.{at_drop_more, at_drop_all}
 use Rattle.std.proofs.lemmas.Bool.Decides.{nat_tests}
@@ -85,6 +85,12 @@ there (Some x) value ks n some is = refl
 pub which : {A : Type 0} (o : Option A) (value : A → List ℕ) (ks : List Kept) (n : ℕ) (x : A)
     → MatchOption o (kept_cut ks n ≡ None) (λ c. kept_cut ks n ≡ Some (value c)) → o ≡ Some x → kept_cut ks n ≡ Some (value x)
 which o value ks n x found is = subst (λ z. MatchOption z (kept_cut ks n ≡ None) (λ c. kept_cut ks n ≡ Some (value c))) is found
+
+-- a kept cut is one
+pub are_cuts : {A : Type 0} (o : Option A) (value : A → List ℕ) (f : FittedTrace) (ks : List Kept) (n : ℕ) → AllKept f ks
+    → MatchOption o (kept_cut ks n ≡ None) (λ x. kept_cut ks n ≡ Some (value x)) → IfSome o (λ x. Cuts f (value x))
+are_cuts None value f ks n all is = tt
+are_cuts (Some x) value f ks n all is = one_of f ks n (value x) all is
 
 -- ---- their lines
 

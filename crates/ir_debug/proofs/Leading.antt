@@ -1,5 +1,5 @@
 -- Where moves lead.
-use Rattle.std.proofs.Common.{◌≡◌, ℕ, ◌+◌, ◌-◌, ◌^◌, ◌<◌, ◌≤◌, min, arith, List, Option, sym, ap, subst, ◌∙◌}
+use Rattle.std.proofs.Common.{◌≡◌, ℕ, ◌+◌, ◌-◌, ◌^◌, ◌<◌, ◌≤◌, min, arith, List, sym, ap, subst, ◌∙◌}
 use Rattle.std.proofs.lemmas.Bool.{le-leb, lt-leb}
 use Rattle.ir_runs.specs.Extremes.{IsLeast, IsGreatest}
 use Rattle.ir_fit.specs.Fit.{FittedTrace}
@@ -7,10 +7,9 @@ use Rattle.ir_cut.specs.Positions.{machine_of, start_of, cut_of, EachRun, IsLeas
 use Rattle.ir_command.specs.declared.command.Direction.{Direction}
 use Rattle.ir_command.specs.declared.command.Direction.TheVariants.{Forwards, Backwards}
 use Rattle.ir_command.specs.declared.command.Move.{Move}
-use Rattle.ir_command.specs.declared.hit.Hit.{Hit}
 use Rattle.ir_command.specs.declared.command.Move.TheVariants.{Step, Back}
 use Rattle.ir_timeline.specs.Positions.{last_of}
-use Rattle.ir_debug.specs.Machine.Moves.{Leads, ToLeast, ToGreatest, ToEither, ToPosition, StopsAt, stop_of}
+use Rattle.ir_debug.specs.Machine.Moves.{Leads, ToLeast, ToGreatest, ToEither, ToPosition, StopsAt}
 
 to_least : (f : FittedTrace) (at to : List ℕ) (t k j : ℕ) → IsLeastCut f at t k to → k ≡ j
     → EachRun f (λ run. ToLeast run f at t j to)
@@ -68,18 +67,19 @@ steps_back f at to m t n k here asked stands less greatest =
 
 -- ---- to a hit
 
--- the thread stops so at the hit, whichever run it is
-abbrev pub StopsSo : FittedTrace → List ℕ → ℕ → Direction → Option Hit → List ℕ → Type 0
-StopsSo f at t direction hit to = EachRun f (λ run. StopsAt run f at t direction (stop_of f t direction hit) to)
+-- the thread comes so to a position, whichever run it is
+abbrev pub StopsSo : FittedTrace → List ℕ → ℕ → Direction → ℕ → List ℕ → Type 0
+StopsSo f at t direction k to = EachRun f (λ run. StopsAt run f at t direction k to)
 
-pub stops_up : (f : FittedTrace) (at to : List ℕ) (t k : ℕ) (direction : Direction) (hit : Option Hit) → direction ≡ Forwards
-    → k ≡ stop_of f t direction hit → IsLeastCut f at t k to → StopsSo f at t direction hit to
-stops_up f at to t k direction hit is place least run whole =
-    subst (λ n. StopsAt run f at t direction n to) place
-    (subst (λ z. StopsAt run f at t z k to) (sym is) (least.0, least.1 run whole))
+pub stops_up : (f : FittedTrace) (at to : List ℕ) (t k : ℕ) (direction : Direction) → direction ≡ Forwards
+    → IsLeastCut f at t k to → StopsSo f at t direction k to
+stops_up f at to t k direction is least run whole = subst (λ z. StopsAt run f at t z k to) (sym is) (least.0, least.1 run whole)
 
-pub stops_down : (f : FittedTrace) (at to : List ℕ) (t k : ℕ) (direction : Direction) (hit : Option Hit) → direction ≡ Backwards
-    → k ≡ stop_of f t direction hit → IsGreatestCut f at t k to → StopsSo f at t direction hit to
-stops_down f at to t k direction hit is place greatest run whole =
-    subst (λ n. StopsAt run f at t direction n to) place
-    (subst (λ z. StopsAt run f at t z k to) (sym is) (greatest.0, greatest.1 run whole))
+pub stops_down : (f : FittedTrace) (at to : List ℕ) (t k : ℕ) (direction : Direction) → direction ≡ Backwards
+    → IsGreatestCut f at t k to → StopsSo f at t direction k to
+stops_down f at to t k direction is greatest run whole = subst (λ z. StopsAt run f at t z k to) (sym is) (greatest.0, greatest.1 run whole)
+
+-- which is that of a hit
+pub stops_there : (f : FittedTrace) (at to : List ℕ) (t k j : ℕ) (direction : Direction) → k ≡ j → StopsSo f at t direction k to
+    → StopsSo f at t direction j to
+stops_there f at to t k j direction same so = subst (λ n. StopsSo f at t direction n to) same so

@@ -1,4 +1,4 @@
-mod Opened
+mod Openings
 mod Replying
 mod Machine
 mod Desks
@@ -11,3 +11,4 @@ mod RowsOne
 mod RowsTwo
 mod Here
 mod Passed
+pub mod CallerLemmas

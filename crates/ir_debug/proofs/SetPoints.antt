@@ -107,3 +107,15 @@ pub stop_within : (f : FittedTrace) (d : Desk) (t : ℕ) (direction : Direction)
 stop_within f d t direction hit same has l finds =
     stop_there f has.run d t direction hit same (has.whole.1.steps t l)
     (finds has.run (subst (λ (g : FittedTrace). IsRunOf g.guest g.recorded has.run) (sym same) has.whole))
+
+-- a hit that a thread finds is at one of its positions, whichever points it is searched by
+pub found_within : (f : FittedTrace) (points : List Numbered) (t p : ℕ) (direction : Direction) (h : Hit) → HasRun f → t < threads_of f
+    → EachRun f (λ run. Finds run f points t p direction (Some h)) → h.position ≤ last_of f t
+found_within f points t p Forwards h has l finds =
+    let (i, q, at, number, hits) = (finds has.run has.whole).2.hits in
+    let le = hit_within f has.run t h.position q.point hits in
+    omega (arith, le, has.whole.1.steps t l)
+found_within f points t p Backwards h has l finds =
+    let (i, q, at, number, hits) = (finds has.run has.whole).2.hits in
+    let le = hit_within f has.run t h.position q.point hits in
+    omega (arith, le, has.whole.1.steps t l)

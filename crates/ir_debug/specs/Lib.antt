@@ -1,6 +1,6 @@
 pub mod Machine
 pub mod Debugging
-pub mod Opened
+pub mod Openings
 pub mod Session
 pub mod LongLines
 pub mod AtHand

@@ -18,6 +18,7 @@ use std::alloc::{AllocError, Global};
 use std::marker::Model;
 
 mod keeping;
+mod lent;
 mod moves;
 
 /// A debugger, which answers as the small machine does that holds a recorded run of the guest and a position of each
@@ -146,15 +147,15 @@ impl Debugger {
         self.kept.as_slice()
     }
 
-    // The threads in hand, which are at the cut only if an answer needs them.
-    pub(crate) fn threads(&self) -> &[Thread]
+    /// The threads in hand, which are at the cut only if an answer needs them, or `bring_here` has brought them there.
+    pub fn threads(&self) -> &[Thread]
         ensures { result.now ≡ self.now.state.threads }
     {
         self.timeline.threads()
     }
 
-    // The objects in hand, which are at the cut only if an answer needs them.
-    pub(crate) fn objects(&self) -> &[Object]
+    /// The objects in hand, at the same cut.
+    pub fn objects(&self) -> &[Object]
         ensures { result.now ≡ self.now.state.objects }
     {
         self.timeline.objects()
@@ -169,8 +170,11 @@ impl Debugger {
         Answer::Refused(refusal)
     }
 
-    // Brings the run in hand to the cut.
-    fn bring_here<H: Hands>(&mut self, hands: &H) -> Result<(), AllocError>
+    /// Brings the run in hand to the cut.
+    ///
+    /// # Errors
+    /// Out of memory.
+    pub fn bring_here<H: Hands>(&mut self, hands: &H) -> Result<(), AllocError>
         ensures desk { self.new.desk ≡ spoken self.old.desk }
         ensures there { OnOk result (IsThere self.new) }
         ensures lacks { OnErr result (self.old.desk.fresh ≡ false) }

@@ -76,6 +76,32 @@ fn stop_of(fitted: &Fitted, t: usize, direction: Direction, hit: Option<Hit>) ->
     }
 }
 
+/// The cut at which all threads are, when one that moves in this direction is at a position: the least that isn't below this cut, or the
+/// greatest that isn't above it.
+///
+/// # Errors
+/// Out of memory.
+pub fn stop_at(
+    alloc: Global,
+    fitted: &Fitted,
+    at: &Cut,
+    t: usize,
+    direction: Direction,
+    position: u64,
+) -> Result<Cut, AllocError>
+    requires cut { (length at.now ≡ threads_of fitted.now) × IsConsistentCut fitted.now at.now }
+    requires thread { t < threads_of fitted.now }
+    requires within { position ≤ last_of fitted.now t }
+    ensures stops { IfOk result (λ c. EachRun fitted.now (λ run. StopsAt run fitted.now at.now t direction position c)) }
+    ensures size { IfOk result (λ c. length c ≡ threads_of fitted.now) }
+    ensures consistent { IfOk result (λ c. IsConsistentCut fitted.now c) }
+{
+    match direction {
+        Direction::Forwards => least(alloc, fitted, at, t, position),
+        Direction::Backwards => greatest(alloc, fitted, at, t, position),
+    }
+}
+
 /// The cut at which all threads are, when the one that is continued in this direction stops at the hit.
 ///
 /// # Errors
@@ -96,8 +122,5 @@ pub fn stop(
     ensures consistent { IfOk result (λ c. IsConsistentCut fitted.now c) }
 {
     let position = stop_of(fitted, t, direction, hit);
-    match direction {
-        Direction::Forwards => least(alloc, fitted, at, t, position),
-        Direction::Backwards => greatest(alloc, fitted, at, t, position),
-    }
+    stop_at(alloc, fitted, at, t, direction, position)
 }

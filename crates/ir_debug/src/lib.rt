@@ -4,11 +4,11 @@
 mod announcing;
 mod answer;
 mod answering;
+mod bytes;
 mod debugger;
 mod destinations;
 mod ended;
 mod kept;
-mod open;
 mod opening;
 mod points;
 mod refusals;
@@ -16,11 +16,15 @@ mod serving;
 mod sessions;
 mod showing;
 
+pub use announcing::announce;
 pub use answer::Answer;
 pub use answering::write_answer;
+pub use bytes::open;
 pub use debugger::Debugger;
 pub use ended::{Ended, SessionErr};
 pub use ir_command::{Command, Hit, Refusal, parse_line};
 pub use ir_hits::NumberedPoint;
 pub use ir_stream::{DeviceErr, FromStd, Sink, Source};
+pub use opening::Opened;
+pub use serving::respond;
 pub use sessions::{MOST_INPUT, session, session_up_to};

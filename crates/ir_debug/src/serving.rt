@@ -43,9 +43,9 @@ fn carry_out<H: Hands>(
     }
 }
 
-// Answers a line. It comes without its line feed, and with the carriage return that may be before it.
+/// Answers a line. It comes without its line feed, and with the carriage return that may be before it.
 #[tactic(auto, unfolding(crate::specs::Machine::Answers::quits))]
-fn respond<H: Hands, W: Sink>(
+pub fn respond<H: Hands, W: Sink>(
     hands: &H,
     debugger: &mut Debugger,
     line: &[u8],

@@ -5,9 +5,9 @@ ghost use Rattle.ir_stream.specs.Devices.{Reads};
 ghost use Rattle.ir_debug.specs.Session.{most_input, IfServed, IfRefused, Session, AnsweredWhole, AnsweredInPart, ended_by};
 
 use crate::announcing::announce;
+use crate::bytes::open;
 use crate::debugger::Debugger;
 use crate::ended::{Ended, SessionErr};
-use crate::open::open;
 use crate::opening::Opened;
 use crate::serving::serve;
 use ir_object::Hands;

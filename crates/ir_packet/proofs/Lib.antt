@@ -1,5 +1,6 @@
 mod Again
 mod Cut
+mod Decimal
 mod Escapes
 mod Kept
 mod Pieces

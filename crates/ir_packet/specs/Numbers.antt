@@ -1,5 +1,5 @@
 -- Hexadecimal numbers and bytes, as packets write them.
-use Rattle.std.specs.Prelude.{ℕ, suc, ◌+◌, ◌*◌, ◌==◌, ◌&&◌, ◌^◌, nat_lt, Bool, true, false, List, [], ◌∷◌, ◌++◌, take, drop, Option, Some, None, is_some, option_and_then, if◌then◌else◌}
+use Rattle.std.specs.Prelude.{ℕ, suc, ◌+◌, ◌-◌, ◌*◌, ◌==◌, ◌&&◌, ◌^◌, nat_lt, nat_le, Bool, true, false, List, [], ◌∷◌, ◌++◌, take, drop, Option, Some, None, is_some, option_and_then, if◌then◌else◌}
 use Rattle.hex.specs.Hex.{hex_digit_value}
 use Rattle.ir_packet.specs.Packets.{two_digits}
 
@@ -16,6 +16,30 @@ value_from n (d ∷ digits) = option_and_then (λ v. if nat_lt (n * 16 + v) numb
 unfoldable pub number : List ℕ → Option ℕ
 number [] = None
 number (d ∷ digits) = value_from 0 (d ∷ digits)
+
+-- a decimal digit, by its code
+abbrev pub decimal_value : Option ℕ → Option ℕ
+decimal_value None = None
+decimal_value (Some code) = if nat_le 48 code && nat_le code 57 then Some (code - 48) else None
+
+-- by its code as a pair of digits
+unfoldable pub decimal_digit : ℕ → ℕ → Option ℕ
+decimal_digit a b = decimal_value (two_digits a b)
+
+-- the number that a decimal digit writes behind those that wrote n
+unfoldable pub decimal_more : ℕ → ℕ → ℕ → Option ℕ
+decimal_more n a b = option_and_then (λ v. if nat_lt (n * 10 + v) number_limit then Some (n * 10 + v) else None) (decimal_digit a b)
+
+-- the number that decimal digits write behind those that wrote n, the code of each as a pair of digits
+unfoldable pub decimal_from : ℕ → List ℕ → Option ℕ
+decimal_from n [] = Some n
+decimal_from n (a ∷ []) = None
+decimal_from n (a ∷ b ∷ digits) = option_and_then (λ m. decimal_from m digits) (decimal_more n a b)
+
+-- the number below 2^32 that one or more of them write
+unfoldable pub decimal_number : List ℕ → Option ℕ
+decimal_number [] = None
+decimal_number (a ∷ digits) = decimal_from 0 (a ∷ digits)
 
 -- how many bytes are before the first of these
 unfoldable pub index_of : ℕ → List ℕ → ℕ

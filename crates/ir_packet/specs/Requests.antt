@@ -2,7 +2,7 @@
 use Rattle.std.specs.Prelude.{ℕ, ◌==◌, nat_le, List, [], ◌∷◌, codes, drop, Bool, true, false, Option, Some, None, if◌then◌else◌}
 use Rattle.std.specs.Str.{bytes_eq}
 use Rattle.ir_packet.specs.Packets.{two_digits}
-use Rattle.ir_packet.specs.Numbers.{number, index_of, before, behind, are_pairs, bytes_of_pairs}
+use Rattle.ir_packet.specs.Numbers.{number, decimal_number, index_of, before, behind, are_pairs, bytes_of_pairs}
 use Rattle.ir_packet.specs.declared.request.Request.{Request}
 use Rattle.ir_packet.specs.declared.request.Request.TheVariants as request
 use Rattle.ir_packet.specs.declared.request.Who.{Who}
@@ -115,6 +115,15 @@ first_action action others = move_of (motion_of (before 58 action)) (thread_behi
 unfoldable pub actions : List ℕ → Request
 actions rest = first_action (before 59 rest) (others_of (drop (index_of 59 rest) rest))
 
+-- a restart, by the argument behind the program's name, if there is one
+abbrev pub restart_with : List ℕ → Request
+restart_with [] = request.Restart
+restart_with (b ∷ argument) = of_number request.RestartAt (decimal_number argument)
+
+-- the name of a program, and then no argument, or `;` and a number
+unfoldable pub restart : List ℕ → Request
+restart rest = restart_with (drop (index_of 59 rest) rest)
+
 -- the bytes that a packet begins with, and what is made of those behind them
 pub record Row : Type 0 where
   pub name : List ℕ
@@ -138,6 +147,14 @@ abbrev pub texts : List Row
 texts =
     row (codes "qXfer:features:read:target.xml:") (two request.Description) ∷
     row (codes "qXfer:threads:read::") (two request.Threads) ∷
+    []
+
+-- runs of the program from a kept cut on
+abbrev pub restarts : List Row
+restarts =
+    row (codes "!") (plain request.Extended) ∷
+    row (codes "vRun;") restart ∷
+    row (codes "vKill") (whatever request.EndProcess) ∷
     []
 
 -- a session's lines, and moves with their threads
@@ -214,12 +231,15 @@ asked_queries payload = asked_in queries payload
 unfoldable pub asked_texts : List ℕ → Option Request
 asked_texts payload = asked_in texts payload
 
+unfoldable pub asked_restarts : List ℕ → Option Request
+asked_restarts payload = asked_in restarts payload
+
 unfoldable pub asked_commands : List ℕ → Option Request
 asked_commands payload = asked_in commands payload
 
 -- packets with a name
 unfoldable pub asked_named : List ℕ → Option Request
-asked_named payload = or_else (asked_queries payload) (or_else (asked_texts payload) (asked_commands payload))
+asked_named payload = or_else (asked_queries payload) (or_else (asked_texts payload) (or_else (asked_restarts payload) (asked_commands payload)))
 
 unfoldable pub asked_points : List ℕ → Option Request
 asked_points payload = asked_in points payload

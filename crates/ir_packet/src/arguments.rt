@@ -7,7 +7,7 @@ ghost use Rattle.ir_packet.specs.declared.request.Request.{Request};
 ghost use Rattle.ir_packet.specs.declared.request.Request.TheVariants.{Malformed};
 ghost use Rattle.ir_packet.specs.declared.request.Who.{Who};
 
-use crate::number::{are_pairs, index_of, number};
+use crate::number::{are_pairs, decimal_number, index_of, number};
 use crate::raw::two_digits;
 use crate::request::{Motion, Mover, Request, Who};
 
@@ -103,6 +103,21 @@ pub fn register(n: u32) -> Request
         return Request::Register(n);
     }
     Request::Malformed
+}
+
+/// The name of a program, and then no argument, or `;` and a number.
+#[tactic(auto, unfolding(crate::specs::Requests::restart))]
+pub fn restart(rest: &[u8]) -> Request
+    ensures { result ≡ requests.restart rest.now }
+{
+    let (_, behind) = cut(b';', rest);
+    match behind {
+        [] => Request::Restart,
+        [_, argument @ ..] => decimal_number(argument).map_or(
+            Request::Malformed,
+            Request::RestartAt,
+        ),
+    }
 }
 
 /// A line, each byte as two digits.

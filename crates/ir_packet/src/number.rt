@@ -1,7 +1,7 @@
 //! Hexadecimal numbers and bytes of packets.
 
 ghost use Rattle.std.specs.Prelude.{◌≡◌, ◌≤◌, ◌<◌, ◌+◌, ◌*◌, ◌++◌, ℕ, List, length, vec_len, vec_capacity, is_some, Some, None, IfSome, OnSome};
-ghost use Rattle.ir_packet.specs.Numbers.{value_from, number, index_of, bytes_of_pairs};
+ghost use Rattle.ir_packet.specs.Numbers.{value_from, number, decimal_digit, decimal_more, decimal_from, decimal_number, index_of, bytes_of_pairs};
 ghost use Rattle.ir_packet.specs.Numbers as numbers;
 
 use crate::raw::{digit_value, two_digits};
@@ -31,6 +31,54 @@ pub fn number(digits: &[u8]) -> Option<u32>
     match digits {
         [] => None,
         _ => value_from(0, digits),
+    }
+}
+
+// A decimal digit, by its code as a pair of digits.
+#[tactic(auto, unfolding(crate::specs::Numbers::decimal_digit))]
+fn decimal_digit(high: u8, low: u8) -> Option<u8>
+    ensures { result ≡ decimal_digit high low }
+{
+    match two_digits(high, low) {
+        Some(code) if 48 <= code && code <= 57 => Some(code - 48),
+        _ => None,
+    }
+}
+
+// The number that a decimal digit writes behind those that wrote `before`.
+#[tactic(auto, unfolding(crate::specs::Numbers::decimal_more))]
+fn decimal_more(before: u32, high: u8, low: u8) -> Option<u32>
+    ensures { result ≡ decimal_more before high low }
+{
+    let value = u64::from(before) * 10 + u64::from(decimal_digit(high, low)?);
+    if value > u64::from(u32::MAX) {
+        return None;
+    }
+    Some(value as u32)
+}
+
+// The number that decimal digits write behind those that wrote `before`, the code of each as a pair of digits.
+#[tactic(auto, unfolding(crate::specs::Numbers::decimal_from))]
+fn decimal_from(before: u32, digits: &[u8]) -> Option<u32>
+    ensures { result ≡ decimal_from before digits.now }
+{
+    match digits {
+        [] => Some(before),
+        [high, digits @ ..] => match digits {
+            [] => None,
+            [low, digits @ ..] => decimal_from(decimal_more(before, *high, *low)?, digits),
+        },
+    }
+}
+
+/// The number below 2^32 that one or more decimal digits write, the code of each as a pair of digits.
+#[tactic(auto, unfolding(crate::specs::Numbers::decimal_number))]
+pub fn decimal_number(digits: &[u8]) -> Option<u32>
+    ensures { result ≡ decimal_number digits.now }
+{
+    match digits {
+        [] => None,
+        _ => decimal_from(0, digits),
     }
 }
 

@@ -5,7 +5,7 @@ ghost use Rattle.ir_packet.specs.Requests as requests;
 ghost use Rattle.ir_packet.specs.Requests.{console_line};
 ghost use Rattle.ir_packet.specs.declared.request.Request.TheVariants.{Description, Threads};
 
-use crate::arguments::{actions, after_name, console, one, plain, register, thread, two};
+use crate::arguments::{actions, after_name, console, one, plain, register, restart, thread, two};
 use crate::number::put_bytes;
 use crate::request::{Motion, Mover, Request};
 
@@ -61,6 +61,20 @@ fn asked_texts(payload: &[u8]) -> Option<Request>
     }
 }
 
+// Runs of the program from a kept cut on.
+#[tactic(auto, unfolding(crate::specs::Requests::asked_restarts))]
+fn asked_restarts(payload: &[u8]) -> Option<Request>
+    ensures { result ≡ requests.asked_restarts payload.now }
+{
+    if let Some(rest) = after_name(b"!", payload) {
+        Some(plain(Request::Extended, rest))
+    } else if let Some(rest) = after_name(b"vRun;", payload) {
+        Some(restart(rest))
+    } else {
+        after_name(b"vKill", payload).map(|_| Request::EndProcess)
+    }
+}
+
 // A session's lines, and moves with their threads.
 #[tactic(auto, unfolding(crate::specs::Requests::asked_commands))]
 fn asked_commands(payload: &[u8]) -> Option<Request>
@@ -84,6 +98,9 @@ fn asked_named(payload: &[u8]) -> Option<Request>
         return Some(request);
     }
     if let Some(request) = asked_texts(payload) {
+        return Some(request);
+    }
+    if let Some(request) = asked_restarts(payload) {
         return Some(request);
     }
     asked_commands(payload)

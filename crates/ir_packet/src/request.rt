@@ -47,6 +47,14 @@ pub enum Request {
     Move(Motion, Mover),
     /// `qRcmd,..`: a session's line.
     Console,
+    /// `!`: gdb may run the program again.
+    Extended,
+    /// `vRun;file`: all threads to 0.
+    Restart,
+    /// `vRun;file;number`: all threads to the kept cut of this number.
+    RestartAt(u32),
+    /// `vKill;..`: the program is left before it is run again.
+    EndProcess,
     /// `D`: the end.
     Detach,
     /// `k`: the end, without a reply.

@@ -201,6 +201,22 @@ fn moves_are_read(rt: HostRuntime) -> Result<(), Fail> {
 }
 
 #[test]
+fn restarts_are_read(rt: HostRuntime) -> Result<(), Fail> {
+    let cases: [(&[u8], Request); 8] = [
+        (b"!", Request::Extended),
+        (b"!x", Request::Malformed),
+        (b"vRun;", Request::Restart),
+        (b"vRun;612e656c66", Request::Restart),
+        (b"vRun;612e656c66;313034", Request::RestartAt(104)),
+        (b"vRun;;", Request::Malformed),
+        (b"vRun;;2d31", Request::Malformed),
+        (b"vKill;1", Request::EndProcess),
+    ];
+    assert_eq!(rt; first_wrong(&cases), None);
+    Ok(())
+}
+
+#[test]
 fn a_line_is_read(rt: HostRuntime) -> Result<(), Fail> {
     let mut line = Vec::with_capacity(rt.alloc(), 64)?;
     assert_eq!(rt; request_of(b"qRcmd,706f73"), Request::Console);

@@ -19,8 +19,11 @@ use ir_object::Hands;
 use std::alloc::AllocError;
 
 impl Debugger {
-    // Brings all threads to a cut, which is the debugger's then.
-    pub(crate) fn go_to<H: Hands>(&mut self, hands: &H, to: Cut) -> Result<(), AllocError>
+    /// Brings all threads to a cut, which is the debugger's then.
+    ///
+    /// # Errors
+    /// Out of memory. The debugger's cut stays as it was.
+    pub fn go_to<H: Hands>(&mut self, hands: &H, to: Cut) -> Result<(), AllocError>
         requires size { length to ≡ threads_of self.old.desk.fitted }
         requires consistent { IsConsistentCut self.old.desk.fitted to }
         ensures ok { OnOk result (self.new.desk ≡ moved self.old.desk to) }

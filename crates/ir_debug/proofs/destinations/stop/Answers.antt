@@ -1,18 +1,10 @@
 use Rattle.std.proofs.lemmas.Result.{IfOk-weaker}
-use Rattle.ir_cut.specs.Positions.{IsLeastCut, IsGreatestCut}
-use Rattle.ir_debug.proofs.Leading.{StopsSo, stops_up, stops_down}
+use Rattle.ir_debug.specs.Machine.Moves.{stop_of}
+use Rattle.ir_debug.proofs.Leading.{StopsSo, stops_there}
 use Rattle.ir_debug.proofs.destinations.stop.Goals as goal
 
-pub returns-in-Forwards-clause-stops : goal.returns-in-Forwards-clause-stops
-returns-in-Forwards-clause-stops c =
-    IfOk-weaker c.least.result (IsLeastCut c.args.fitted.now c.args.at.now c.args.t c.stop_of-position.result)
-    (StopsSo c.args.fitted.now c.args.at.now c.args.t c.args.direction c.args.hit)
-    (λ to. stops_up c.args.fitted.now c.args.at.now to c.args.t c.stop_of-position.result c.args.direction c.args.hit
-    c.in-Forwards.is c.stop_of-position.ensures) c.least.ensures.least
-
-pub returns-in-Backwards-clause-stops : goal.returns-in-Backwards-clause-stops
-returns-in-Backwards-clause-stops c =
-    IfOk-weaker c.greatest.result (IsGreatestCut c.args.fitted.now c.args.at.now c.args.t c.stop_of-position.result)
-    (StopsSo c.args.fitted.now c.args.at.now c.args.t c.args.direction c.args.hit)
-    (λ to. stops_down c.args.fitted.now c.args.at.now to c.args.t c.stop_of-position.result c.args.direction c.args.hit
-    c.in-Backwards.is c.stop_of-position.ensures) c.greatest.ensures.greatest
+pub returns-clause-stops : goal.returns-clause-stops
+returns-clause-stops c =
+    IfOk-weaker c.stop_at.result (StopsSo c.args.fitted.now c.args.at.now c.args.t c.args.direction c.stop_of-position.result)
+    (StopsSo c.args.fitted.now c.args.at.now c.args.t c.args.direction (stop_of c.args.fitted.now c.args.t c.args.direction c.args.hit))
+    (λ to. stops_there c.args.fitted.now c.args.at.now to c.args.t _ _ c.args.direction c.stop_of-position.ensures) c.stop_at.ensures.stops
