@@ -1,6 +1,6 @@
 -- What is found of the rows before a walk, and after the walks.
-use Rattle.std.proofs.Common.{◌≡◌, ◌<◌, ℕ, List, length, replicate, map, refl, sym, ap, ◌∙◌, subst, inr, arith}
-use Rattle.std.specs.Prelude.{Bool, true, false, Option, None, slice_get}
+use Rattle.std.proofs.Common.{◌≡◌, ℕ, List, length, replicate, map, refl, sym, ap, ◌∙◌, subst, inr, arith}
+use Rattle.std.specs.Prelude.{Bool, true, false, Option, None}
 use Rattle.std.specs.List.{slice_index_or, Contains}
 use Rattle.std.proofs.lemmas.Bool.{true≢false}
 use Rattle.std.proofs.lemmas.List.{get_or-replicate, get_or-map, length-map}

@@ -1,6 +1,6 @@
 -- What is kept of a thread, one row opened or closed.
 use Rattle.std.proofs.Common.{◌≡◌, ◌≢◌, ◌⊎◌, ◌+◌, ◌-◌, ◌<◌, ◌≤◌, ℕ, List, [], ◌∷◌, ◌++◌, length, length-append, set, length-set, get_or-set_same, get_or-set_other, refl, sym, ap, ◌∙◌, subst, arith, inl, inr}
-use Rattle.std.specs.Prelude.{Bool, Option, Some, slice_get}
+use Rattle.std.specs.Prelude.{Bool, Some, slice_get}
 use Rattle.std.specs.List.{slice_index_or}
 use Rattle.std.specs.List.Sorted.{IsNonDecreasingBy}
 use Rattle.std.proofs.lemmas.Bool.{cases_lt, cases_eq}
@@ -11,7 +11,7 @@ use Rattle.ir_walk.proofs.CallerLemmas.{each_more}
 use Rattle.ir_past.specs.declared.stale_write.StaleWrite.{StaleWrite}
 use Rattle.ir_rests.specs.Watch.{IsFoundAs, IsWithout, IsSpanOf, IsOpenAt, IsWatched, IsWatch, NoneDue, AddsRests}
 use Rattle.ir_rests.specs.declared.found.Found.{Found}
-use Rattle.ir_rests.specs.declared.found.Found.TheVariants.{Unknown, Known}
+use Rattle.ir_rests.specs.declared.found.Found.TheVariants.{Unknown}
 use Rattle.ir_rests.specs.declared.span.Span.{Span}
 use Rattle.ir_rests.specs.declared.kept.Open.{Open}
 use Rattle.ir_rests.specs.declared.watch.Watch.{Watch}

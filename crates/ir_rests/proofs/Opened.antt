@@ -192,6 +192,7 @@ judged_as copies f rows t k code o Unknown is ends same found x there =
         → copy ≡ None
     none_copied None e = refl
     none_copied (Some y) e = absurd (known_unknown (sym e))
+
     no_copy : (b : Bool) → (b ≡ true → ⊥) → b ≡ false
     no_copy false not = refl
     no_copy true not = absurd (not refl)

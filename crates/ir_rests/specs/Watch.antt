@@ -18,7 +18,6 @@ use Rattle.ir_walk.specs.Calls.{calls_in, AllSuit}
 use Rattle.ir_fit_run.specs.Positions.{LeavesAfter, IsLeaveOf}
 use Rattle.ir_rests.specs.Rests.{behind_read, behind_write, IsRestOf}
 use Rattle.ir_walk.specs.declared.exchange.Exchange.{Exchange}
-use Rattle.ir_rests.specs.declared.rest.Rest.{Rest}
 use Rattle.ir_rests.specs.declared.found.Found.{Found}
 use Rattle.ir_rests.specs.declared.found.Found.TheVariants.{Unknown, Known}
 use Rattle.ir_rests.specs.declared.span.Span.{Span}

@@ -59,13 +59,7 @@ fn take_out(opened: &mut Vec<Open>, i: usize) -> Open
 }
 
 // Closes the open rows of thread t that end at position k, where it is, and keeps what is found of them.
-pub fn close_due(
-    guide: Guide<'_, '_>,
-    t: usize,
-    k: u64,
-    watch: &mut Watch,
-    rests: &mut [Found],
-)
+pub fn close_due(guide: Guide<'_, '_>, t: usize, k: u64, watch: &mut Watch, rests: &mut [Found])
     requires guide { IsGuide guide.route.fitted.now guide.rows.now guide.route.ends.now guide.route.code.now }
     requires watch { IsWatch guide.copies guide.route.fitted.now guide.rows.now t k watch.old }
     requires size { length rests.old ≡ length guide.rows.now }

@@ -1,11 +1,10 @@
-use Rattle.std.proofs.Common.{◌≡◌, ◌∙◌, List, Option, Vec, Global, false, true, length, map, sym, ap, subst}
+use Rattle.std.proofs.Common.{◌≡◌, ◌∙◌, List, false, length, map, sym, ap, subst}
 use Rattle.std.specs.Vec.{with_items}
 use Rattle.std.proofs.lemmas.List.{with_items_is, length-replicate}
 use Rattle.std.proofs.lemmas.Result.{IfOk-weaker}
 use Rattle.ir_rests.specs.WhatIf.{known}
 use Rattle.ir_rests.specs.Rests.{AreRests}
-use Rattle.ir_rests.specs.Watch.{AreBegun, AreFound}
-use Rattle.ir_rests.specs.declared.rest.Rest.{Rest}
+use Rattle.ir_rests.specs.Watch.{AreBegun}
 use Rattle.ir_rests.specs.declared.found.Found.{Found}
 use Rattle.ir_rests.proofs.Begun.{none_begun, all_rest}
 use Rattle.ir_rests.proofs.walk.rests.Goals as goal
