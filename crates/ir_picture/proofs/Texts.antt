@@ -1,11 +1,12 @@
 -- Texts that are put one after the other.
-use Rattle.std.proofs.Common.{◌≡◌, ℕ, suc, ◌+◌, ◌<◌, ◌≤◌, List, [], ◌∷◌, ◌++◌, codes, length, drop, flat_map, get_or, refl, sym, ap, ◌∙◌, append_assoc, append-nil, arith}
+use Rattle.std.proofs.Common.{◌≡◌, ℕ, suc, ◌+◌, ◌<◌, ◌≤◌, List, [], ◌∷◌, ◌++◌, codes, decimal, length, drop, flat_map, get_or, refl, sym, ap, ◌∙◌, append_assoc, append-nil, arith}
 use Rattle.std.proofs.lemmas.List.{at_drop_more, at_drop_all}
 use Rattle.ir_trace.specs.Recorded.{Recorded, RecordedThread}
-use Rattle.ir_picture.specs.Numbers.{row_start, rows_from, with_commas, thread_row, thread_rows}
+use Rattle.ir_log.specs.declared.event.Event.{Event}
+use Rattle.ir_picture.specs.Numbers.{comma, row_start, rows_from, first_numbers, place_numbers, row_with, with_commas, thread_row, thread_rows}
 use Rattle.ir_past.specs.declared.stale_write.StaleWrite.{StaleWrite}
 use Rattle.ir_picture.specs.Chrome.{box_line, arrow_lines, all_arrows, thread_lines, all_threads, chrome_text}
-use Rattle.ir_picture.specs.Progress.{chrome_start, chrome_end}
+use Rattle.ir_picture.specs.Progress.{box_start, chrome_start, chrome_end}
 use Rattle.ir_picture.specs.declared.picture.Picture.{Picture}
 use Rattle.ir_picture.specs.declared.placed_box.Point.{Point}
 use Rattle.ir_picture.specs.declared.placed_box.PlacedBox.{PlacedBox}
@@ -25,6 +26,23 @@ put_two so_far one two left more text mid new e first made last =
 -- nothing is left to put
 pub all_put : (so_far left text : List ℕ) → so_far ++ left ≡ text → left ≡ [] → so_far ≡ text
 all_put so_far left text e none = sym (append-nil so_far) ∙ ap (λ (x : List ℕ). so_far ++ x) (sym none) ∙ e
+
+-- ---- texts that are put one after the other
+
+pub three_put : (old a b c one two three : List ℕ) → one ≡ old ++ a → two ≡ one ++ b → three ≡ two ++ c → three ≡ old ++ (a ++ (b ++ c))
+three_put old a b c one two three x y z = z ∙ ap (λ (w : List ℕ). w ++ c) (y ∙ ap (λ (w : List ℕ). w ++ b) x)
+    ∙ append_assoc (old ++ a) b c ∙ append_assoc old a (b ++ c)
+
+pub four_put : (old a b c d one two three four : List ℕ) → one ≡ old ++ a → two ≡ one ++ b → three ≡ two ++ c → four ≡ three ++ d
+    → four ≡ old ++ (a ++ (b ++ (c ++ d)))
+four_put old a b c d one two three four x y z w = w ∙ ap (λ (v : List ℕ). v ++ d) (three_put old a b c one two three x y z)
+    ∙ append_assoc old (a ++ (b ++ c)) d
+    ∙ ap (λ (v : List ℕ). old ++ v) (append_assoc a (b ++ c) d ∙ ap (λ (v : List ℕ). a ++ v) (append_assoc b c d))
+
+pub five_put : (old a b c d e one two three four five : List ℕ) → one ≡ old ++ a → two ≡ one ++ b → three ≡ two ++ c → four ≡ three ++ d
+    → five ≡ four ++ e → five ≡ old ++ (a ++ (b ++ (c ++ (d ++ e))))
+five_put old a b c d e one two three four five x y z w v =
+    four_put old a b c (d ++ e) one two three five x y z (v ∙ ap (λ (u : List ℕ). u ++ e) w ∙ append_assoc three d e)
 
 -- ---- texts with a comma between
 
@@ -64,6 +82,22 @@ next_row {A} row n xs x start line some begins same = row_next row n n xs x some
 pub no_row : {A : Type 0} (row : A → List ℕ) (k n : ℕ) (xs : List A) → length xs ≤ n → rows_from row k (drop n xs) ≡ []
 unfolding rows_from
 no_row row k n xs all = at_drop_all (rows_from row k) xs n all
+
+-- the same as one line
+pub next_line : {A : Type 0} (row : A → List ℕ) (n : ℕ) (xs : List A) (x : A) → n < length xs
+    → rows_from row n (drop n xs) ≡ (row_start n ++ row (get_or xs n x)) ++ rows_from row (n + 1) (drop (n + 1) xs)
+next_line row n xs x some = next_row row n xs x (row_start n) (row (get_or xs n x)) some refl refl
+    ∙ sym (append_assoc (row_start n) (row (get_or xs n x)) (rows_from row (n + 1) (drop (n + 1) xs)))
+
+-- the row of a box was put, its last numbers behind the others
+pub row_put : (old : List ℕ) (es : List Event) (b : PlacedBox) (last one two three : List ℕ) → one ≡ old ++ box_start es b → two ≡ one ++ last
+    → three ≡ two ++ codes "]" → three ≡ old ++ row_with es b last
+row_put old es b last one two three x y z = three_put old (box_start es b) last (codes "]") one two three x y z
+    ∙ ap (λ (w : List ℕ). old ++ (codes "[" ++ w)) (regroup (decimal b.events.thread) (comma b.events.event) (comma b.events.count) (first_numbers es)
+    (place_numbers b) (last ++ codes "]"))
+  where
+    regroup : (t e c f p r : List ℕ) → (t ++ (e ++ (c ++ (f ++ p)))) ++ r ≡ t ++ (e ++ (c ++ (f ++ (p ++ r))))
+    regroup t e c f p r = simp append_assoc
 
 -- ---- the rows of threads
 
@@ -121,22 +155,7 @@ pub no_threads : (so_far : List ℕ) → so_far ≡ so_far ++ all_threads 0
 unfolding all_threads
 no_threads so_far = sym (append-nil so_far)
 
--- ---- texts that are put one after the other
-
-pub three_put : (old a b c one two three : List ℕ) → one ≡ old ++ a → two ≡ one ++ b → three ≡ two ++ c → three ≡ old ++ (a ++ (b ++ c))
-three_put old a b c one two three x y z = z ∙ ap (λ (w : List ℕ). w ++ c) (y ∙ ap (λ (w : List ℕ). w ++ b) x)
-    ∙ append_assoc (old ++ a) b c ∙ append_assoc old a (b ++ c)
-
-pub four_put : (old a b c d one two three four : List ℕ) → one ≡ old ++ a → two ≡ one ++ b → three ≡ two ++ c → four ≡ three ++ d
-    → four ≡ old ++ (a ++ (b ++ (c ++ d)))
-four_put old a b c d one two three four x y z w = w ∙ ap (λ (v : List ℕ). v ++ d) (three_put old a b c one two three x y z)
-    ∙ append_assoc old (a ++ (b ++ c)) d
-    ∙ ap (λ (v : List ℕ). old ++ v) (append_assoc a (b ++ c) d ∙ ap (λ (v : List ℕ). a ++ v) (append_assoc b c d))
-
-pub five_put : (old a b c d e one two three four five : List ℕ) → one ≡ old ++ a → two ≡ one ++ b → three ≡ two ++ c → four ≡ three ++ d
-    → five ≡ four ++ e → five ≡ old ++ (a ++ (b ++ (c ++ (d ++ e))))
-five_put old a b c d e one two three four five x y z w v =
-    four_put old a b c (d ++ e) one two three five x y z (v ∙ ap (λ (u : List ℕ). u ++ e) w ∙ append_assoc three d e)
+-- ---- lines
 
 -- the text of the next element comes first in what is left
 pub next_mapped : {A : Type 0} (f : A → List ℕ) (n : ℕ) (xs : List A) (x : A) (line : List ℕ) → n < length xs → line ≡ f (get_or xs n x)
@@ -145,6 +164,30 @@ next_mapped f n xs x line some same = at_drop_more (flat_map f) xs n x some ∙ 
 
 pub none_mapped : {A : Type 0} (f : A → List ℕ) (n : ℕ) (xs : List A) → length xs ≤ n → flat_map f (drop n xs) ≡ []
 none_mapped f n xs all = at_drop_all (flat_map f) xs n all
+
+-- ---- data in a frame
+
+-- its four parts
+pub data_parts : (a b c d before head after : List ℕ) → a ≡ before ++ head → d ≡ after → ((a ++ b) ++ c) ++ d ≡ before ++ ((head ++ (b ++ c)) ++ after)
+data_parts a b c d before head after begins ends = ap (λ (x : List ℕ). ((x ++ b) ++ c) ++ d) begins ∙ regroup before head b c d
+    ∙ ap (λ (x : List ℕ). before ++ ((head ++ (b ++ c)) ++ x)) ends
+  where
+    regroup : (p h b c d : List ℕ) → (((p ++ h) ++ b) ++ c) ++ d ≡ p ++ ((h ++ (b ++ c)) ++ d)
+    regroup p h b c d = simp append_assoc
+
+-- with its end
+pub data_whole : (start threads name boxes end middle stale last : List ℕ)
+    → ((start ++ (threads ++ name)) ++ (boxes ++ ((end ++ middle) ++ stale))) ++ (end ++ last)
+    ≡ start ++ (threads ++ ((name ++ (boxes ++ end)) ++ ((middle ++ (stale ++ end)) ++ last)))
+data_whole start threads name boxes end middle stale last = simp append_assoc
+
+-- and a text after it
+pub data_then : (start threads boxes stale end last : List ℕ)
+    → start ++ (threads ++ (boxes ++ (stale ++ (end ++ last)))) ≡ (start ++ (threads ++ (boxes ++ (stale ++ end)))) ++ last
+data_then start threads boxes stale end last = sym (regroup start threads boxes stale end last)
+  where
+    regroup : (a b c d e f : List ℕ) → (a ++ (b ++ (c ++ (d ++ e)))) ++ f ≡ a ++ (b ++ (c ++ (d ++ (e ++ f))))
+    regroup a b c d e f = simp append_assoc
 
 -- ---- the events for other viewers
 

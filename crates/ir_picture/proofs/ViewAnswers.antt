@@ -1,5 +1,5 @@
 -- What is answered about a coherent trace.
-use Rattle.std.proofs.Common.{◌≡◌, ℕ, inl, inr, Bool, false, List, Option, Result, Ok, Err, IfOk, OnOk, IfErr, refl, sym, subst}
+use Rattle.std.proofs.Common.{◌≡◌, ◌≤◌, ℕ, inl, inr, Bool, false, List, [], ◌∷◌, ◌++◌, codes, length, ap, ◌∙◌, Option, Result, Ok, Err, IfOk, OnOk, IfErr, refl, sym, subst}
 use Rattle.std.specs.Io.KnownBytes.{Appends}
 use Rattle.ir_trace.specs.Recorded.{Recorded}
 use Rattle.ir_files.specs.Writers.{Writer, writer_of}
@@ -8,10 +8,18 @@ use Rattle.ir_files.specs.declared.exit_status.ExitStatus.TheVariants as status
 use Rattle.ir_past.specs.Answers.{AreCoherent, Answered, NotAnswered, Stops}
 use Rattle.ir_past.specs.declared.past_err.PastErr.{PastErr}
 use Rattle.ir_past.proofs.CallerLemmas.{answered, stopped}
-use Rattle.ir_picture.specs.Answers.{IsThere, IsTraceAnswer, IsViewAnswer}
+use Rattle.ir_picture.specs.Answers.{IsForm, page_head, page_tail, IsThere, IsTraceAnswer, IsViewAnswer}
+use Rattle.ir_picture.specs.Numbers.{rows_from, listed, box_row, stale_row, data_start, thread_list, data_text}
+use Rattle.ir_picture.specs.Progress.{data_head, stale_head, data_rows}
+use Rattle.ir_picture.specs.declared.asked.Around.{Around}
+use Rattle.ir_picture.specs.declared.asked.Form.TheVariants as form
+use Rattle.ir_picture.specs.declared.limits.TheConstants.{MOST_BOXES}
+use Rattle.ir_picture.proofs.Texts.{data_parts, data_whole, data_then}
 use Rattle.ir_picture.specs.Chrome.{AreSights, chrome_text, IsChromeAnswer}
 use Rattle.ir_picture.specs.declared.asked.Asked.{Asked}
 use Rattle.ir_picture.specs.declared.picture.Picture.{Picture}
+use Rattle.ir_past.specs.declared.stale_write.StaleWrite.{StaleWrite}
+use Rattle.ir_picture.specs.declared.placed_box.Point.{Point}
 use Rattle.ir_picture.specs.declared.placed_box.PlacedBox.{PlacedBox}
 use Rattle.ir_picture.specs.declared.sights.Sight.{Sight}
 
@@ -57,4 +65,43 @@ is_chrome r p boxes found sights same_boxes same all = (
     all = subst (λ (bs : List PlacedBox). AreSights r bs sights) same_boxes (subst (λ (ss : List Sight). AreSights r boxes ss) (sym same) all);
     lines = refl;
   },
+)
+
+-- ---- data in a frame
+
+-- its four parts
+pub framed_parts : (r : Recorded) (near : Option Around) (p : Picture) (first a d before after : List ℕ) (ends : List Point) (boxes : List PlacedBox)
+    (stale : List StaleWrite) → a ≡ first ++ data_head false r near ends → first ≡ before → ends ≡ p.ends.items → boxes ≡ p.boxes.items
+    → stale ≡ p.stale.items → d ≡ after
+    → ((a ++ rows_from (box_row r) 0 boxes) ++ (stale_head ++ rows_from stale_row 0 stale)) ++ d ≡ before ++ (data_rows r near p ++ after)
+framed_parts r near p first a d before after ends boxes stale begins same_first same_ends same_boxes same_stale closes =
+    data_parts a (rows_from (box_row r) 0 boxes) (stale_head ++ rows_from stale_row 0 stale) d before (data_head false r near p.ends.items) after
+    (begins ∙ (λ i. same_first i ++ data_head false r near (same_ends i))) closes
+    ∙ (λ i. before ++ ((data_head false r near p.ends.items
+    ++ (rows_from (box_row r) 0 (same_boxes i) ++ (stale_head ++ rows_from stale_row 0 (same_stale i)))) ++ after))
+
+-- the data with its end, and a text after it
+pub data_framed : (r : Recorded) (near : Option Around) (p : Picture) (last : List ℕ) → data_rows r near p ++ (codes "\n]}" ++ last) ≡ data_text r near p ++ last
+data_framed r near p last =
+    data_whole (data_start false r near) (thread_list r p.ends.items) (codes ",\"boxes\":[") (rows_from (box_row r) 0 p.boxes.items) (codes "\n]")
+    (codes ",\"stale\":[") (rows_from stale_row 0 p.stale.items) (codes "}" ++ last)
+    ∙ data_then (data_start false r near) (thread_list r p.ends.items) (listed (codes ",\"boxes\":[") (box_row r) p.boxes.items)
+    (listed (codes ",\"stale\":[") stale_row p.stale.items) (codes "}") last
+
+-- in a frame of its own it is the data of the picture
+pub is_data : (r : Recorded) (near : Option Around) (p : Picture) (before after : List ℕ) → before ≡ [] → after ≡ codes "\n]}\n"
+    → IsForm form.Data r near p status.Done (before ++ (data_rows r near p ++ after))
+is_data r near p before after none ends = (
+  refl,
+  ap (λ (x : List ℕ). x ++ (data_rows r near p ++ after)) none ∙ ap (λ (x : List ℕ). data_rows r near p ++ x) ends ∙ data_framed r near p (10 ∷ []),
+)
+
+-- in that of a page it is the page of the picture
+pub is_page : (r : Recorded) (near : Option Around) (p : Picture) (before after : List ℕ) → length p.boxes.items ≤ MOST_BOXES → before ≡ page_head
+    → after ≡ codes "\n]}" ++ page_tail → IsForm form.Page r near p status.Done (before ++ (data_rows r near p ++ after))
+is_page r near p before after fits begins ends = inl (
+  fits,
+  refl,
+  ap (λ (x : List ℕ). x ++ (data_rows r near p ++ after)) begins ∙ ap (λ (x : List ℕ). page_head ++ (data_rows r near p ++ x)) ends
+      ∙ ap (λ (x : List ℕ). page_head ++ x) (data_framed r near p page_tail),
 )

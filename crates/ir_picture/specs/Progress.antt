@@ -1,5 +1,5 @@
 -- What the texts of a picture need, and their parts.
-use Rattle.std.specs.Prelude.{◌≡◌, ℕ, ◌==◌, ◌&&◌, ◌||◌, nat_lt, Bool, List, ◌++◌, codes, decimal, length, Option, Some}
+use Rattle.std.specs.Prelude.{◌≡◌, ℕ, ◌==◌, ◌&&◌, ◌||◌, nat_lt, Bool, List, ◌++◌, codes, decimal, length, Option, Some, false}
 use Rattle.std.specs.List.{slice_get}
 use Rattle.ir_trace.specs.Recorded.{Recorded}
 use Rattle.ir_past.specs.Past.{IsRising}
@@ -7,7 +7,10 @@ use Rattle.ir_past.specs.declared.stale_write.StaleWrite.{StaleWrite}
 use Rattle.ir_picture.specs.Boxes.{IsBox}
 use Rattle.ir_picture.specs.Boxing.{AreSomeBoxes}
 use Rattle.ir_picture.specs.Placing.{events_of_all}
+use Rattle.ir_log.specs.declared.event.Event.{Event}
+use Rattle.ir_picture.specs.Numbers.{comma, rows_from, first_numbers, place_numbers, box_row, stale_row, data_start, thread_list}
 use Rattle.ir_picture.specs.Chrome.{row_number, time_of, stale_argument, process_line, all_threads}
+use Rattle.ir_picture.specs.declared.asked.Around.{Around}
 use Rattle.ir_picture.specs.declared.placed_box.Point.{Point}
 use Rattle.ir_picture.specs.declared.placed_box.PlacedBox.{PlacedBox}
 use Rattle.ir_picture.specs.declared.picture.Picture.{Picture}
@@ -37,6 +40,28 @@ end_part end code steps =
 abbrev pub point_part : ℕ → Point → List ℕ
 point_part events p =
     codes ",\"events\":" ++ (decimal events ++ (codes ",\"x\":" ++ (decimal p.x ++ (codes ",\"u\":" ++ (decimal p.u ++ codes "}")))))
+
+-- the places of a box behind the first, and its row, which is 0
+abbrev pub end_numbers : PlacedBox → List ℕ
+end_numbers b = comma b.end.x ++ (comma b.start.u ++ (comma b.end.u ++ (comma b.came ++ codes ",0")))
+
+-- the row of a box with these events up to its last numbers
+abbrev pub box_start : List Event → PlacedBox → List ℕ
+box_start es b =
+    codes "[" ++ (decimal b.events.thread ++ (comma b.events.event ++ (comma b.events.count ++ (first_numbers es ++ place_numbers b))))
+
+-- the data of a picture up to the rows of its boxes
+abbrev pub data_head : Bool → Recorded → Option Around → List Point → List ℕ
+data_head steps r near ends = data_start steps r near ++ (thread_list r ends ++ codes ",\"boxes\":[")
+
+-- the end of the boxes, and the name of the stale writes
+abbrev pub stale_head : List ℕ
+stale_head = codes "\n],\"stale\":["
+
+-- the data of a picture up to its end, after the rows of the stale writes
+abbrev pub data_rows : Recorded → Option Around → Picture → List ℕ
+data_rows r near p =
+    data_head false r near p.ends.items ++ (rows_from (box_row r) 0 p.boxes.items ++ (stale_head ++ rows_from stale_row 0 p.stale.items))
 
 -- the line of a box after what it is drawn as
 abbrev pub slice_place : Option ℕ → PlacedBox → List ℕ

@@ -1,14 +1,14 @@
 //! The rows of a picture's data.
 
-ghost use Rattle.std.specs.Prelude.{◌≡◌, ◌≤◌, length, IfOk};
+ghost use Rattle.std.specs.Prelude.{◌≡◌, ◌≤◌, ◌++◌, length, IfOk, OnOk};
 ghost use Rattle.std.specs.String.{string_bytes};
-ghost use Rattle.ir_picture.specs.Numbers.{row_start, event_numbers, first_numbers, place_numbers, fold_numbers, row_with, row_of, box_row, thread_row, stale_row};
-ghost use Rattle.ir_picture.specs.Progress.{end_part, point_part};
+ghost use Rattle.ir_picture.specs.Numbers.{row_start, event_numbers, first_numbers, place_numbers, fold_numbers, box_row, thread_row, stale_row};
+ghost use Rattle.ir_picture.specs.Progress.{end_numbers, box_start, end_part, point_part};
 ghost use Rattle.ir_picture.specs.Boxes.{IsBox};
 ghost use Rattle.ir_trace.specs.Encoding.{kind_tag};
 
-use crate::event_box::EventBox;
 use crate::folds::pairs_read;
+use crate::pieces::{push_number, push_words};
 use crate::placed_box::{PlacedBox, Point};
 use crate::threads::events_in;
 use ir_log::Event;
@@ -35,109 +35,136 @@ fn tag(kind: EnvKind) -> u8
     }
 }
 
-// The numbers of an event: its tag in a trace, its object or value, its version, its readers.
-fn event_numbers(alloc: Global, event: Event) -> Result<String, AllocError>
-    ensures { IfOk result (λ s. string_bytes s ≡ event_numbers event) }
+// Adds the numbers of an event: its tag in a trace, its object or value, its version, its readers.
+fn push_event(text: &mut Vec<u8>, event: Event) -> Result<(), AllocError>
+    ensures { OnOk result (text.new.items ≡ text.old.items ++ event_numbers event) }
 {
     match event {
         Event::Answer(kind, value) => {
-            let tag = tag(kind);
-            format!(in alloc; ",{tag},{value},0,0")
+            push_number(text, b",", tag(kind))?;
+            push_number(text, b",", value)?;
+            push_words(text, b",0,0")
         }
-        Event::Read { object, version } => format!(in alloc; ",4,{object},{version},0"),
+        Event::Read { object, version } => {
+            push_number(text, b",4,", object)?;
+            push_number(text, b",", version)?;
+            push_words(text, b",0")
+        }
         Event::Write {
             object,
             version,
             readers,
-        } => format!(in alloc; ",5,{object},{version},{readers}"),
-        Event::Try { object } => format!(in alloc; ",6,{object},0,0"),
+        } => {
+            push_number(text, b",5,", object)?;
+            push_number(text, b",", version)?;
+            push_number(text, b",", readers)
+        }
+        Event::Try { object } => {
+            push_number(text, b",6,", object)?;
+            push_words(text, b",0,0")
+        }
     }
 }
 
-// The places of a box, and its row, which is 0.
-fn place_numbers(alloc: Global, own: &PlacedBox) -> Result<String, AllocError>
-    ensures { IfOk result (λ s. string_bytes s ≡ place_numbers own.now) }
-{
-    let PlacedBox {
-        start,
-        end,
-        came,
-        ..
-    } = *own;
-    let Point { x, u } = start;
-    let right = end.x;
-    let last = end.u;
-    format!(in alloc; ",{x},{right},{u},{last},{came},0")
-}
-
-// The numbers of the first of these events.
-fn first_numbers(alloc: Global, events: &[Event]) -> Result<String, AllocError>
+// Adds the numbers of the first of these events.
+fn push_first(text: &mut Vec<u8>, events: &[Event]) -> Result<(), AllocError>
     requires { 1 ≤ length events.now }
-    ensures { IfOk result (λ s. string_bytes s ≡ first_numbers events.now) }
+    ensures { OnOk result (text.new.items ≡ text.old.items ++ first_numbers events.now) }
 {
-    event_numbers(alloc, events[0])
+    push_event(text, events[0])
 }
 
-/// What is said of a box of more than one event: that it has no steps, and what it reads of this many objects.
+// Adds where a box ends, when it starts and ends, when its last event came, and its row, which is 0.
+fn push_ends(text: &mut Vec<u8>, own: &PlacedBox) -> Result<(), AllocError>
+    ensures { OnOk result (text.new.items ≡ text.old.items ++ end_numbers own.now) }
+{
+    push_number(text, b",", own.end.x)?;
+    push_number(text, b",", own.start.u)?;
+    push_number(text, b",", own.end.u)?;
+    push_number(text, b",", own.came)?;
+    push_words(text, b",0")
+}
+
+// Adds the places of a box, and its row.
+fn push_places(text: &mut Vec<u8>, own: &PlacedBox) -> Result<(), AllocError>
+    ensures { OnOk result (text.new.items ≡ text.old.items ++ place_numbers own.now) }
+{
+    push_number(text, b",", own.start.x)?;
+    push_ends(text, own)
+}
+
+/// Adds the row of a box with these events up to its last numbers.
 ///
 /// # Errors
 /// Out of memory.
-pub fn fold_numbers(alloc: Global, events: &[Event], objects: u8) -> Result<String, AllocError>
-    ensures { IfOk result (λ s. string_bytes s ≡ fold_numbers objects events.now) }
-{
-    if events.len() <= 1 {
-        return Ok(String::new(alloc));
-    }
-    let pairs = pairs_read(alloc, events, objects)?;
-    format!(in alloc; ",-1,-1,[{pairs}]")
-}
-
-/// The row of a box with these events, which ends so.
-///
-/// # Errors
-/// Out of memory.
-pub fn row_with(
-    alloc: Global,
+pub fn push_box_start(
+    text: &mut Vec<u8>,
     events: &[Event],
     own: &PlacedBox,
-    last: &str,
-) -> Result<String, AllocError>
+) -> Result<(), AllocError>
     requires { 1 ≤ length events.now }
-    ensures { IfOk result (λ s. string_bytes s ≡ row_with events.now own.now last.now) }
+    ensures { OnOk result (text.new.items ≡ text.old.items ++ box_start events.now own.now) }
 {
-    let EventBox {
-        thread,
-        event,
-        count,
-    } = own.events;
-    let first = first_numbers(alloc, events)?;
-    let places = place_numbers(alloc, own)?;
-    format!(in alloc; "[{thread},{event},{count}{first}{places}{last}]")
+    push_number(text, b"[", own.events.thread)?;
+    push_number(text, b",", own.events.event)?;
+    push_number(text, b",", own.events.count)?;
+    push_first(text, events)?;
+    push_places(text, own)
 }
 
-// The row of a box with these events.
-fn row_of(
+/// Adds what is said of a box of more than one event: that it has no steps, and what it reads of this many objects.
+///
+/// # Errors
+/// Out of memory.
+pub fn push_fold(
     alloc: Global,
+    text: &mut Vec<u8>,
     events: &[Event],
     objects: u8,
-    own: &PlacedBox,
-) -> Result<String, AllocError>
-    requires { 1 ≤ length events.now }
-    ensures { IfOk result (λ s. string_bytes s ≡ row_of objects events.now own.now) }
+) -> Result<(), AllocError>
+    ensures { OnOk result (text.new.items ≡ text.old.items ++ fold_numbers objects events.now) }
 {
-    let fold = fold_numbers(alloc, events, objects)?;
-    row_with(alloc, events, own, &fold)
+    if events.len() <= 1 {
+        return Ok(());
+    }
+    let pairs = pairs_read(alloc, events, objects)?;
+    push_words(text, b",-1,-1,[")?;
+    push_words(text, pairs.as_bytes())?;
+    push_words(text, b"]")
 }
 
-/// The row of a box.
+// Adds the row of a box.
+fn push_box(
+    alloc: Global,
+    text: &mut Vec<u8>,
+    trace: &Trace,
+    own: &PlacedBox,
+) -> Result<(), AllocError>
+    requires { IsBox trace.now (own.now).events }
+    ensures { OnOk result (text.new.items ≡ text.old.items ++ box_row trace.now own.now) }
+{
+    let events = events_in(trace, &own.events);
+    push_box_start(text, events, own)?;
+    push_fold(alloc, text, events, trace.objects())?;
+    push_words(text, b"]")
+}
+
+/// Adds the row of the box of a number in a list.
 ///
 /// # Errors
 /// Out of memory.
-pub fn box_row(alloc: Global, trace: &Trace, own: &PlacedBox) -> Result<String, AllocError>
+pub fn push_box_row(
+    alloc: Global,
+    text: &mut Vec<u8>,
+    number: usize,
+    trace: &Trace,
+    own: &PlacedBox,
+) -> Result<(), AllocError>
     requires { IsBox trace.now (own.now).events }
-    ensures { IfOk result (λ s. string_bytes s ≡ box_row trace.now own.now) }
+    ensures { OnOk result (text.new.items ≡ text.old.items ++ (row_start number ++ box_row trace.now own.now)) }
 {
-    row_of(alloc, events_in(trace, &own.events), trace.objects(), own)
+    push_words(text, row_start(number).as_bytes())?;
+    push_box(alloc, text, trace, own)
 }
 
 // How many events a thread has.
@@ -175,18 +202,23 @@ pub fn thread_row(alloc: Global, thread: &ThreadTrace, place: Point) -> Result<S
     format!(in alloc; "{ended}{point}")
 }
 
-/// The row of a stale write.
+// Adds the row of a stale write.
+fn push_stale(text: &mut Vec<u8>, row: &StaleWrite) -> Result<(), AllocError>
+    ensures { OnOk result (text.new.items ≡ text.old.items ++ stale_row row.now) }
+{
+    push_number(text, b"[", row.thread)?;
+    push_number(text, b",", row.read)?;
+    push_number(text, b",", row.event)?;
+    push_words(text, b"]")
+}
+
+/// Adds the row of the stale write of a number in a list.
 ///
 /// # Errors
 /// Out of memory.
-pub fn stale_row(alloc: Global, row: &StaleWrite) -> Result<String, AllocError>
-    ensures { IfOk result (λ s. string_bytes s ≡ stale_row row.now) }
+pub fn push_stale_row(text: &mut Vec<u8>, number: usize, row: &StaleWrite) -> Result<(), AllocError>
+    ensures { OnOk result (text.new.items ≡ text.old.items ++ (row_start number ++ stale_row row.now)) }
 {
-    let StaleWrite {
-        thread,
-        read,
-        event,
-        ..
-    } = *row;
-    format!(in alloc; "[{thread},{read},{event}]")
+    push_words(text, row_start(number).as_bytes())?;
+    push_stale(text, row)
 }

@@ -1,14 +1,13 @@
 //! `ir view`: the bytes of a trace in, a picture of it out.
 
-ghost use Rattle.std.specs.Prelude.{◌≡◌, ◌≢◌, ◌⊎◌, ◌++◌, Ok, IfOk, IfErr, OnOk, MatchResult, false};
-ghost use Rattle.std.specs.String.{string_bytes};
+ghost use Rattle.std.specs.Prelude.{◌≡◌, ◌≢◌, ◌⊎◌, Ok, IfOk, IfErr, OnOk, MatchResult, false};
 ghost use Rattle.ir_trace.specs.Reading.{recorded_at};
 ghost use Rattle.ir_files.specs.Writers.{writer_of, Reports, fault_text};
 ghost use Rattle.ir_files.specs.declared.exit_status.ExitStatus.TheVariants as status;
 ghost use Rattle.ir_past.specs.Answers.{AreCoherent, Answered, NotAnswered};
 ghost use Rattle.ir_picture.specs.Needs.{HasNoCircle, IsCircleAt};
 ghost use Rattle.ir_picture.specs.Progress.{IsOf};
-ghost use Rattle.ir_picture.specs.Answers.{IsPicture, IsForm, IsThere, IsViewAnswer, IsUnsaid, IsUnanswered, page_head, page_tail, page_of, page_text, circle_line, many_line, status_of, fault_words};
+ghost use Rattle.ir_picture.specs.Answers.{IsPicture, IsForm, IsThere, IsViewAnswer, IsUnsaid, IsUnanswered, circle_line, many_line, status_of, fault_words};
 ghost use Rattle.ir_picture.specs.declared.asked.Form.TheVariants as form;
 ghost use Rattle.ir_picture.specs.declared.view_err.ViewErr.{ViewErr};
 
@@ -16,9 +15,9 @@ use crate::around::is_there;
 use crate::asked::{Around, Asked, Form};
 use crate::chrome::write_chrome;
 use crate::circle::Circle;
-use crate::data::data_text;
+use crate::data::write_data;
+use crate::frame::{data_frame, page_frame};
 use crate::limits::MOST_BOXES;
-use crate::page::{HEAD_1, HEAD_2, TAIL_1, TAIL_2, TAIL_3, TAIL_4};
 use crate::picture::Picture;
 use crate::pictures::picture_of;
 use crate::view_err::ViewErr;
@@ -51,98 +50,43 @@ pub fn many_answer(alloc: Global, count: usize) -> Result<Answer, AllocError>
     line_answer(alloc, ExitStatus::NotFit, &line)
 }
 
-// Adds four parts of a text.
-fn push_four(
-    text: &mut Vec<u8>,
-    first: &str,
-    second: &str,
-    third: &str,
-    last: &str,
-) -> Result<(), AllocError>
-    ensures { OnOk result (text.new.items ≡ text.old.items ++ (first.now ++ (second.now ++ (third.now ++ last.now)))) }
-{
-    text.extend_from_slice(first.as_bytes())?;
-    text.extend_from_slice(second.as_bytes())?;
-    text.extend_from_slice(third.as_bytes())?;
-    text.extend_from_slice(last.as_bytes())?;
-    Ok(())
-}
-
-// What a page has before its data.
-fn page_head(alloc: Global) -> Result<Vec<u8>, AllocError>
-    ensures { IfOk result (λ v. v.items ≡ page_head) }
-{
-    let mut text = Vec::from_slice(alloc, HEAD_1.as_bytes())?;
-    text.extend_from_slice(HEAD_2.as_bytes())?;
-    Ok(text)
-}
-
-// Adds what it has after it.
-fn push_tail(text: &mut Vec<u8>) -> Result<(), AllocError>
-    ensures { OnOk result (text.new.items ≡ text.old.items ++ page_tail) }
-{
-    push_four(text, TAIL_1, TAIL_2, TAIL_3, TAIL_4)
-}
-
-/// The page that has this data.
-///
-/// # Errors
-/// Out of memory.
-pub fn page_of(alloc: Global, data: &str) -> Result<Vec<u8>, AllocError>
-    ensures { IfOk result (λ v. v.items ≡ page_of data.now) }
-{
-    let mut text = page_head(alloc)?;
-    text.extend_from_slice(data.as_bytes())?;
-    push_tail(&mut text)?;
-    Ok(text)
-}
-
-// The page of a picture.
-fn page_text(
+// Writes a picture as a page, if it has no more boxes than that may have.
+fn write_page<O: Sink>(
     alloc: Global,
     trace: &Trace,
     near: &Option<Around>,
     picture: &Picture,
-) -> Result<Vec<u8>, AllocError>
-    requires { IsOf trace.now picture.now }
-    ensures { IfOk result (λ v. v.items ≡ page_text trace.now near.now picture.now) }
-{
-    let data = data_text(alloc, trace, near, picture)?;
-    page_of(alloc, &data)
-}
-
-// A picture as a page, if it has no more boxes than that may have.
-fn page_answer(
-    alloc: Global,
-    trace: &Trace,
-    near: &Option<Around>,
-    picture: &Picture,
-) -> Result<Answer, AllocError>
-    requires { IsOf trace.now picture.now }
-    ensures { IfOk result (λ a. IsForm form.Page trace.now near.now picture.now a.status a.text.items) }
+    out: &mut O,
+) -> Result<ExitStatus, PastErr>
+    requires works { O.broken out.old ≡ false }
+    requires of_trace { IsOf trace.now picture.now }
+    ensures ok { IfOk result (λ answered. Answered (IsForm form.Page trace.now near.now picture.now) answered (writer_of (O.written out.old) (O.written out.new) (O.broken out.new))) }
+    ensures fails { IfErr result (λ e. NotAnswered (IsForm form.Page trace.now near.now picture.now) e (writer_of (O.written out.old) (O.written out.new) (O.broken out.new))) }
 {
     if picture.boxes.len() > MOST_BOXES {
-        return many_answer(alloc, picture.boxes.len());
+        return put_answer(&many_answer(alloc, picture.boxes.len())?, out);
     }
-    Ok(Answer {
-        status: ExitStatus::Done,
-        text: page_text(alloc, trace, near, picture)?,
-    })
+    let page = page_frame(alloc)?;
+    write_data(alloc, trace, near, picture, &page, out)?;
+    Ok(ExitStatus::Done)
 }
 
-// The data of a picture.
-fn data_answer(
+// Writes the data of a picture.
+fn write_plain<O: Sink>(
     alloc: Global,
     trace: &Trace,
     near: &Option<Around>,
     picture: &Picture,
-) -> Result<Answer, AllocError>
-    requires { IsOf trace.now picture.now }
-    ensures { IfOk result (λ a. IsForm form.Data trace.now near.now picture.now a.status a.text.items) }
+    out: &mut O,
+) -> Result<ExitStatus, PastErr>
+    requires works { O.broken out.old ≡ false }
+    requires of_trace { IsOf trace.now picture.now }
+    ensures ok { IfOk result (λ answered. Answered (IsForm form.Data trace.now near.now picture.now) answered (writer_of (O.written out.old) (O.written out.new) (O.broken out.new))) }
+    ensures fails { IfErr result (λ e. NotAnswered (IsForm form.Data trace.now near.now picture.now) e (writer_of (O.written out.old) (O.written out.new) (O.broken out.new))) }
 {
-    let mut data = data_text(alloc, trace, near, picture)?;
-    data.push_str("\n")?;
-    line_answer(alloc, ExitStatus::Done, &data)
+    let frame = data_frame(alloc)?;
+    write_data(alloc, trace, near, picture, &frame, out)?;
+    Ok(ExitStatus::Done)
 }
 
 // Writes a picture in the form that is asked for.
@@ -160,8 +104,8 @@ fn show_picture<O: Sink>(
     ensures fails { IfErr result (λ e. NotAnswered (IsForm (asked.now).form trace.now (asked.now).around picture.now) e (writer_of (O.written out.old) (O.written out.new) (O.broken out.new))) }
 {
     match asked.form {
-        Form::Page => put_answer(&page_answer(alloc, trace, &asked.around, picture)?, out),
-        Form::Data => put_answer(&data_answer(alloc, trace, &asked.around, picture)?, out),
+        Form::Page => write_page(alloc, trace, &asked.around, picture, out),
+        Form::Data => write_plain(alloc, trace, &asked.around, picture, out),
         Form::Chrome => write_chrome(alloc, trace, picture, out),
     }
 }

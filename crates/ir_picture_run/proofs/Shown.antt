@@ -1,5 +1,6 @@
 -- What the bytes of an image and of a trace are answered.
-use Rattle.std.proofs.Common.{◌≡◌, ℕ, inl, List, Option, length, sym, ap, ◌∙◌, subst}
+use Rattle.std.proofs.Common.{◌≡◌, ◌≤◌, ℕ, inl, true, List, [], ◌∷◌, ◌++◌, codes, Option, length, refl, sym, ap, ◌∙◌, subst}
+use Rattle.ir_trace.specs.Recorded.{Recorded}
 use Rattle.ir_fit.specs.Fit.{FittedTrace}
 use Rattle.ir_files.specs.declared.exit_status.ExitStatus.{ExitStatus}
 use Rattle.ir_fit_run.specs.Opened.{IsFit}
@@ -11,16 +12,23 @@ use Rattle.ir_picture.specs.Boxing.{AreSomeBoxes}
 use Rattle.ir_picture.specs.Places.{ArePlaced}
 use Rattle.ir_picture.specs.Placing.{events_of_all}
 use Rattle.ir_picture.specs.Shown.{AreShown}
-use Rattle.ir_picture.specs.Progress.{AreBoxesOf, IsOf}
+use Rattle.ir_picture.specs.Progress.{data_head, stale_head, AreBoxesOf, IsOf}
 use Rattle.ir_picture.specs.declared.asked.Around.{Around}
 use Rattle.ir_picture.specs.declared.placed_box.Point.{Point}
 use Rattle.ir_picture.specs.declared.placed_box.PlacedBox.{PlacedBox}
-use Rattle.ir_picture.proofs.CallerLemmas.{picture_is_of}
+use Rattle.ir_picture.proofs.CallerLemmas.{data_parts, data_whole, data_then, picture_is_of}
 use Rattle.ir_picture_run.specs.Resting.{resting_writes, writes_of}
 use Rattle.ir_picture_run.proofs.Kept.{kept_rise}
-use Rattle.ir_picture.specs.Answers.{IsThere, IsPicture}
+use Rattle.ir_picture.specs.Answers.{page_head, page_tail, IsThere, IsPicture}
+use Rattle.ir_picture.specs.Numbers.{rows_from, listed, data_start, thread_list}
+use Rattle.ir_picture.specs.declared.asked.Form.TheVariants as form
+use Rattle.ir_picture.specs.declared.limits.TheConstants.{MOST_BOXES}
+use Rattle.ir_files.specs.declared.exit_status.ExitStatus.TheVariants as status
 use Rattle.ir_picture.specs.declared.asked.Asked.{Asked}
 use Rattle.ir_picture.specs.declared.picture.Picture.{Picture}
+use Rattle.ir_picture_run.specs.Numbers.{drawn_row, resting_row, data_rows, data_text}
+use Rattle.ir_picture_run.specs.Steps.{AreDrawn}
+use Rattle.ir_picture_run.specs.declared.drawn.Drawn.{Drawn}
 use Rattle.ir_picture_run.specs.Answers.{IsRunPicture, IsForm, IsRunAnswer, IsViewAnswer}
 use Rattle.ir_picture_run.specs.declared.resting.Resting.{Resting}
 
@@ -59,3 +67,52 @@ run_picture f near p q rows rests kept is are found same boxes ends stale =
         stale = subst IsRising (sym (stale ∙ ap writes_of same)) (kept_rise p.boxes.items rows rests (length rows) are.rising);
       },
     )
+
+-- ---- data in a frame
+
+-- its four parts
+pub framed_parts : (f : FittedTrace) (near : Option Around) (p : Picture) (drawn : List Drawn) (kept : List Resting) (first a d before after : List ℕ)
+    (r : Recorded) (ends : List Point) → a ≡ first ++ data_head true r near ends → first ≡ before → r ≡ f.recorded → ends ≡ p.ends.items → d ≡ after
+    → ((a ++ rows_from (drawn_row f) 0 drawn) ++ (stale_head ++ rows_from resting_row 0 kept)) ++ d ≡ before ++ (data_rows f near p drawn kept ++ after)
+framed_parts f near p drawn kept first a d before after r ends begins same_first same same_ends closes =
+    data_parts a (rows_from (drawn_row f) 0 drawn) (stale_head ++ rows_from resting_row 0 kept) d before (data_head true f.recorded near p.ends.items) after
+    (begins ∙ (λ i. same_first i ++ data_head true (same i) near (same_ends i))) closes
+
+-- the data with its end, and a text after it
+pub data_framed : (f : FittedTrace) (near : Option Around) (p : Picture) (drawn : List Drawn) (kept : List Resting) (last : List ℕ)
+    → data_rows f near p drawn kept ++ (codes "\n]}" ++ last) ≡ data_text f near p drawn kept ++ last
+data_framed f near p drawn kept last =
+    data_whole (data_start true f.recorded near) (thread_list f.recorded p.ends.items) (codes ",\"boxes\":[") (rows_from (drawn_row f) 0 drawn)
+    (codes "\n]") (codes ",\"stale\":[") (rows_from resting_row 0 kept) (codes "}" ++ last)
+    ∙ data_then (data_start true f.recorded near) (thread_list f.recorded p.ends.items) (listed (codes ",\"boxes\":[") (drawn_row f) drawn)
+    (listed (codes ",\"stale\":[") resting_row kept) (codes "}") last
+
+-- in a frame of its own it is the data of the picture
+pub is_data : (f : FittedTrace) (near : Option Around) (p : Picture) (drawn : List Drawn) (kept : List Resting) (before after : List ℕ)
+    → AreDrawn f p.boxes.items drawn → before ≡ [] → after ≡ codes "\n]}\n"
+    → IsForm form.Data f near p kept status.Done (before ++ (data_rows f near p drawn kept ++ after))
+is_data f near p drawn kept before after are none ends = (
+  refl,
+  (
+    data_text f near p drawn kept,
+    record { drawn = drawn; are = are; lines = refl },
+    ap (λ (x : List ℕ). x ++ (data_rows f near p drawn kept ++ after)) none ∙ ap (λ (x : List ℕ). data_rows f near p drawn kept ++ x) ends
+        ∙ data_framed f near p drawn kept (10 ∷ []),
+  ),
+)
+
+-- in that of a page it is the page of the picture
+pub is_page : (f : FittedTrace) (near : Option Around) (p : Picture) (drawn : List Drawn) (kept : List Resting) (before after : List ℕ)
+    → AreDrawn f p.boxes.items drawn → length p.boxes.items ≤ MOST_BOXES → before ≡ page_head → after ≡ codes "\n]}" ++ page_tail
+    → IsForm form.Page f near p kept status.Done (before ++ (data_rows f near p drawn kept ++ after))
+is_page f near p drawn kept before after are fits begins ends = inl (
+  fits,
+  refl,
+  record {
+    text = data_text f near p drawn kept;
+    is = record { drawn = drawn; are = are; lines = refl };
+    lines = ap (λ (x : List ℕ). x ++ (data_rows f near p drawn kept ++ after)) begins
+        ∙ ap (λ (x : List ℕ). page_head ++ (data_rows f near p drawn kept ++ x)) ends
+        ∙ ap (λ (x : List ℕ). page_head ++ x) (data_framed f near p drawn kept page_tail);
+  },
+)

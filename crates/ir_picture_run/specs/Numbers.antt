@@ -6,7 +6,8 @@ use Rattle.ir_events.specs.Events.{entry_of}
 use Rattle.ir_rests.specs.declared.reason.Reason.{Reason}
 use Rattle.ir_rests.specs.declared.reason.Reason.TheVariants.{Value, Way}
 use Rattle.ir_rests.specs.declared.rest.Rest.{Rest}
-use Rattle.ir_picture.specs.Numbers.{comma, events_in, fold_numbers, row_with, listed, data_start, thread_list}
+use Rattle.ir_picture.specs.Numbers.{comma, events_in, fold_numbers, row_with, rows_from, listed, data_start, thread_list}
+use Rattle.ir_picture.specs.Progress.{data_head, stale_head}
 use Rattle.ir_picture.specs.declared.asked.Around.{Around}
 use Rattle.ir_picture.specs.declared.picture.Picture.{Picture}
 use Rattle.ir_picture_run.specs.declared.drawn.Drawn.{Drawn}
@@ -48,3 +49,8 @@ abbrev pub data_text : FittedTrace → Option Around → Picture → List Drawn 
 data_text f near p drawn kept =
     data_start true f.recorded near ++ (thread_list f.recorded p.ends.items ++ (listed (codes ",\"boxes\":[") (drawn_row f) drawn
     ++ (listed (codes ",\"stale\":[") resting_row kept ++ codes "}")))
+
+-- the data up to its end, after the rows of the stale writes
+abbrev pub data_rows : FittedTrace → Option Around → Picture → List Drawn → List Resting → List ℕ
+data_rows f near p drawn kept =
+    data_head true f.recorded near p.ends.items ++ (rows_from (drawn_row f) 0 drawn ++ (stale_head ++ rows_from resting_row 0 kept))

@@ -59,7 +59,7 @@ pub fn all_drawn(
     requires { AreBoxesOf fitted.now.recorded boxes.now }
     ensures { IfOk result (λ v. AreDrawn fitted.now boxes.now v.items) }
 {
-    let mut drawn = Vec::new(alloc);
+    let mut drawn = Vec::with_capacity(alloc, boxes.len())?;
     for own in boxes {
         drawn.push(drawn_of(fitted, own))?;
     }

@@ -10,6 +10,7 @@ mod resting;
 mod rows;
 mod run;
 mod run_picture;
+mod view;
 
 pub use drawn::Drawn;
 pub use resting::Resting;

@@ -11,55 +11,76 @@ ghost use Rattle.ir_picture.specs.declared.asked.Form.TheVariants as form;
 ghost use Rattle.ir_picture.specs.declared.view_err.ViewErr.{ViewErr};
 ghost use Rattle.ir_picture_run.specs.Answers.{IsForm, IsViewAnswer, IsUnanswered};
 
-use crate::data::data_text;
+use crate::data::write_data;
+use crate::drawing::all_drawn;
 use crate::pictures::run_picture_of;
-use crate::resting::Resting;
 use crate::run_picture::RunPicture;
+use crate::view::View;
 use ir_files::{ExitStatus, tell};
 use ir_fit::Fitted;
 use ir_fit_run::{Opened, open_fit, refuse};
-use ir_past::{Answer, PastErr, line_answer, put_answer};
+use ir_past::{PastErr, put_answer};
 use ir_picture::{
-    Around, Asked, Form, MOST_BOXES, Picture, ViewErr, many_answer, page_of, write_chrome,
+    Around, Asked, Form, MOST_BOXES, ViewErr, data_frame, many_answer, page_frame, write_chrome,
 };
 use ir_stream::Sink;
 use std::alloc::{AllocError, Global};
 
-// A picture as a page, if it has no more boxes than that may have.
-fn page_answer(
+// Writes a picture of a run as a page, if it has no more boxes than that may have.
+fn write_page<O: Sink>(
     alloc: Global,
     fitted: &Fitted,
     near: &Option<Around>,
-    picture: &Picture,
-    kept: &[Resting],
-) -> Result<Answer, AllocError>
-    requires { IsOf fitted.now.recorded picture.now }
-    ensures { IfOk result (λ a. IsForm form.Page fitted.now near.now picture.now kept.now a.status a.text.items) }
+    shown: &RunPicture,
+    out: &mut O,
+) -> Result<ExitStatus, PastErr>
+    requires works { O.broken out.old ≡ false }
+    requires of_trace { IsOf fitted.now.recorded (shown.now).picture }
+    ensures ok { IfOk result (λ s. Answered (IsForm form.Page fitted.now near.now (shown.now).picture (shown.now).kept.items) s (writer_of (O.written out.old) (O.written out.new) (O.broken out.new))) }
+    ensures fails { IfErr result (λ e. NotAnswered (IsForm form.Page fitted.now near.now (shown.now).picture (shown.now).kept.items) e (writer_of (O.written out.old) (O.written out.new) (O.broken out.new))) }
 {
+    let RunPicture { picture, kept } = shown;
     if picture.boxes.len() > MOST_BOXES {
-        return many_answer(alloc, picture.boxes.len());
+        return put_answer(&many_answer(alloc, picture.boxes.len())?, out);
     }
-    let data = data_text(alloc, fitted, near, picture, kept)?;
-    Ok(Answer {
-        status: ExitStatus::Done,
-        text: page_of(alloc, &data)?,
-    })
+    let drawn = all_drawn(alloc, fitted, &picture.boxes)?;
+    let frame = page_frame(alloc)?;
+    let view = View {
+        fitted,
+        near,
+        picture,
+        drawn: &drawn,
+        kept,
+    };
+    write_data(alloc, view, &frame, out)?;
+    Ok(ExitStatus::Done)
 }
 
-// The data of a picture.
-fn data_answer(
+// Writes the data of a picture of a run.
+fn write_plain<O: Sink>(
     alloc: Global,
     fitted: &Fitted,
     near: &Option<Around>,
-    picture: &Picture,
-    kept: &[Resting],
-) -> Result<Answer, AllocError>
-    requires { IsOf fitted.now.recorded picture.now }
-    ensures { IfOk result (λ a. IsForm form.Data fitted.now near.now picture.now kept.now a.status a.text.items) }
+    shown: &RunPicture,
+    out: &mut O,
+) -> Result<ExitStatus, PastErr>
+    requires works { O.broken out.old ≡ false }
+    requires of_trace { IsOf fitted.now.recorded (shown.now).picture }
+    ensures ok { IfOk result (λ s. Answered (IsForm form.Data fitted.now near.now (shown.now).picture (shown.now).kept.items) s (writer_of (O.written out.old) (O.written out.new) (O.broken out.new))) }
+    ensures fails { IfErr result (λ e. NotAnswered (IsForm form.Data fitted.now near.now (shown.now).picture (shown.now).kept.items) e (writer_of (O.written out.old) (O.written out.new) (O.broken out.new))) }
 {
-    let mut data = data_text(alloc, fitted, near, picture, kept)?;
-    data.push_str("\n")?;
-    line_answer(alloc, ExitStatus::Done, &data)
+    let RunPicture { picture, kept } = shown;
+    let drawn = all_drawn(alloc, fitted, &picture.boxes)?;
+    let frame = data_frame(alloc)?;
+    let view = View {
+        fitted,
+        near,
+        picture,
+        drawn: &drawn,
+        kept,
+    };
+    write_data(alloc, view, &frame, out)?;
+    Ok(ExitStatus::Done)
 }
 
 // Writes a picture of a run in the form that is asked for.
@@ -76,17 +97,10 @@ fn show_picture<O: Sink>(
     ensures ok { IfOk result (λ s. Answered (IsForm (asked.now).form fitted.now (asked.now).around (shown.now).picture (shown.now).kept.items) s (writer_of (O.written out.old) (O.written out.new) (O.broken out.new))) }
     ensures fails { IfErr result (λ e. NotAnswered (IsForm (asked.now).form fitted.now (asked.now).around (shown.now).picture (shown.now).kept.items) e (writer_of (O.written out.old) (O.written out.new) (O.broken out.new))) }
 {
-    let RunPicture { picture, kept } = shown;
     match asked.form {
-        Form::Page => put_answer(
-            &page_answer(alloc, fitted, &asked.around, picture, kept)?,
-            out,
-        ),
-        Form::Data => put_answer(
-            &data_answer(alloc, fitted, &asked.around, picture, kept)?,
-            out,
-        ),
-        Form::Chrome => write_chrome(alloc, fitted.trace(), picture, out),
+        Form::Page => write_page(alloc, fitted, &asked.around, shown, out),
+        Form::Data => write_plain(alloc, fitted, &asked.around, shown, out),
+        Form::Chrome => write_chrome(alloc, fitted.trace(), &shown.picture, out),
     }
 }
 

@@ -18,7 +18,7 @@ use crate::prompting::Prompting;
 use ir_arguments::{Asked, Make, Print, parsed};
 use ir_debug::{Sink, Source};
 use ir_files::{ExitStatus, Folder};
-use ir_object::{Gate, Given};
+use ir_object::{Gate, Given, Hands};
 use ir_stream::write_all;
 use std::alloc::Global;
 use std::sync::Wait;
@@ -166,7 +166,7 @@ where
         Asked::Record(arguments) => {
             record_file(&around, &arguments, terminals.faults, out, faults)
         }
-        Asked::Hunt(arguments) => hunt_file(&around, &arguments, terminals.faults, out, faults),
+        Asked::Hunt(arguments) => hunt_file(rt, folder, &arguments, terminals.faults, out, faults),
         Asked::Debug(arguments) => {
             let mut input = Prompting::new(input, rt, terminals.input);
             debug_files(

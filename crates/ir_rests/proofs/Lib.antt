@@ -6,5 +6,6 @@ mod Entered
 mod Opened
 mod OpenRows
 mod Built
+mod Begun
 mod Walked
 mod Joined

@@ -1,6 +1,6 @@
 -- What is kept of a thread, one row opened or closed.
 use Rattle.std.proofs.Common.{◌≡◌, ◌≢◌, ◌⊎◌, ◌+◌, ◌-◌, ◌<◌, ◌≤◌, ℕ, List, [], ◌∷◌, ◌++◌, length, length-append, set, length-set, get_or-set_same, get_or-set_other, refl, sym, ap, ◌∙◌, subst, arith, inl, inr}
-use Rattle.std.specs.Prelude.{Option, Some, None, slice_get}
+use Rattle.std.specs.Prelude.{Bool, Some, slice_get}
 use Rattle.std.specs.List.{slice_index_or}
 use Rattle.std.specs.List.Sorted.{IsNonDecreasingBy}
 use Rattle.std.proofs.lemmas.Bool.{cases_lt, cases_eq}
@@ -9,24 +9,24 @@ use Rattle.std.proofs.Math.Seq.{get_or-append_seam}
 use Rattle.ir_fit.specs.Fit.{FittedTrace}
 use Rattle.ir_walk.proofs.CallerLemmas.{each_more}
 use Rattle.ir_past.specs.declared.stale_write.StaleWrite.{StaleWrite}
-use Rattle.ir_rests.specs.Rests.{IsRestOf}
-use Rattle.ir_rests.specs.Watch.{IsWithout, IsSpanOf, IsOpenAt, IsWatched, IsWatch, NoneDue, AddsRests}
-use Rattle.ir_rests.specs.declared.rest.Rest.{Rest}
+use Rattle.ir_rests.specs.Watch.{IsFoundAs, IsWithout, IsSpanOf, IsOpenAt, IsWatched, IsWatch, NoneDue, AddsRests}
+use Rattle.ir_rests.specs.declared.found.Found.{Found}
+use Rattle.ir_rests.specs.declared.found.Found.TheVariants.{Unknown}
 use Rattle.ir_rests.specs.declared.span.Span.{Span}
 use Rattle.ir_rests.specs.declared.kept.Open.{Open}
 use Rattle.ir_rests.specs.declared.watch.Watch.{Watch}
 
 -- ---- one more is open
 
-pub opened_one : (f : FittedTrace) (rows : List StaleWrite) (t k : ℕ) (w new : Watch) (o : Open) → IsWatch f rows t k w → w.next < length w.spans.items
-    → IsOpenAt f rows t k o → new.spans ≡ w.spans → new.next ≡ w.next + 1 → new.opened.items ≡ w.opened.items ++ o ∷ [] → IsWatch f rows t k new
-opened_one f rows t k w new o is l this spans next opened = record {
+pub opened_one : (copies : Bool) (f : FittedTrace) (rows : List StaleWrite) (t k : ℕ) (w new : Watch) (o : Open) → IsWatch copies f rows t k w → w.next < length w.spans.items
+    → IsOpenAt copies f rows t k o → new.spans ≡ w.spans → new.next ≡ w.next + 1 → new.opened.items ≡ w.opened.items ++ o ∷ [] → IsWatch copies f rows t k new
+opened_one copies f rows t k w new o is l this spans next opened = record {
   sorted = subst (λ v. IsNonDecreasingBy (λ (s : Span). s.read) v.items) (sym spans) is.sorted;
   spans = subst (λ v. (i : ℕ) (d : Span) → i < length v.items → IsSpanOf f rows t (slice_index_or v.items i d)) (sym spans) is.spans;
   next = let n = ap (λ v. length v.items) spans in omega (arith, l, next, n);
   pending = subst (λ v. (i : ℕ) (d : Span) → new.next ≤ i → i < length v.items → k ≤ (slice_index_or v.items i d).read) (sym spans)
       (λ i d past li. is.pending i d (omega (arith, past, next)) li);
-  opened = each_more (IsOpenAt f rows t k) w.opened.items new.opened.items o is.opened this opened;
+  opened = each_more (IsOpenAt copies f rows t k) w.opened.items new.opened.items o is.opened this opened;
 }
 
 pub opened_watched : (w new : Watch) (o : Open) → new.spans ≡ w.spans → new.next ≡ w.next + 1 → new.opened.items ≡ w.opened.items ++ o ∷ []
@@ -53,9 +53,9 @@ opened_watched w new o spans next opened row r (inr q) = inr (
 )
 
 -- no other has its read entry here
-pub none_due : (f : FittedTrace) (rows : List StaleWrite) (t k : ℕ) (w : Watch) → IsWatch f rows t k w
+pub none_due : (copies : Bool) (f : FittedTrace) (rows : List StaleWrite) (t k : ℕ) (w : Watch) → IsWatch copies f rows t k w
     → (w.next < length w.spans.items → (d : Span) → (slice_index_or w.spans.items w.next d).read ≢ k) → NoneDue k w
-none_due f rows t k w is other i d past l =
+none_due copies f rows t k w is other i d past l =
     let first = is.pending w.next d (omega arith) (omega (arith, past, l)) in
     let ne = other (omega (arith, past, l)) d in
     let up = is.sorted w.next i d past l in
@@ -71,15 +71,15 @@ each_fewer P xs ys n out each i d l = elim (cases_eq i n) [
   | inr ne ↦ let s = out.size in subst P (sym (out.others i d ne (omega (arith, s, l)))) (each i d (omega (arith, s, l)))
 ]
 
-pub closed_one : (f : FittedTrace) (rows : List StaleWrite) (t k n : ℕ) (w new : Watch) → IsWatch f rows t k w → new.spans ≡ w.spans → new.next ≡ w.next
-    → IsWithout w.opened.items new.opened.items n → IsWatch f rows t k new
-closed_one f rows t k n w new is spans next out = record {
+pub closed_one : (copies : Bool) (f : FittedTrace) (rows : List StaleWrite) (t k n : ℕ) (w new : Watch) → IsWatch copies f rows t k w → new.spans ≡ w.spans → new.next ≡ w.next
+    → IsWithout w.opened.items new.opened.items n → IsWatch copies f rows t k new
+closed_one copies f rows t k n w new is spans next out = record {
   sorted = subst (λ v. IsNonDecreasingBy (λ (s : Span). s.read) v.items) (sym spans) is.sorted;
   spans = subst (λ v. (i : ℕ) (d : Span) → i < length v.items → IsSpanOf f rows t (slice_index_or v.items i d)) (sym spans) is.spans;
   next = let m = ap (λ v. length v.items) spans in let a = is.next in omega (arith, a, next, m);
   pending = subst (λ v. (i : ℕ) (d : Span) → new.next ≤ i → i < length v.items → k ≤ (slice_index_or v.items i d).read) (sym spans)
       (λ i d past li. is.pending i d (omega (arith, past, next)) li);
-  opened = each_fewer (IsOpenAt f rows t k) w.opened.items new.opened.items n out is.opened;
+  opened = each_fewer (IsOpenAt copies f rows t k) w.opened.items new.opened.items n out is.opened;
 }
 
 -- those that were looked at still end later
@@ -89,22 +89,22 @@ still_later k n xs ys out l later j d less =
     subst (λ (o : Open). k < o.span.end) (sym (out.others j d (omega (arith, less)) (omega (arith, less, l)))) (later j d less)
 
 -- a row that was open is, or was closed
-pub closed_watched : (f : FittedTrace) (rows : List StaleWrite) (w new : Watch) (rests new_rests : List (Option Rest)) (n row : ℕ) (rest : Option Rest)
+pub closed_watched : (copies : Bool) (f : FittedTrace) (rows : List StaleWrite) (w new : Watch) (rests new_rests : List Found) (n row : ℕ) (rest : Found)
     (any : Open) → new.spans ≡ w.spans → new.next ≡ w.next → IsWithout w.opened.items new.opened.items n → n < length w.opened.items
     → ((d : Open) → (slice_index_or w.opened.items n d).span.row ≡ row) → row < length rests → new_rests ≡ set rests row rest
-    → ((x : StaleWrite) → slice_get rows row ≡ Some x → IsRestOf f x rest)
-    → (r : ℕ) (x : StaleWrite) → slice_get rows r ≡ Some x → IsWatched w r ⊎ IsRestOf f x (slice_index_or rests r None)
-    → IsWatched new r ⊎ IsRestOf f x (slice_index_or new_rests r None)
-closed_watched f rows w new rests new_rests n row rest any spans next out l at within set_to judged r x there was = elim (cases_eq r row) [
-  | inl same ↦ inr (subst (λ xs. IsRestOf f x (slice_index_or xs r None)) (sym set_to)
-      (subst (λ j. IsRestOf f x (slice_index_or (set rests row rest) j None)) (sym same)
-      (subst (IsRestOf f x) (sym (get_or-set_same rests row rest None within)) (judged x (ap (slice_get rows) (sym same) ∙ there)))))
+    → ((x : StaleWrite) → slice_get rows row ≡ Some x → IsFoundAs copies f x rest)
+    → (r : ℕ) (x : StaleWrite) → slice_get rows r ≡ Some x → IsWatched w r ⊎ IsFoundAs copies f x (slice_index_or rests r Unknown)
+    → IsWatched new r ⊎ IsFoundAs copies f x (slice_index_or new_rests r Unknown)
+closed_watched copies f rows w new rests new_rests n row rest any spans next out l at within set_to judged r x there was = elim (cases_eq r row) [
+  | inl same ↦ inr (subst (λ xs. IsFoundAs copies f x (slice_index_or xs r Unknown)) (sym set_to)
+      (subst (λ j. IsFoundAs copies f x (slice_index_or (set rests row rest) j Unknown)) (sym same)
+      (subst (IsFoundAs copies f x) (sym (get_or-set_same rests row rest Unknown within)) (judged x (ap (slice_get rows) (sym same) ∙ there)))))
   | inr ne ↦ others ne was
 ]
   where
-    others : r ≢ row → IsWatched w r ⊎ IsRestOf f x (slice_index_or rests r None) → IsWatched new r ⊎ IsRestOf f x (slice_index_or new_rests r None)
-    others ne (inr found) = inr (subst (λ xs. IsRestOf f x (slice_index_or xs r None)) (sym set_to)
-        (subst (IsRestOf f x) (sym (get_or-set_other rests row r rest None ne)) found))
+    others : r ≢ row → IsWatched w r ⊎ IsFoundAs copies f x (slice_index_or rests r Unknown) → IsWatched new r ⊎ IsFoundAs copies f x (slice_index_or new_rests r Unknown)
+    others ne (inr found) = inr (subst (λ xs. IsFoundAs copies f x (slice_index_or xs r Unknown)) (sym set_to)
+        (subst (IsFoundAs copies f x) (sym (get_or-set_other rests row r rest Unknown ne)) found))
     others ne (inl (inl p)) = inl (inl (
       p.0,
       (let a = p.1 in omega (arith, a, next)),
@@ -135,25 +135,25 @@ closed_watched f rows w new rests new_rests n row rest any spans next out l at w
     ]))
 
 -- one result more
-pub adds_one : (f : FittedTrace) (rows : List StaleWrite) (first rests new : List (Option Rest)) (row : ℕ) (rest : Option Rest) → AddsRests f rows first rests
-    → row < length rests → new ≡ set rests row rest → ((x : StaleWrite) → slice_get rows row ≡ Some x → IsRestOf f x rest) → AddsRests f rows first new
-adds_one f rows first rests new row rest adds within set_to judged = record {
+pub adds_one : (copies : Bool) (f : FittedTrace) (rows : List StaleWrite) (first rests new : List Found) (row : ℕ) (rest : Found) → AddsRests copies f rows first rests
+    → row < length rests → new ≡ set rests row rest → ((x : StaleWrite) → slice_get rows row ≡ Some x → IsFoundAs copies f x rest) → AddsRests copies f rows first new
+adds_one copies f rows first rests new row rest adds within set_to judged = record {
   size = ap length set_to ∙ length-set rests row rest ∙ adds.size;
   each = λ r x there. elim (cases_eq r row) [
-    | inl same ↦ inr (subst (λ xs. IsRestOf f x (slice_index_or xs r None)) (sym set_to)
-        (subst (λ j. IsRestOf f x (slice_index_or (set rests row rest) j None)) (sym same)
-        (subst (IsRestOf f x) (sym (get_or-set_same rests row rest None within)) (judged x (ap (slice_get rows) (sym same) ∙ there)))))
+    | inl same ↦ inr (subst (λ xs. IsFoundAs copies f x (slice_index_or xs r Unknown)) (sym set_to)
+        (subst (λ j. IsFoundAs copies f x (slice_index_or (set rests row rest) j Unknown)) (sym same)
+        (subst (IsFoundAs copies f x) (sym (get_or-set_same rests row rest Unknown within)) (judged x (ap (slice_get rows) (sym same) ∙ there)))))
     | inr ne ↦
-        let e : slice_index_or new r None ≡ slice_index_or rests r None = ap (λ xs. slice_index_or xs r None) set_to ∙ get_or-set_other rests row r rest None ne in
+        let e : slice_index_or new r Unknown ≡ slice_index_or rests r Unknown = ap (λ xs. slice_index_or xs r Unknown) set_to ∙ get_or-set_other rests row r rest Unknown ne in
         elim (adds.each r x there) [
           | inl same ↦ inl (e ∙ same)
-          | inr found ↦ inr (subst (IsRestOf f x) (sym e) found)
+          | inr found ↦ inr (subst (IsFoundAs copies f x) (sym e) found)
         ]
   ];
 }
 
-pub adds_none : (f : FittedTrace) (rows : List StaleWrite) (rests : List (Option Rest)) → AddsRests f rows rests rests
-adds_none f rows rests = record { size = refl; each = λ r x there. inl refl }
+pub adds_none : (copies : Bool) (f : FittedTrace) (rows : List StaleWrite) (rests : List Found) → AddsRests copies f rows rests rests
+adds_none copies f rows rests = record { size = refl; each = λ r x there. inl refl }
 
 -- ---- each in turn
 

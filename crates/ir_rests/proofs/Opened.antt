@@ -1,8 +1,8 @@
 -- A row between its read entry and the leave after its write entry.
-use Rattle.std.proofs.Common.{◌≡◌, ◌+◌, ◌-◌, ◌<◌, ◌≤◌, ℕ, List, [], ◌++◌, sym, ap, ◌∙◌, subst, arith, inl, inr}
-use Rattle.std.specs.Prelude.{Option, Some, slice_get}
+use Rattle.std.proofs.Common.{◌≡◌, ◌+◌, ◌-◌, ◌<◌, ◌≤◌, ℕ, List, [], ◌++◌, refl, sym, ap, ◌∙◌, subst, arith, inl, inr}
+use Rattle.std.specs.Prelude.{Bool, true, false, if◌then◌else◌, Option, Some, None, slice_get}
 use Rattle.std.specs.List.{slice_index_or}
-use Rattle.std.proofs.lemmas.Bool.{cases_lt}
+use Rattle.std.proofs.lemmas.Bool.{cases_lt, true≢false}
 use Rattle.ir_thread.specs.State as thread
 use Rattle.ir_flat.specs.Flat.{idle, empty}
 use Rattle.ir_fit.specs.Fit.{FittedTrace, HasRun}
@@ -13,11 +13,15 @@ use Rattle.ir_past.specs.declared.stale_write.StaleWrite.{StaleWrite}
 use Rattle.ir_fit_run.proofs.CallerLemmas.{leave_past}
 use Rattle.ir_walk.specs.Calls.{calls_in, AllSuit, AreCalls}
 use Rattle.ir_walk.specs.Words.{AreWordsAt}
-use Rattle.ir_rests.specs.WhatIf.{rest_of}
+use Rattle.ir_rests.specs.WhatIf.{rest_of, rest_by, what_if, puts, changed_word, unknown_by, found_of}
 use Rattle.ir_rests.specs.Rests.{behind_read, behind_write, IsRestOf}
-use Rattle.ir_rests.specs.Watch.{IsSpan, IsSpanOf, IsOpenAt, IsCallMore}
+use Rattle.ir_rests.specs.Watch.{IsFoundAs, IsCopyOf, IsSpan, IsSpanOf, IsOpenAt, IsCallMore}
 use Rattle.ir_walk.specs.declared.exchange.Exchange.{Exchange}
 use Rattle.ir_rests.specs.declared.rest.Rest.{Rest}
+use Rattle.ir_rests.specs.declared.found.Found.{Found}
+use Rattle.ir_rests.specs.declared.found.Found.TheVariants.{Unknown, Known}
+use Rattle.ir_rests.specs.declared.hold.Hold.TheVariants.{Reading}
+use Rattle.ir_thread.specs.State.{State}
 use Rattle.ir_rests.specs.declared.span.Span.{Span}
 use Rattle.ir_rests.specs.declared.kept.Open.{Open}
 use Rattle.ir_walk.proofs.CallerLemmas.{calls_then, suit_both, words_there}
@@ -29,17 +33,30 @@ no_calls_yet : (code : List ℕ) (at : ℕ → thread.State) (k n : ℕ) → n �
 unfolding calls_in
 no_calls_yet code at k n e = ap (calls_in code at k) (sym e)
 
-pub opened_at : (f : FittedTrace) (rows : List StaleWrite) (s : Standing) (t : ℕ) (o : Open) → HasRun f
+-- the thread is copied, where threads are
+copied_as : (copies : Bool) (copy : Option State) (x : State) → copy ≡ (if copies then Some x else None) → IsCopyOf copy x
+copied_as true copy x e = subst (λ y. IsCopyOf y x) (sym e) refl
+copied_as false copy x e = subst (λ y. IsCopyOf y x) (sym e) tt
+
+copied_there : (copies : Bool) (copy : Option State) (x : State) → copy ≡ (if copies then Some x else None) → copies ≡ true → copy ≡ None → ⊥
+copied_there true copy x e on none = some_none x (sym e ∙ none)
+  where
+    some_none : (y : State) → Some y ≡ None → ⊥
+    some_none y e = cc e
+copied_there false copy x e on none = true≢false (sym on)
+
+pub opened_at : (copies : Bool) (f : FittedTrace) (rows : List StaleWrite) (s : Standing) (t : ℕ) (o : Open) → HasRun f
     → StandsAt f (positions (flat_in f s)) s → IsSpanOf f rows t o.span → o.span.read ≡ positions (flat_in f s) t
-    → o.kept.object ≡ o.span.object → o.kept.thread ≡ slice_index_or s.threads t idle
+    → o.kept.object ≡ o.span.object → o.kept.thread ≡ (if copies then Some (slice_index_or s.threads t idle) else None)
     → o.kept.was.items ≡ (slice_index_or s.objects o.span.object empty).words → o.kept.calls.items ≡ []
-    → IsOpenAt f rows t o.span.read o
-opened_at f rows s t o h stands of here object copied words none = record {
+    → IsOpenAt copies f rows t o.span.read o
+opened_at copies f rows s t o h stands of here object copied words none = record {
   of = of;
   kept = record {
     object = object ∙ of.span.object;
-    thread = λ run whole. copied ∙ (stands.at.each run whole).threads t
-        ∙ (λ i. thread_at f run (sym of.thread i) ((sym here ∙ of.span.read) i));
+    thread = λ run whole. subst (IsCopyOf o.kept.thread) ((stands.at.each run whole).threads t
+        ∙ (λ i. thread_at f run (sym of.thread i) ((sym here ∙ of.span.read) i))) (copied_as copies o.kept.thread (slice_index_or s.threads t idle) copied);
+    copied = copied_there copies o.kept.thread (slice_index_or s.threads t idle) copied;
     was = words_there f s of.row.thread (behind_read f of.row) of.row.object o.kept.was.items stands
         (ap (positions (flat_in f s)) of.thread ∙ sym here ∙ of.span.read) (holds_read f h of.row of.stale)
         (words ∙ ap (λ (p : ℕ). (slice_index_or s.objects p empty).words) of.span.object);
@@ -65,17 +82,18 @@ same_span f rows t old new e of = record {
 }
 
 -- its calls are added
-pub opened_on : (f : FittedTrace) (rows : List StaleWrite) (t from k : ℕ) (old mid new : Open) (calls : List Exchange)
-    → (o : IsOpenAt f rows t from old) → IsCallMore old mid calls → AreCalls f t from (k - from) calls → from ≤ k → k ≤ old.span.end
+pub opened_on : (copies : Bool) (f : FittedTrace) (rows : List StaleWrite) (t from k : ℕ) (old mid new : Open) (calls : List Exchange)
+    → (o : IsOpenAt copies f rows t from old) → IsCallMore old mid calls → AreCalls f t from (k - from) calls → from ≤ k → k ≤ old.span.end
     → new.span ≡ mid.span → new.kept.object ≡ mid.kept.object → new.kept.thread ≡ mid.kept.thread → new.kept.was.items ≡ mid.kept.was.items
     → new.kept.calls.items ≡ mid.kept.calls.items
     → (behind_write f o.of.row ≤ k → AreWordsAt f o.of.row.thread (behind_write f o.of.row) o.of.row.object new.kept.now.items)
-    → IsOpenAt f rows t k new
-opened_on f rows t from k old mid new calls o more are up within same object copied was calls' now = record {
+    → IsOpenAt copies f rows t k new
+opened_on copies f rows t from k old mid new calls o more are up within same object copied was calls' now = record {
   of = same_span f rows t old.span new.span (same ∙ more.span) o.of;
   kept = record {
     object = object ∙ more.object ∙ o.kept.object;
-    thread = λ run whole. copied ∙ more.thread ∙ o.kept.thread run whole;
+    thread = λ run whole. subst (λ y. IsCopyOf y (thread_at f run o.of.row.thread (behind_read f o.of.row))) (sym (copied ∙ more.thread)) (o.kept.thread run whole);
+    copied = λ on none. o.kept.copied on (sym (copied ∙ more.thread) ∙ none);
     was = subst (AreWordsAt f o.of.row.thread (behind_read f o.of.row) o.of.row.object) (sym (was ∙ more.was)) o.kept.was;
     now = now;
     calls = λ run whole. calls' ∙ more.calls
@@ -89,20 +107,20 @@ opened_on f rows t from k old mid new calls o more are up within same object cop
 }
 
 -- the words are those that are there behind the write entry
-pub words_now : (f : FittedTrace) (rows : List StaleWrite) (s : Standing) (t from k object : ℕ) (old : Open) (words : List ℕ) → HasRun f
-    → (o : IsOpenAt f rows t from old) → StandsAt f (positions (flat_in f s)) s → positions (flat_in f s) t ≡ k → old.span.write ≡ k
+pub words_now : (copies : Bool) (f : FittedTrace) (rows : List StaleWrite) (s : Standing) (t from k object : ℕ) (old : Open) (words : List ℕ) → HasRun f
+    → (o : IsOpenAt copies f rows t from old) → StandsAt f (positions (flat_in f s)) s → positions (flat_in f s) t ≡ k → old.span.write ≡ k
     → object ≡ old.span.object → words ≡ (slice_index_or s.objects object empty).words
     → AreWordsAt f o.of.row.thread (behind_write f o.of.row) o.of.row.object words
-words_now f rows s t from k object old words h o stands at here same is =
+words_now copies f rows s t from k object old words h o stands at here same is =
     words_there f s o.of.row.thread (behind_write f o.of.row) o.of.row.object words stands
     (ap (positions (flat_in f s)) o.of.thread ∙ at ∙ sym here ∙ o.of.span.write) (holds_write f h o.of.row o.of.stale)
     (is ∙ ap (λ (p : ℕ). (slice_index_or s.objects p empty).words) (same ∙ o.of.span.object))
 
 -- or those that were kept before
-pub words_before : (f : FittedTrace) (rows : List StaleWrite) (t from k : ℕ) (old mid : Open) (calls : List Exchange)
-    → (o : IsOpenAt f rows t from old) → IsCallMore old mid calls → (from < old.span.write → k ≤ old.span.write) → (mid.span.write ≡ k → ⊥)
+pub words_before : (copies : Bool) (f : FittedTrace) (rows : List StaleWrite) (t from k : ℕ) (old mid : Open) (calls : List Exchange)
+    → (o : IsOpenAt copies f rows t from old) → IsCallMore old mid calls → (from < old.span.write → k ≤ old.span.write) → (mid.span.write ≡ k → ⊥)
     → behind_write f o.of.row ≤ k → AreWordsAt f o.of.row.thread (behind_write f o.of.row) o.of.row.object mid.kept.now.items
-words_before f rows t from k old mid calls o more stop other past =
+words_before copies f rows t from k old mid calls o more stop other past =
     subst (AreWordsAt f o.of.row.thread (behind_write f o.of.row) o.of.row.object) (sym more.now) (o.kept.now before)
   where
     before : behind_write f o.of.row ≤ from
@@ -118,11 +136,35 @@ words_before f rows t from k old mid calls o more stop other past =
 some_row : (x y : StaleWrite) → Some x ≡ Some y → x ≡ y
 some_row x y e = cc e
 
-pub judged_as : (f : FittedTrace) (rows : List StaleWrite) (t k : ℕ) (code : List ℕ) (o : Open) (rest : Option Rest) → IsOpenAt f rows t k o
+known_same : {r q : Option Rest} → Known r ≡ Known q → r ≡ q
+known_same e = cc e
+
+known_unknown : {r : Option Rest} → Known r ≡ Unknown → ⊥
+known_unknown e = cc e
+
+-- without a copy it is known that a row rests on nothing, or it is unknown
+known_none : (f : FittedTrace) (code : List ℕ) (o : ℕ) (was now : List ℕ) (fuel : ℕ) (calls : List Exchange) (r : Option Rest) (x : State)
+    → Known r ≡ found_of code o was now fuel None calls → r ≡ rest_of code o was now fuel x calls
+known_none f code o was now fuel calls r x e = by_puts (puts o Reading calls) (changed_word o was now calls) e
+  where
+    by_puts : (p : Bool) (w : Option ℕ) → Known r ≡ (if p then unknown_by w else Known None)
+        → r ≡ (if p then rest_by was now w (what_if code o now Reading fuel x calls) else None)
+    by_puts false w e = known_same e
+    by_puts true None e = known_same e
+    by_puts true (Some i) e = absurd (known_unknown e)
+
+-- a thread that is copied, or none
+known_by : (f : FittedTrace) (code : List ℕ) (o : ℕ) (was now : List ℕ) (fuel : ℕ) (copy : Option State) (calls : List Exchange)
+    (r : Option Rest) (x : State) → IsCopyOf copy x → Known r ≡ found_of code o was now fuel copy calls
+    → r ≡ rest_of code o was now fuel x calls
+known_by f code o was now fuel (Some y) calls r x same e = known_same e ∙ ap (λ z. rest_of code o was now fuel z calls) same
+known_by f code o was now fuel None calls r x same e = known_none f code o was now fuel calls r x e
+
+pub judged_as : (copies : Bool) (f : FittedTrace) (rows : List StaleWrite) (t k : ℕ) (code : List ℕ) (o : Open) (found : Found) → IsOpenAt copies f rows t k o
     → o.span.end ≡ k → code ≡ f.guest.code
-    → rest ≡ rest_of code o.kept.object o.kept.was.items o.kept.now.items (k - o.span.read + 65536) o.kept.thread o.kept.calls.items
-    → (x : StaleWrite) → slice_get rows o.span.row ≡ Some x → IsRestOf f x rest
-judged_as f rows t k code o rest is ends same found x there =
+    → found ≡ found_of code o.kept.object o.kept.was.items o.kept.now.items (k - o.span.read + 65536) o.kept.thread o.kept.calls.items
+    → (x : StaleWrite) → slice_get rows o.span.row ≡ Some x → IsFoundAs copies f x found
+judged_as copies f rows t k code o (Known rest) is ends same found x there =
     subst (λ (y : StaleWrite). IsRestOf f y rest) (some_row is.of.row x (sym is.of.there ∙ there)) (inl record {
       last = is.of.span.last;
       leave = is.of.span.leave;
@@ -135,6 +177,22 @@ judged_as f rows t k code o rest is ends same found x there =
           let fuel : k - o.span.read + 65536 ≡ is.of.span.last + 1 - behind_read f is.of.row + 65536 =
           (let b = is.of.span.read in omega (arith, b, to)) in
           let steps : k - behind_read f is.of.row ≡ is.of.span.last + 1 - behind_read f is.of.row = omega (arith, to) in
-          found ∙ (λ i. rest_of (same i) (is.kept.object i) o.kept.was.items o.kept.now.items (fuel i) (is.kept.thread run whole i)
+          known_by f code o.kept.object o.kept.was.items o.kept.now.items (k - o.span.read + 65536) o.kept.thread o.kept.calls.items rest
+          (thread_at f run is.of.row.thread (behind_read f is.of.row)) (is.kept.thread run whole) found
+          ∙ (λ i. rest_of (same i) (is.kept.object i) o.kept.was.items o.kept.now.items (fuel i) (thread_at f run is.of.row.thread (behind_read f is.of.row))
           ((is.kept.calls run whole ∙ ap (calls_in f.guest.code (thread_at f run is.of.row.thread) (behind_read f is.of.row)) steps) i));
     })
+judged_as copies f rows t k code o Unknown is ends same found x there =
+    subst (λ (y : StaleWrite). IsFoundAs copies f y Unknown) (some_row is.of.row x (sym is.of.there ∙ there)) (
+      no_copy copies (λ on. is.kept.copied on (none_copied o.kept.thread found)),
+      (is.of.span.last, is.of.span.leave.leaves),
+    )
+  where
+    none_copied : (copy : Option State) → Unknown ≡ found_of code o.kept.object o.kept.was.items o.kept.now.items (k - o.span.read + 65536) copy o.kept.calls.items
+        → copy ≡ None
+    none_copied None e = refl
+    none_copied (Some y) e = absurd (known_unknown (sym e))
+
+    no_copy : (b : Bool) → (b ≡ true → ⊥) → b ≡ false
+    no_copy false not = refl
+    no_copy true not = absurd (not refl)

@@ -1,6 +1,6 @@
 -- What is kept of the threads, and what is found of their rows, as they go on.
 use Rattle.std.proofs.Common.{◌≡◌, ◌⊎◌, ◌<◌, ◌≤◌, ℕ, List, [], ◌∷◌, length, set, length-set, get_or-set_same, get_or-set_other, refl, sym, ap, ◌∙◌, subst, arith, inl, inr}
-use Rattle.std.specs.Prelude.{Option, Some, None, slice_get}
+use Rattle.std.specs.Prelude.{Bool, Some, slice_get}
 use Rattle.std.specs.List.{slice_index_or}
 use Rattle.std.specs.List.Sorted.{IsNonDecreasingBy}
 use Rattle.std.proofs.lemmas.Bool.{cases_eq}
@@ -11,9 +11,9 @@ use Rattle.ir_weave.specs.States.{positions}
 use Rattle.ir_past.specs.declared.stale_write.StaleWrite.{StaleWrite}
 use Rattle.ir_events.specs.Walk.{IsFurther}
 use Rattle.ir_fit_run.proofs.CallerLemmas.{leave_past}
-use Rattle.ir_rests.specs.Rests.{IsRestOf}
-use Rattle.ir_rests.specs.Watch.{IsSpanOf, IsOpenAt, IsWatched, IsWatch, IsFound, NoneEnds, IsBeforeStops, AddsRests, AreWatched}
-use Rattle.ir_rests.specs.declared.rest.Rest.{Rest}
+use Rattle.ir_rests.specs.Watch.{IsFoundAs, IsSpanOf, IsOpenAt, IsWatched, IsWatch, IsFound, NoneEnds, IsBeforeStops, AddsRests, AreWatched}
+use Rattle.ir_rests.specs.declared.found.Found.{Found}
+use Rattle.ir_rests.specs.declared.found.Found.TheVariants.{Unknown}
 use Rattle.ir_rests.specs.declared.span.Span.{Span}
 use Rattle.ir_rests.specs.declared.kept.Open.{Open}
 use Rattle.ir_rests.specs.declared.watch.Watch.{Watch}
@@ -21,10 +21,10 @@ use Rattle.ir_rests.specs.declared.watch.Watch.{Watch}
 -- ---- one thread goes on
 
 -- at most to the next stop
-pub watch_on : (f : FittedTrace) (rows : List StaleWrite) (t from k stop : ℕ) (w new : Watch) → IsWatch f rows t from w → IsBeforeStops from stop w → k ≤ stop
+pub watch_on : (copies : Bool) (f : FittedTrace) (rows : List StaleWrite) (t from k stop : ℕ) (w new : Watch) → IsWatch copies f rows t from w → IsBeforeStops from stop w → k ≤ stop
     → new.spans ≡ w.spans → new.next ≡ w.next → length new.opened.items ≡ length w.opened.items
-    → ((i : ℕ) (d : Open) → i < length w.opened.items → IsOpenAt f rows t k (slice_index_or new.opened.items i d)) → IsWatch f rows t k new
-watch_on f rows t from k stop w new is stops within spans next size each = record {
+    → ((i : ℕ) (d : Open) → i < length w.opened.items → IsOpenAt copies f rows t k (slice_index_or new.opened.items i d)) → IsWatch copies f rows t k new
+watch_on copies f rows t from k stop w new is stops within spans next size each = record {
   sorted = subst (λ v. IsNonDecreasingBy (λ (s : Span). s.read) v.items) (sym spans) is.sorted;
   spans = subst (λ v. (i : ℕ) (d : Span) → i < length v.items → IsSpanOf f rows t (slice_index_or v.items i d)) (sym spans) is.spans;
   next = let m = ap (λ v. length v.items) spans in let a = is.next in omega (arith, a, next, m);
@@ -50,61 +50,61 @@ watched_on w new spans next size same r (inr q) = inr (
 
 -- ---- what is found
 
-pub adds_then : (f : FittedTrace) (rows : List StaleWrite) (a b c : List (Option Rest)) → AddsRests f rows a b → AddsRests f rows b c → AddsRests f rows a c
-adds_then f rows a b c first more = record {
+pub adds_then : (copies : Bool) (f : FittedTrace) (rows : List StaleWrite) (a b c : List Found) → AddsRests copies f rows a b → AddsRests copies f rows b c → AddsRests copies f rows a c
+adds_then copies f rows a b c first more = record {
   size = more.size ∙ first.size;
   each = λ r x there. elim (more.each r x there) [
     | inr found ↦ inr found
     | inl same ↦ elim (first.each r x there) [
       | inl before ↦ inl (same ∙ before)
-      | inr found ↦ inr (subst (IsRestOf f x) (sym same) found)
+      | inr found ↦ inr (subst (IsFoundAs copies f x) (sym same) found)
     ]
   ];
 }
 
 -- what was found is found
-pub stays_found : (f : FittedTrace) (rows : List StaleWrite) (a b : List (Option Rest)) (r : ℕ) (x : StaleWrite) → AddsRests f rows a b
-    → slice_get rows r ≡ Some x → IsRestOf f x (slice_index_or a r None) → IsRestOf f x (slice_index_or b r None)
-stays_found f rows a b r x adds there found = elim (adds.each r x there) [
-  | inl same ↦ subst (IsRestOf f x) (sym same) found
+pub stays_found : (copies : Bool) (f : FittedTrace) (rows : List StaleWrite) (a b : List Found) (r : ℕ) (x : StaleWrite) → AddsRests copies f rows a b
+    → slice_get rows r ≡ Some x → IsFoundAs copies f x (slice_index_or a r Unknown) → IsFoundAs copies f x (slice_index_or b r Unknown)
+stays_found copies f rows a b r x adds there found = elim (adds.each r x there) [
+  | inl same ↦ subst (IsFoundAs copies f x) (sym same) found
   | inr new ↦ new
 ]
 
 -- what was kept is kept or found
-pub found_then : (f : FittedTrace) (rows : List StaleWrite) (w new : Watch) (a b : List (Option Rest)) (r : ℕ) (x : StaleWrite) → AddsRests f rows a b
-    → slice_get rows r ≡ Some x → (IsWatched w r → IsWatched new r ⊎ IsRestOf f x (slice_index_or b r None))
-    → IsWatched w r ⊎ IsRestOf f x (slice_index_or a r None) → IsWatched new r ⊎ IsRestOf f x (slice_index_or b r None)
-found_then f rows w new a b r x adds there more (inl watched) = more watched
-found_then f rows w new a b r x adds there more (inr found) = inr (stays_found f rows a b r x adds there found)
+pub found_then : (copies : Bool) (f : FittedTrace) (rows : List StaleWrite) (w new : Watch) (a b : List Found) (r : ℕ) (x : StaleWrite) → AddsRests copies f rows a b
+    → slice_get rows r ≡ Some x → (IsWatched w r → IsWatched new r ⊎ IsFoundAs copies f x (slice_index_or b r Unknown))
+    → IsWatched w r ⊎ IsFoundAs copies f x (slice_index_or a r Unknown) → IsWatched new r ⊎ IsFoundAs copies f x (slice_index_or b r Unknown)
+found_then copies f rows w new a b r x adds there more (inl watched) = more watched
+found_then copies f rows w new a b r x adds there more (inr found) = inr (stays_found copies f rows a b r x adds there found)
 
 -- ---- all threads, one of which has gone on
 
-pub watched_next : (f : FittedTrace) (rows : List StaleWrite) (t : ℕ) (old new : Standing) (ws : List Watch) (w : Watch) (a b : List (Option Rest))
-    → AreWatched f rows old ws a → IsFurther f t old new → t < length ws → AddsRests f rows a b
-    → IsWatch f rows t (positions (flat_in f new) t) w
+pub watched_next : (copies : Bool) (f : FittedTrace) (rows : List StaleWrite) (t : ℕ) (old new : Standing) (ws : List Watch) (w : Watch) (a b : List Found)
+    → AreWatched copies f rows old ws a → IsFurther f t old new → t < length ws → AddsRests copies f rows a b
+    → IsWatch copies f rows t (positions (flat_in f new) t) w
     → ((d : Watch) (r : ℕ) (x : StaleWrite) → slice_get rows r ≡ Some x → IsWatched (slice_index_or ws t d) r
-    → IsWatched w r ⊎ IsRestOf f x (slice_index_or b r None)) → AreWatched f rows new (set ws t w) b
-watched_next f rows t old new ws w a b are further l adds is more u d lu = elim (cases_eq u t) [
-  | inl same ↦ subst (λ j. IsWatch f rows j (positions (flat_in f new) j) (slice_index_or (set ws t w) j d)
-      × IsFound f rows b j (slice_index_or (set ws t w) j d)) (sym same)
-      (subst (λ z. IsWatch f rows t (positions (flat_in f new) t) z × IsFound f rows b t z) (sym (get_or-set_same ws t w d l)) (
+    → IsWatched w r ⊎ IsFoundAs copies f x (slice_index_or b r Unknown)) → AreWatched copies f rows new (set ws t w) b
+watched_next copies f rows t old new ws w a b are further l adds is more u d lu = elim (cases_eq u t) [
+  | inl same ↦ subst (λ j. IsWatch copies f rows j (positions (flat_in f new) j) (slice_index_or (set ws t w) j d)
+      × IsFound copies f rows b j (slice_index_or (set ws t w) j d)) (sym same)
+      (subst (λ z. IsWatch copies f rows t (positions (flat_in f new) t) z × IsFound copies f rows b t z) (sym (get_or-set_same ws t w d l)) (
         is,
-        λ r x there own. found_then f rows (slice_index_or ws t d) w a b r x adds there (more d r x there) ((are t d l).1 r x there own),
+        λ r x there own. found_then copies f rows (slice_index_or ws t d) w a b r x adds there (more d r x there) ((are t d l).1 r x there own),
       ))
   | inr ne ↦
       let before = are u d (let n = length-set ws t w in omega (arith, n, lu)) in
-      subst (λ z. IsWatch f rows u (positions (flat_in f new) u) z × IsFound f rows b u z) (sym (get_or-set_other ws t u w d ne)) (
-        subst (λ k. IsWatch f rows u k (slice_index_or ws u d)) (sym (further.others u ne)) before.0,
-        λ r x there own. found_then f rows (slice_index_or ws u d) (slice_index_or ws u d) a b r x adds there (λ z. inl z) (before.1 r x there own),
+      subst (λ z. IsWatch copies f rows u (positions (flat_in f new) u) z × IsFound copies f rows b u z) (sym (get_or-set_other ws t u w d ne)) (
+        subst (λ k. IsWatch copies f rows u k (slice_index_or ws u d)) (sym (further.others u ne)) before.0,
+        λ r x there own. found_then copies f rows (slice_index_or ws u d) (slice_index_or ws u d) a b r x adds there (λ z. inl z) (before.1 r x there own),
       )
 ]
 
 -- ---- at the end of a thread
 
 -- no row is left
-pub none_watched : (f : FittedTrace) (rows : List StaleWrite) (t k : ℕ) (w : Watch) (r : ℕ) → IsWatch f rows t k w → NoneEnds k w.opened.items
+pub none_watched : (copies : Bool) (f : FittedTrace) (rows : List StaleWrite) (t k : ℕ) (w : Watch) (r : ℕ) → IsWatch copies f rows t k w → NoneEnds k w.opened.items
     → (recorded_thread f.recorded t).steps ≤ k → IsWatched w r → ⊥
-none_watched f rows t k w r is ends all (inl p) =
+none_watched copies f rows t k w r is ends all (inl p) =
     let any : Span = record { row = 0; object = 0; read = 0; write = 0; end = 0 } in
     let s = is.spans p.0 any p.2 in
     let a = is.pending p.0 any p.1 p.2 in
@@ -115,7 +115,7 @@ none_watched f rows t k w r is ends all (inl p) =
     let g = s.span.within in
     let h = ap (λ u. (recorded_thread f.recorded u).steps) s.thread in
     omega (arith, a, b, c, d, e, g, h, all)
-none_watched f rows t k w r is ends all (inr q) = no_open q.0 q.1 (w.opened.items) refl
+none_watched copies f rows t k w r is ends all (inr q) = no_open q.0 q.1 (w.opened.items) refl
   where
     no_open : (i : ℕ) → i < length w.opened.items → (xs : List Open) → xs ≡ w.opened.items → ⊥
     no_open i l [] e = absurd (let n = ap (λ (ys : List Open). length ys) e in omega (arith, l, n))
@@ -127,11 +127,11 @@ none_watched f rows t k w r is ends all (inr q) = no_open q.0 q.1 (w.opened.item
         omega (arith, a, g, h, all)
 
 -- so each is found
-pub closed_next : (f : FittedTrace) (rows : List StaleWrite) (t k : ℕ) (w new : Watch) (a b : List (Option Rest)) (r : ℕ) (x : StaleWrite) → AddsRests f rows a b
-    → slice_get rows r ≡ Some x → IsWatch f rows t k new → NoneEnds k new.opened.items → (recorded_thread f.recorded t).steps ≤ k
-    → (IsWatched w r → IsWatched new r ⊎ IsRestOf f x (slice_index_or b r None))
-    → IsWatched w r ⊎ IsRestOf f x (slice_index_or a r None) → IsRestOf f x (slice_index_or b r None)
-closed_next f rows t k w new a b r x adds there is ends all more was = elim (found_then f rows w new a b r x adds there more was) [
+pub closed_next : (copies : Bool) (f : FittedTrace) (rows : List StaleWrite) (t k : ℕ) (w new : Watch) (a b : List Found) (r : ℕ) (x : StaleWrite) → AddsRests copies f rows a b
+    → slice_get rows r ≡ Some x → IsWatch copies f rows t k new → NoneEnds k new.opened.items → (recorded_thread f.recorded t).steps ≤ k
+    → (IsWatched w r → IsWatched new r ⊎ IsFoundAs copies f x (slice_index_or b r Unknown))
+    → IsWatched w r ⊎ IsFoundAs copies f x (slice_index_or a r Unknown) → IsFoundAs copies f x (slice_index_or b r Unknown)
+closed_next copies f rows t k w new a b r x adds there is ends all more was = elim (found_then copies f rows w new a b r x adds there more was) [
   | inr found ↦ found
-  | inl watched ↦ absurd (none_watched f rows t k new r is ends all watched)
+  | inl watched ↦ absurd (none_watched copies f rows t k new r is ends all watched)
 ]

@@ -18,6 +18,8 @@ use Rattle.ir_rests.specs.declared.hold.Hold.TheVariants.{Reading, Between, Writ
 use Rattle.ir_rests.specs.declared.reason.Reason.{Reason}
 use Rattle.ir_rests.specs.declared.reason.Reason.TheVariants as reason
 use Rattle.ir_rests.specs.declared.rest.Rest.{Rest}
+use Rattle.ir_rests.specs.declared.found.Found.{Found}
+use Rattle.ir_rests.specs.declared.found.Found.TheVariants.{Unknown, Known}
 
 -- ---- where the thread is with the object
 
@@ -187,3 +189,22 @@ rest_of code o was now fuel x calls =
     if puts o Reading calls
     then rest_by was now (changed_word o was now calls) (what_if code o now Reading fuel x calls)
     else None
+
+-- what is found by a word that is another, with no copy of the thread
+abbrev pub unknown_by : Option ℕ → Found
+unknown_by None = Known None
+unknown_by (Some i) = Unknown
+
+-- what is found of the write: with a copy of the thread how it rests on its read, and with none that it rests on nothing, where the
+-- calls and the words show it
+abbrev pub found_of : List ℕ → ℕ → List ℕ → List ℕ → ℕ → Option State → List Exchange → Found
+found_of code o was now fuel (Some x) calls = Known (rest_of code o was now fuel x calls)
+found_of code o was now fuel None calls =
+    if puts o Reading calls
+    then unknown_by (changed_word o was now calls)
+    else Known None
+
+-- how a write rests on its read, as far as it is known
+abbrev pub known : Found → Option Rest
+known Unknown = None
+known (Known rest) = rest

@@ -1,35 +1,35 @@
 //! Rows that a thread has passed.
 
-ghost use Rattle.std.specs.Prelude.{◌≡◌, ◌≢◌, ◌⊎◌, ◌<◌, ◌≤◌, ℕ, true, false, IfSome, IfNone, length, slice_get, slice_set, slice_index_or, Some, None};
+ghost use Rattle.std.specs.Prelude.{◌≡◌, ◌≢◌, ◌⊎◌, ◌<◌, ◌≤◌, ℕ, true, false, IfSome, IfNone, length, slice_get, slice_set, slice_index_or, Some};
 ghost use Rattle.ir_thread.specs.Calls.{most_steps};
 ghost use Rattle.ir_past.specs.declared.stale_write.StaleWrite.{StaleWrite};
-ghost use Rattle.ir_rests.specs.Rests.{IsRestOf};
 ghost use Rattle.ir_rests.specs.declared.kept.Open.{Open};
-ghost use Rattle.ir_rests.specs.Watch.{IsGuide, IsOpenAt, IsWatch, IsWatched, NoneEnds, AddsRests, IsWithout};
+ghost use Rattle.ir_rests.specs.declared.found.Found.TheVariants.{Unknown};
+ghost use Rattle.ir_rests.specs.Watch.{IsFoundAs, IsGuide, IsOpenAt, IsWatch, IsWatched, NoneEnds, AddsRests, IsWithout};
 
+use crate::found::Found;
 use crate::guide::Guide;
-use crate::judging::rest_of;
+use crate::judging::found_of;
 use crate::kept::Open;
-use crate::rest::Rest;
 use crate::watch::Watch;
 
 // How many steps more than the run a thread may take to come to the same call.
 const MORE_STEPS: u64 = 65_536;
 
 // How a row rests on its read whose thread, at position k, has left the object.
-fn judged(guide: Guide<'_, '_>, t: usize, k: u64, opened: Open) -> Option<Rest>
+fn judged(guide: Guide<'_, '_>, t: usize, k: u64, opened: Open) -> Found
     requires guide { IsGuide guide.route.fitted.now guide.rows.now guide.route.ends.now guide.route.code.now }
-    requires opened { IsOpenAt guide.route.fitted.now guide.rows.now t k opened }
+    requires opened { IsOpenAt guide.copies guide.route.fitted.now guide.rows.now t k opened }
     requires here { opened.span.end ≡ k }
     requires bound { k ≤ most_steps }
-    ensures { (x : StaleWrite) → slice_get guide.entry.rows.now opened.span.row ≡ Some x → IsRestOf guide.entry.route.fitted.now x result }
+    ensures { (x : StaleWrite) → slice_get guide.entry.rows.now opened.span.row ≡ Some x → IsFoundAs guide.entry.copies guide.entry.route.fitted.now x result }
 {
     let Open { span, kept } = opened;
-    rest_of(guide.route.code.code(), kept, k - span.read + MORE_STEPS)
+    found_of(guide.route.code.code(), kept, k - span.read + MORE_STEPS)
 }
 
 // Keeps what is found of a row.
-fn keep(rests: &mut [Option<Rest>], row: usize, rest: Option<Rest>)
+fn keep(rests: &mut [Found], row: usize, rest: Found)
     requires { row < length rests.old }
     ensures { rests.new ≡ slice_set rests.old row rest }
 {
@@ -59,22 +59,16 @@ fn take_out(opened: &mut Vec<Open>, i: usize) -> Open
 }
 
 // Closes the open rows of thread t that end at position k, where it is, and keeps what is found of them.
-pub fn close_due(
-    guide: Guide<'_, '_>,
-    t: usize,
-    k: u64,
-    watch: &mut Watch,
-    rests: &mut [Option<Rest>],
-)
+pub fn close_due(guide: Guide<'_, '_>, t: usize, k: u64, watch: &mut Watch, rests: &mut [Found])
     requires guide { IsGuide guide.route.fitted.now guide.rows.now guide.route.ends.now guide.route.code.now }
-    requires watch { IsWatch guide.route.fitted.now guide.rows.now t k watch.old }
+    requires watch { IsWatch guide.copies guide.route.fitted.now guide.rows.now t k watch.old }
     requires size { length rests.old ≡ length guide.rows.now }
     requires bound { k ≤ most_steps }
-    ensures watch { IsWatch guide.entry.route.fitted.now guide.entry.rows.now t k watch.new }
+    ensures watch { IsWatch guide.entry.copies guide.entry.route.fitted.now guide.entry.rows.now t k watch.new }
     ensures ends { NoneEnds k watch.new.opened.items }
     ensures same { (watch.new.spans ≡ watch.old.spans) × (watch.new.next ≡ watch.old.next) }
-    ensures adds { AddsRests guide.entry.route.fitted.now guide.entry.rows.now rests.old rests.new }
-    ensures found { (r : ℕ) (x : StaleWrite) → slice_get guide.entry.rows.now r ≡ Some x → IsWatched watch.old r → IsWatched watch.new r ⊎ IsRestOf guide.entry.route.fitted.now x (slice_index_or rests.new r None) }
+    ensures adds { AddsRests guide.entry.copies guide.entry.route.fitted.now guide.entry.rows.now rests.old rests.new }
+    ensures found { (r : ℕ) (x : StaleWrite) → slice_get guide.entry.rows.now r ≡ Some x → IsWatched watch.old r → IsWatched watch.new r ⊎ IsFoundAs guide.entry.copies guide.entry.route.fitted.now x (slice_index_or rests.new r Unknown) }
 {
     let mut i = 0;
     'opened: while let Some(ends) = ends_at(&watch.opened, i, k) {

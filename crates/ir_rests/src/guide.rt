@@ -10,4 +10,6 @@ pub struct Guide<'a, 'b> {
     pub route: Route<'a>,
     /// The stale writes of the trace.
     pub rows: &'b [StaleWrite],
+    /// Whether a thread is copied at the read entry of a row.
+    pub copies: bool,
 }

@@ -7,8 +7,8 @@ use ir_walk::Exchange;
 /// What is kept of a thread from its read entry of an object to the leave after its write entry.
 #[derive(Drop)]
 pub struct Kept {
-    /// The thread behind its read entry.
-    pub thread: Thread,
+    /// The thread behind its read entry, if it is copied.
+    pub thread: Option<Thread>,
     /// The object.
     pub object: u8,
     /// Its words behind the read entry.

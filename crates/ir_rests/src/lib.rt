@@ -3,11 +3,13 @@
 
 mod closing;
 mod differences;
+mod found;
 mod guide;
 mod hold;
 mod holding;
 mod judging;
 mod kept;
+mod known;
 mod lines;
 mod noting;
 mod opening;

@@ -42,10 +42,10 @@ fn note_one(
     requires thread { t < length guide.route.fitted.now.guest.entries }
     requires up { from ≤ positions (flat_in guide.route.fitted.now state.now) t }
     requires calls { AreCalls guide.route.fitted.now t from (positions (flat_in guide.route.fitted.now state.now) t - from) (option_to_list call) }
-    requires opened { IsOpenAt guide.route.fitted.now guide.rows.now t from opened.old }
+    requires opened { IsOpenAt guide.copies guide.route.fitted.now guide.rows.now t from opened.old }
     requires within { positions (flat_in guide.route.fitted.now state.now) t ≤ opened.old.span.end }
     requires write { from < opened.old.span.write → positions (flat_in guide.route.fitted.now state.now) t ≤ opened.old.span.write }
-    ensures opened { OnOk result (IsOpenAt guide.entry.route.fitted.now guide.entry.rows.now t (positions (flat_in guide.entry.route.fitted.now state.now) t) opened.new) }
+    ensures opened { OnOk result (IsOpenAt guide.entry.copies guide.entry.route.fitted.now guide.entry.rows.now t (positions (flat_in guide.entry.route.fitted.now state.now) t) opened.new) }
     ensures same { OnOk result (opened.new.span ≡ opened.old.span) }
 {
     note_call(opened, call)?;
@@ -69,11 +69,11 @@ pub fn note(
     requires thread { t < length guide.route.fitted.now.guest.entries }
     requires up { from ≤ positions (flat_in guide.route.fitted.now state.now) t }
     requires calls { 0 < length opened.old → AreCalls guide.route.fitted.now t from (positions (flat_in guide.route.fitted.now state.now) t - from) (option_to_list call) }
-    requires opened { (i : ℕ) (d : Open) → i < length opened.old → IsOpenAt guide.route.fitted.now guide.rows.now t from (slice_index_or opened.old i d) }
+    requires opened { (i : ℕ) (d : Open) → i < length opened.old → IsOpenAt guide.copies guide.route.fitted.now guide.rows.now t from (slice_index_or opened.old i d) }
     requires within { (i : ℕ) (d : Open) → i < length opened.old → positions (flat_in guide.route.fitted.now state.now) t ≤ (slice_index_or opened.old i d).span.end }
     requires write { (i : ℕ) (d : Open) → i < length opened.old → from < (slice_index_or opened.old i d).span.write → positions (flat_in guide.route.fitted.now state.now) t ≤ (slice_index_or opened.old i d).span.write }
     ensures size { length opened.new ≡ length opened.old }
-    ensures opened { OnOk result ((i : ℕ) (d : Open) → i < length opened.old → IsOpenAt guide.entry.route.fitted.now guide.entry.rows.now t (positions (flat_in guide.entry.route.fitted.now state.now) t) (slice_index_or opened.new i d)) }
+    ensures opened { OnOk result ((i : ℕ) (d : Open) → i < length opened.old → IsOpenAt guide.entry.copies guide.entry.route.fitted.now guide.entry.rows.now t (positions (flat_in guide.entry.route.fitted.now state.now) t) (slice_index_or opened.new i d)) }
     ensures same { OnOk result ((i : ℕ) (d : Open) → i < length opened.old → (slice_index_or opened.new i d).span ≡ (slice_index_or opened.old i d).span) }
 {
     for i in 0..opened.len() {

@@ -1,6 +1,6 @@
 //! Rows whose read entry a thread has passed.
 
-ghost use Rattle.std.specs.Prelude.{◌≡◌, ◌≢◌, ◌<◌, ℕ, true, false, length, slice_index_or, OnOk, IfOk};
+ghost use Rattle.std.specs.Prelude.{◌≡◌, ◌≢◌, ◌<◌, ℕ, true, false, length, slice_index_or, if◌then◌else◌, Some, None, OnOk, IfOk};
 ghost use Rattle.ir_weave.specs.Standing.{flat_in};
 ghost use Rattle.ir_weave.specs.States.{positions};
 ghost use Rattle.ir_events.specs.Walk.{IsOnWay};
@@ -12,8 +12,20 @@ use crate::kept::{Kept, Open};
 use crate::span::Span;
 use crate::watch::Watch;
 use ir_replay::State;
+use ir_thread::Thread;
 use ir_walk::{thread_of, words_of};
 use std::alloc::{AllocError, Global};
+
+// A copy of a thread, if threads are copied.
+fn copy_of(copies: bool, thread: &Thread) -> Result<Option<Thread>, AllocError>
+    ensures { IfOk result (λ copy. copy ≡ (if copies then Some thread.now else None)) }
+{
+    if copies {
+        Ok(Some(thread.copy()?))
+    } else {
+        Ok(None)
+    }
+}
 
 // What is kept of a row of thread t, which is behind its read entry.
 fn open_one(guide: Guide<'_, '_>, state: &State, t: usize, span: Span) -> Result<Open, AllocError>
@@ -22,11 +34,11 @@ fn open_one(guide: Guide<'_, '_>, state: &State, t: usize, span: Span) -> Result
     requires thread { t < length guide.route.fitted.now.guest.entries }
     requires span { IsSpanOf guide.route.fitted.now guide.rows.now t span }
     requires here { span.read ≡ positions (flat_in guide.route.fitted.now state.now) t }
-    ensures open { IfOk result (IsOpenAt guide.entry.route.fitted.now guide.entry.rows.now t span.read) }
+    ensures open { IfOk result (IsOpenAt guide.entry.copies guide.entry.route.fitted.now guide.entry.rows.now t span.read) }
     ensures row { IfOk result (λ o. o.span ≡ span) }
 {
     let kept = Kept {
-        thread: thread_of(state, t).copy()?,
+        thread: copy_of(guide.copies, thread_of(state, t))?,
         object: span.object,
         was: words_of(guide.route.alloc, state, span.object)?,
         now: Vec::new(guide.route.alloc),
@@ -56,8 +68,8 @@ pub fn open_due(
     requires guide { IsGuide guide.route.fitted.now guide.rows.now guide.route.ends.now guide.route.code.now }
     requires way { IsOnWay guide.route.fitted.now guide.route.ends.now state.now }
     requires thread { t < length guide.route.fitted.now.guest.entries }
-    requires watch { IsWatch guide.route.fitted.now guide.rows.now t (positions (flat_in guide.route.fitted.now state.now) t) watch.old }
-    ensures watch { OnOk result (IsWatch guide.entry.route.fitted.now guide.entry.rows.now t (positions (flat_in guide.entry.route.fitted.now state.now) t) watch.new) }
+    requires watch { IsWatch guide.copies guide.route.fitted.now guide.rows.now t (positions (flat_in guide.route.fitted.now state.now) t) watch.old }
+    ensures watch { OnOk result (IsWatch guide.entry.copies guide.entry.route.fitted.now guide.entry.rows.now t (positions (flat_in guide.entry.route.fitted.now state.now) t) watch.new) }
     ensures watched { OnOk result ((r : ℕ) → IsWatched watch.old r → IsWatched watch.new r) }
     ensures due { OnOk result (NoneDue (positions (flat_in guide.entry.route.fitted.now state.now) t) watch.new) }
 {

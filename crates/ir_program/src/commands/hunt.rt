@@ -4,13 +4,11 @@ ghost use Rattle.std.specs.Prelude.{◌≡◌, OnOk, false};
 
 use crate::commands::recording::{RecordingPaths, input_of, loses_input, output_places};
 use crate::commands::{bytes_of, say};
-use crate::dispatch::Surroundings;
 use crate::ends::tell_ends;
 use ir_arguments::HuntArguments;
 use ir_chaos::{Condition, condition_of};
 use ir_files::{ExitStatus, Folder, MOST_BYTES, OutputFiles, WholeFile};
 use ir_hunt::{HuntPlan, hunt_run};
-use ir_object::Gate;
 use ir_record_run::ParsedImage;
 use ir_stream::Sink;
 use ir_trace::Trace;
@@ -76,17 +74,12 @@ fn conditions_of<'a, E: Sink>(
     }
 }
 
-// Where the trace goes, and what each thread prints, if that is asked for.
-#[derive(Clone, Copy)]
-struct Places<'a> {
-    trace: &'a str,
-    outputs: Option<&'a [String]>,
-}
-
 // Hunts for a run of a guest, whose trace and outputs go into files at these paths.
-fn hunted_into<R, D, G, O, E>(
-    around: &Surroundings<'_, R, D, G>,
-    places: Places<'_>,
+fn hunted_into<'a, R, D, O, E>(
+    rt: &R,
+    folder: &'a D,
+    place: &'a str,
+    places: Option<&'a [String]>,
     image: &ParsedImage<'_>,
     plan: &HuntPlan<'_>,
     out: &mut O,
@@ -95,21 +88,20 @@ fn hunted_into<R, D, G, O, E>(
 where
     R: Threads + Wait + Sync + Clock + Eprint + AllocGlobal,
     D: Folder,
-    G: Gate + Sync,
     O: Sink,
     E: Sink,
     requires writes { O.broken out.old ≡ false }
     requires reports { E.broken faults.old ≡ false }
 {
-    let Surroundings { rt, folder, .. } = around;
-    let mut trace = WholeFile::new(rt.alloc(), folder, places.trace);
-    let mut outputs = OutputFiles::new(folder, places.outputs, places.trace);
+    let mut trace = WholeFile::new(rt.alloc(), folder, place);
+    let mut outputs = OutputFiles::new(folder, places, place);
     hunt_run(rt, image, plan, &mut trace, &mut outputs, out, faults)
 }
 
 // Hunts for a run of a guest, and records it into a file, and what its threads print into others where they are asked for.
-pub fn hunt_file<R, D, G, O, E>(
-    around: &Surroundings<'_, R, D, G>,
+pub fn hunt_file<R, D, O, E>(
+    rt: &R,
+    folder: &D,
     arguments: &HuntArguments,
     explains: bool,
     out: &mut O,
@@ -118,14 +110,13 @@ pub fn hunt_file<R, D, G, O, E>(
 where
     R: Threads + Wait + Sync + Clock + Eprint + AllocGlobal,
     D: Folder,
-    G: Gate + Sync,
     O: Sink,
     E: Sink,
     requires writes { O.broken out.old ≡ false }
     requires reports { E.broken faults.old ≡ false }
 {
-    let folder = around.folder;
-    let alloc = around.rt.alloc();
+    let alloc = rt.alloc();
+    let place = arguments.trace.as_str();
     if loses_input(folder, faults, &paths(arguments)) {
         return ExitStatus::BadArguments;
     }
@@ -153,11 +144,8 @@ where
         stale: arguments.stale,
         is_shown: explains,
     };
-    let places = Places {
-        trace: arguments.trace.as_str(),
-        outputs: outputs.as_ref().map(|each| each.as_slice()),
-    };
-    match hunted_into(around, places, &image, &plan, out, faults) {
+    let places = outputs.as_ref().map(|each| each.as_slice());
+    match hunted_into(rt, folder, place, places, &image, &plan, out, faults) {
         Ok(Some(recorded)) => {
             if explains {
                 tell_ends(alloc, &recorded, faults);

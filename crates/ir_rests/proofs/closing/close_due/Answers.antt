@@ -14,7 +14,7 @@ pub judged-requires-clause-opened : goal.judged-requires-clause-opened
 judged-requires-clause-opened c =
     let l : c.opened.i < length c.opened.watch.opened.items = (let a = c.in-Some.ensures.there in
     let b = ap (λ (xs : List Open). length xs) c.deref.ensures.value in omega (arith, a, b)) in
-    subst (IsOpenAt c.args.guide.route.fitted.now c.args.guide.rows.now c.args.t c.args.k) (c.take_out-opened.ensures.taken c.take_out-opened.result)
+    subst (IsOpenAt c.args.guide.copies c.args.guide.route.fitted.now c.args.guide.rows.now c.args.t c.args.k) (c.take_out-opened.ensures.taken c.take_out-opened.result)
     (c.opened.invariant.watch.opened c.opened.i c.take_out-opened.result l)
 
 pub judged-requires-clause-here : goal.judged-requires-clause-here
@@ -52,12 +52,12 @@ opened-preserved-then-ends c =
     let size = k.adds.size in let all = c.requires.size in omega (arith, a, same, size, all)) in
     let at = λ (d : Open). ap (λ (x : Open). x.span.row) (c.take_out-opened.ensures.taken d) in
     record {
-      watch = closed_one f rows c.args.t c.args.k i w new k.watch refl refl out;
+      watch = closed_one c.args.guide.copies f rows c.args.t c.args.k i w new k.watch refl refl out;
       ends = still_later c.args.k i w.opened.items c.take_out-opened.new.opened.items out l k.ends;
       within = let a = out.size in omega (arith, a, l);
       spans = k.spans;
       next = k.next;
-      adds = adds_one f rows c.args.rests.now c.opened.rests c.keep.new.rests o.span.row c.judged.result k.adds row c.keep.ensures c.judged.ensures;
-      found = λ r x there was. closed_watched f rows w new c.opened.rests c.keep.new.rests i o.span.row c.judged.result o refl refl out l at row
+      adds = adds_one c.args.guide.copies f rows c.args.rests.now c.opened.rests c.keep.new.rests o.span.row c.judged.result k.adds row c.keep.ensures c.judged.ensures;
+      found = λ r x there was. closed_watched c.args.guide.copies f rows w new c.opened.rests c.keep.new.rests i o.span.row c.judged.result o refl refl out l at row
           c.keep.ensures c.judged.ensures r x there (k.found r x there was);
     }

@@ -9,7 +9,7 @@ use Rattle.ir_rests.proofs.noting.note.Goals as goal
 
 pub note_one-requires-clause-opened : goal.note_one-requires-clause-opened
 note_one-requires-clause-opened c =
-    subst (IsOpenAt c.args.guide.route.fitted.now c.args.guide.rows.now c.args.t c.args.from)
+    subst (IsOpenAt c.args.guide.copies c.args.guide.route.fitted.now c.args.guide.rows.now c.args.t c.args.from)
     (sym (c.loop-i.invariant.others c.loop-i.i c.index-opened-i.result (omega arith)))
     (c.requires.opened c.loop-i.i c.index-opened-i.result c.loop-i-test.true)
 
@@ -22,7 +22,7 @@ loop-i-preserved c =
     let l : i < length xs = (let a = k.size in let b = c.loop-i-test.true in omega (arith, a, b)) in
     record {
       size = length-set xs i new ∙ k.size;
-      done = set_each (IsOpenAt c.args.guide.route.fitted.now c.args.guide.rows.now c.args.t
+      done = set_each (IsOpenAt c.args.guide.copies c.args.guide.route.fitted.now c.args.guide.rows.now c.args.t
           (positions (flat_in c.args.guide.route.fitted.now c.args.state.now) c.args.t)) xs i new l k.done c.in_ok-note_one.ensures.opened;
       same = set_spans c.args.opened.now xs i new l k.same (λ d. c.in_ok-note_one.ensures.same
           ∙ ap (λ (o : Open). o.span) (get_or_default xs i c.index-opened-i.result d l ∙ k.others i d (omega arith)));

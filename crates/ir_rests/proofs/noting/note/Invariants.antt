@@ -9,7 +9,7 @@ use Rattle.ir_rests.proofs.noting.note.Given as goal
 abbrev pub invariant-loop-i : goal.invariant-loop-i
 invariant-loop-i l = record {
   size : length l.opened ≡ length l.fn.opened;
-  done : (j : ℕ) (d : Open) → j < l.i → IsOpenAt l.guide.route.fitted.now l.guide.rows.now l.t (positions (flat_in l.guide.route.fitted.now l.state) l.t)
+  done : (j : ℕ) (d : Open) → j < l.i → IsOpenAt l.guide.copies l.guide.route.fitted.now l.guide.rows.now l.t (positions (flat_in l.guide.route.fitted.now l.state) l.t)
       (slice_index_or l.opened j d);
   same : (j : ℕ) (d : Open) → j < l.i → (slice_index_or l.opened j d).span ≡ (slice_index_or l.fn.opened j d).span;
   others : (j : ℕ) (d : Open) → l.i ≤ j → slice_index_or l.opened j d ≡ slice_index_or l.fn.opened j d;

@@ -13,9 +13,9 @@ returns-in_ok-opened-clause-opened c =
     let more = c.in_ok-note_call.ensures in
     let here : c.steps.result ≡ positions (flat_in f c.args.state.now) c.args.t =
     c.steps.ensures.value ∙ ap (λ (x : thread.State). x.steps) c.thread_of.ensures in
-    opened_on f c.args.guide.rows.now c.args.t c.args.from (positions (flat_in f c.args.state.now) c.args.t) old c.note_call.new.opened _ _
+    opened_on c.args.guide.copies f c.args.guide.rows.now c.args.t c.args.from (positions (flat_in f c.args.state.now) c.args.t) old c.note_call.new.opened _ _
     c.requires.opened more c.requires.calls c.requires.up c.requires.within refl refl refl refl refl
-    (λ _. words_now f c.args.guide.rows.now c.args.state.now c.args.t c.args.from (positions (flat_in f c.args.state.now) c.args.t)
+    (λ _. words_now c.args.guide.copies f c.args.guide.rows.now c.args.state.now c.args.t c.args.from (positions (flat_in f c.args.state.now) c.args.t)
     c.note_call.new.opened.span.object old c.in_ok-opened.field-0.items c.requires.guide.route.last.run c.requires.opened c.requires.way.stands refl
     (ap (λ (s : Span). s.write) (sym more.span) ∙ c.if-opened-steps.true ∙ here) (ap (λ (s : Span). s.object) more.span)
     c.in_ok-opened.ensures)
@@ -27,8 +27,8 @@ returns-else-opened-steps-clause-opened c =
     let more = c.in_ok-note_call.ensures in
     let here : c.steps.result ≡ positions (flat_in f c.args.state.now) c.args.t =
     c.steps.ensures.value ∙ ap (λ (x : thread.State). x.steps) c.thread_of.ensures in
-    opened_on f c.args.guide.rows.now c.args.t c.args.from (positions (flat_in f c.args.state.now) c.args.t) old c.note_call.new.opened
+    opened_on c.args.guide.copies f c.args.guide.rows.now c.args.t c.args.from (positions (flat_in f c.args.state.now) c.args.t) old c.note_call.new.opened
     c.note_call.new.opened _
     c.requires.opened more c.requires.calls c.requires.up c.requires.within refl refl refl refl refl
-    (words_before f c.args.guide.rows.now c.args.t c.args.from (positions (flat_in f c.args.state.now) c.args.t) old c.note_call.new.opened _
+    (words_before c.args.guide.copies f c.args.guide.rows.now c.args.t c.args.from (positions (flat_in f c.args.state.now) c.args.t) old c.note_call.new.opened _
     c.requires.opened more c.requires.write (λ e. c.if-opened-steps.false (e ∙ sym here)))

@@ -6,7 +6,7 @@ use Rattle.ir_rests.proofs.opening.open_due.Given as goal
 
 abbrev pub invariant-due : goal.invariant-due
 invariant-due l = record {
-  watch : IsWatch l.guide.route.fitted.now l.guide.rows.now l.t (positions (flat_in l.guide.route.fitted.now l.state) l.t) l.watch;
+  watch : IsWatch l.guide.copies l.guide.route.fitted.now l.guide.rows.now l.t (positions (flat_in l.guide.route.fitted.now l.state) l.t) l.watch;
   watched : (r : ℕ) → IsWatched l.fn.watch r → IsWatched l.watch r;
 }
 

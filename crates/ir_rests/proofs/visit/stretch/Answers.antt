@@ -13,7 +13,7 @@ use Rattle.ir_rests.proofs.visit.stretch.Goals as goal
 
 pub note-requires-clause-opened : goal.note-requires-clause-opened
 note-requires-clause-opened c =
-    subst (λ (xs : List Open). (i : ℕ) (d : Open) → i < length xs → IsOpenAt c.args.guide.route.fitted.now c.args.guide.rows.now c.args.t c.steps-from.result
+    subst (λ (xs : List Open). (i : ℕ) (d : Open) → i < length xs → IsOpenAt c.args.guide.copies c.args.guide.route.fitted.now c.args.guide.rows.now c.args.t c.steps-from.result
     (slice_index_or xs i d)) (sym c.deref_mut.ensures.value) c.close_due.ensures.watch.opened
 
 pub returns-clause-watch : goal.returns-clause-watch
@@ -28,9 +28,9 @@ returns-clause-watch c =
     (let a = c.take_steps-state.ensures.gone.own in let b = c.take_steps-state.ensures.within in let d = c.next_stop.ensures.ahead in
     omega (arith, a, b, d, from)) in
     let new : Watch = record { spans = w.spans; next = w.next; opened = with_items w.opened c.note.new.opened } in
-    watch_on f c.args.guide.rows.now c.args.t c.steps-from.result (positions (flat_in f c.take_steps-state.result.0) c.args.t) c.next_stop.result w new
+    watch_on c.args.guide.copies f c.args.guide.rows.now c.args.t c.steps-from.result (positions (flat_in f c.take_steps-state.result.0) c.args.t) c.next_stop.result w new
     c.close_due.ensures.watch c.next_stop.ensures.stops within refl refl (ap (λ (xs : List Open). length xs) items ∙ size)
-    (λ i d l. subst (λ (xs : List Open). IsOpenAt f c.args.guide.rows.now c.args.t (positions (flat_in f c.take_steps-state.result.0) c.args.t)
+    (λ i d l. subst (λ (xs : List Open). IsOpenAt c.args.guide.copies f c.args.guide.rows.now c.args.t (positions (flat_in f c.take_steps-state.result.0) c.args.t)
     (slice_index_or xs i d)) (sym items)
     (c.in_ok-note.ensures.opened i d (let a = ap (λ (xs : List Open). length xs) c.deref_mut.ensures.value in omega (arith, l, a))))
 

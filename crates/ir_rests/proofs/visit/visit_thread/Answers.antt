@@ -3,11 +3,11 @@ use Rattle.ir_rests.proofs.Walked.{adds_then, found_then}
 use Rattle.ir_rests.proofs.visit.visit_thread.Goals as goal
 
 pub returns-then-not-moved-clause-adds : goal.returns-then-not-moved-clause-adds
-returns-then-not-moved-clause-adds c = adds_then c.args.guide.route.fitted.now c.args.guide.rows.now c.args.rests.now c.stretches.rests c.stretch.new.rests
+returns-then-not-moved-clause-adds c = adds_then c.args.guide.copies c.args.guide.route.fitted.now c.args.guide.rows.now c.args.rests.now c.stretches.rests c.stretch.new.rests
     c.stretches.invariant.adds c.in_ok-there.ensures.adds
 
 pub returns-then-not-moved-clause-found : goal.returns-then-not-moved-clause-found
-returns-then-not-moved-clause-found c r x there was = found_then c.args.guide.route.fitted.now c.args.guide.rows.now c.stretches.watch c.stretch.new.watch
+returns-then-not-moved-clause-found c r x there was = found_then c.args.guide.copies c.args.guide.route.fitted.now c.args.guide.rows.now c.stretches.watch c.stretch.new.watch
     c.stretches.rests c.stretch.new.rests r x c.in_ok-there.ensures.adds there (c.in_ok-there.ensures.found r x there)
     (c.stretches.invariant.found r x there was)
 
@@ -17,9 +17,9 @@ stretches-preserved c = record {
   further = further_on c.args.guide.route.fitted.now c.args.t c.args.state c.stretches.state c.in_ok-there.there c.stretches.invariant.further
       c.in_ok-there.ensures.further;
   watch = c.in_ok-there.ensures.watch;
-  adds = adds_then c.args.guide.route.fitted.now c.args.guide.rows.now c.args.rests.now c.stretches.rests c.stretch.new.rests
+  adds = adds_then c.args.guide.copies c.args.guide.route.fitted.now c.args.guide.rows.now c.args.rests.now c.stretches.rests c.stretch.new.rests
       c.stretches.invariant.adds c.in_ok-there.ensures.adds;
-  found = λ r x there was. found_then c.args.guide.route.fitted.now c.args.guide.rows.now c.stretches.watch c.stretch.new.watch
+  found = λ r x there was. found_then c.args.guide.copies c.args.guide.route.fitted.now c.args.guide.rows.now c.stretches.watch c.stretch.new.watch
       c.stretches.rests c.stretch.new.rests r x c.in_ok-there.ensures.adds there (c.in_ok-there.ensures.found r x there)
       (c.stretches.invariant.found r x there was);
 }

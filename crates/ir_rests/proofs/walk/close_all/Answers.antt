@@ -26,7 +26,7 @@ close_due-requires-clause-watch c =
     let l : t < length c.loop-t.watches = (let a = c.loop-t.invariant.watches in let b = c.loop-t-test.true in omega (arith, a, b)) in
     let here : c.steps-k.result ≡ positions (flat_in f c.args.state.now) t =
     c.steps-k.ensures.value ∙ ap (λ (x : thread.State). x.steps) c.thread_of.ensures in
-    subst (λ k. IsWatch f c.args.guide.rows.now t k (slice_index_or c.loop-t.watches t c.index-watches-t.result)) (sym here)
+    subst (λ k. IsWatch c.args.guide.copies f c.args.guide.rows.now t k (slice_index_or c.loop-t.watches t c.index-watches-t.result)) (sym here)
     (c.loop-t.invariant.others t c.index-watches-t.result (omega arith) l).0
 
 pub loop-t-preserved : goal.loop-t-preserved
@@ -45,28 +45,24 @@ loop-t-preserved c =
       watches = length-set c.loop-t.watches t c.close_due.new.watch ∙ i.watches;
       size = adds.size ∙ i.size;
       done = λ r x there less. elim (cases_lt x.thread t) [
-        | inl before ↦ stays_found f c.args.guide.rows.now c.loop-t.rests c.close_due.new.rests r x adds there (i.done r x there before)
+        | inl before ↦ stays_found c.args.guide.copies f c.args.guide.rows.now c.loop-t.rests c.close_due.new.rests r x adds there (i.done r x there before)
         | inr past ↦
             let own : x.thread ≡ t = omega (arith, less, past) in
-            closed_next f c.args.guide.rows.now t c.steps-k.result w c.close_due.new.watch c.loop-t.rests c.close_due.new.rests r x adds there
+            closed_next c.args.guide.copies f c.args.guide.rows.now t c.steps-k.result w c.close_due.new.watch c.loop-t.rests c.close_due.new.rests r x adds there
             c.close_due.ensures.watch c.close_due.ensures.ends all (c.close_due.ensures.found r x there)
             ((i.others t c.index-watches-t.result (omega arith) l).1 r x there own)
       ];
       others = λ u d past lu.
           let before = i.others u d (omega (arith, past)) (let n = length-set c.loop-t.watches t c.close_due.new.watch in omega (arith, n, lu)) in
-          subst (λ (z : Watch). IsWatch f c.args.guide.rows.now u (positions (flat_in f c.args.state.now) u) z × IsFound f c.args.guide.rows.now c.close_due.new.rests u z)
+          subst (λ (z : Watch). IsWatch c.args.guide.copies f c.args.guide.rows.now u (positions (flat_in f c.args.state.now) u) z × IsFound c.args.guide.copies f c.args.guide.rows.now c.close_due.new.rests u z)
           (sym (get_or-set_other c.loop-t.watches t u c.close_due.new.watch d (λ e. absurd (omega (arith, past, e))))) (
             before.0,
-            λ r x there own. found_then f c.args.guide.rows.now (slice_index_or c.loop-t.watches u d) (slice_index_or c.loop-t.watches u d)
+            λ r x there own. found_then c.args.guide.copies f c.args.guide.rows.now (slice_index_or c.loop-t.watches u d) (slice_index_or c.loop-t.watches u d)
                 c.loop-t.rests c.close_due.new.rests r x adds there (λ z. inl z) (before.1 r x there own),
           );
     }
 
-pub returns : goal.returns
-returns c =
-    let i = c.loop-t.invariant in
-    record {
-      size = i.size ∙ c.requires.size;
-      each = λ r x there. i.done r x there (let a = (placed c.args.guide.route.fitted.now c.requires.guide.route.last.run x (c.requires.guide.stale.sound r x there)).there in
-          let b = c.requires.watches in let d = c.loop-t-test.false in omega (arith, a, b, d));
-    }
+pub returns-clause-found : goal.returns-clause-found
+returns-clause-found c r x there = c.loop-t.invariant.done r x there
+    (let a = (placed c.args.guide.route.fitted.now c.requires.guide.route.last.run x (c.requires.guide.stale.sound r x there)).there in
+    let b = c.requires.watches in let d = c.loop-t-test.false in omega (arith, a, b, d))

@@ -1,11 +1,11 @@
 use Rattle.std.proofs.Common.{◌≡◌, ◌<◌, ◌≤◌, ℕ, length}
-use Rattle.std.specs.Prelude.{Some, None, slice_get}
+use Rattle.std.specs.Prelude.{Some, slice_get}
 use Rattle.std.specs.List.{slice_index_or}
 use Rattle.ir_weave.specs.Standing.{flat_in}
 use Rattle.ir_weave.specs.States.{positions}
 use Rattle.ir_past.specs.declared.stale_write.StaleWrite.{StaleWrite}
-use Rattle.ir_rests.specs.Rests.{IsRestOf}
-use Rattle.ir_rests.specs.Watch.{IsWatch, IsFound}
+use Rattle.ir_rests.specs.declared.found.Found.TheVariants.{Unknown}
+use Rattle.ir_rests.specs.Watch.{IsFoundAs, IsWatch, IsFound}
 use Rattle.ir_rests.specs.declared.watch.Watch.{Watch}
 use Rattle.ir_rests.proofs.walk.close_all.Given as goal
 
@@ -14,8 +14,8 @@ invariant-loop-t l = record {
   watches : length l.watches ≡ length l.fn.watches;
   size : length l.rests ≡ length l.fn.rests;
   done : (r : ℕ) (x : StaleWrite) → slice_get l.guide.rows.now r ≡ Some x → x.thread < l.t
-      → IsRestOf l.guide.route.fitted.now x (slice_index_or l.rests r None);
+      → IsFoundAs l.guide.copies l.guide.route.fitted.now x (slice_index_or l.rests r Unknown);
   others : (u : ℕ) (d : Watch) → l.t ≤ u → u < length l.watches
-      → IsWatch l.guide.route.fitted.now l.guide.rows.now u (positions (flat_in l.guide.route.fitted.now l.state) u) (slice_index_or l.watches u d)
-      × IsFound l.guide.route.fitted.now l.guide.rows.now l.rests u (slice_index_or l.watches u d);
+      → IsWatch l.guide.copies l.guide.route.fitted.now l.guide.rows.now u (positions (flat_in l.guide.route.fitted.now l.state) u) (slice_index_or l.watches u d)
+      × IsFound l.guide.copies l.guide.route.fitted.now l.guide.rows.now l.rests u (slice_index_or l.watches u d);
 }

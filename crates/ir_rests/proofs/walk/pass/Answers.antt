@@ -18,7 +18,7 @@ loop-t-preserved c =
       passed = pass_on f c.args.guide.route.ends.now t c.args.state c.loop-t.state new k.passed done.way done.further done.rests;
       watches = length-set c.loop-t.watches t c.visit_thread.new.watch ∙ k.watches;
       size = done.adds.size ∙ k.size;
-      watched = watched_next f c.args.guide.rows.now t c.loop-t.state new c.loop-t.watches c.visit_thread.new.watch c.loop-t.rests
+      watched = watched_next c.args.guide.copies f c.args.guide.rows.now t c.loop-t.state new c.loop-t.watches c.visit_thread.new.watch c.loop-t.rests
           c.visit_thread.new.rests k.watched done.further l done.adds done.watch
           (λ d r x there was. done.found r x there
           (subst (λ (w : Watch). IsWatched w r) (get_or_default c.loop-t.watches t d c.index-watches-t.result l) was));

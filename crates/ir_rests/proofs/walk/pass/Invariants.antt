@@ -8,5 +8,5 @@ invariant-loop-t l = record {
   passed : IsPass l.guide.route.fitted.now l.guide.route.ends.now l.t l.fn.state l.state;
   watches : length l.watches ≡ length l.fn.watches;
   size : length l.rests ≡ length l.fn.rests;
-  watched : AreWatched l.guide.route.fitted.now l.guide.rows.now l.state l.watches l.rests;
+  watched : AreWatched l.guide.copies l.guide.route.fitted.now l.guide.rows.now l.state l.watches l.rests;
 }

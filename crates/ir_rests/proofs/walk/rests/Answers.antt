@@ -1,33 +1,33 @@
-use Rattle.std.proofs.Common.{◌≡◌, ◌∙◌, List, length, sym, subst}
-use Rattle.std.specs.Prelude.{Option}
+use Rattle.std.proofs.Common.{◌≡◌, ◌∙◌, List, false, length, map, sym, ap, subst}
 use Rattle.std.specs.Vec.{with_items}
-use Rattle.std.proofs.lemmas.List.{with_items_is}
-use Rattle.ir_weave.specs.Standing.{flat_in}
-use Rattle.ir_weave.specs.States.{positions}
+use Rattle.std.proofs.lemmas.List.{with_items_is, length-replicate}
+use Rattle.std.proofs.lemmas.Result.{IfOk-weaker}
+use Rattle.ir_rests.specs.WhatIf.{known}
 use Rattle.ir_rests.specs.Rests.{AreRests}
-use Rattle.ir_rests.specs.Watch.{AreWatched}
-use Rattle.ir_rests.specs.declared.rest.Rest.{Rest}
-use Rattle.ir_rests.specs.declared.watch.Watch.{Watch}
-use Rattle.ir_rests.proofs.Built.{watched_first, found_first}
+use Rattle.ir_rests.specs.Watch.{AreBegun}
+use Rattle.ir_rests.specs.declared.found.Found.{Found}
+use Rattle.ir_rests.proofs.Begun.{none_begun, all_rest}
 use Rattle.ir_rests.proofs.walk.rests.Goals as goal
 
-pub walk-requires-clause-watched : goal.walk-requires-clause-watched
-walk-requires-clause-watched c =
-    let f = c.args.fitted.now in
-    let rows = c.args.rows.now in
-    let s = c.in_ok-state.state in
-    subst (λ (z : List Watch × List (Option Rest)). AreWatched f rows s z.0 z.1)
-    (λ i. (sym c.deref_mut.ensures.value i, sym c.deref_mut-2.ensures.value i))
-    (λ t d l. let is = c.in_ok-watches.ensures.built t d l in (
-      watched_first f rows t (positions (flat_in f s) t) _ is (c.in_ok-watches.ensures.sorted t d l) (c.in_ok-state.ensures.below (λ u. 0) t),
-      found_first f rows c.in_ok-found.found.items t _ is c.in_ok-found.ensures.none,
-    ))
+pub walk-requires-clause-begun : goal.walk-requires-clause-begun
+walk-requires-clause-begun c = subst (AreBegun false c.args.fitted.now c.args.rows.now) (sym c.deref_mut.ensures.value)
+    (none_begun c.args.fitted.now c.args.rows.now c.in_ok-found.found.items c.in_ok-found.ensures)
 
 pub returns : goal.returns
 returns c =
-    let v = c.in_ok-found.found in
-    let new = c.walk.new.rests in
-    let is = c.in_ok-walk.ensures in
-    let size : length new ≡ length v.items = is.size ∙ sym c.in_ok-found.ensures.size in
-    let items : (with_items v new).items ≡ new = with_items_is v new (size ∙ sym v.ok.0) in
-    subst (AreRests c.args.fitted.now c.args.rows.now) (sym items) is
+    let f = c.args.fitted.now in
+    let rows = c.args.rows.now in
+    let first = c.in_ok-found.found in
+    let once = c.walk.new.rests in
+    let again = c.walk_again.new.rests in
+    let size_once : length once ≡ length first.items = c.in_ok-walk.ensures.size ∙ ap (λ (xs : List Found). length xs) c.deref_mut.ensures.value in
+    let second = with_items first once in
+    let items_once : second.items ≡ once = with_items_is first once (size_once ∙ sym first.ok.0) in
+    let size_again : length again ≡ length second.items =
+    c.in_ok-walk_again.ensures.size ∙ ap (λ (xs : List Found). length xs) c.deref_mut-2.ensures.value in
+    let items_again : (with_items second again).items ≡ again = with_items_is second again (size_again ∙ sym second.ok.0) in
+    let all : length again ≡ length rows = size_again ∙ ap (λ (xs : List Found). length xs) items_once ∙ size_once
+    ∙ ap (λ (xs : List Found). length xs) c.in_ok-found.ensures ∙ length-replicate (length rows) _ in
+    IfOk-weaker c.all_known.result (λ v. v.items ≡ map known c.deref.result.now) (λ v. AreRests f rows v.items)
+    (λ v e. all_rest f rows again v.items all c.in_ok-walk_again.ensures.found
+    (e ∙ ap (λ (xs : List Found). map known xs) (c.deref.ensures.value ∙ items_again))) c.all_known.ensures

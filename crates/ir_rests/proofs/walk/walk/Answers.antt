@@ -1,15 +1,19 @@
-use Rattle.std.proofs.Common.{◌<◌, ◌∙◌, ℕ, length, sym, subst}
-use Rattle.std.specs.List.{slice_index_or}
-use Rattle.ir_flat.specs.Flat.{idle}
-use Rattle.ir_cut.specs.Positions.{cut_of}
-use Rattle.ir_events.proofs.CallerLemmas.{pass_goes}
+use Rattle.std.proofs.Common.{List, sym, subst}
+use Rattle.ir_weave.specs.Standing.{flat_in}
+use Rattle.ir_weave.specs.States.{positions}
+use Rattle.ir_rests.specs.Watch.{AreWatched}
+use Rattle.ir_rests.specs.declared.watch.Watch.{Watch}
+use Rattle.ir_rests.proofs.Built.{watched_first, found_first}
 use Rattle.ir_rests.proofs.walk.walk.Goals as goal
 
-pub passes-smaller : goal.passes-smaller
-passes-smaller c =
+pub walk_on-requires-clause-watched : goal.walk_on-requires-clause-watched
+walk_on-requires-clause-watched c =
+    let copies = c.args.guide.copies in
     let f = c.args.guide.route.fitted.now in
-    let ends = c.args.guide.route.ends.now in
-    let below = subst (λ xs. (t : ℕ) × (t < length xs) × ((slice_index_or xs t idle).steps < cut_of ends t)) c.threads.ensures
-    (c.are_done.ensures.below c.passes-test.true) in
-    pass_goes f ends (length c.passes.watches) c.passes.state c.in_ok-state.state c.requires.guide.route.last c.in_ok-state.ensures.passed
-    (c.requires.guide.route.last.size ∙ sym c.passes.invariant.watches) below.0 below.2
+    let rows = c.args.guide.rows.now in
+    let s = c.in_ok-state.state in
+    subst (λ (ws : List Watch). AreWatched copies f rows s ws c.args.rests.now) (sym c.deref_mut.ensures.value)
+    (λ t d l. let is = c.in_ok-watches.ensures.built t d l in (
+      watched_first copies f rows c.args.rests.now t (positions (flat_in f s) t) _ is (c.in_ok-watches.ensures.sorted t d l) (c.in_ok-state.ensures.below (λ u. 0) t),
+      found_first copies f rows c.args.rests.now t _ is,
+    ))

@@ -15,6 +15,6 @@ returns-clause-built c =
     let size : length new ≡ length v.items = c.sort_all.ensures.size ∙ ap (λ (xs : List Watch). length xs) c.deref_mut-2.ensures.value in
     let items : (with_items v new).items ≡ new = with_items_is v new (size ∙ sym v.ok.0) in
     let all : c.loop-row.row ≡ length rows = (let a = c.loop-row-test.false in let b = c.loop-row.auto.row-end in omega (arith, a, b)) in
-    subst (AreBuilt f rows (length rows)) (sym items)
-    (all_sorted f rows (length rows) v.items new (subst (λ n. AreBuilt f rows n v.items) all c.loop-row.invariant.built)
+    subst (AreBuilt c.args.guide.copies f rows c.args.found.now (length rows)) (sym items)
+    (all_sorted c.args.guide.copies f rows c.args.found.now (length rows) v.items new (subst (λ n. AreBuilt c.args.guide.copies f rows c.args.found.now n v.items) all c.loop-row.invariant.built)
     (subst (λ (xs : List Watch). AreSorted xs new) c.deref_mut-2.ensures.value c.in_ok-sort_all.ensures.sorted) size)

@@ -1,0 +1,33 @@
+use Rattle.std.proofs.Common.{◌++◌, arith}
+use Rattle.std.proofs.lemmas.Result.{err_from_is_err_and}
+use Rattle.ir_files.proofs.CallerLemmas.{if_err}
+use Rattle.ir_files.specs.declared.exit_status.ExitStatus.TheVariants.{Done}
+use Rattle.ir_past.specs.declared.past_err.PastErr.TheVariants.{NoMem}
+use Rattle.ir_past.proofs.CallerLemmas.{answered, not_begun, stopped}
+use Rattle.ir_picture_run.specs.Answers.{IsForm}
+use Rattle.ir_picture.specs.declared.asked.Form.TheVariants as form
+use Rattle.ir_picture_run.proofs.Shown.{is_page}
+use Rattle.ir_picture_run.proofs.run.write_page.Goals as goal
+
+pub returns-in_err-frame-clause-fails : goal.returns-in_err-frame-clause-fails
+returns-in_err-frame-clause-fails g c =
+    let p = err_from_is_err_and c.from_residual-in_err-frame.result c.from_residual-in_err-frame.ensures.1 in
+    if_err _ c.from_residual-in_err-frame.result NoMem p.0 p.1 p.2
+    (not_begun (IsForm form.Page c.args.fitted.now c.args.near.now c.args.shown.now.picture c.args.shown.now.kept.items) (g.O.Sink.written c.args.out.now)
+    (g.O.Sink.broken c.args.out.now) c.requires.works)
+
+pub returns-in_err-write_data-clause-fails : goal.returns-in_err-write_data-clause-fails
+returns-in_err-write_data-clause-fails g c =
+    let p = err_from_is_err_and c.from_residual-in_err-write_data.result c.from_residual-in_err-write_data.ensures.1 in
+    let e = c.in_err-write_data.field-0.0 in
+    if_err _ c.from_residual-in_err-write_data.result e p.0 p.1 p.2
+    (stopped (IsForm form.Page c.args.fitted.now c.args.near.now c.args.shown.now.picture c.args.shown.now.kept.items) Done _ e _
+    (is_page c.args.fitted.now c.args.near.now c.args.shown.now.picture c.args.shown.now.kept.items _ _ (omega (arith, c.if-len-gt-MOST_BOXES.false)) c.in_ok-frame.ensures.before c.in_ok-frame.ensures.after)
+    c.in_err-write_data.ensures.fails)
+
+pub returns-clause-ok : goal.returns-clause-ok
+returns-clause-ok g c =
+    answered (IsForm form.Page c.args.fitted.now c.args.near.now c.args.shown.now.picture c.args.shown.now.kept.items) Done (g.O.Sink.written c.args.out.now)
+    (g.O.Sink.written c.write_data.new.out) (g.O.Sink.broken c.write_data.new.out) _
+    (is_page c.args.fitted.now c.args.near.now c.args.shown.now.picture c.args.shown.now.kept.items _ _ (omega (arith, c.if-len-gt-MOST_BOXES.false)) c.in_ok-frame.ensures.before c.in_ok-frame.ensures.after)
+    c.in_ok-write_data.ensures.ok c.in_ok-write_data.ensures.works
