@@ -2,3 +2,4 @@ mod There
 mod Words
 mod Stubs
 mod SearchPoints
+mod Bounds

@@ -9,6 +9,7 @@ ghost use Rattle.ir_gdb.specs.Reads.{thread_of_id};
 
 use crate::holders::{Breaks, Watches};
 use crate::stopped::Told;
+use ir_cut::Cut;
 use ir_debug::Debugger;
 use ir_fit::Fitted;
 use ir_object::Hands;
@@ -98,9 +99,9 @@ fn thread_of_id(fitted: &Fitted, id: u32) -> Option<u32>
 
 impl Remote {
     ghost use Rattle.std.specs.Prelude.{OnOk, OnErr, IfOk, true, false};
-    ghost use Rattle.ir_cut.specs.Positions.{EachRun};
-    ghost use Rattle.ir_debug.specs.Machine.Desk.{Desk};
-    ghost use Rattle.ir_debug.specs.Debugging.{Debugging};
+    ghost use Rattle.ir_cut.specs.Positions.{EachRun, cut_of};
+    ghost use Rattle.ir_hits.specs.Hits.{thread_at};
+    ghost use Rattle.ir_weave.specs.Standing.{StandsAt};
     ghost use Rattle.ir_gdb.specs.Stub.{stub_of, spoken};
     ghost use Rattle.ir_gdb.specs.Serving.{IsThere};
     ghost use Rattle.ir_gdb.specs.Reads.{thread_of_id, reply_to, with_current, general_reply, after_general, chosen_reply, after_chosen, current_of};
@@ -203,14 +204,23 @@ impl Remote {
         self.debugger.bring_here(hands)
     }
 
+    // A thread in hand, where all are at a cut.
+    #[tactic(auto, using(crate::proofs::There::is_visited, crate::proofs::There::is_in_hand))]
+    fn visited(&self, cut: &Cut, thread: u32) -> &Thread
+        requires there { StandsAt self.now.stub.desk.fitted (cut_of cut.now) self.now.state }
+        requires thread { thread < threads_of self.now.stub.desk.fitted }
+        ensures { EachRun self.now.stub.desk.fitted (λ run. result.now ≡ thread_at self.now.stub.desk.fitted run thread (cut_of cut.now thread)) }
+    {
+        &self.debugger.threads()[thread as usize]
+    }
+
     // A thread in hand.
-    #[tactic(auto, using(crate::proofs::There::is_current, crate::proofs::There::is_in_hand))]
     fn thread(&self, thread: u32) -> &Thread
         requires there { IsThere self.now }
         requires thread { thread < threads_of self.now.stub.desk.fitted }
         ensures { EachRun self.now.stub.desk.fitted (λ run. result.now ≡ current_of run self.now.stub thread) }
     {
-        &self.debugger.threads()[thread as usize]
+        self.visited(self.debugger.at(), thread)
     }
 
     // The general thread in hand.

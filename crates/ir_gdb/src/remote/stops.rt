@@ -13,7 +13,7 @@ use crate::point::Watched;
 use crate::remote::Remote;
 use crate::stopped::{Stopped, stop_above, stop_below, watch_reason};
 use ir_command::Direction;
-use ir_cut::Cut;
+use ir_cut::{Cut, least_exact};
 use ir_hits::NumberedPoint;
 use ir_object::Hands;
 use ir_packet::{Motion, Reason};
@@ -27,6 +27,7 @@ impl Remote {
         ensures value { result ≡ position_of self.now.stub thread }
         ensures within { result ≤ last_of self.now.stub.desk.fitted thread }
     {
+        self.debugger.fitted().known();
         self.debugger.at().position(thread as usize)
     }
 
@@ -59,6 +60,7 @@ impl Remote {
         ensures few { length result.breaks.now + length result.watches.now ≤ most_points }
         ensures watchable { AreWatchable result.own.now }
     {
+        self.debugger.fitted().known();
         Halts {
             watches: self.watches_if(watched),
             breaks: self.breaks.as_slice(),
@@ -133,6 +135,19 @@ impl Remote {
         })
     }
 
+    // The cut at which all threads are when one has advanced to a position, and is there.
+    fn cut_ahead(&self, alloc: Global, thread: u32, position: u64) -> Result<Cut, AllocError>
+        requires thread { thread < threads_of self.now.stub.desk.fitted }
+        requires within { (position_of self.now.stub thread ≤ position) × (position ≤ last_of self.now.stub.desk.fitted thread) }
+        ensures cut { IfOk result (λ cut. Cuts self.now.stub.desk.fitted cut) }
+        ensures there { IfOk result (λ cut. EachRun self.now.stub.desk.fitted (λ run. cut_of cut thread ≡ position)) }
+    {
+        least_exact();
+        self.debugger.fitted().known();
+        let forwards = Direction::Forwards;
+        self.debugger.cut_with(alloc, thread, forwards, position)
+    }
+
     // The pc of a thread at a position that isn't below its own.
     fn pc_at<H: Hands>(&mut self, hands: &H, thread: u32, position: u64) -> Result<u32, AllocError>
         requires thread { thread < threads_of self.old.stub.desk.fitted }
@@ -140,11 +155,11 @@ impl Remote {
         ensures stub { self.new.stub ≡ spoken self.old.stub }
         ensures pc { IfOk result (λ pc. EachRun self.old.stub.desk.fitted (λ run. pc ≡ (thread_at self.old.stub.desk.fitted run thread position).core.pc)) }
     {
-        let alloc = hands.alloc();
-        let forwards = Direction::Forwards;
-        let cut = self.debugger.cut_with(alloc, thread, forwards, position)?;
+        self.speak();
+        let cut = self.cut_ahead(hands.alloc(), thread, position)?;
         self.debugger.visit(hands, &cut)?;
-        Ok(self.debugger.threads()[thread as usize].mach().pc())
+        let pc = self.visited(&cut, thread).mach().pc();
+        Ok(pc)
     }
 
     // The first position above a thread's own at which its pc isn't in a range, if there is one.
