@@ -311,7 +311,7 @@ class Terminal:
 
 def check_ctrl_c(folder):
     """Ctrl-C ends a continue that gdb goes on with itself."""
-    gdb = Terminal(folder, "-ex", "set pagination off", "-ex", "set confirm off", "busy.elf")
+    gdb = Terminal(folder, "-ex", "set pagination off", "-ex", "set confirm off", "-ex", "set remotetimeout unlimited", "busy.elf")
     prompt = rb"\(gdb\) $"
     gdb.type(b"", prompt)
     gdb.type(f"target remote | {program()} gdb busy.img busy.trc\n".encode(), prompt)

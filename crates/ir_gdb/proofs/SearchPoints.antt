@@ -64,12 +64,14 @@ watch_watchable items t ws is all = subst AreWatchable (sym is) (watches_watchab
 
 pub upwards_watchable : (items : List Numbered) (t : ℕ) (ws : List Watched) (bs : List Breakpoint) (own : List Numbered)
     → items ≡ points_upwards t ws bs own → AllByRecursion IsWatched ws → AreWatchable own → AreWatchable items
-upwards_watchable items t ws bs own is all mine = subst AreWatchable (sym is)
-    (both_watchable (watch_points t 0 ws) _ (watches_watchable t 0 ws all)
-    (both_watchable (break_points t (length ws) bs) _ (breaks_watchable t (length ws) bs) (own_watchable (length ws + length bs) own mine)))
+upwards_watchable items t ws bs own is all mine =
+    let first = both_watchable (watch_points t 0 ws) (break_points t (length ws) bs) (watches_watchable t 0 ws all) (breaks_watchable t (length ws) bs) in
+    subst AreWatchable (sym is) (both_watchable (watch_points t 0 ws ++ break_points t (length ws) bs) (own_points (length ws + length bs) own) first
+    (own_watchable (length ws + length bs) own mine))
 
 pub downwards_watchable : (items : List Numbered) (t : ℕ) (ws : List Watched) (bs : List Breakpoint) (own : List Numbered)
     → items ≡ points_downwards t ws bs own → AllByRecursion IsWatched ws → AreWatchable own → AreWatchable items
-downwards_watchable items t ws bs own is all mine = subst AreWatchable (sym is)
-    (both_watchable (break_points t 0 bs) _ (breaks_watchable t 0 bs)
-    (both_watchable (watch_points t (length bs) ws) _ (watches_watchable t (length bs) ws all) (own_watchable (length bs + length ws) own mine)))
+downwards_watchable items t ws bs own is all mine =
+    let first = both_watchable (break_points t 0 bs) (watch_points t (length bs) ws) (breaks_watchable t 0 bs) (watches_watchable t (length bs) ws all) in
+    subst AreWatchable (sym is) (both_watchable (break_points t 0 bs ++ watch_points t (length bs) ws) (own_points (length bs + length ws) own) first
+    (own_watchable (length bs + length ws) own mine))
