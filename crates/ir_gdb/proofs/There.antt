@@ -1,5 +1,6 @@
 -- Threads and objects in hand at a cut.
 use Rattle.std.proofs.Common.{◌≡◌, ◌≤◌, ◌<◌, ℕ, List, length, sym, subst, slice_index_or}
+use Rattle.std.specs.Prelude.{Result, Ok, Err, IfOk}
 use Rattle.ir_flat.specs.Flat.{idle}
 use Rattle.ir_fit.specs.Fit.{FittedTrace}
 use Rattle.ir_cut.specs.Laws.{LeastExact}
@@ -25,3 +26,8 @@ pub exact_at : LeastExact → (f : FittedTrace) (at cut : List ℕ) (t k : ℕ) 
 exact_at law f at cut t k held low high l least run whole =
     law f.guest f.recorded.budget f.recorded.profile run whole.1.runs (cut_of at) (cut_of cut) t k (held run whole).0 (held run whole).1 low
     (subst (λ (n : ℕ). k ≤ n) (sym (whole.1.steps t l)) high) (least run whole).1
+
+-- both facts of a result
+pub both_ok : {T E : Type 0} (r : Result T E) (P Q : T → Type 0) → IfOk r P → IfOk r Q → IfOk r (λ x. P x × Q x)
+both_ok (Ok x) P Q p q = (p, q)
+both_ok (Err e) P Q p q = tt

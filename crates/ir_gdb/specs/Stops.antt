@@ -122,9 +122,13 @@ RangesTo run s t low high watched to = (left : Option ℕ) × Leaves run s t low
     × IsNextHit s.desk.fitted run (upwards_of s t watched) t (position_of s t) (end_of_range (last_of s.desk.fitted t) left) hit
     × (to ≡ ranged s t watched left hit))
 
+-- where a search upwards ends, by the hit that it finds
+abbrev pub end_above : List Watched → List Breakpoint → ℕ → Option Hit → Stopped
+end_above watches breaks last None = stopped last reason.End
+end_above watches breaks last (Some h) = stop_above watches breaks h
+
 abbrev pub above : Stub → ℕ → Bool → Option Hit → Stopped
-above s t watched None = stopped (last_of s.desk.fitted t) reason.End
-above s t watched (Some h) = stop_above (watches_if s watched) s.breaks h
+above s t watched hit = end_above (watches_if s watched) s.breaks (last_of s.desk.fitted t) hit
 
 -- `c`: to the next stop, or to the last position
 abbrev pub ContinuesTo : List Step → Stub → ℕ → Bool → Stopped → Type 0
@@ -145,9 +149,13 @@ StepsBackBy run s t watched (suc p) to = (why : Option Reason) × WatchNext run 
 abbrev pub StepsBackTo : List Step → Stub → ℕ → Bool → Stopped → Type 0
 StepsBackTo run s t watched to = StepsBackBy run s t watched (position_of s t) to
 
+-- where a search downwards ends
+abbrev pub end_below : List Watched → List Breakpoint → Option Hit → Stopped
+end_below watches breaks None = stopped 0 reason.Begin
+end_below watches breaks (Some h) = stop_below watches breaks h
+
 abbrev pub below : Stub → Bool → Option Hit → Stopped
-below s watched None = stopped 0 reason.Begin
-below s watched (Some h) = stop_below (watches_if s watched) s.breaks h
+below s watched hit = end_below (watches_if s watched) s.breaks hit
 
 -- to the stop below a position, or to 0
 abbrev pub StopsBelow : List Step → Stub → ℕ → Bool → Stopped → Type 0

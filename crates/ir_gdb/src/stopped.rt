@@ -1,7 +1,7 @@
 //! Where threads stop.
 
 ghost use Rattle.std.specs.Prelude.{◌≡◌, true, IsTrue, ◌↔◌, None};
-ghost use Rattle.ir_gdb.specs.Stops.{stop_above, stop_below, watch_reason, break_reason, is_hit};
+ghost use Rattle.ir_gdb.specs.Stops.{stop_above, stop_below, end_above, end_below, watch_reason, break_reason, is_hit};
 
 use crate::point::{Breakpoint, Watched};
 use ir_command::Hit;
@@ -89,4 +89,30 @@ pub fn stop_below(watches: &[Watched], breaks: &[Breakpoint], hit: Hit) -> Stopp
     }
     let reason = watch_reason(watches, number - breaks.len());
     Stopped { position, reason }
+}
+
+/// Where a search upwards ends, by the hit that it finds.
+pub fn end_above(watches: &[Watched], breaks: &[Breakpoint], last: u64, hit: Option<Hit>) -> Stopped
+    ensures { result ≡ end_above watches.now breaks.now last hit }
+{
+    match hit {
+        Some(hit) => stop_above(watches, breaks, hit),
+        None => Stopped {
+            position: last,
+            reason: Reason::End,
+        },
+    }
+}
+
+/// Where a search downwards ends.
+pub fn end_below(watches: &[Watched], breaks: &[Breakpoint], hit: Option<Hit>) -> Stopped
+    ensures { result ≡ end_below watches.now breaks.now hit }
+{
+    match hit {
+        Some(hit) => stop_below(watches, breaks, hit),
+        None => Stopped {
+            position: 0,
+            reason: Reason::Begin,
+        },
+    }
 }

@@ -11,7 +11,7 @@ ghost use Rattle.ir_gdb.specs.Stops.{watches_if, Leaves, WatchNext, position_of,
 use crate::numbered::{Halts, points_downwards, points_upwards, watch_points};
 use crate::point::Watched;
 use crate::remote::Remote;
-use crate::stopped::{Stopped, stop_above, stop_below, watch_reason};
+use crate::stopped::{Stopped, end_above, end_below, stop_above, watch_reason};
 use ir_command::Direction;
 use ir_cut::{Cut, least_exact};
 use ir_hits::NumberedPoint;
@@ -239,13 +239,9 @@ impl Remote {
         let points = self.upwards(hands.alloc(), thread, watched)?;
         let forwards = Direction::Forwards;
         let points = points.as_slice();
-        match self.debugger.search(hands, thread, forwards, points)? {
-            Some(hit) => Ok(stop_above(self.watches_if(watched), self.breaks.as_slice(), hit)),
-            None => Ok(Stopped {
-                position: self.last(thread),
-                reason: Reason::End,
-            }),
-        }
+        let hit = self.debugger.search(hands, thread, forwards, points)?;
+        let last = self.last(thread);
+        Ok(end_above(self.watches_if(watched), self.breaks.as_slice(), last, hit))
     }
 
     // Why a thread that isn't at 0 stays where it is when it moves back: a watch hits it there.
@@ -314,13 +310,8 @@ impl Remote {
         let points = points_downwards(hands.alloc(), thread, self.halts(watched))?;
         let backwards = Direction::Backwards;
         let points = points.as_slice();
-        match self.debugger.search(hands, thread, backwards, points)? {
-            Some(hit) => Ok(stop_below(self.watches_if(watched), self.breaks.as_slice(), hit)),
-            None => Ok(Stopped {
-                position: 0,
-                reason: Reason::Begin,
-            }),
-        }
+        let hit = self.debugger.search(hands, thread, backwards, points)?;
+        Ok(end_below(self.watches_if(watched), self.breaks.as_slice(), hit))
     }
 
     // Back to the stop before.
