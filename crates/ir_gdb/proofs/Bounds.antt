@@ -1,9 +1,9 @@
 -- Where threads stop is at one of their positions.
-use Rattle.std.proofs.Common.{◌≡◌, ◌≤◌, ◌<◌, ◌-◌, ℕ, Bool, true, false, List, length, Some, arith}
+use Rattle.std.proofs.Common.{◌≡◌, ◌≤◌, ◌<◌, ◌-◌, ℕ, Bool, true, false, List, length, Option, Some, None, arith}
 use Rattle.std.specs.Prelude.{nat_lt, if◌then◌else◌}
 use Rattle.ir_fit.specs.Fit.{FittedTrace, HasRun}
 use Rattle.ir_cut.specs.Positions.{EachRun}
-use Rattle.ir_command.specs.declared.command.Direction.{Direction}
+use Rattle.ir_command.specs.declared.command.Direction.TheVariants.{Forwards, Backwards}
 use Rattle.ir_command.specs.declared.hit.Hit.{Hit}
 use Rattle.ir_hits.specs.Hits.{Numbered}
 use Rattle.ir_timeline.specs.Positions.{threads_of, last_of, Finds}
@@ -11,8 +11,7 @@ use Rattle.ir_debug.proofs.CallerLemmas.{found_within}
 use Rattle.ir_packet.specs.declared.reply.Reason.{Reason}
 use Rattle.ir_gdb.specs.declared.point.Breakpoint.{Breakpoint}
 use Rattle.ir_gdb.specs.declared.point.Watched.{Watched}
-use Rattle.ir_gdb.specs.declared.stopped.Stopped.{Stopped}
-use Rattle.ir_gdb.specs.Stops.{stopped, stop_above, stop_below, watch_reason, break_reason}
+use Rattle.ir_gdb.specs.Stops.{stopped, stop_above, stop_below, end_above, end_below, watch_reason, break_reason}
 
 above_by : (b : Bool) (k last : ℕ) (why other : Reason) → k ≤ last → (if b then stopped (k - 1) why else stopped k other).position ≤ last
 above_by true k last why other le = omega (arith, le)
@@ -32,15 +31,17 @@ pub stops_below : (watches : List Watched) (breaks : List Breakpoint) (h : Hit) 
 stops_below watches breaks h last le =
     below_by (nat_lt h.number (length breaks)) h.position last (break_reason breaks h.number) (watch_reason watches (h.number - length breaks)) le
 
--- a stop that is the one above a hit that is found
-pub found_above : (f : FittedTrace) (points : List Numbered) (t p : ℕ) (direction : Direction) (watches : List Watched) (breaks : List Breakpoint)
-    (h : Hit) → HasRun f → t < threads_of f → EachRun f (λ run. Finds run f points t p direction (Some h))
-    → (stop_above watches breaks h).position ≤ last_of f t
-found_above f points t p direction watches breaks h has l finds =
-    stops_above watches breaks h (last_of f t) (found_within f points t p direction h has l finds)
+-- where a search ends is at one of the thread's positions
+pub above_within : (f : FittedTrace) (points : List Numbered) (t p : ℕ) (watches : List Watched) (breaks : List Breakpoint) (hit : Option Hit)
+    → HasRun f → t < threads_of f → EachRun f (λ run. Finds run f points t p Forwards hit)
+    → (end_above watches breaks (last_of f t) hit).position ≤ last_of f t
+above_within f points t p watches breaks (Some h) has l finds =
+    stops_above watches breaks h (last_of f t) (found_within f points t p Forwards h has l finds)
+above_within f points t p watches breaks None has l finds = omega arith
 
-pub found_below : (f : FittedTrace) (points : List Numbered) (t p : ℕ) (direction : Direction) (watches : List Watched) (breaks : List Breakpoint)
-    (h : Hit) → HasRun f → t < threads_of f → EachRun f (λ run. Finds run f points t p direction (Some h))
-    → (stop_below watches breaks h).position ≤ last_of f t
-found_below f points t p direction watches breaks h has l finds =
-    stops_below watches breaks h (last_of f t) (found_within f points t p direction h has l finds)
+pub below_within : (f : FittedTrace) (points : List Numbered) (t p : ℕ) (watches : List Watched) (breaks : List Breakpoint) (hit : Option Hit)
+    → HasRun f → t < threads_of f → EachRun f (λ run. Finds run f points t p Backwards hit)
+    → (end_below watches breaks hit).position ≤ last_of f t
+below_within f points t p watches breaks (Some h) has l finds =
+    stops_below watches breaks h (last_of f t) (found_within f points t p Backwards h has l finds)
+below_within f points t p watches breaks None has l finds = omega arith

@@ -295,6 +295,7 @@ impl Remote {
     }
 
     // The stop that is found downwards.
+    #[tactic(auto, using(crate::proofs::Bounds::below_within))]
     fn found_below<H: Hands>(
         &mut self,
         hands: &H,
@@ -307,6 +308,7 @@ impl Remote {
         ensures within { IfOk result (λ to. to.position ≤ last_of self.old.stub.desk.fitted thread) }
     {
         self.speak();
+        self.debugger.fitted().known();
         let points = points_downwards(hands.alloc(), thread, self.halts(watched))?;
         let backwards = Direction::Backwards;
         let points = points.as_slice();
