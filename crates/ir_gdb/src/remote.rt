@@ -18,6 +18,7 @@ use ir_timeline::thread_count;
 use std::alloc::{AllocError, Global};
 use std::marker::Model;
 
+mod lines;
 mod memory;
 mod moves;
 mod points;
@@ -131,11 +132,6 @@ impl Remote {
             interrupted: false,
             extended: false,
         })
-    }
-
-    /// The debugger of a session, for its lines.
-    pub fn debugger_mut(&mut self) -> &mut Debugger {
-        &mut self.debugger
     }
 
     /// The next move is answered as interrupted, and not made.
