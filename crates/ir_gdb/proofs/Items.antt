@@ -12,7 +12,7 @@ use Rattle.ir_packet.specs.Reading.{kept, items_found, item_found}
 use Rattle.ir_packet.specs.declared.found.Found.{Found}
 use Rattle.ir_packet.specs.declared.found.Found.TheVariants as found
 use Rattle.ir_packet.proofs.CallerLemmas.{ends-kept, step-kept, items_from-append}
-use Rattle.ir_gdb.specs.Connection.{Link, AnswersItem, Rest, Answers, ends, Wrote, Sent, SentInPart, WroteInPart, served_by, LeadsTo}
+use Rattle.ir_gdb.specs.Connection.{Link, AnswersItem, Rest, Answers, ends, Wrote, Sent, SentInPart, before_reply, WroteInPart, served_by, LeadsTo}
 
 -- ---- the payload of a packet that is found
 
@@ -272,7 +272,8 @@ module _ (l0 : Link) (input w0 left left' written : Option (List ℕ)) (l : Link
           (λ rest. quit_leads next written' rest quits s)
 
       -- the writer failed in the answer to the item
-      pub write_failed : (written' : Option (List ℕ)) → SentInPart (AnswersItem l (item_found f payload)) written written'
+      pub write_failed : (written' : Option (List ℕ))
+          → SentInPart (AnswersItem l (item_found f payload)) (before_reply l (item_found f payload)) written written'
           → Reads limit input left' (λ consumed. WroteInPart l0 (items consumed) w0 written')
       write_failed written' s = record {
         consumed = at.bytes ++ b ∷ [];

@@ -6,3 +6,8 @@ mod Requests
 mod Items
 mod Lines
 mod Written
+mod Bytes
+mod Sessions
+mod Setting
+mod Seen
+mod Answering

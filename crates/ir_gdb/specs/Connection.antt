@@ -170,12 +170,20 @@ pub record Sent (May : List ℕ → Link → Type 0) (next : Link) (old new : Op
   pub is : May text next
   pub grown : Appends old new text
 
--- it took a prefix of one
-pub record SentInPart (May : List ℕ → Link → Type 0) (old new : Option (List ℕ)) : Type 0 where
+-- it took a prefix of one, or of what is written before the reply is known
+pub record SentInPart (May : List ℕ → Link → Type 0) (before : List ℕ) (old new : Option (List ℕ)) : Type 0 where
   pub text : List ℕ
-  pub next : Link
-  pub is : May text next
+  pub is : ((next : Link) × May text next) ⊎ (text ≡ before)
   pub grown : AppendsPrefix old new text
+
+-- what is written for an item before the reply is known
+abbrev pub before_reply : Link → Item → List ℕ
+before_reply l (Packet payload) = sign l (codes "+")
+before_reply l BadSum = []
+before_reply l TooLong = []
+before_reply l Interrupt = []
+before_reply l Acknowledged = []
+before_reply l Refused = []
 
 -- it took all answers but that to the last item, none of which ends the connection, and a prefix of that one
 pub record WroteInPart (l : Link) (items : List Item) (old new : Option (List ℕ)) : Type 0 where
@@ -184,7 +192,7 @@ pub record WroteInPart (l : Link) (items : List Item) (old new : Option (List �
   pub are : items ≡ before ++ item ∷ []
   pub between : Option (List ℕ)
   pub all : Wrote l before false old between
-  pub part : SentInPart (AnswersItem all.last item) between new
+  pub part : SentInPart (AnswersItem all.last item) (before_reply all.last item) between new
 
 -- how a connection over an input ends where no device fails, by whether one of its items ends it
 abbrev pub served_by : Bool → ℕ → List ℕ → Result Served Fault

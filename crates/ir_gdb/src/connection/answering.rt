@@ -1,17 +1,14 @@
 //! What is written for an item of the stream.
 
-ghost use Rattle.std.specs.Prelude.{◌≡◌, ◌≤◌, ◌<◌, ℕ, length, true, IfOk, IfErr, OnOk, OnErr};
-ghost use Rattle.std.specs.Io.KnownBytes.{Appends};
-ghost use Rattle.ir_stream.specs.Devices.{AppendsPrefix};
+ghost use Rattle.std.specs.Prelude.{◌≡◌, ◌≤◌, ◌<◌, ℕ, [], length, codes, true, IfOk, IfErr, OnOk, OnErr};
 ghost use Rattle.ir_stream.specs.Endings.{flow_after};
-ghost use Rattle.ir_packet.specs.Packets.{packet_of};
 ghost use Rattle.ir_packet.specs.Reading.{item_found};
 ghost use Rattle.ir_packet.specs.Requests.{request_of, console_line};
 ghost use Rattle.ir_packet.specs.Stream.{TooLong};
 ghost use Rattle.ir_packet.specs.declared.request.Request.TheVariants.{Register};
 ghost use Rattle.ir_debug.specs.Machine.Answers.{quits};
 ghost use Rattle.ir_gdb.specs.Replies.{has_reply};
-ghost use Rattle.ir_gdb.specs.Connection.{sent, is_copy, is_packet, Consults, AnswersLine, AnswersBy, AnswersRequest, AnswersPacket, AnswersNew, AnswersItem, ends_request, ends_by, ends, Sent, SentInPart};
+ghost use Rattle.ir_gdb.specs.Connection.{sign, before_reply, is_copy, is_packet, Consults, AnswersLine, AnswersBy, AnswersRequest, AnswersPacket, AnswersNew, AnswersItem, ends_request, ends_by, ends, Sent, SentInPart};
 
 use crate::connection::Connection;
 use crate::console::Answered;
@@ -54,7 +51,7 @@ impl Connection {
         ensures ok { OnOk result (Sent (AnswersLine (quits (console_line self.old.reading.payload)) self.old.link (console_line self.old.reading.payload)) self.new.link (W.written writer.old) (W.written writer.new)) }
         ensures stays { OnOk result (W.broken writer.new ≡ W.broken writer.old) }
         ensures fault { IfErr result (λ f. f ≡ Fault.Write) }
-        ensures prefix { OnErr result (SentInPart (AnswersLine (quits (console_line self.old.reading.payload)) self.old.link (console_line self.old.reading.payload)) (W.written writer.old) (W.written writer.new)) }
+        ensures prefix { OnErr result (SentInPart (AnswersLine (quits (console_line self.old.reading.payload)) self.old.link (console_line self.old.reading.payload)) [] (W.written writer.old) (W.written writer.new)) }
         ensures err { OnErr result (W.broken writer.new ≡ true) }
     {
         match self.answer_of(hands) {
@@ -80,7 +77,7 @@ impl Connection {
         ensures ok { OnOk result (Sent (AnswersBy self.old.link request) self.new.link (W.written writer.old) (W.written writer.new)) }
         ensures stays { OnOk result (W.broken writer.new ≡ W.broken writer.old) }
         ensures fault { IfErr result (λ f. f ≡ Fault.Write) }
-        ensures prefix { OnErr result (SentInPart (AnswersBy self.old.link request) (W.written writer.old) (W.written writer.new)) }
+        ensures prefix { OnErr result (SentInPart (AnswersBy self.old.link request) [] (W.written writer.old) (W.written writer.new)) }
         ensures err { OnErr result (W.broken writer.new ≡ true) }
     {
         self.payload.clear();
@@ -104,7 +101,7 @@ impl Connection {
         ensures flow { IfOk result (λ f. f ≡ flow_after (ends_request request)) }
         ensures stays { OnOk result (W.broken writer.new ≡ W.broken writer.old) }
         ensures fault { IfErr result (λ f. f ≡ Fault.Write) }
-        ensures prefix { OnErr result (SentInPart (AnswersRequest self.old.link self.old.reading.payload request) (W.written writer.old) (W.written writer.new)) }
+        ensures prefix { OnErr result (SentInPart (AnswersRequest self.old.link self.old.reading.payload request) [] (W.written writer.old) (W.written writer.new)) }
         ensures err { OnErr result (W.broken writer.new ≡ true) }
     {
         match request {
@@ -137,7 +134,7 @@ impl Connection {
         ensures flow { IfOk result (λ f. f ≡ flow_after (ends_request (request_of self.old.reading.payload))) }
         ensures stays { OnOk result (W.broken writer.new ≡ W.broken writer.old) }
         ensures fault { IfErr result (λ f. f ≡ Fault.Write) }
-        ensures prefix { OnErr result (SentInPart (AnswersPacket self.old.link self.old.reading.payload) (W.written writer.old) (W.written writer.new)) }
+        ensures prefix { OnErr result (SentInPart (AnswersPacket self.old.link self.old.reading.payload) (sign self.old.link (codes "+")) (W.written writer.old) (W.written writer.new)) }
         ensures err { OnErr result (W.broken writer.new ≡ true) }
     {
         let request = request_of(self.reader.payload());
@@ -152,7 +149,7 @@ impl Connection {
         ensures flow { IfOk result (λ f. f ≡ Flow.Goes) }
         ensures stays { OnOk result (W.broken writer.new ≡ W.broken writer.old) }
         ensures fault { IfErr result (λ f. f ≡ Fault.Write) }
-        ensures prefix { OnErr result (SentInPart (AnswersNew self.old.link TooLong) (W.written writer.old) (W.written writer.new)) }
+        ensures prefix { OnErr result (SentInPart (AnswersNew self.old.link TooLong) [] (W.written writer.old) (W.written writer.new)) }
         ensures err { OnErr result (W.broken writer.new ≡ true) }
     {
         self.acknowledge(b"+", writer)?;
@@ -173,7 +170,7 @@ impl Connection {
         ensures flow { IfOk result (λ f. f ≡ flow_after (ends_by (item_found found self.old.reading.payload))) }
         ensures stays { OnOk result (W.broken writer.new ≡ W.broken writer.old) }
         ensures fault { IfErr result (λ f. f ≡ Fault.Write) }
-        ensures prefix { OnErr result (SentInPart (AnswersNew self.old.link (item_found found self.old.reading.payload)) (W.written writer.old) (W.written writer.new)) }
+        ensures prefix { OnErr result (SentInPart (AnswersNew self.old.link (item_found found self.old.reading.payload)) (before_reply self.old.link (item_found found self.old.reading.payload)) (W.written writer.old) (W.written writer.new)) }
         ensures err { OnErr result (W.broken writer.new ≡ true) }
     {
         match found {
@@ -207,7 +204,7 @@ impl Connection {
         ensures flow { IfOk result (λ f. f ≡ flow_after (ends self.old.link (item_found found self.old.reading.payload))) }
         ensures stays { OnOk result (W.broken writer.new ≡ W.broken writer.old) }
         ensures fault { IfErr result (λ f. f ≡ Fault.Write) }
-        ensures prefix { OnErr result (SentInPart (AnswersItem self.old.link (item_found found self.old.reading.payload)) (W.written writer.old) (W.written writer.new)) }
+        ensures prefix { OnErr result (SentInPart (AnswersItem self.old.link (item_found found self.old.reading.payload)) (before_reply self.old.link (item_found found self.old.reading.payload)) (W.written writer.old) (W.written writer.new)) }
         ensures err { OnErr result (W.broken writer.new ≡ true) }
     {
         if self.is_copy() && is_packet(found) {
