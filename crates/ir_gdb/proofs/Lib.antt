@@ -11,3 +11,4 @@ mod Sessions
 mod Setting
 mod Seen
 mod Answering
+mod Threads
