@@ -25,6 +25,14 @@ fn is_packet(found: Found) -> bool
     matches!(found, Found::Packet | Found::BadSum | Found::TooLong)
 }
 
+// Whether a line ends a session.
+#[tactic(auto, unfolding(ir_debug::specs::Machine::Answers::quits))]
+fn quits(line: &[u8]) -> bool
+    ensures { result ≡ quits line.now }
+{
+    matches!(parse_line(line), Ok(Some(Command::Quit)))
+}
+
 impl Connection {
     // What a session answers to the line of the packet that was read last; none if it would end the session.
     fn answer_of<H: Hands>(&mut self, hands: &H) -> Result<Option<Answered>, AllocError>
@@ -34,14 +42,18 @@ impl Connection {
     {
         self.line.clear();
         put_line(&mut self.line, self.reader.payload());
-        if let Ok(Some(Command::Quit)) = parse_line(self.line.as_slice()) {
+        if quits(self.line.as_slice()) {
             return Ok(None);
         }
-        let mut answered = Answered::new(hands.alloc())?;
-        match self.remote.respond(hands, self.line.as_slice(), &mut answered) {
-            Ok(()) => Ok(Some(answered)),
-            Err(_) => Err(AllocError),
-        }
+        let Ok(answered) = Answered::new(hands.alloc()) else {
+            return Err(AllocError);
+        };
+        let mut answered = answered;
+        let line = self.line.as_slice();
+        let Ok(()) = self.remote.respond(hands, line, &mut answered) else {
+            return Err(AllocError);
+        };
+        Ok(Some(answered))
     }
 
     // `qRcmd`: what a session answers, and then `OK`.
