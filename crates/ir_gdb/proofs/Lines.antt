@@ -39,10 +39,10 @@ responds_nothing asked line s P is none p = ([], s.desk, replies, refl, p)
 -- ---- a line that is read
 
 pub quits_if : (line text : List ℕ) (b : Bool) → b ≡ quits text → text ≡ line → b ≡ true → quits line ≡ true
-quits_if line text b is same yes = sym (ap quits same) ∙ sym is ∙ yes
+quits_if line text b is same q = sym (ap quits same) ∙ sym is ∙ q
 
 pub goes_if : (line text : List ℕ) (b : Bool) → b ≡ quits text → text ≡ line → b ≡ false → quits line ≡ false
-goes_if line text b is same no = sym (ap quits same) ∙ sym is ∙ no
+goes_if line text b is same q = sym (ap quits same) ∙ sym is ∙ q
 
 -- what a session answers, kept from nothing on
 pub consulted : (s s0 : Stub) (text line : List ℕ) (next : Stub) (old new : List ℕ) → s ≡ s0 → text ≡ line → old ≡ []

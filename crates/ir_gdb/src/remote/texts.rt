@@ -51,7 +51,7 @@ impl Remote {
     }
 
     // The list of threads.
-    #[tactic(auto, using(ir_image::proofs::CallerLemmas::few_threads))]
+    #[tactic(auto, using(ir_image::proofs::CallerLemmas::few_threads, crate::proofs::Threads::no_thread_put, crate::proofs::Threads::thread_put, crate::proofs::Threads::all_put))]
     fn thread_list(&self, alloc: Global) -> Result<Vec<u8>, AllocError>
         ensures text { IfOk result (λ list. list.items ≡ threads_text self.now.stub) }
         ensures len { IfOk result (λ list. vec_len list ≤ 2000) }
