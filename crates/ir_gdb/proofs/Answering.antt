@@ -67,8 +67,17 @@ part_by l asked s payload mid next w w' replies is after grown = record {
 line_answered : (b : Bool) (l : Link) (line : List ℕ) (s : Stub) (answer : List ℕ) → b ≡ false → Responds l.stub line s (λ text. answer ≡ text)
     → AnswersLine b l line (answer_text answer ++ packet_of (reply_text reply.Done)) (sent l s)
 line_answered true l line s answer goes r = absurd cc
-line_answered false l line s answer goes r = inl (s, (r.0, r.1, r.2, r.3,
-    ap (λ (x : List ℕ). answer_text x ++ packet_of (reply_text reply.Done)) r.4), refl)
+line_answered false l line s answer goes r = inl (
+  s,
+  (
+    r.0,
+    r.1,
+    r.2,
+    r.3,
+    ap (λ (x : List ℕ). answer_text x ++ packet_of (reply_text reply.Done)) r.4,
+  ),
+  refl,
+)
 
 -- where the answer leads
 line_next : (l : Link) (s : Stub) (mid answered next : Link) → mid ≡ record l { stub = s } → sent answered answered.stub ≡ sent mid mid.stub

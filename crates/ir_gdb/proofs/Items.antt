@@ -89,11 +89,15 @@ unfolding Answers
 Answers-append l [] ys ended text text' mid last a b =
     subst (λ (m : Link). Answers m ys ended (text ++ text') last) a.2
     (subst (λ (t : List ℕ). Answers mid ys ended (t ++ text') last) (sym a.1) b)
-Answers-append l (x ∷ xs) ys ended text text' mid last (first, next, rest, answers, more, is) b =
-    (first, next, rest ++ text', answers,
-    rest_append (ends l x) (Answers next xs) (Answers next (xs ++ ys)) next ended rest text' mid last
-    (λ p. Answers-append next xs ys ended rest text' mid last p b) more,
-    ap (λ (t : List ℕ). t ++ text') is ∙ append_assoc first rest text')
+Answers-append l (x ∷ xs) ys ended text text' mid last (first, next, rest, answers, more, is) b = (
+  first,
+  next,
+  rest ++ text',
+  answers,
+  rest_append (ends l x) (Answers next xs) (Answers next (xs ++ ys)) next ended rest text' mid last
+      (λ p. Answers-append next xs ys ended rest text' mid last p b) more,
+  ap (λ (t : List ℕ). t ++ text') is ∙ append_assoc first rest text',
+)
 
 rest_past : (b : Bool) (more after : Bool → List ℕ → Link → Type 0) (next : Link) (text : List ℕ) (last : Link)
     → (more true text last → after true text last) → Rest b more next true text last → Rest b after next true text last
@@ -104,9 +108,14 @@ rest_past false more after next text last go p = go p
 Answers-past : (l : Link) (xs ys : List Item) (text : List ℕ) (last : Link) → Answers l xs true text last → Answers l (xs ++ ys) true text last
 unfolding Answers
 Answers-past l [] ys text last a = absurd cc
-Answers-past l (x ∷ xs) ys text last (first, next, rest, answers, more, is) =
-    (first, next, rest, answers,
-    rest_past (ends l x) (Answers next xs) (Answers next (xs ++ ys)) next rest last (λ p. Answers-past next xs ys rest last p) more, is)
+Answers-past l (x ∷ xs) ys text last (first, next, rest, answers, more, is) = (
+  first,
+  next,
+  rest,
+  answers,
+  rest_past (ends l x) (Answers next xs) (Answers next (xs ++ ys)) next rest last (λ p. Answers-past next xs ys rest last p) more,
+  is,
+)
 
 rest_one : (b : Bool) (next : Link) → Rest b (Answers next []) next b [] next
 unfolding Answers
@@ -189,7 +198,6 @@ any_behind (Some xs) (Some ys) bytes P took go = subst P (sym took) (go ys)
 
 module _ (l0 : Link) (input w0 left left' written : Option (List ℕ)) (l : Link) (place : Place) (n : ℕ)
     (at : At l0 input w0 left written l place n) where
-
   -- a byte that ends nothing
   pub at_byte : (b : ℕ) (next : Place) (payload : List ℕ) → Consumes left left' (b ∷ []) → items_found None payload ≡ stream.ends place b
       → next ≡ kept (step place b) → At l0 input w0 left' written l next (n + 1)

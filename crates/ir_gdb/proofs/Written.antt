@@ -29,9 +29,10 @@ short_piece bytes false short =
     let h : length bytes < most_piece = leb-false most_piece (length bytes) short in
     let most : length bytes ≤ most_piece = omega (arith, h) in
     let e : min most_piece (length bytes) ≡ length bytes = omega (arith, h) in
-    let same : length bytes ≤ length bytes = omega arith in
-    (ap (λ (n : ℕ). take n bytes) e ∙ take_all (length bytes) bytes same ∙ sym (take_all most_piece bytes most),
-    ap (λ (n : ℕ). drop n bytes) e ∙ drop_of_length-le bytes same ∙ sym (drop_of_length-le bytes most))
+    let same : length bytes ≤ length bytes = omega arith in (
+      ap (λ (n : ℕ). take n bytes) e ∙ take_all (length bytes) bytes same ∙ sym (take_all most_piece bytes most),
+      ap (λ (n : ℕ). drop n bytes) e ∙ drop_of_length-le bytes same ∙ sym (drop_of_length-le bytes most),
+    )
 
 -- by a piece that is no longer than the rest
 pub answer_text-piece : (bytes piece more : List ℕ) (n : ℕ) → 0 < length bytes → n ≡ min most_piece (length bytes) → piece ≡ take n bytes

@@ -99,7 +99,7 @@ impl Remote {
         byte_at(code, self.general_thread().mach().memory(), address)
     }
 
-    #[tactic(auto, using(crate::proofs::Bytes::bytes_there-none, crate::proofs::Bytes::bytes_there-more, crate::proofs::Bytes::bytes_there-stop, crate::proofs::Seen::none_seen))]
+    #[tactic(auto, using(crate::proofs::Bytes::no_bytes_there, crate::proofs::Bytes::more_bytes_there, crate::proofs::Bytes::bytes_there_stop, crate::proofs::Seen::none_seen))]
     // The bytes from an address on, as many as there are, at most this number and `MOST_BYTES`.
     pub fn bytes_here(&self, address: u32, size: u32) -> ArrayVec<u8, MOST_BYTES>
         requires { IsThere self.now }
