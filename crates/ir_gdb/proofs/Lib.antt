@@ -3,3 +3,13 @@ mod Words
 mod Stubs
 mod SearchPoints
 mod Bounds
+mod Requests
+mod Items
+mod Lines
+mod Written
+mod Bytes
+mod Sessions
+mod Setting
+mod Seen
+mod Answering
+mod Threads

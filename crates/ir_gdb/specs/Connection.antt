@@ -1,15 +1,23 @@
 -- A connection of gdb: what is written for what a stream holds.
-use Rattle.std.specs.Prelude.{◌≡◌, ◌⊎◌, ◌&&◌, ◌/◌, ◌+◌, ℕ, zero, suc, Bool, true, false, List, [], ◌∷◌, ◌++◌, codes, take, drop, length, not, if◌then◌else◌}
+use Rattle.std.specs.Prelude.{◌≡◌, ◌⊎◌, ◌&&◌, ◌/◌, ◌+◌, ℕ, zero, suc, Bool, true, false, List, [], ◌∷◌, ◌++◌, codes, take, drop, length, not, nat_lt, ⊤, if◌then◌else◌, Option, Some, None, Result, Ok, Err}
+use Rattle.std.specs.Io.KnownBytes.{Appends}
+use Rattle.ir_stream.specs.Devices.{AppendsPrefix}
+use Rattle.ir_stream.specs.declared.serving.Served.{Served}
+use Rattle.ir_stream.specs.declared.serving.Served.TheVariants.{Quit, InputEnd}
+use Rattle.ir_stream.specs.declared.serving.Fault.{Fault}
+use Rattle.ir_stream.specs.declared.serving.Fault.TheVariants as fault
 use Rattle.ir_debug.specs.Machine.Desk.{Desk}
 use Rattle.ir_debug.specs.Machine.Answers as session
 use Rattle.ir_packet.specs.Packets.{packet_of}
 use Rattle.ir_packet.specs.Replies.{reply_text, output_text}
 use Rattle.ir_packet.specs.Requests.{request_of, console_line}
-use Rattle.ir_packet.specs.Stream.{Item, Packet, BadSum, TooLong, Interrupt, Acknowledged, Refused}
+use Rattle.ir_packet.specs.Reading.{Reading}
+use Rattle.ir_packet.specs.Stream.{Item, items, Packet, BadSum, TooLong, Interrupt, Acknowledged, Refused}
 use Rattle.ir_packet.specs.declared.reply.Reply.TheVariants as reply
 use Rattle.ir_packet.specs.declared.request.Request.{Request}
 use Rattle.ir_packet.specs.declared.request.Request.TheVariants as request
-use Rattle.ir_gdb.specs.Stub.{Stub, spoken}
+use Rattle.ir_gdb.specs.declared.console.Answered.{Answered}
+use Rattle.ir_gdb.specs.Stub.{Stub}
 use Rattle.ir_gdb.specs.Replies.{Replies}
 
 pub record Link : Type 0 where
@@ -18,6 +26,12 @@ pub record Link : Type 0 where
   pub acknowledges : Bool
   -- whether the last reply hasn't been acknowledged
   pub is_owed : Bool
+
+-- the connection, what it reads, and the payload of a reply
+pub record Connecting : Type 0 where
+  pub link : Link
+  pub reading : Reading
+  pub payload : List ℕ
 
 -- before a byte is read
 abbrev pub link_of : Stub → Link
@@ -53,14 +67,24 @@ answer_text bytes = answer_packets ((length bytes + 499) / most_piece) bytes
 abbrev pub with_desk : Stub → Desk → Stub
 with_desk s d = record s { desk = d }
 
+-- a session may answer a line by a text of which P holds
+abbrev pub Responds : Stub → List ℕ → Stub → (List ℕ → Type 0) → Type 0
+Responds s line next P = (answer : List ℕ) × (d : Desk) × session.Replies s.desk line answer d × (next ≡ with_desk s d) × P answer
+
+-- what a session answers to a line that doesn't quit, and the stub is then so; or there was no memory to keep the answer
+abbrev pub Consults : {E : Type 0} → Link → List ℕ → Result (Option Answered) E → Link → Type 0
+Consults l line (Ok None) next = (session.quits line ≡ true) × (next ≡ l)
+Consults l line (Ok (Some answered)) next = (session.quits line ≡ false)
+    × ((s : Stub) × Responds l.stub line s (λ text. answered.bytes.items ≡ text) × (next ≡ record l { stub = s }))
+Consults l line (Err e) next = (session.quits line ≡ false)
+    × ((next ≡ l) ⊎ ((s : Stub) × Responds l.stub line s (λ text. ⊤) × (next ≡ record l { stub = s })))
+
 -- what a session answers, and then `OK`; or there was no memory to keep the answer
 abbrev pub AnswersLine : Bool → Link → List ℕ → List ℕ → Link → Type 0
 AnswersLine true l line text next = (text ≡ packet_of (reply_text reply.NotPermitted)) × (next ≡ sent l l.stub)
 AnswersLine false l line text next =
-    ((answer : List ℕ) × (d : Desk) × session.Replies l.stub.desk line answer d
-    × (text ≡ answer_text answer ++ packet_of (reply_text reply.Done)) × (next ≡ sent l (with_desk l.stub d)))
-    ⊎ (((next ≡ sent l l.stub) ⊎ ((answer : List ℕ) × (d : Desk) × session.Replies l.stub.desk line answer d × (next ≡ sent l (with_desk l.stub d))))
-    × (text ≡ packet_of (reply_text reply.NoMemory)))
+    ((s : Stub) × Responds l.stub line s (λ answer. text ≡ answer_text answer ++ packet_of (reply_text reply.Done)) × (next ≡ sent l s))
+    ⊎ (((next ≡ sent l l.stub) ⊎ ((s : Stub) × Responds l.stub line s (λ answer. ⊤) × (next ≡ sent l s))) × (text ≡ packet_of (reply_text reply.NoMemory)))
 
 -- ---- packets
 
@@ -122,12 +146,61 @@ ends l item = not (is_copy l) && ends_by item
 
 -- ---- a stream
 
--- what is written for items up to and with the first that ends the connection
-abbrev pub Rest : Bool → (List ℕ → Link → Type 0) → Link → List ℕ → Link → Type 0
-Rest true more l text last = (text ≡ []) × (last ≡ l)
-Rest false more l text last = more text last
+-- what is written for the items behind one, by whether that one ends the connection
+abbrev pub Rest : Bool → (Bool → List ℕ → Link → Type 0) → Link → Bool → List ℕ → Link → Type 0
+Rest true more l ended text last = (ended ≡ true) × (text ≡ []) × (last ≡ l)
+Rest false more l ended text last = more ended text last
 
-unfoldable pub Answers : Link → List Item → List ℕ → Link → Type 0
-Answers l [] text last = (text ≡ []) × (last ≡ l)
-Answers l (item ∷ items) text last = (first : List ℕ) × (next : Link) × (rest : List ℕ) × AnswersItem l item first next
-    × Rest (ends l item) (Answers next items) next rest last × (text ≡ first ++ rest)
+-- what is written for items up to and with the first that ends the connection, and whether there is such a one
+unfoldable pub Answers : Link → List Item → Bool → List ℕ → Link → Type 0
+Answers l [] ended text last = (ended ≡ false) × (text ≡ []) × (last ≡ l)
+Answers l (item ∷ items) ended text last = (first : List ℕ) × (next : Link) × (rest : List ℕ) × AnswersItem l item first next
+    × Rest (ends l item) (Answers next items) next ended rest last × (text ≡ first ++ rest)
+
+-- the writer took all of the answers, and the connection is then the second
+pub record Wrote (l : Link) (items : List Item) (ended : Bool) (old new : Option (List ℕ)) : Type 0 where
+  pub text : List ℕ
+  pub last : Link
+  pub answers : Answers l items ended text last
+  pub grown : Appends old new text
+
+-- it took a text that may be written, and the connection is then the second
+pub record Sent (May : List ℕ → Link → Type 0) (next : Link) (old new : Option (List ℕ)) : Type 0 where
+  pub text : List ℕ
+  pub is : May text next
+  pub grown : Appends old new text
+
+-- it took a prefix of one, or of what is written before the reply is known
+pub record SentInPart (May : List ℕ → Link → Type 0) (before : List ℕ) (old new : Option (List ℕ)) : Type 0 where
+  pub text : List ℕ
+  pub is : ((next : Link) × May text next) ⊎ (text ≡ before)
+  pub grown : AppendsPrefix old new text
+
+-- what is written for an item before the reply is known
+abbrev pub before_reply : Link → Item → List ℕ
+before_reply l (Packet payload) = sign l (codes "+")
+before_reply l BadSum = []
+before_reply l TooLong = []
+before_reply l Interrupt = []
+before_reply l Acknowledged = []
+before_reply l Refused = []
+
+-- it took all answers but that to the last item, none of which ends the connection, and a prefix of that one
+pub record WroteInPart (l : Link) (items : List Item) (old new : Option (List ℕ)) : Type 0 where
+  pub before : List Item
+  pub item : Item
+  pub are : items ≡ before ++ item ∷ []
+  pub between : Option (List ℕ)
+  pub all : Wrote l before false old between
+  pub part : SentInPart (AnswersItem all.last item) (before_reply all.last item) between new
+
+-- how a connection over an input ends where no device fails, by whether one of its items ends it
+abbrev pub served_by : Bool → ℕ → List ℕ → Result Served Fault
+served_by true limit input = Ok Quit
+served_by false limit input = if nat_lt (length input) limit then Ok InputEnd else Err fault.TooLong
+
+-- the input leads to this result, and the writer took the answers to the items that are whole within the limit
+pub record LeadsTo (l : Link) (limit : ℕ) (result : Result Served Fault) (old new : Option (List ℕ)) (input : List ℕ) : Type 0 where
+  pub ended : Bool
+  pub ending : result ≡ served_by ended limit input
+  pub wrote : Wrote l (items (take limit input)) ended old new

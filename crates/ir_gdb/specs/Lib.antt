@@ -11,3 +11,4 @@ pub mod Restarts
 pub mod Texts
 pub mod Replies
 pub mod Connection
+pub mod Session

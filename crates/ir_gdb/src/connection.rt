@@ -1,27 +1,26 @@
 //! A connection of gdb: bytes are read, and the replies to the packets in them are written.
 
-ghost use Rattle.std.specs.Prelude.{◌≡◌, false};
+ghost use Rattle.std.specs.Prelude.{◌≡◌, true, false, Err, IfOk, IfSome};
+ghost use Rattle.ir_stream.specs.Devices.{Reads};
+ghost use Rattle.ir_stream.specs.Endings.{IfEnded};
+ghost use Rattle.ir_packet.specs.Stream.{Between, items};
+ghost use Rattle.ir_gdb.specs.Connection.{link_of, Wrote, WroteInPart, LeadsTo};
 
-use crate::console::Answered;
 use crate::remote::Remote;
-use ir_command::{Command, parse_line};
-use ir_debug::respond;
 use ir_object::Hands;
-use ir_packet::{
-    Found, Reader, Reply, Request, put_line, put_output, put_packet, put_text, reply_text,
-    request_of,
-};
-use ir_stream::{Fault, Flow, Next, Served, Sink, Source, next_byte, write_all};
+use ir_packet::Reader;
+use ir_stream::{Fault, Flow, Next, Served, Sink, Source, next_byte};
 use std::alloc::{AllocError, Global};
+use std::marker::Model;
+
+mod answering;
+mod writing;
 
 // Room for the payload of each reply.
 const MOST_PAYLOAD: usize = 4096;
 
-// Room for a payload as a packet, and an acknowledgement before it.
-const MOST_PACKET: usize = 2 * MOST_PAYLOAD + 8;
-
-// The most bytes of a session's answer in one packet.
-const PIECE: usize = 500;
+// Room for a payload as a packet.
+const MOST_PACKET: usize = 2 * MOST_PAYLOAD + 4;
 
 /// What gdb is connected to, and what has been read and written so far.
 #[derive(Drop)]
@@ -40,12 +39,30 @@ pub struct Connection {
     is_owed: bool,
 }
 
+impl Model for Connection {
+    ghost use Rattle.std.specs.Prelude.{◌≡◌, ◌≤◌, vec_capacity};
+    ghost use Rattle.ir_gdb.specs.Connection.{Connecting};
+
+    ghost Value = { Connecting };
+
+    ghost view = { λ c. record {
+      link = record { stub = c.remote.stub; acknowledges = c.acknowledges; is_owed = c.is_owed };
+      reading = c.reader;
+      payload = c.payload.items;
+    } };
+
+    ghost invariant = { λ c. (vec_capacity c.payload ≡ 4096) × (8196 ≤ vec_capacity c.packet) × (4096 ≤ vec_capacity c.line) };
+}
+
 impl Connection {
     /// A connection on which nothing has been read.
     ///
     /// # Errors
     /// Out of memory.
-    pub fn new(alloc: Global, remote: Remote) -> Result<Connection, AllocError> {
+    pub fn new(alloc: Global, remote: Remote) -> Result<Connection, AllocError>
+        ensures link { IfOk result (λ connection. connection.link ≡ link_of remote.stub) }
+        ensures place { IfOk result (λ connection. connection.reading.place ≡ Between) }
+    {
         Ok(Connection {
             remote,
             reader: Reader::new(alloc)?,
@@ -57,133 +74,6 @@ impl Connection {
         })
     }
 
-    // Writes an acknowledgement, if packets are acknowledged.
-    fn acknowledge<W: Sink>(&mut self, sign: &[u8], writer: &mut W) -> Result<(), Fault> {
-        if !self.acknowledges {
-            return Ok(());
-        }
-        write_all(writer, sign).map_err(|_| Fault::Write)
-    }
-
-    // Writes the payload as a packet.
-    fn send<W: Sink>(&mut self, writer: &mut W) -> Result<(), Fault> {
-        self.packet.clear();
-        put_packet(&mut self.packet, self.payload.as_slice());
-        self.is_owed = true;
-        write_all(writer, self.packet.as_slice()).map_err(|_| Fault::Write)
-    }
-
-    // Writes a reply that is always the same.
-    fn send_reply<W: Sink>(&mut self, reply: Reply, writer: &mut W) -> Result<(), Fault> {
-        self.payload.clear();
-        put_text(&mut self.payload, reply_text(reply));
-        self.send(writer)
-    }
-
-    // Writes what a session answered, a packet for each piece.
-    fn send_answer<W: Sink>(&mut self, answer: &[u8], writer: &mut W) -> Result<(), Fault> {
-        let mut rest = answer;
-        while !rest.is_empty() {
-            let (piece, more) = rest.split_at(PIECE.min(rest.len()));
-            self.payload.clear();
-            put_output(&mut self.payload, piece);
-            self.send(writer)?;
-            rest = more;
-        }
-        Ok(())
-    }
-
-    // What a session answers to the line of the packet that was read last; none if it would end the session.
-    fn answer_of<H: Hands>(&mut self, hands: &H) -> Result<Option<Answered>, AllocError> {
-        self.line.clear();
-        put_line(&mut self.line, self.reader.payload());
-        let line = self.line.as_slice();
-        if let Ok(Some(Command::Quit)) = parse_line(line) {
-            return Ok(None);
-        }
-        let mut answered = Answered::new(hands.alloc())?;
-        match respond(hands, self.remote.debugger_mut(), line, &mut answered) {
-            Ok(_) => Ok(Some(answered)),
-            Err(_) => Err(AllocError),
-        }
-    }
-
-    // `qRcmd`: what a session answers, and then `OK`.
-    fn answer_line<H: Hands, W: Sink>(&mut self, hands: &H, writer: &mut W) -> Result<(), Fault> {
-        match self.answer_of(hands) {
-            Ok(Some(answered)) => {
-                self.send_answer(answered.as_slice(), writer)?;
-                self.send_reply(Reply::Done, writer)
-            }
-            Ok(None) => self.send_reply(Reply::NotPermitted, writer),
-            Err(AllocError) => self.send_reply(Reply::NoMemory, writer),
-        }
-    }
-
-    // Writes the reply to a request.
-    fn answer<H: Hands, W: Sink>(
-        &mut self,
-        hands: &H,
-        request: Request,
-        writer: &mut W,
-    ) -> Result<(), Fault> {
-        self.payload.clear();
-        match self.remote.reply(hands, request, &mut self.payload) {
-            Ok(()) => self.send(writer),
-            Err(AllocError) => self.send_reply(Reply::NoMemory, writer),
-        }
-    }
-
-    // Answers the packet that was read last.
-    fn take_packet<H: Hands, W: Sink>(&mut self, hands: &H, writer: &mut W) -> Result<Flow, Fault> {
-        let request = request_of(self.reader.payload());
-        self.acknowledge(b"+", writer)?;
-        match request {
-            Request::Kill => return Ok(Flow::Quits),
-            Request::Console => self.answer_line(hands, writer)?,
-            _ => self.answer(hands, request, writer)?,
-        }
-        match request {
-            Request::Detach => Ok(Flow::Quits),
-            Request::NoAcknowledgements => {
-                self.acknowledges = false;
-                Ok(Flow::Goes)
-            }
-            _ => Ok(Flow::Goes),
-        }
-    }
-
-    // Answers a packet of too many bytes, which isn't known.
-    fn take_long<W: Sink>(&mut self, writer: &mut W) -> Result<Flow, Fault> {
-        self.acknowledge(b"+", writer)?;
-        self.send_reply(Reply::Nothing, writer)?;
-        Ok(Flow::Goes)
-    }
-
-    // Whether what is read now is a copy: gdb sends a packet again where it has waited for the reply.
-    fn is_copy(&self) -> bool {
-        self.acknowledges && self.is_owed
-    }
-
-    // Answers what was found.
-    fn take<H: Hands, W: Sink>(
-        &mut self,
-        hands: &H,
-        found: Found,
-        writer: &mut W,
-    ) -> Result<Flow, Fault> {
-        match found {
-            Found::Interrupt => self.remote.interrupt(),
-            Found::Acknowledged => self.is_owed = false,
-            Found::Refused => {}
-            Found::Packet | Found::BadSum | Found::TooLong if self.is_copy() => {}
-            Found::Packet => return self.take_packet(hands, writer),
-            Found::TooLong => return self.take_long(writer),
-            Found::BadSum => self.acknowledge(b"-", writer)?,
-        }
-        Ok(Flow::Goes)
-    }
-
     /// Reads bytes, and writes the replies to the packets in them, until one ends the connection, the input ends, a device fails, or
     /// `limit` bytes were read.
     pub fn serve<H: Hands, R: Source, W: Sink>(
@@ -193,10 +83,27 @@ impl Connection {
         reader: &mut R,
         writer: &mut W,
     ) -> Result<Served, Fault>
+        requires start { self.old.reading.place ≡ Between }
         requires reads { R.broken reader.old ≡ false }
         requires writes { W.broken writer.old ≡ false }
+        // Where no device fails, the bytes that were read lead to the result, and neither device has failed.
+        ensures ended { IfEnded result (Reads limit (R.left reader.old) (R.left reader.new)
+            (LeadsTo self.old.link limit result (W.written writer.old) (W.written writer.new))) }
+        ensures works { IfEnded result ((R.broken reader.new ≡ false) × (W.broken writer.new ≡ false)) }
+        // If the reader makes its bytes known, all of them together lead to it.
+        ensures known { IfEnded result (IfSome (R.left reader.old)
+            (LeadsTo self.old.link limit result (W.written writer.old) (W.written writer.new))) }
+        // After a failed read, the replies to all that was read, none of which ends the connection.
+        ensures read { result ≡ Err Fault.Read → (R.broken reader.new ≡ true) × (W.broken writer.new ≡ false)
+            × Reads limit (R.left reader.old) (R.left reader.new) (λ consumed.
+            Wrote self.old.link (items consumed) false (W.written writer.old) (W.written writer.new)) }
+        // After a failed write, the replies to all but the last item, and a prefix of that one's: a reply is written before a byte
+        // after its packet is read.
+        ensures write { result ≡ Err Fault.Write → (R.broken reader.new ≡ false) × (W.broken writer.new ≡ true)
+            × Reads limit (R.left reader.old) (R.left reader.new) (λ consumed.
+            WroteInPart self.old.link (items consumed) (W.written writer.old) (W.written writer.new)) }
     {
-        for _taken in 0..limit {
+        for taken in 0..limit {
             let byte = match next_byte(reader) {
                 Next::Failed => return Err(Fault::Read),
                 Next::End => return Ok(Served::InputEnd),

@@ -1,6 +1,6 @@
 //! What a session answers, kept until it is sent.
 
-ghost use Rattle.std.specs.Prelude.{◌≡◌, Some, true, false};
+ghost use Rattle.std.specs.Prelude.{◌≡◌, [], Some, false, IfOk};
 
 use ir_stream::{DeviceErr, Sink};
 use std::alloc::{AllocError, Global};
@@ -20,7 +20,10 @@ impl Answered {
     ///
     /// # Errors
     /// Out of memory.
-    pub fn new(alloc: Global) -> Result<Answered, AllocError> {
+    pub fn new(alloc: Global) -> Result<Answered, AllocError>
+        ensures bytes { IfOk result (λ answered. answered.bytes.items ≡ []) }
+        ensures failed { IfOk result (λ answered. answered.failed ≡ false) }
+    {
         Ok(Answered {
             bytes: Vec::with_capacity(alloc, MOST_ANSWER)?,
             failed: false,
@@ -28,7 +31,9 @@ impl Answered {
     }
 
     /// The bytes.
-    pub fn as_slice(&self) -> &[u8] {
+    pub fn as_slice(&self) -> &[u8]
+        ensures { result.now ≡ self.now.bytes.items }
+    {
         self.bytes.as_slice()
     }
 }

@@ -19,6 +19,7 @@ use ir_timeline::thread_count;
 use std::alloc::{AllocError, Global};
 use std::marker::Model;
 
+mod lines;
 mod memory;
 mod moves;
 mod points;
@@ -132,11 +133,6 @@ impl Remote {
             interrupted: false,
             extended: false,
         })
-    }
-
-    /// The debugger of a session, for its lines.
-    pub fn debugger_mut(&mut self) -> &mut Debugger {
-        &mut self.debugger
     }
 
     /// The next move is answered as interrupted, and not made.

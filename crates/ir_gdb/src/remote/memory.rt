@@ -68,6 +68,7 @@ fn object_byte(contents: &[u32], words: usize, place: u32) -> u8
 }
 
 impl Remote {
+    #[tactic(auto, using(crate::proofs::Seen::no_object, crate::proofs::Seen::object_seen, crate::proofs::Seen::objects_in_hand))]
     // The byte of the objects at an address from their start on.
     fn object_byte(&self, offset: u32) -> Option<u8>
         requires { IsThere self.now }
@@ -98,6 +99,7 @@ impl Remote {
         byte_at(code, self.general_thread().mach().memory(), address)
     }
 
+    #[tactic(auto, using(crate::proofs::Bytes::no_bytes_there, crate::proofs::Bytes::more_bytes_there, crate::proofs::Bytes::bytes_there_stop, crate::proofs::Seen::none_seen))]
     // The bytes from an address on, as many as there are, at most this number and `MOST_BYTES`.
     pub fn bytes_here(&self, address: u32, size: u32) -> ArrayVec<u8, MOST_BYTES>
         requires { IsThere self.now }

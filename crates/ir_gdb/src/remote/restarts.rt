@@ -4,7 +4,7 @@ ghost use Rattle.std.specs.Prelude.{◌≡◌, ◌≤◌, ◌+◌, ◌++◌, Lis
 ghost use Rattle.ir_cut.specs.Positions.{EachRun};
 ghost use Rattle.ir_timeline.specs.Positions.{Cuts};
 ghost use Rattle.ir_gdb.specs.Stub.{spoken};
-ghost use Rattle.ir_gdb.specs.Restarts.{extend_reply, with_extension, end_reply, restart_cut, RepliesToRestart};
+ghost use Rattle.ir_gdb.specs.Restarts.{with_extension, end_reply, restart_cut, RepliesToRestart};
 
 use crate::remote::Remote;
 use ir_cut::Cut;

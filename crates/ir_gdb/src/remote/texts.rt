@@ -9,7 +9,6 @@ use crate::remote::Remote;
 use ir_packet::{put_number, put_piece, put_text};
 use ir_stream::append;
 use ir_text::Text;
-use ir_timeline::thread_count;
 use std::alloc::{AllocError, Global};
 
 // The most bytes of the list.
@@ -52,13 +51,15 @@ impl Remote {
     }
 
     // The list of threads.
+    #[tactic(auto, using(ir_image::proofs::CallerLemmas::few_threads, crate::proofs::Threads::no_thread_put, crate::proofs::Threads::thread_put, crate::proofs::Threads::all_put))]
     fn thread_list(&self, alloc: Global) -> Result<Vec<u8>, AllocError>
         ensures text { IfOk result (λ list. list.items ≡ threads_text self.now.stub) }
         ensures len { IfOk result (λ list. vec_len list ≤ 2000) }
     {
         let mut list = Vec::with_capacity(alloc, MOST_LIST)?;
         put_text(&mut list, b"<?xml version=\"1.0\"?><threads>");
-        'threads: for thread in 0..thread_count(self.debugger.fitted()) as u32 {
+        let count = self.debugger.fitted().image().entries().len();
+        'threads: for thread in 0..count as u32 {
             self.put_thread(&mut list, thread);
         }
         put_text(&mut list, b"</threads>");
