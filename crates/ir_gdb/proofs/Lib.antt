@@ -3,3 +3,4 @@ mod Words
 mod Stubs
 mod SearchPoints
 mod Bounds
+mod Stopping
