@@ -4,3 +4,4 @@ mod Stubs
 mod SearchPoints
 mod Bounds
 mod Stopping
+mod Ranging

@@ -1,13 +1,13 @@
 -- Where a thread stops that moves alone: facts found of a stub that has spoken, said of the one before.
 use Rattle.std.proofs.Common.{◌≡◌, ◌≤◌, ◌<◌, ◌-◌, ◌+◌, ◌∙◌, ℕ, zero, suc, Bool, true, false, List, [], ◌∷◌, length, Option, Some, None, refl, sym, ap, subst, arith}
 use Rattle.std.proofs.lemmas.Bool.Decides.{nat_tests}
-use Rattle.std.specs.Prelude.{nat_lt, nat_le, ◌⊎◌, inl, inr, nat_eq, ◌==◌, ◌&&◌, ◌||◌, ⊤, option_map}
+use Rattle.std.specs.Prelude.{nat_lt, ◌==◌, ⊤, option_map}
 use Rattle.ir_fit.specs.Fit.{FittedTrace, HasRun}
 use Rattle.ir_runs.specs.Run.{Step}
 use Rattle.ir_cut.specs.Positions.{EachRun}
 use Rattle.ir_command.specs.declared.command.Direction.TheVariants.{Forwards}
 use Rattle.ir_command.specs.declared.hit.Hit.{Hit}
-use Rattle.ir_hits.specs.Hits.{Numbered, IsFirstHit, IsLastHit, thread_at}
+use Rattle.ir_hits.specs.Hits.{Numbered, IsFirstHit, IsLastHit}
 use Rattle.ir_hits.specs.Searching.{IsNextHit}
 use Rattle.ir_debug.specs.Machine.Desk.{Desk}
 use Rattle.ir_timeline.specs.Positions.{threads_of, last_of, Finds}
@@ -18,7 +18,7 @@ use Rattle.ir_gdb.specs.declared.stopped.Stopped.{Stopped}
 use Rattle.ir_gdb.specs.Points.{watch_points, points_downwards}
 use Rattle.ir_gdb.specs.Serving.{Serving}
 use Rattle.ir_gdb.specs.Stub.{Stub, spoken}
-use Rattle.ir_gdb.specs.Stops.{watches_if, downwards_of, position_of, WatchNext, StepsBy, StepsTo, after_step, StepsBackBy, StepsBackTo, after_back, StopsBelow, StaysWithin, is_within, BackBy, ContinuesBackBy, ContinuesBackTo, upwards_of, ContinuesTo, end_above, end_below, watch_reason}
+use Rattle.ir_gdb.specs.Stops.{watches_if, downwards_of, position_of, WatchNext, StepsBy, StepsTo, after_step, StepsBackBy, StepsBackTo, after_back, StopsBelow, BackBy, ContinuesBackBy, ContinuesBackTo, upwards_of, ContinuesTo, end_above, end_below, watch_reason}
 use Rattle.ir_gdb.proofs.Bounds.{above_within}
 
 -- the value seen of what a function holds
@@ -50,7 +50,7 @@ next_watch f s t p to w points hit first reason same are mine is finds why run w
     let by_to = subst (λ (n : ℕ). IsNextHit s.desk.fitted run (watch_points t 0 (watches_if s w)) t p n hit) is by_points in
     (hit, by_to, subst (λ (ws : List Watched). reason ≡ option_map (λ (h : Hit). watch_reason ws h.number) hit) mine why)
 
-is_none : Option Numbered → Type 0
+abbrev is_none : Option Numbered → Type 0
 is_none None = ⊤
 is_none (Some p) = ⊥
 
@@ -176,18 +176,3 @@ pub ends_within : (f other : FittedTrace) (points : List Numbered) (t p last : �
 ends_within f other points t p last ws bs hit to same has l finds at is =
     let end = subst (λ (n : ℕ). (end_above ws bs n hit).position ≤ last_of f t) (sym at) (above_within f points t p ws bs hit has l finds) in
     subst (λ (g : FittedTrace). to.position ≤ last_of g t) same (subst (λ (x : Stopped). x.position ≤ last_of f t) (sym is) end)
-
--- ---- ranges
-
-pub stays_start : (s : Stub) (t low high : ℕ) → EachRun s.desk.fitted (λ run. StaysWithin run s t low high (position_of s t) (suc (position_of s t)))
-stays_start s t low high run whole j above below = absurd (omega (arith, above, below))
-
-inside_by : (low high pc : ℕ) → nat_lt pc low ≡ false → nat_le high pc ≡ false → is_within low high pc ≡ true
-inside_by low high pc a b = grind (arith, nat_tests, a, b)
-
-stays_by : (run : List Step) (s : Stub) (t low high from k j : ℕ) (d : (j < suc k) ⊎ (j ≡ suc k)) → StaysWithin run s t low high from (suc k)
-    → is_within low high (thread_at s.desk.fitted run t (suc k)).core.pc ≡ true → from < j
-    → is_within low high (thread_at s.desk.fitted run t j).core.pc ≡ true
-stays_by run s t low high from k j (inl below) stays now above = stays j above below
-stays_by run s t low high from k j (inr at) stays now above =
-    subst (λ (n : ℕ). is_within low high (thread_at s.desk.fitted run t n).core.pc ≡ true) (sym at) now

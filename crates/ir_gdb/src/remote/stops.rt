@@ -211,18 +211,21 @@ impl Remote {
         ensures within { IfOk result (λ to. to.position ≤ last_of self.old.stub.desk.fitted thread) }
     {
         let left = self.leaves(hands, thread, low, high)?;
+        self.debugger.fitted().known();
+        self.position(thread);
         let last = self.last(thread);
-        let to = left.unwrap_or(last);
+        let end = after_range(last, left);
         let here = self.here()?;
         let points = self.upwards(hands.alloc(), thread, watched)?;
         let points = points.as_slice();
+        let to = end.position;
         let hit = self
             .debugger
             .search_up_to(hands, &here, thread, to, points)?;
         if let Some(hit) = hit {
             return Ok(stop_above(self.watches_if(watched), self.breaks.as_slice(), hit));
         }
-        Ok(after_range(last, left))
+        Ok(end)
     }
 
     // To the next stop.
