@@ -5,3 +5,4 @@ mod SearchPoints
 mod Bounds
 mod Stopping
 mod Ranging
+mod Telling
