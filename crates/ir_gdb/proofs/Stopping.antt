@@ -67,9 +67,12 @@ no_items ws empty = grind (arith, nat_tests, empty)
 
 pub unwatched : (s u : Stub) (t p : ℕ) (w : Bool) (ws : List Watched) → u ≡ spoken s → ws ≡ watches_if u w → length ws ≡ 0
     → EachRun s.desk.fitted (λ run. WatchNext run s t w p None)
-unwatched s u t p w ws same are empty run whole =
-    (None, subst (λ (x : List Watched). IsNextHit s.desk.fitted run (watch_points t 0 x) t p (p + 1) None) (are ∙ watches_spoken s u w same)
-    (none_watched s.desk.fitted run t p (p + 1) ws empty), refl)
+unwatched s u t p w ws same are empty run whole = (
+  None,
+  subst (λ (x : List Watched). IsNextHit s.desk.fitted run (watch_points t 0 x) t p (p + 1) None) (are ∙ watches_spoken s u w same)
+      (none_watched s.desk.fitted run t p (p + 1) ws empty),
+  refl,
+)
 
 unsaid : (run : List Step) (s : Stub) (t p : ℕ) (w : Bool) (why : Option Reason) → WatchNext run (spoken s) t w p why → WatchNext run s t w p why
 unsaid run s t p true why next = next
@@ -130,9 +133,9 @@ pub stops_found : (s u : Stub) (e : Desk) (t : ℕ) (w : Bool) (points : List Nu
     → bs ≡ u.breaks → to ≡ end_below ws bs hit → EachRun s.desk.fitted (λ run. StopsBelow run s t w to)
 stops_found s u e t w points hit ws bs to same are finds watches breaks is run whole =
     let end = is ∙ ap (λ (x : List Watched). end_below x bs hit) (watches ∙ over_desk u e w)
-        ∙ ap (λ (x : List Breakpoint). end_below (watches_if u w) x hit) breaks in
+    ∙ ap (λ (x : List Breakpoint). end_below (watches_if u w) x hit) breaks in
     let stops : EachRun u.desk.fitted (λ r. StopsBelow r u t w to) = λ r all.
-        (hit, subst (λ (ps : List Numbered). IsLastHit u.desk.fitted r ps t (position_of u t) hit) are (finds r all), end) in
+    (hit, subst (λ (ps : List Numbered). IsLastHit u.desk.fitted r ps t (position_of u t) hit) are (finds r all), end) in
     unsaid_below run s t w to (subst (λ (x : Stub). EachRun x.desk.fitted (λ r. StopsBelow r x t w to)) same stops run whole)
 
 continues_by : (run : List Step) (s : Stub) (t n : ℕ) (w : Bool) (why : Option Reason) (to : Stopped) → 0 < n → WatchNext run s t w (n - 1) why
@@ -163,10 +166,10 @@ pub ends_found : (s u v : Stub) (e : Desk) (t last : ℕ) (w : Bool) (points : L
     → bs ≡ u.breaks → last ≡ last_of u.desk.fitted t → to ≡ end_above ws bs last hit → EachRun s.desk.fitted (λ run. ContinuesTo run s t w to)
 ends_found s u v e t last w points hit ws bs to same other are finds watches breaks at is run whole =
     let end = is ∙ ap (λ (x : List Watched). end_above x bs last hit) (watches ∙ over_desk u e w)
-        ∙ ap (λ (x : List Breakpoint). end_above (watches_if u w) x last hit) breaks ∙ ap (λ (n : ℕ). end_above (watches_if u w) u.breaks n hit) at in
+    ∙ ap (λ (x : List Breakpoint). end_above (watches_if u w) x last hit) breaks ∙ ap (λ (n : ℕ). end_above (watches_if u w) u.breaks n hit) at in
     let mine = are ∙ ap (λ (x : Stub). upwards_of x t w) (other ∙ sym same) in
     let stops : EachRun u.desk.fitted (λ r. ContinuesTo r u t w to) = λ r all.
-        (hit, subst (λ (ps : List Numbered). IsFirstHit u.desk.fitted r ps t (position_of u t) hit) mine (finds r all), end) in
+    (hit, subst (λ (ps : List Numbered). IsFirstHit u.desk.fitted r ps t (position_of u t) hit) mine (finds r all), end) in
     unsaid_above run s t w to (subst (λ (x : Stub). EachRun x.desk.fitted (λ r. ContinuesTo r x t w to)) same stops run whole)
 
 -- the end of a search upwards is at a position of the thread

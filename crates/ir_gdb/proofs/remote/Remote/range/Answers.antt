@@ -31,9 +31,9 @@ search_up_to-requires-clause-within g c κs within =
     let said = c.leaves.ensures.stub in
     let is = ends_at s v t c.last-last.result left e said c.last-last.ensures c.after_range-end.ensures in
     let fits = range_fits s v t c.args.low c.args.high left c.in_ok-here.here e said
-        (subst (λ (x : Serving). HasRun x.stub.desk.fitted) c.self.view_is c.fitted.ensures.desk.run)
-        (subst (λ (n : ℕ). n ≤ last_of v.desk.fitted t) c.position.ensures.value c.position.ensures.within) c.in_ok-left.ensures.leaves
-        c.in_ok-here.ensures.value is in
+    (subst (λ (x : Serving). HasRun x.stub.desk.fitted) c.self.view_is c.fitted.ensures.desk.run)
+    (subst (λ (n : ℕ). n ≤ last_of v.desk.fitted t) c.position.ensures.value c.position.ensures.within) c.in_ok-left.ensures.leaves
+    c.in_ok-here.ensures.value is in
     subst (λ (x : Serving). (cut_of c.in_ok-here.here t ≤ e.position) × (e.position ≤ last_of x.stub.desk.fitted t)) (sym c.self.view_is) fits
 
 pub returns-in-Some-clause-stops : goal.returns-in-Some-clause-stops
@@ -52,7 +52,7 @@ returns-in-Some-clause-stops g c =
     let mine = c.watches_if.ensures.value ∙ watches_after s u c.search_up_to.new.self.desk w same in
     let breaks = c.as_slice.ensures ∙ ap (λ (x : Stub). x.breaks) same in
     let ends = c.stop_above.ensures ∙ ap (λ (x : List Watched). stop_above x c.as_slice.result.now h) mine
-        ∙ ap (λ (x : List Breakpoint). stop_above (watches_if s w) x h) breaks ∙ ap (λ (x : Option Hit). ranged s t w left x) (sym c.in-Some.is) in
+    ∙ ap (λ (x : List Breakpoint). stop_above (watches_if s w) x h) breaks ∙ ap (λ (x : Option Hit). ranged s t w left x) (sym c.in-Some.is) in
     range_on s v v t c.args.low c.args.high w left c.in_ok-here.here e c.stop_above.result c.as_slice-points.result.now c.in_ok-hit.hit said said
     c.in_ok-left.ensures.leaves c.in_ok-here.ensures.value is (c.as_slice-points.ensures.value ∙ c.in_ok-points.ensures.points)
     (subst (λ (x : Serving). EachRun x.stub.desk.fitted (λ run. IsNextHit x.stub.desk.fitted run c.as_slice-points.result.now t (cut_of c.in_ok-here.here t) e.position c.in_ok-hit.hit))
@@ -71,12 +71,12 @@ returns-in-Some-clause-within g c =
     let is = ends_at s v t c.last-last.result left e said c.last-last.ensures c.after_range-end.ensures in
     let h = c.in-Some.hit in
     let fits = range_fits s v t c.args.low c.args.high left c.in_ok-here.here e said
-        (subst (λ (x : Serving). HasRun x.stub.desk.fitted) c.self.view_is c.fitted.ensures.desk.run)
-        (subst (λ (n : ℕ). n ≤ last_of v.desk.fitted t) c.position.ensures.value c.position.ensures.within) c.in_ok-left.ensures.leaves
-        c.in_ok-here.ensures.value is in
+    (subst (λ (x : Serving). HasRun x.stub.desk.fitted) c.self.view_is c.fitted.ensures.desk.run)
+    (subst (λ (n : ℕ). n ≤ last_of v.desk.fitted t) c.position.ensures.value c.position.ensures.within) c.in_ok-left.ensures.leaves
+    c.in_ok-here.ensures.value is in
     let high = next_within v.desk.fitted t (cut_of c.in_ok-here.here t) e.position c.as_slice-points.result.now c.in_ok-hit.hit h
-        (subst (λ (x : Serving). HasRun x.stub.desk.fitted) c.self.view_is c.fitted.ensures.desk.run)
-        (subst (λ (x : Serving). EachRun x.stub.desk.fitted (λ run. IsNextHit x.stub.desk.fitted run c.as_slice-points.result.now t (cut_of c.in_ok-here.here t) e.position c.in_ok-hit.hit))
+    (subst (λ (x : Serving). HasRun x.stub.desk.fitted) c.self.view_is c.fitted.ensures.desk.run)
+    (subst (λ (x : Serving). EachRun x.stub.desk.fitted (λ run. IsNextHit x.stub.desk.fitted run c.as_slice-points.result.now t (cut_of c.in_ok-here.here t) e.position c.in_ok-hit.hit))
     c.self.view_is c.in_ok-hit.ensures.finds) c.in-Some.is in
     let most : h.position ≤ last_of v.desk.fitted t = omega (arith, high, fits.1) in
     let low = stops_above c.watches_if.result.now c.as_slice.result.now h (last_of v.desk.fitted t) most in
@@ -113,7 +113,7 @@ returns-clause-within g c =
     let said = c.leaves.ensures.stub in
     let is = ends_at s v t c.last-last.result left e said c.last-last.ensures c.after_range-end.ensures in
     let fits = range_fits s v t c.args.low c.args.high left c.in_ok-here.here e said
-        (subst (λ (x : Serving). HasRun x.stub.desk.fitted) c.self.view_is c.fitted.ensures.desk.run)
-        (subst (λ (n : ℕ). n ≤ last_of v.desk.fitted t) c.position.ensures.value c.position.ensures.within) c.in_ok-left.ensures.leaves
-        c.in_ok-here.ensures.value is in
+    (subst (λ (x : Serving). HasRun x.stub.desk.fitted) c.self.view_is c.fitted.ensures.desk.run)
+    (subst (λ (n : ℕ). n ≤ last_of v.desk.fitted t) c.position.ensures.value c.position.ensures.within) c.in_ok-left.ensures.leaves
+    c.in_ok-here.ensures.value is in
     subst (λ (x : Stub). e.position ≤ last_of x.desk.fitted t) said fits.1

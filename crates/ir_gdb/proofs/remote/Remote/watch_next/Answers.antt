@@ -24,7 +24,7 @@ returns-clause-watch g c =
     let same : u ≡ spoken s = ap (λ (x : Serving). x.stub) c.self.view_is ∙ c.speak.ensures in
     let before = watches_spoken s c.speak.new.self.stub w c.speak.ensures in
     let are = c.as_slice-points.ensures.value ∙ c.in_ok-points.ensures.points
-        ∙ ap (λ (x : List Watched). watch_points t 0 x) (c.watches_if.ensures.value ∙ before) in
+    ∙ ap (λ (x : List Watched). watch_points t 0 x) (c.watches_if.ensures.value ∙ before) in
     let first = c.watches_if-2.ensures.value ∙ watches_after s u c.search_up_to.new.self.desk w same in
     next_watch c.self.inside.debugger.desk.fitted s t (cut_of c.args.from.now t) (c.position-to.result + 1) w c.as_slice-points.result.now
     c.in_ok-hit.hit c.watches_if-2.result.now c.reason_of_hit.result (ap (λ (x : Stub). x.desk.fitted) same) are first
