@@ -13,3 +13,6 @@ mod Setting
 mod Seen
 mod Answering
 mod Threads
+mod Stopping
+mod Ranging
+mod Telling

@@ -1,7 +1,7 @@
 //! Where threads stop.
 
-ghost use Rattle.std.specs.Prelude.{◌≡◌, true, IsTrue, ◌↔◌, None};
-ghost use Rattle.ir_gdb.specs.Stops.{stop_above, stop_below, end_above, end_below, watch_reason, break_reason, is_hit};
+ghost use Rattle.std.specs.Prelude.{◌≡◌, true, IsTrue, ◌↔◌, None, option_map};
+ghost use Rattle.ir_gdb.specs.Stops.{stop_above, stop_below, after_range, end_above, end_below, watch_reason, break_reason, is_hit};
 
 use crate::point::{Breakpoint, Watched};
 use ir_command::Hit;
@@ -45,6 +45,13 @@ pub fn watch_reason(watches: &[Watched], number: usize) -> Reason
         return Reason::Watch(watches[number].address);
     }
     Reason::Step
+}
+
+/// Why a thread stops at the watch that a search finds; none if it finds none.
+pub fn reason_of_hit(watches: &[Watched], hit: Option<Hit>) -> Option<Reason>
+    ensures { result ≡ option_map (λ hit. watch_reason watches.now hit.number) hit }
+{
+    Some(watch_reason(watches, hit?.number as usize))
 }
 
 /// Why a thread stops at the breakpoint of a number; without one at a point of the session.
@@ -97,6 +104,22 @@ pub fn end_above(watches: &[Watched], breaks: &[Breakpoint], last: u64, hit: Opt
 {
     match hit {
         Some(hit) => stop_above(watches, breaks, hit),
+        None => Stopped {
+            position: last,
+            reason: Reason::End,
+        },
+    }
+}
+
+/// Where a thread stops that no point stops in a range of addresses, by the position at which it leaves the range.
+pub fn after_range(last: u64, left: Option<u64>) -> Stopped
+    ensures { result ≡ after_range last left }
+{
+    match left {
+        Some(position) => Stopped {
+            position,
+            reason: Reason::Step,
+        },
         None => Stopped {
             position: last,
             reason: Reason::End,

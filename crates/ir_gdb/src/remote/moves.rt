@@ -89,7 +89,8 @@ impl Remote {
     // A thread has stopped: it is current and general then.
     fn tell(&mut self, told: Told)
         requires { told.thread < threads_of self.old.stub.desk.fitted }
-        ensures { self.new.stub ≡ after_told self.old.stub told }
+        ensures stub { self.new.stub ≡ after_told self.old.stub told }
+        ensures state { self.new.state ≡ self.old.state }
     {
         self.told = told;
         self.general = told.thread;

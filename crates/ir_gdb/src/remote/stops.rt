@@ -11,9 +11,9 @@ ghost use Rattle.ir_gdb.specs.Stops.{watches_if, Leaves, WatchNext, position_of,
 use crate::numbered::{Halts, points_downwards, points_upwards, watch_points};
 use crate::point::Watched;
 use crate::remote::Remote;
-use crate::stopped::{Stopped, end_above, end_below, stop_above, watch_reason};
+use crate::stopped::{Stopped, after_range, end_above, end_below, reason_of_hit, stop_above};
 use ir_command::Direction;
-use ir_cut::{Cut, least_exact};
+use ir_cut::{Cut, greatest_exact, least_exact};
 use ir_hits::NumberedPoint;
 use ir_object::Hands;
 use ir_packet::{Motion, Reason};
@@ -37,6 +37,15 @@ impl Remote {
         ensures { result ≡ last_of self.now.stub.desk.fitted thread }
     {
         last_position(self.debugger.fitted(), thread as usize)
+    }
+
+    // The cut at which all threads are.
+    fn here(&self) -> Result<Cut, AllocError>
+        ensures value { IfOk result (λ cut. cut ≡ self.now.stub.desk.at) }
+        ensures cut { IfOk result (λ cut. Cuts self.now.stub.desk.fitted cut) }
+    {
+        self.debugger.fitted().known();
+        self.debugger.at().copy()
     }
 
     // The watches, if they count.
@@ -96,6 +105,7 @@ impl Remote {
         ensures watch { IfOk result (λ reason. EachRun self.old.stub.desk.fitted (λ run. WatchNext run self.old.stub thread watched (cut_of from.now thread) reason)) }
     {
         self.speak();
+        self.last(thread);
         let points = watch_points(hands.alloc(), thread, self.watches_if(watched))?;
         if points.is_empty() {
             return Ok(None);
@@ -103,8 +113,7 @@ impl Remote {
         let to = from.position(thread as usize) + 1;
         let points = points.as_slice();
         let hit = self.debugger.search_up_to(hands, from, thread, to, points)?;
-        let watches = self.watches_if(watched);
-        Ok(hit.map(|hit| watch_reason(watches, hit.number as usize)))
+        Ok(reason_of_hit(self.watches_if(watched), hit))
     }
 
     // One step.
@@ -125,7 +134,7 @@ impl Remote {
             let reason = Reason::End;
             return Ok(Stopped { position, reason });
         }
-        let here = self.debugger.at().copy()?;
+        let here = self.here()?;
         if let Some(reason) = self.watch_next(hands, &here, thread, watched)? {
             return Ok(Stopped { position, reason });
         }
@@ -202,25 +211,21 @@ impl Remote {
         ensures within { IfOk result (λ to. to.position ≤ last_of self.old.stub.desk.fitted thread) }
     {
         let left = self.leaves(hands, thread, low, high)?;
+        self.debugger.fitted().known();
+        self.position(thread);
         let last = self.last(thread);
-        let to = left.unwrap_or(last);
-        let here = self.debugger.at().copy()?;
+        let end = after_range(last, left);
+        let here = self.here()?;
         let points = self.upwards(hands.alloc(), thread, watched)?;
         let points = points.as_slice();
+        let to = end.position;
         let hit = self
             .debugger
             .search_up_to(hands, &here, thread, to, points)?;
         if let Some(hit) = hit {
             return Ok(stop_above(self.watches_if(watched), self.breaks.as_slice(), hit));
         }
-        Ok(Stopped {
-            position: to,
-            reason: if left.is_some() {
-                Reason::Step
-            } else {
-                Reason::End
-            },
-        })
+        Ok(end)
     }
 
     // To the next stop.
@@ -236,12 +241,26 @@ impl Remote {
         ensures within { IfOk result (λ to. to.position ≤ last_of self.old.stub.desk.fitted thread) }
     {
         self.speak();
+        self.debugger.fitted().known();
         let points = self.upwards(hands.alloc(), thread, watched)?;
         let forwards = Direction::Forwards;
         let points = points.as_slice();
         let hit = self.debugger.search(hands, thread, forwards, points)?;
         let last = self.last(thread);
         Ok(end_above(self.watches_if(watched), self.breaks.as_slice(), last, hit))
+    }
+
+    // The cut at which all threads are when one has gone back to a position, and is there.
+    fn cut_behind(&self, alloc: Global, thread: u32, position: u64) -> Result<Cut, AllocError>
+        requires thread { thread < threads_of self.now.stub.desk.fitted }
+        requires within { (position ≤ position_of self.now.stub thread) × (position ≤ last_of self.now.stub.desk.fitted thread) }
+        ensures cut { IfOk result (λ cut. Cuts self.now.stub.desk.fitted cut) }
+        ensures there { IfOk result (λ cut. cut_of cut thread ≡ position) }
+    {
+        greatest_exact();
+        self.debugger.fitted().known();
+        let backwards = Direction::Backwards;
+        self.debugger.cut_with(alloc, thread, backwards, position)
     }
 
     // Why a thread that isn't at 0 stays where it is when it moves back: a watch hits it there.
@@ -261,9 +280,7 @@ impl Remote {
             return Ok(None);
         }
         let before = self.position(thread) - 1;
-        let alloc = hands.alloc();
-        let backwards = Direction::Backwards;
-        let cut = self.debugger.cut_with(alloc, thread, backwards, before)?;
+        let cut = self.cut_behind(hands.alloc(), thread, before)?;
         self.watch_next(hands, &cut, thread, watched)
     }
 
@@ -279,9 +296,9 @@ impl Remote {
         ensures stops { IfOk result (λ to. EachRun self.old.stub.desk.fitted (λ run. StepsBackTo run self.old.stub thread watched to)) }
         ensures within { IfOk result (λ to. to.position ≤ last_of self.old.stub.desk.fitted thread) }
     {
-        self.speak();
         let position = self.position(thread);
         if position == 0 {
+            self.speak();
             let reason = Reason::Begin;
             return Ok(Stopped { position, reason });
         }
@@ -329,10 +346,13 @@ impl Remote {
         ensures within { IfOk result (λ to. to.position ≤ last_of self.old.stub.desk.fitted thread) }
     {
         let position = self.position(thread);
-        if position > 0 {
-            if let Some(reason) = self.watch_here(hands, thread, watched)? {
-                return Ok(Stopped { position, reason });
-            }
+        if position == 0 {
+            self.speak();
+            let reason = Reason::Begin;
+            return Ok(Stopped { position, reason });
+        }
+        if let Some(reason) = self.watch_here(hands, thread, watched)? {
+            return Ok(Stopped { position, reason });
         }
         self.found_below(hands, thread, watched)
     }
