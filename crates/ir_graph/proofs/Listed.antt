@@ -16,6 +16,7 @@ use Rattle.ir_states.specs.Counting.{IsAtRest}
 use Rattle.ir_states.specs.Nodes.{LeadsTo}
 use Rattle.ir_states.specs.Outcomes.{IsFinished, Covers}
 use Rattle.ir_states.specs.Sources.{plain}
+use Rattle.ir_thread.specs.Instance.{thread_machine}
 use Rattle.ir_thread.specs.State.{State}
 use Rattle.ir_thread.specs.declared.profile.Profile.TheVariants.{One}
 use Rattle.ir_seen.specs.Seen.{seen_start}
@@ -23,8 +24,10 @@ use Rattle.ir_seen.proofs.CallerLemmas.{seen_view, guest_all, guest_within}
 use Rattle.ir_flat.specs.Flat.{Flat, machine, tables, thread_of}
 use Rattle.ir_graph.specs.Graph.{IsGraph}
 use Rattle.ir_graph.specs.Nodes.{told, seen_by, told_by, Alike, seen_of}
-use Rattle.ir_graph.specs.Outcomes.{outcome_of, AllListed, WithinListed}
+use Rattle.ir_graph.specs.Outcomes.{outcome_of, AllListed, WithinListed, AllShown}
 use Rattle.ir_graph.proofs.Grown.{threads_at}
+use Rattle.ir_graph.specs.Reached.{beginning}
+use Rattle.ir_graph.proofs.Reached.{quiet_counted}
 use Rattle.ir_graph.proofs.Leads.{idle_done, seen_at_rest, done_stays}
 
 abbrev pub nothing : Flat
@@ -52,10 +55,10 @@ module _ (guest : Guest) (flats : List Flat) (noted : ℕ → ℕ → Option (Op
   abbrev pub state_of : ℕ → run.State (State × List ℕ)
   state_of v = seen_of (flat_of v) answers
 
-  at : (v : ℕ) → v < length flats → slice_get flats v ≡ Some (flat_of v)
+  pub at : (v : ℕ) → v < length flats → slice_get flats v ≡ Some (flat_of v)
   at v l = slice_get-get_or flats v nothing l
 
-  code_at : (v : ℕ) → v < length flats → (flat_of v).code ≡ guest.code
+  pub code_at : (v : ℕ) → v < length flats → (flat_of v).code ≡ guest.code
   code_at v l = (g.nodes.like 0 v (flat_of 0) (flat_of v) (at 0 g.some) (at v l)).code ∙ g.code (flat_of 0) (at 0 g.some)
 
   -- a number that is no thread's has no step
@@ -94,7 +97,7 @@ module _ (guest : Guest) (flats : List Flat) (noted : ℕ → ℕ → Option (Op
   }
 
   -- a node where all are done, as the search sees them, is one where all are done
-  really_done : (v : ℕ) → v < length flats → run.IsDone (seen_by guest.code) (state_of v) → run.IsDone (machine (flat_of v)) (tables (flat_of v))
+  pub really_done : (v : ℕ) → v < length flats → run.IsDone (seen_by guest.code) (state_of v) → run.IsDone (machine (flat_of v)) (tables (flat_of v))
   really_done v l done t =
       subst (λ z. run.asked (seen_by z) (state_of v) t ≡ machines.Done → run.asked (machine (flat_of v)) (tables (flat_of v)) t ≡ machines.Done)
       (code_at v l) ((seen_view (flat_of v).code).done (thread_of (flat_of v) t)).1 (done t)
@@ -146,3 +149,12 @@ within_listed guest flats noted threads g past origins first few c covered answe
       n.1,
       let a = n.2 in let b = r.3 in omega (arith, a, b),
     )
+
+-- a listed state where all are done is where a complete run ends
+pub all_shown : (guest : Guest) (flats : List Flat) (noted : ℕ → ℕ → Option (Option ℕ)) (threads : ℕ) → IsGraph guest flats noted threads
+    → AllShown guest flats
+all_shown guest flats noted threads g v f at done answers =
+    let r = g.reached v f at in
+    let really : run.IsDone (thread_machine guest.code) (run.end (thread_machine guest.code) (beginning guest) r.steps) =
+    subst (run.IsDone (thread_machine guest.code)) r.ends (subst (λ z. run.IsDone (thread_machine z) (tables f)) r.like.code done) in
+    (r.steps, quiet_counted guest r.steps answers r.quiet really, (at, done, ap outcome_of r.ends))
