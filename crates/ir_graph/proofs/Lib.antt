@@ -1,6 +1,7 @@
 mod Plain
 mod Alike
 mod Leads
+mod Reached
 mod Found
 mod Entries
 mod Grown

@@ -1,5 +1,6 @@
 pub mod Plain
 pub mod Nodes
 pub mod Notes
+pub mod Reached
 pub mod Graph
 pub mod Outcomes

@@ -6,6 +6,8 @@ ghost use Rattle.ir_explore.specs.declared.stop.Stop.TheVariants.{Nodes};
 ghost use Rattle.ir_flat.specs.Flat.{Flat};
 ghost use Rattle.ir_graph.specs.Nodes.{LookAlike, AllRest, AreNodes, Stay, LeadsFrom};
 ghost use Rattle.ir_graph.specs.Plain.{IsLike};
+ghost use Rattle.ir_graph.specs.Reached.{IsReached, AllReached};
+ghost use Rattle.ir_image.specs.Guest.{Guest};
 
 use crate::likeness::same_state;
 use crate::rest::run_to_rest;
@@ -49,6 +51,7 @@ fn node_of<'a>(
     requires room { length flats.old.items ≤ most }
     ensures nodes { AreNodes flats.new.items }
     ensures stay { Stay flats.old.items flats.new.items }
+    ensures reached { (guest : Guest) → AllReached guest flats.old.items → IsReached guest flat.entry → AllReached guest flats.new.items }
     ensures within { IfOk result (λ w. w < length flats.new.items) }
     ensures added { IfOk result (λ w. (length flats.new.items ≡ length flats.old.items) ⊎ ((w ≡ length flats.old.items) × (length flats.new.items ≡ suc (length flats.old.items)))) }
     ensures alike { IfOk result (λ w. (f : Flat) → slice_get flats.new.items w ≡ Some f → LookAlike flat.entry f) }
@@ -84,6 +87,7 @@ pub fn successor<'a>(
     requires room { length flats.old.items ≤ bounds.nodes }
     ensures nodes { AreNodes flats.new.items }
     ensures stay { Stay flats.old.items flats.new.items }
+    ensures reached { (guest : Guest) → AllReached guest flats.old.items → AllReached guest flats.new.items }
     ensures within { IfOk result (λ next. (w : ℕ) → next ≡ Some w → w < length flats.new.items) }
     ensures added { IfOk result (λ next. (length flats.new.items ≡ length flats.old.items) ⊎ ((next ≡ Some (length flats.old.items)) × (length flats.new.items ≡ suc (length flats.old.items)))) }
     ensures leads { IfOk result (λ next. LeadsFrom flats.new.items thread node next) }

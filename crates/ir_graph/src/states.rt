@@ -2,7 +2,7 @@
 
 ghost use Rattle.std.specs.Prelude.{◌≡◌, ℕ, suc, ◌≤◌, IfOk};
 ghost use Rattle.ir_explore.specs.declared.search.Ended.TheVariants.{Finished, Covered};
-ghost use Rattle.ir_graph.specs.Outcomes.{AllListed, WithinListed};
+ghost use Rattle.ir_graph.specs.Outcomes.{AllListed, WithinListed, AllShown};
 ghost use Rattle.ir_thread.specs.Allowed.{IsAllowed};
 ghost use Rattle.ir_thread.specs.declared.profile.Profile.TheVariants.{One};
 
@@ -37,6 +37,8 @@ pub fn search_states<'a>(
     requires some { 1 ≤ bounds.nodes }
     // Each outcome of the guest is listed.
     ensures all { IfOk result (λ states. states.found.ended ≡ Finished → AllListed image.now states.graph.flats.items) }
+    // Each listed one is an outcome of the guest, however it ends.
+    ensures shown { IfOk result (λ states. AllShown image.now states.graph.flats.items) }
     // So is each of a run of at most so many switches.
     ensures within { IfOk result (λ states. (c : ℕ) → states.found.levels ≡ suc c → WithinListed image.now states.graph.flats.items states.found.nodes.items c) }
     ensures covered { IfOk result (λ states. states.found.ended ≡ Covered → states.found.levels ≡ suc switches) }

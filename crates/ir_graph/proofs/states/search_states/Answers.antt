@@ -1,9 +1,9 @@
 use Rattle.std.proofs.Common.{suc, length, sym, ap, ◌∙◌, subst}
 use Rattle.ir_explore.specs.Levels.{AreAsked, AreGoneOver}
 use Rattle.ir_graph.specs.Notes.{noted_in}
-use Rattle.ir_graph.specs.Outcomes.{AllListed, WithinListed}
+use Rattle.ir_graph.specs.Outcomes.{AllListed, WithinListed, AllShown}
 use Rattle.ir_graph.proofs.Grown.{noted_past}
-use Rattle.ir_graph.proofs.Listed.{all_listed, within_listed}
+use Rattle.ir_graph.proofs.Listed.{all_listed, within_listed, all_shown}
 use Rattle.ir_graph.proofs.states.search_states.Goals as goal
 
 pub returns-clause-all : goal.returns-clause-all
@@ -33,3 +33,11 @@ returns-clause-within c = λ most levels.
     c.in_ok-found.ensures.first c.in_ok-found.ensures.few most
     (subst (λ z. AreGoneOver (noted_in rows) z nodes (suc most)) threads
     (subst (AreGoneOver (noted_in rows) _ nodes) levels c.in_ok-found.ensures.gone)))
+
+pub returns-clause-shown : goal.returns-clause-shown
+returns-clause-shown c =
+    let graph = c.run_search.new.graph in
+    let rows = graph.rows.items in
+    let image = c.run_search.ensures.origin ∙ c.in_ok-graph.ensures.image in
+    subst (λ z. AllShown z graph.flats.items) image
+    (all_shown graph.image.now graph.flats.items (noted_in rows) (length rows) c.run_search.ensures.sound)
