@@ -5,7 +5,7 @@ ghost use Rattle.ir_explore.specs.declared.search.Ended.TheVariants.{Finished, C
 ghost use Rattle.ir_explore.specs.declared.stop.Stop.TheVariants.{Nodes};
 ghost use Rattle.ir_explore.specs.Following.{Keeps};
 ghost use Rattle.ir_explore.specs.Levels.{rows, AreAsked, AreGoneOver};
-ghost use Rattle.ir_explore.specs.Origins.{first_origin, AreReached};
+ghost use Rattle.ir_explore.specs.Origins.{first_origin, AreReached, AreRising};
 
 use crate::level::take_level;
 use crate::origin::{Level, Origin};
@@ -84,6 +84,7 @@ pub fn run_search<S: Successors>(
     ensures gone { IfOk result (λ found. AreGoneOver (S.noted graph.new) threads found.nodes.items found.levels) }
     ensures covered { IfOk result (λ found. found.ended ≡ Covered → found.levels ≡ suc most) }
     ensures reached { IfOk result (λ found. AreReached (S.noted graph.new) found.nodes.items) }
+    ensures rising { IfOk result (λ found. AreRising found.nodes.items) }
     ensures first { IfOk result (λ found. slice_get found.nodes.items 0 ≡ Some first_origin) }
     ensures few { IfOk result (λ found. length found.nodes.items ≤ S.size graph.new) }
     ensures kept { (t : ℕ) → Keeps (S.noted graph.old t) (S.noted graph.new t) }

@@ -2,8 +2,10 @@ mod Plain
 mod Alike
 mod Leads
 mod Reached
+mod OneOutcome
 mod Found
 mod Entries
 mod Grown
 mod Listed
+mod Listing
 pub mod CallerLemmas

@@ -4,3 +4,4 @@ pub mod Notes
 pub mod Reached
 pub mod Graph
 pub mod Outcomes
+pub mod Listing

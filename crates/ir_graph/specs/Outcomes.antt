@@ -23,6 +23,10 @@ pub record Outcome : Type 0 where
 abbrev pub outcome_of : run.State State → Outcome
 outcome_of s = record { ends = λ t. (s.now t).ended; outputs = λ t. (s.now t).output; words = λ o. (s.objects o).words }
 
+-- two threads have one end, and printed the same
+abbrev pub EndAlike : State → State → Type 0
+EndAlike x y = (x.ended ≡ y.ended) × (x.output ≡ y.output)
+
 -- A state of the list where all threads are done has the outcome of this complete run.
 abbrev pub IsListed : Guest → List Flat → ℕ → List run.Step → ℕ → Flat → Type 0
 IsListed guest flats budget steps v f = (slice_get flats v ≡ Some f) × run.IsDone (machine f) (tables f)
