@@ -2,6 +2,7 @@ mod Plain
 mod Alike
 mod Leads
 mod Reached
+mod Turn
 mod OneOutcome
 mod Found
 mod Entries

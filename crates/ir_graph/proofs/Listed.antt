@@ -156,5 +156,5 @@ pub all_shown : (guest : Guest) (flats : List Flat) (noted : ℕ → ℕ → Opt
 all_shown guest flats noted threads g v f at done answers =
     let r = g.reached v f at in
     let really : run.IsDone (thread_machine guest.code) (run.end (thread_machine guest.code) (beginning guest) r.steps) =
-    subst (run.IsDone (thread_machine guest.code)) r.ends (subst (λ z. run.IsDone (thread_machine z) (tables f)) r.code done) in
+    subst (run.IsDone (thread_machine guest.code)) r.ends (subst (λ z. run.IsDone (thread_machine z) (tables f)) r.like.code done) in
     (r.steps, quiet_counted guest r.steps answers r.quiet really, (at, done, ap outcome_of r.ends))

@@ -1,5 +1,5 @@
 -- Runs that lead to the states of a guest's graph.
-use Rattle.std.proofs.Common.{◌≡◌, ℕ, zero, suc, Bool, true, false, List, [], ◌∷◌, ◌++◌, Some, inl, inr, eqb, refl, sym, ap, ◌∙◌, subst}
+use Rattle.std.proofs.Common.{◌≡◌, ℕ, zero, suc, Bool, true, false, List, [], ◌∷◌, ◌++◌, Some, inl, inr, eqb, length, refl, sym, ap, ◌∙◌, subst}
 use Rattle.std.specs.Prelude.{slice_get}
 use Rattle.ir_explore.proofs.CallerLemmas.{pushed_cases}
 use Rattle.ir_image.specs.Guest.{Guest}
@@ -21,23 +21,23 @@ use Rattle.ir_thread.specs.declared.ask.Ask.TheVariants as ask
 use Rattle.ir_thread.specs.declared.profile.Profile.TheVariants.{One}
 use Rattle.ir_seen.specs.Seen.{IsLive, IsSpoilt, IsCounted}
 use Rattle.ir_seen.proofs.CallerLemmas.{seen_spoils, start_unspoilt}
-use Rattle.ir_flat.specs.Flat.{Flat, tables, machine, thread_of}
+use Rattle.ir_flat.specs.Flat.{Flat, tables, machine, thread_of, start_flat}
 use Rattle.ir_graph.specs.Nodes.{told}
 use Rattle.ir_graph.specs.Plain.{is_plain, IsPlainRun, GoesPlain, Rests}
-use Rattle.ir_graph.specs.Reached.{asks_world, IsQuietRun, beginning, IsReached, AllReached}
-use Rattle.ir_graph.proofs.Plain.{rests_live}
+use Rattle.ir_graph.specs.Reached.{is_sure, IsQuietRun, beginning, IsReached, AllReached}
+use Rattle.ir_graph.proofs.Plain.{rests_live, like_more, plain_like, step_like}
 
-plain_quiet : (q : machine.Ask) → is_plain q ≡ true → asks_world q ≡ false
+plain_quiet : (q : machine.Ask) → is_plain q ≡ true → is_sure q ≡ true
 plain_quiet machine.Private h = refl
 plain_quiet (machine.Env k) h = absurd (cc h)
 plain_quiet (machine.Enter o a) h = refl
-plain_quiet (machine.Try o) h = refl
+plain_quiet (machine.Try o) h = absurd (cc h)
 plain_quiet (machine.Leave o a) h = refl
 plain_quiet (machine.Get o i) h = refl
 plain_quiet (machine.Put o i v) h = refl
 plain_quiet machine.Done h = refl
 
-rests_quiet : (q : Ask) → Rests q → asks_world (shared_ask q) ≡ false
+pub rests_quiet : (q : Ask) → Rests q → is_sure (shared_ask q) ≡ true
 rests_quiet ask.Private h = absurd h
 rests_quiet (ask.Env k) h = absurd h
 rests_quiet (ask.Enter o a) h = refl
@@ -69,16 +69,14 @@ pub quiet_live : (code : List ℕ) (s : State thread.State) (run : List Step) �
 quiet_live code s [] quiet = tt
 quiet_live code s (e ∷ run) (can, live, is, rest) = (live, quiet_live code (after (thread_machine code) s e) run rest)
 
--- what isn't a call of the environment is given whatever is
-given_more : {S : Type 0} (given : Giving S) (source : S) (q : machine.Ask) (r : ℕ) (b : Object) (es : List Label) → asks_world q ≡ false
+-- what is no call of the environment is given whatever is
+given_more : {S : Type 0} (given : Giving S) (source : S) (q : machine.Ask) (r : ℕ) (b : Object) (es : List Label) → is_sure q ≡ true
     → Gives given source es → Gives given source (logged (emitted (act_of q r) b) es)
 given_more given source machine.Private r b es h g = g
 given_more given source (machine.Env k) r b es h g = absurd (cc h)
 given_more given source (machine.Enter o Reading) r b es h g = g
 given_more given source (machine.Enter o Writing) r b es h g = g
-given_more given source (machine.Try o) zero b es h g = g
-given_more given source (machine.Try o) (suc zero) b es h g = g
-given_more given source (machine.Try o) (suc (suc r)) b es h g = g
+given_more given source (machine.Try o) r b es h g = absurd (cc h)
 given_more given source (machine.Leave o a) r b es h g = g
 given_more given source (machine.Get o i) r b es h g = g
 given_more given source (machine.Put o i v) r b es h g = g
@@ -109,21 +107,19 @@ quiet_counted guest steps answers quiet done = record {
 }
 
 -- the start, once the threads went on alone
-pub start_reached : (guest : Guest) (f g : Flat) → f.code ≡ guest.code → tables f ≡ beginning guest → GoesPlain f g → IsReached guest g
-start_reached guest f g code is goes = record {
-  code = goes.code ∙ code;
+pub start_reached : (guest : Guest) (g : Flat) → GoesPlain (start_flat guest most_budget One) g → IsReached guest g
+start_reached guest g goes = record {
+  like = plain_like (start_flat guest most_budget One) g goes;
   steps = goes.ahead;
-  quiet = plain_run_quiet guest.code (beginning guest) goes.ahead
-      (subst (λ z. IsPlainRun z (beginning guest) goes.ahead) code (subst (λ z. IsPlainRun f.code z goes.ahead) is goes.plain));
-  ends = goes.ends ∙ ap (λ z. end (thread_machine f.code) z goes.ahead) is
-      ∙ ap (λ z. end (thread_machine z) (beginning guest) goes.ahead) code;
+  quiet = plain_run_quiet guest.code (beginning guest) goes.ahead goes.plain;
+  ends = goes.ends;
 }
 
 -- a step of a thread that rests, after which it runs on alone
 pub step_reached : (guest : Guest) (f g h : Flat) (t : ℕ) → IsReached guest f → Rests (ask_of f.code (thread_of f t))
-    → Can (machine f) (tables f) (t, 0) → tables g ≡ after (machine f) (tables f) (t, 0) → g.code ≡ f.code → GoesPlain g h
-    → IsReached guest h
-step_reached guest f g h t reached rests can is code goes =
+    → Can (machine f) (tables f) (t, 0) → tables g ≡ after (machine f) (tables f) (t, 0) → g.code ≡ f.code
+    → length g.threads ≡ length f.threads → length g.objects ≡ length f.objects → GoesPlain g h → IsReached guest h
+step_reached guest f g h t reached rests can is code threads objects goes =
     let m = thread_machine guest.code in
     let s : State thread.State = end (thread_machine guest.code) (beginning guest) reached.steps in
     let live = rests_live f.code (thread_of f t) rests in
@@ -135,13 +131,14 @@ step_reached guest f g h t reached rests can is code goes =
     (subst (λ z. IsQuietRun f.code z goes.ahead) is (subst (λ z. IsQuietRun z (tables g) goes.ahead) code more)) in
     let there : IsQuietRun guest.code s ((t, 0) ∷ goes.ahead) =
     subst (λ z. IsQuietRun guest.code z ((t, 0) ∷ goes.ahead)) reached.ends
-    (subst (λ z. IsQuietRun z (tables f) ((t, 0) ∷ goes.ahead)) reached.code here) in
+    (subst (λ z. IsQuietRun z (tables f) ((t, 0) ∷ goes.ahead)) reached.like.code here) in
     let ended : tables h ≡ end (thread_machine f.code) (tables f) ((t, 0) ∷ goes.ahead) =
     goes.ends ∙ ap (λ z. end (thread_machine z) (tables g) goes.ahead) code ∙ ap (λ z. end (thread_machine f.code) z goes.ahead) is in record {
-      code = goes.code ∙ code ∙ reached.code;
+      like = like_more (start_flat guest most_budget One) f h reached.like
+          (like_more f g h (step_like f g t 0 is code threads objects) (plain_like g h goes));
       steps = reached.steps ++ (t, 0) ∷ goes.ahead;
       quiet = quiet_append guest.code (beginning guest) reached.steps ((t, 0) ∷ goes.ahead) reached.quiet there;
-      ends = ended ∙ ap (λ z. end (thread_machine z) (tables f) ((t, 0) ∷ goes.ahead)) reached.code
+      ends = ended ∙ ap (λ z. end (thread_machine z) (tables f) ((t, 0) ∷ goes.ahead)) reached.like.code
           ∙ ap (λ z. end (thread_machine guest.code) z ((t, 0) ∷ goes.ahead)) reached.ends
           ∙ sym (end_append (thread_machine guest.code) (beginning guest) reached.steps ((t, 0) ∷ goes.ahead));
     }

@@ -9,22 +9,23 @@ use Rattle.ir_thread.specs.State as thread
 use Rattle.ir_thread.specs.declared.profile.Profile.TheVariants.{One}
 use Rattle.ir_seen.specs.Seen.{IsLive}
 use Rattle.ir_flat.specs.Flat.{Flat, tables, start_flat}
+use Rattle.ir_graph.specs.Plain.{IsLike}
 
--- whether an ask is a call of the environment
-abbrev pub asks_world : machine.Ask → Bool
-asks_world machine.Private = false
-asks_world (machine.Env kind) = true
-asks_world (machine.Enter object access) = false
-asks_world (machine.Try object) = false
-asks_world (machine.Leave object access) = false
-asks_world (machine.Get object index) = false
-asks_world (machine.Put object index value) = false
-asks_world machine.Done = false
+-- whether what an ask does hangs on nothing outside: it is no call of the environment, and no try
+abbrev pub is_sure : machine.Ask → Bool
+is_sure machine.Private = true
+is_sure (machine.Env kind) = false
+is_sure (machine.Enter object access) = true
+is_sure (machine.Try object) = false
+is_sure (machine.Leave object access) = true
+is_sure (machine.Get object index) = true
+is_sure (machine.Put object index value) = true
+is_sure machine.Done = true
 
--- a run of live threads, none of which calls the environment
+-- a run of live threads, none of which calls the environment or tries to enter
 abbrev pub IsQuietRun : List ℕ → State thread.State → List Step → Type 0
 IsQuietRun code s [] = Unit {0}
-IsQuietRun code s (e ∷ run) = Can (thread_machine code) s e × IsLive code (s.now e.0) × (asks_world (asked (thread_machine code) s e.0) ≡ false)
+IsQuietRun code s (e ∷ run) = Can (thread_machine code) s e × IsLive code (s.now e.0) × (is_sure (asked (thread_machine code) s e.0) ≡ true)
     × IsQuietRun code (after (thread_machine code) s e) run
 
 -- where a guest's runs begin, each thread with the highest budget
@@ -33,7 +34,7 @@ beginning guest = tables (start_flat guest most_budget One)
 
 -- such a run of this guest from its start ends in this state
 pub record IsReached (guest : Guest) (f : Flat) : Type 0 where
-  pub code : f.code ≡ guest.code
+  pub like : IsLike (start_flat guest most_budget One) f
   pub steps : List Step
   pub quiet : IsQuietRun guest.code (beginning guest) steps
   pub ends : tables f ≡ end (thread_machine guest.code) (beginning guest) steps

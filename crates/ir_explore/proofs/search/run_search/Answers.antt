@@ -17,6 +17,17 @@ returns-in-Err-clause-rising g c =
     rising_more c.levels.level.number c.levels.nodes.items c.take_level.new.nodes.items c.levels.invariant.rising
     (λ w n is. let a = c.levels.invariant.ends.levels w n is in omega (arith, a)) c.take_level.ensures.adds
 
+pub returns-in-Err-clause-levels : goal.returns-in-Err-clause-levels
+returns-in-Err-clause-levels g c =
+    levels_more c.levels.level.number c.levels.nodes.items c.take_level.new.nodes.items
+    (λ w n is. let a = c.levels.invariant.ends.levels w n is in omega (arith, a)) c.take_level.ensures.adds
+
+pub returns-then-level-most-clause-levels : goal.returns-then-level-most-clause-levels
+returns-then-level-most-clause-levels g c = λ w n is. let a = c.levels.invariant.ends.levels w n is in omega (arith, a)
+
+pub returns-clause-levels : goal.returns-clause-levels
+returns-clause-levels g c = λ w n is. let a = c.levels.invariant.ends.levels w n is in omega (arith, a)
+
 pub levels-preserved : goal.levels-preserved
 levels-preserved g c =
     let noted = g.S.Successors.noted c.levels.graph in

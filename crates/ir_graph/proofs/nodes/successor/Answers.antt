@@ -53,7 +53,7 @@ returns-clause-reached c = λ guest all.
     c.node_of.ensures.reached guest all
     (step_reached guest f c.step.new.self c.run_to_rest.new.flat c.args.thread (all c.args.node f at)
     (c.requires.nodes.rest c.args.node f at c.args.thread (c.requires.thread f at)) c.in_default.ensures.admitted c.in_default.ensures.taken
-    c.in_default.ensures.code c.run_to_rest.ensures.goes)
+    c.in_default.ensures.code c.in_default.ensures.threads c.in_default.ensures.objects c.run_to_rest.ensures.goes)
 
 pub returns-in_err-next-clause-reached : goal.returns-in_err-next-clause-reached
 returns-in_err-next-clause-reached c = λ guest all.
@@ -64,4 +64,4 @@ returns-in_err-next-clause-reached c = λ guest all.
     c.node_of.ensures.reached guest all
     (step_reached guest f c.step.new.self c.run_to_rest.new.flat c.args.thread (all c.args.node f at)
     (c.requires.nodes.rest c.args.node f at c.args.thread (c.requires.thread f at)) c.in_default.ensures.admitted c.in_default.ensures.taken
-    c.in_default.ensures.code c.run_to_rest.ensures.goes)
+    c.in_default.ensures.code c.in_default.ensures.threads c.in_default.ensures.objects c.run_to_rest.ensures.goes)

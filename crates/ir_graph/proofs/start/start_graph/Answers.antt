@@ -1,11 +1,10 @@
-use Rattle.std.proofs.Common.{◌≡◌, ℕ, ◌<◌, None, [], ◌∷◌, ◌++◌, length, refl, sym, ap, ◌∙◌, subst}
+use Rattle.std.proofs.Common.{◌≡◌, ℕ, ◌<◌, None, [], ◌∷◌, ◌++◌, length, sym, ap, ◌∙◌, subst}
 use Rattle.ir_flat.proofs.CallerLemmas.{threads_length}
 use Rattle.ir_thread.specs.declared.profile.Profile.TheVariants.{One}
 use Rattle.ir_graph.specs.Graph.{IsGraph}
 use Rattle.ir_graph.specs.Notes.{noted_in}
 use Rattle.ir_graph.specs.Plain.{GoesPlain}
 use Rattle.ir_graph.proofs.Grown.{first_graph}
-use Rattle.ir_flat.specs.Flat.{start_flat}
 use Rattle.ir_graph.proofs.Reached.{start_reached}
 use Rattle.ir_graph.proofs.start.start_graph.Goals as goal
 
@@ -26,5 +25,5 @@ returns-clause-sound c =
     let flats : c.push.new.self.items ≡ h ∷ [] = c.in_ok-push.ensures.items ∙ ap (λ z. z ++ h ∷ []) c.in_ok-flats.ensures.items in
     subst (λ z. IsGraph guest z (noted_in rows) (length rows)) (sym flats)
     (first_graph guest 1000000000000 h (noted_in rows) (length rows) goes
-    (start_reached guest (start_flat guest 1000000000000 One) h refl refl goes) c.in_ok-rest_all.ensures.rest (sym many)
+    (start_reached guest h goes) c.in_ok-rest_all.ensures.rest (sym many)
     (many ∙ goes.threads ∙ threads_length guest 1000000000000 One 0 (length guest.entries)) free)
