@@ -13,13 +13,14 @@ use Rattle.ir_thread.specs.Instance.{thread_machine, shared_ask}
 use Rattle.ir_thread.specs.State as thread
 use Rattle.ir_thread.specs.declared.ask.Ask.{Ask}
 use Rattle.ir_thread.specs.declared.ask.Ask.TheVariants as ask
+use Rattle.ir_freeze.specs.Twins.{AreTwins}
 use Rattle.ir_flat.specs.Alone.{WentAlone}
 use Rattle.ir_flat.specs.Flat.{Flat, tables, machine, thread_of}
 use Rattle.ir_graph.specs.Plain.{IsPlainRun, GoesPlain, IsFair, Rests, IsLike}
 use Rattle.ir_graph.specs.Reached.{IsQuietRun}
 use Rattle.ir_graph.specs.Turn.{GoesAlone}
 use Rattle.ir_graph.proofs.Leads.{rests_own}
-use Rattle.ir_graph.proofs.Plain.{rests_live, plain_own, fair_live, fair_plain, private_run}
+use Rattle.ir_graph.proofs.Plain.{rests_live, plain_own, fair_live, fair_plain, private_run, twin_end}
 use Rattle.ir_graph.proofs.Reached.{plain_run_quiet, rests_quiet, quiet_append}
 
 pub one_after : {A : Type 0} (x : A) (n k : ℕ) → replicate (n + k) x ≡ replicate n x ++ replicate k x
@@ -115,3 +116,12 @@ fair_can f t fair = by (ask_of f.code (thread_of f t)) fair
     by ask.Print h = tt
     by (ask.End e) h = tt
     by ask.Done h = absurd h
+
+-- the guest stays the same
+pub alone_like : (f g : Flat) (t n e : ℕ) → GoesAlone f g t n e → IsLike f g
+alone_like f g t n e a = record {
+  code = a.code;
+  threads = a.threads;
+  objects = a.objects;
+  twins = λ u. subst (AreTwins (thread_of f u)) (ap (λ z. z.now u) (sym a.ends)) (twin_end f.code (tables f) (replicate n (t, 0)) u);
+}

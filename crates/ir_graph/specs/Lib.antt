@@ -6,3 +6,4 @@ pub mod Turn
 pub mod Graph
 pub mod Outcomes
 pub mod Listing
+pub mod Searched

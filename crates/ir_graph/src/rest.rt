@@ -1,6 +1,6 @@
 //! A thread that runs on alone to its next entry.
 
-ghost use Rattle.std.specs.Prelude.{◌≡◌, ◌<◌, true, false, length, IfOk, OnOk, IsErrOf};
+ghost use Rattle.std.specs.Prelude.{◌≡◌, ◌<◌, ◌≤◌, true, false, length, IfOk, OnOk, IsErrOf};
 ghost use Rattle.ir_explore.specs.declared.stop.Stop.TheVariants.{Nodes};
 ghost use Rattle.ir_flat.specs.Flat.{thread_of};
 ghost use Rattle.ir_graph.specs.Plain.{IsFair, GoesPlain, OthersStay, Rests};
@@ -36,6 +36,7 @@ pub fn run_to_rest(flat: &mut Flat<'_>, thread: usize, limit: u64) -> Result<u64
     requires { thread < length flat.old.threads }
     ensures goes { GoesPlain flat.old flat.new }
     ensures alone { IfOk result (λ steps. GoesAlone flat.old flat.new thread steps 0) }
+    ensures within { IfOk result (λ steps. steps ≤ limit) }
     ensures others { OthersStay flat.old flat.new thread }
     ensures rests { OnOk result (Rests (ask_of flat.new.code (thread_of flat.new thread))) }
     ensures err { IsErrOf result Nodes → ⊥ }
