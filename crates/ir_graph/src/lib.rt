@@ -3,6 +3,7 @@
 
 mod ends;
 mod graph;
+mod hints;
 mod likeness;
 mod nodes;
 mod notes;
@@ -13,6 +14,7 @@ mod states;
 
 pub use ends::{is_done, same_outcome};
 pub use graph::Graph;
+pub use hints::Hints;
 pub use likeness::same_state;
 pub use nodes::{Bounds, successor};
 pub use outcomes::list_outcomes;

@@ -9,6 +9,7 @@ ghost use Rattle.ir_graph.specs.Plain.{IsLike};
 ghost use Rattle.ir_graph.specs.Reached.{IsReached, AllReached};
 ghost use Rattle.ir_image.specs.Guest.{Guest};
 
+use crate::hints::{Hints, hash_of};
 use crate::likeness::same_state;
 use crate::rest::run_to_rest;
 use ir_explore::Stop;
@@ -24,24 +25,33 @@ pub struct Bounds {
     pub private: u64,
 }
 
-// A node that looks the same as this state.
-fn find(alloc: Global, flats: &[Flat<'_>], flat: &Flat<'_>) -> Result<Option<usize>, AllocError>
+// A node that looks the same as this state, if the hint for its hash leads to one.
+fn find(
+    alloc: Global,
+    flats: &[Flat<'_>],
+    hints: &Hints,
+    hash: u64,
+    flat: &Flat<'_>,
+) -> Result<Option<usize>, AllocError>
     requires { (v : ℕ) (f : Flat) → slice_get flats.now v ≡ Some f → IsLike flat.now f }
     ensures within { IfOk result (λ found. (v : ℕ) → found ≡ Some v → v < length flats.now) }
     ensures alike { IfOk result (λ found. (v : ℕ) → found ≡ Some v → (f : Flat) → slice_get flats.now v ≡ Some f → LookAlike flat.now f) }
 {
-    for v in 0..flats.len() {
-        if same_state(alloc, flat, &flats[v])? {
-            return Ok(Some(v));
-        }
+    let Some(v) = hints.node(hash, flats.len()) else {
+        return Ok(None);
+    };
+    if same_state(alloc, flat, &flats[v])? {
+        Ok(Some(v))
+    } else {
+        Ok(None)
     }
-    Ok(None)
 }
 
-// The node that looks the same as this state, a new one where there is none.
+// The node that looks the same as this state, a new one where none was found.
 fn node_of<'a>(
     alloc: Global,
     flats: &mut Vec<Flat<'a>>,
+    hints: &mut Hints,
     flat: Flat<'a>,
     most: usize,
 ) -> Result<usize, Stop>
@@ -59,13 +69,16 @@ fn node_of<'a>(
     ensures room { length flats.new.items ≤ most }
     ensures full { IsErrOf result Nodes → length flats.new.items ≡ most }
 {
-    if let Some(v) = find(alloc, flats.as_slice(), &flat)? {
+    let first = flats.as_slice().first().unwrap_or(&flat);
+    let hash = hash_of(alloc, first, &flat)?;
+    if let Some(v) = find(alloc, flats.as_slice(), hints, hash, &flat)? {
         return Ok(v);
     }
     let node = flats.len();
     if node >= most {
         return Err(Stop::Nodes);
     }
+    hints.note(hash, node)?;
     flats.push(flat)?;
     Ok(node)
 }
@@ -77,6 +90,7 @@ fn node_of<'a>(
 pub fn successor<'a>(
     alloc: Global,
     flats: &mut Vec<Flat<'a>>,
+    hints: &mut Hints,
     thread: usize,
     node: usize,
     bounds: Bounds,
@@ -100,6 +114,6 @@ pub fn successor<'a>(
         return Ok(None);
     }
     run_to_rest(&mut flat, thread, bounds.private)?;
-    let next = node_of(alloc, flats, flat, bounds.nodes)?;
+    let next = node_of(alloc, flats, hints, flat, bounds.nodes)?;
     Ok(Some(next))
 }

@@ -8,7 +8,7 @@ use Rattle.ir_graph.proofs.Reached.{more_reached}
 use Rattle.ir_graph.proofs.nodes.node_of.Goals as goal
 
 pub find-requires : goal.find-requires
-find-requires c = λ v f is. c.requires.like v f (subst (λ z. slice_get z v ≡ Some f) c.as_slice.ensures.value is)
+find-requires c = λ v f is. c.requires.like v f (subst (λ z. slice_get z v ≡ Some f) c.as_slice-2.ensures.value is)
 
 pub returns-clause-nodes : goal.returns-clause-nodes
 returns-clause-nodes c =
