@@ -63,6 +63,7 @@ pub fn explore<'a>(
     ensures all { IfOk result (λ found. found.states.found.ended ≡ Finished → AreAll image.now found.states.graph.flats.items found.outcomes.items) }
     // However it ends, what is listed is right, and complete up to a number of switches.
     ensures explored { IfOk result (λ found. AreExplored image.now found.states.graph.flats.items found.states.found.levels found.outcomes.items) }
+    ensures states { IfOk result (λ found. AllReached image.now found.states.graph.flats.items) }
     ensures covered { IfOk result (λ found. found.states.found.ended ≡ Covered → found.states.found.levels ≡ suc switches) }
 {
     let states = search_states(alloc, image, bounds, switches)?;

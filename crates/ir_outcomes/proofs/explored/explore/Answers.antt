@@ -39,3 +39,6 @@ returns-clause-explored c =
     (subst (λ z. AreShown guest z c.as_slice-origins.result.now c.as_slice.result.now (length c.as_slice.result.now) outcomes)
     c.as_slice-flats.ensures.value c.in_ok-outcomes.ensures)) in
     explored guest flats origins c.in_ok-states.states.found.levels listed outcomes c.in_ok-states.ensures.searched different shown
+
+pub returns-clause-states : goal.returns-clause-states
+returns-clause-states c = c.in_ok-states.ensures.searched.reached

@@ -1,0 +1,70 @@
+//! The lines of an outcome.
+
+ghost use Rattle.std.specs.Prelude.{◌≡◌, ◌<◌, ◌++◌, length, OnOk, IfOk};
+ghost use Rattle.std.specs.List.{slice_index_or};
+ghost use Rattle.ir_flat.specs.Flat.{empty};
+ghost use Rattle.ir_explore_run.specs.Texts.{threads_text, object_text, objects_text, IsOutcomeText};
+
+use crate::lines::{outcome_line, put_object, put_thread};
+use ir_flat::Flat;
+use ir_object::Object;
+use ir_order::list_of;
+use ir_outcomes::Shown;
+use ir_thread::Thread;
+use std::alloc::{AllocError, Global};
+
+// Puts the lines of the threads.
+fn put_threads(alloc: Global, text: &mut Vec<u8>, threads: &[Thread]) -> Result<(), AllocError>
+    ensures { OnOk result (text.new.items ≡ text.old.items ++ threads_text threads.now (length threads.now)) }
+{
+    for t in 0..threads.len() {
+        put_thread(alloc, text, t, &threads[t])?;
+    }
+    Ok(())
+}
+
+// Puts the line of an object whose words aren't its first ones.
+fn put_changed(
+    alloc: Global,
+    text: &mut Vec<u8>,
+    number: usize,
+    first: &[u32],
+    words: &[u32],
+) -> Result<(), AllocError>
+    ensures { OnOk result (text.new.items ≡ text.old.items ++ object_text number first.now words.now) }
+{
+    if words == first {
+        return Ok(());
+    }
+    put_object(alloc, text, number, words)
+}
+
+// Puts the lines of the objects.
+fn put_objects(alloc: Global, text: &mut Vec<u8>, first: &[Object], now: &[Object]) -> Result<(), AllocError>
+    requires { length now.now ≡ length first.now }
+    ensures { OnOk result (text.new.items ≡ text.old.items ++ objects_text first.now now.now (length now.now)) }
+{
+    for o in 0..now.len() {
+        put_changed(alloc, text, o, first[o].contents(), now[o].contents())?;
+    }
+    Ok(())
+}
+
+/// The lines of an outcome at this state, by its number; the objects were these at first.
+pub fn outcome_text(
+    alloc: Global,
+    first: &[Object],
+    flat: &Flat<'_>,
+    number: usize,
+    shown: &Shown,
+) -> Result<Vec<u8>, AllocError>
+    requires { length flat.now.objects ≡ length first.now }
+    ensures { IfOk result (λ text. IsOutcomeText first.now flat.now number shown.now text.items) }
+{
+    let list = list_of(alloc, shown.turns.as_slice())?;
+    let line = outcome_line(alloc, number, shown.level, list.as_str())?;
+    let mut text = Vec::from_slice(alloc, line.as_bytes())?;
+    put_threads(alloc, &mut text, flat.threads())?;
+    put_objects(alloc, &mut text, first, flat.objects())?;
+    Ok(text)
+}
