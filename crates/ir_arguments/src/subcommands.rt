@@ -1,7 +1,7 @@
 //! The subcommands, in one table.
 
 use crate::asked::Asked;
-use crate::{assemble, debug, diff, elf, events, hunt, list, record, stale, trace, view, who, why};
+use crate::{assemble, debug, diff, elf, events, explore, hunt, list, record, stale, trace, view, who, why};
 use clap::{ArgMatches, Command};
 use std::alloc::{AllocError, Global};
 
@@ -13,6 +13,7 @@ pub enum Subcommand {
     List,
     Record,
     Hunt,
+    Explore,
     Debug,
     Trace,
     Events,
@@ -24,12 +25,13 @@ pub enum Subcommand {
 }
 
 /// The subcommands, in the order in which the help lists them.
-pub const SUBCOMMANDS: [Subcommand; 13] = [
+pub const SUBCOMMANDS: [Subcommand; 14] = [
     Subcommand::Assemble,
     Subcommand::Elf,
     Subcommand::List,
     Subcommand::Record,
     Subcommand::Hunt,
+    Subcommand::Explore,
     Subcommand::Debug,
     Subcommand::Trace,
     Subcommand::Events,
@@ -76,6 +78,11 @@ impl Subcommand {
                 name: "hunt",
                 about: "Records the first of many seeds' orders that fulfils conditions",
                 after: hunt::HUNT_AFTER,
+            },
+            Subcommand::Explore => Row {
+                name: "explore",
+                about: "Prints each different outcome of a guest, with an order that leads to it",
+                after: explore::EXPLORE_AFTER,
             },
             Subcommand::Debug => Row {
                 name: "debug",
@@ -132,6 +139,7 @@ impl Subcommand {
             Subcommand::List => list::with_arguments(alloc, command),
             Subcommand::Record => record::with_arguments(alloc, command),
             Subcommand::Hunt => hunt::with_arguments(alloc, command),
+            Subcommand::Explore => explore::with_arguments(alloc, command),
             Subcommand::Debug => debug::with_arguments(alloc, command),
             Subcommand::Trace => trace::with_arguments(alloc, command),
             Subcommand::Events => events::with_arguments(alloc, command),
@@ -151,6 +159,7 @@ impl Subcommand {
             Subcommand::List => list::asked(alloc, matches),
             Subcommand::Record => record::asked(alloc, matches),
             Subcommand::Hunt => hunt::asked(alloc, matches),
+            Subcommand::Explore => explore::asked(alloc, matches),
             Subcommand::Debug => debug::asked(alloc, matches),
             Subcommand::Trace => trace::asked(alloc, matches),
             Subcommand::Events => events::asked(alloc, matches),

@@ -7,6 +7,7 @@ use crate::commands::assemble::assemble_file;
 use crate::commands::debug::debug_files;
 use crate::commands::elf::convert_file;
 use crate::commands::events::events_file;
+use crate::commands::explore::explore_file;
 use crate::commands::hunt::hunt_file;
 use crate::commands::list::list_file;
 use crate::commands::past::{diff_files, stale_file, view_file, who_file, why_file};
@@ -122,6 +123,7 @@ fn print<D: Folder, O: Sink, E: Sink>(
         Print::Why(arguments) => why_file(alloc, folder, arguments, explains, out, faults),
         Print::Diff(arguments) => diff_files(alloc, folder, arguments, out, faults),
         Print::View(arguments) => view_file(alloc, folder, arguments, explains, out, faults),
+        Print::Outcomes(arguments) => explore_file(alloc, folder, arguments, out, faults),
     }
 }
 
