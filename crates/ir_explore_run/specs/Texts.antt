@@ -1,5 +1,5 @@
 -- What `ir explore` writes.
-use Rattle.std.specs.Prelude.{◌≡◌, ◌≢◌, ◌⊎◌, ℕ, zero, suc, List, [], ◌∷◌, ◌++◌, length, flat_map, if◌then◌else◌, nat_eq, Ok, Err, Result, Some, slice_get}
+use Rattle.std.specs.Prelude.{◌≡◌, ◌≢◌, ◌⊎◌, ℕ, zero, suc, List, [], ◌∷◌, ◌++◌, length, take, flat_map, if◌then◌else◌, nat_eq, Ok, Err, Result, Some, slice_get}
 use Rattle.std.specs.List.{slice_index_or}
 use Rattle.std.specs.Cmp.Lexicographic.{pointwise}
 use Rattle.std.specs.String.{string_bytes}
@@ -9,7 +9,7 @@ use Rattle.ir_explore.specs.declared.stop.Stop.{Stop}
 use Rattle.ir_files.specs.declared.exit_status.ExitStatus.{ExitStatus}
 use Rattle.ir_files.specs.declared.exit_status.ExitStatus.TheVariants as status
 use Rattle.ir_flat.specs.Flat.{Flat, idle, start_cells, empty}
-use Rattle.ir_image.specs.Guest.{Guest, object_count}
+use Rattle.ir_image.specs.Guest.{Guest, object_count, object_words}
 use Rattle.ir_image.specs.declared.image_err.ImageErr.{ImageErr}
 use Rattle.ir_object.specs.Cell.{Cell}
 use Rattle.ir_order.specs.Spelling.{Spells}
@@ -28,28 +28,37 @@ threads_text threads (suc n) = threads_text threads n ++ thread_text n (slice_in
 abbrev pub object_text : ℕ → List ℕ → List ℕ → List ℕ
 object_text o first words = if pointwise nat_eq words first then [] else object_line o words
 
--- the same of the first n objects
-abbrev pub objects_text : List Cell → List Cell → ℕ → List ℕ
-objects_text first now zero = []
-objects_text first now (suc n) =
-    objects_text first now n ++ object_text n (slice_index_or first n empty).words (slice_index_or now n empty).words
+-- the same of the first n objects, of so many words each
+abbrev pub objects_text : ℕ → List Cell → List Cell → ℕ → List ℕ
+objects_text words first now zero = []
+objects_text words first now (suc n) =
+    objects_text words first now n
+    ++ object_text n (take words (slice_index_or first n empty).words) (take words (slice_index_or now n empty).words)
 
 -- the list spells this order, and is empty where the order is
 pub record IsListOf (list order : List ℕ) : Type 0 where
   pub spells : order ≢ [] → Spells list order
   pub none : order ≡ [] → list ≡ []
 
+-- the objects of a guest at first, and how many words each has
+pub record Objects : Type 0 where
+  pub words : ℕ
+  pub first : List Cell
+
+abbrev pub objects_of : Guest → Objects
+objects_of guest = record { words = object_words guest; first = start_cells guest 0 (object_count guest) }
+
 -- the lines of an outcome, by its number
-abbrev pub IsOutcomeText : List Cell → Flat → ℕ → Shown → List ℕ → Type 0
-IsOutcomeText first f number x text = (list : List ℕ) × IsListOf list (order_of_turns x.turns.items)
-    × (text ≡ outcome_line number x.level list ++ (threads_text f.threads (length f.threads) ++ objects_text first f.objects (length f.objects)))
+abbrev pub IsOutcomeText : Objects → Flat → ℕ → Shown → List ℕ → Type 0
+IsOutcomeText o f number x text = (list : List ℕ) × IsListOf list (order_of_turns x.turns.items)
+    × (text ≡ outcome_line number x.level list ++ (threads_text f.threads (length f.threads) ++ objects_text o.words o.first f.objects (length f.objects)))
 
 -- the lines of all outcomes
-pub record AreTexts (first : List Cell) (flats : List Flat) (outcomes : List Shown) (many : ℕ) (text : List ℕ) : Type 0 where
+pub record AreTexts (o : Objects) (flats : List Flat) (outcomes : List Shown) (many : ℕ) (text : List ℕ) : Type 0 where
   pub texts : List (List ℕ)
   pub count : length texts ≡ many
   pub each : (i : ℕ) (x : Shown) (f : Flat) (own : List ℕ) → IsAt flats outcomes i x f → slice_get texts i ≡ Some own
-      → IsOutcomeText first f (suc i) x own
+      → IsOutcomeText o f (suc i) x own
   pub joined : text ≡ flat_map (λ own. own) texts
 
 -- the exit status of a search that ended so
@@ -67,7 +76,7 @@ pub record IsFound (guest : Guest) (answered : ExitStatus) (text : List ℕ) : T
   pub explored : AreExplored guest flats levels outcomes
   pub all : ended ≡ Finished → AreAll guest flats outcomes
   pub lines : List ℕ
-  pub texts : AreTexts (start_cells guest 0 (object_count guest)) flats outcomes (length outcomes) lines
+  pub texts : AreTexts (objects_of guest) flats outcomes (length outcomes) lines
   pub whole : text ≡ lines ++ last_line ended levels (length outcomes) (length flats)
   pub status : answered ≡ status_of ended
 

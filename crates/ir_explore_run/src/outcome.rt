@@ -1,8 +1,9 @@
 //! The lines of an outcome.
 
-ghost use Rattle.std.specs.Prelude.{◌≡◌, ◌<◌, ◌++◌, length, OnOk, IfOk};
+ghost use Rattle.std.specs.Prelude.{◌≡◌, ◌≤◌, ◌++◌, length, OnOk, IfOk};
 ghost use Rattle.std.specs.List.{slice_index_or};
 ghost use Rattle.ir_flat.specs.Flat.{empty};
+ghost use Rattle.ir_image.specs.Guest.{most_object_words};
 ghost use Rattle.ir_explore_run.specs.Texts.{threads_text, object_text, objects_text, IsOutcomeText};
 
 use crate::lines::{outcome_line, put_object, put_thread};
@@ -12,6 +13,16 @@ use ir_order::list_of;
 use ir_outcomes::Shown;
 use ir_thread::Thread;
 use std::alloc::{AllocError, Global};
+
+/// The objects of a guest at first.
+#[derive(Clone, Copy)]
+pub struct Started<'a> {
+    /// How many words each has.
+    pub words: usize,
+    /// The objects.
+    pub first: &'a [Object],
+    ghost few: { words ≤ most_object_words },
+}
 
 // Puts the lines of the threads.
 fn put_threads(alloc: Global, text: &mut Vec<u8>, threads: &[Thread]) -> Result<(), AllocError>
@@ -40,31 +51,33 @@ fn put_changed(
 }
 
 // Puts the lines of the objects.
-fn put_objects(alloc: Global, text: &mut Vec<u8>, first: &[Object], now: &[Object]) -> Result<(), AllocError>
-    requires { length now.now ≡ length first.now }
-    ensures { OnOk result (text.new.items ≡ text.old.items ++ objects_text first.now now.now (length now.now)) }
+fn put_objects(alloc: Global, text: &mut Vec<u8>, started: Started<'_>, now: &[Object]) -> Result<(), AllocError>
+    requires { length now.now ≡ length started.first.now }
+    ensures { OnOk result (text.new.items ≡ text.old.items ++ objects_text started.entry.words started.entry.first.now now.now (length now.now)) }
 {
+    let words = started.words;
     for o in 0..now.len() {
-        put_changed(alloc, text, o, first[o].contents(), now[o].contents())?;
+        let first = &started.first[o].contents()[..words];
+        put_changed(alloc, text, o, first, &now[o].contents()[..words])?;
     }
     Ok(())
 }
 
-/// The lines of an outcome at this state, by its number; the objects were these at first.
+/// The lines of an outcome at this state, by its number.
 pub fn outcome_text(
     alloc: Global,
-    first: &[Object],
+    started: Started<'_>,
     flat: &Flat<'_>,
     number: usize,
     shown: &Shown,
 ) -> Result<Vec<u8>, AllocError>
-    requires { length flat.now.objects ≡ length first.now }
-    ensures { IfOk result (λ text. IsOutcomeText first.now flat.now number shown.now text.items) }
+    requires { length flat.now.objects ≡ length started.first.now }
+    ensures { IfOk result (λ text. IsOutcomeText (record { words = started.entry.words; first = started.entry.first.now }) flat.now number shown.now text.items) }
 {
     let list = list_of(alloc, shown.turns.as_slice())?;
     let line = outcome_line(alloc, number, shown.level, list.as_str())?;
     let mut text = Vec::from_slice(alloc, line.as_bytes())?;
     put_threads(alloc, &mut text, flat.threads())?;
-    put_objects(alloc, &mut text, first, flat.objects())?;
+    put_objects(alloc, &mut text, started, flat.objects())?;
     Ok(text)
 }

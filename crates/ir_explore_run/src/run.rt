@@ -15,6 +15,7 @@ ghost use Rattle.ir_explore_run.specs.declared.fault.ExploreFault.{ExploreFault}
 
 use crate::fault::ExploreFault;
 use crate::lines::last_line;
+use crate::outcome::Started;
 use crate::plan::ExplorePlan;
 use crate::texts::outcomes_text;
 use ir_explore::{Ended, Stop};
@@ -52,7 +53,11 @@ fn found_text(
     let flats = explored.states.graph.flats.as_slice();
     let outcomes = explored.outcomes.as_slice();
     let found = &explored.states.found;
-    let mut text = outcomes_text(alloc, start.objects(), flats, outcomes)?;
+    let started = Started {
+        words: image.object_words(),
+        first: start.objects(),
+    };
+    let mut text = outcomes_text(alloc, started, flats, outcomes)?;
     let line = last_line(alloc, found.ended, found.levels, outcomes.len(), flats.len())?;
     text.extend_from_slice(line.as_bytes())?;
     Ok((text, status_of(found.ended)))

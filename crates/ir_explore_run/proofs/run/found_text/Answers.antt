@@ -1,9 +1,7 @@
 use Rattle.std.proofs.Common.{◌≡◌, ◌++◌, Some, inl, length, sym, ap, ◌∙◌, subst}
 use Rattle.std.specs.Prelude.{slice_get}
-use Rattle.ir_image.specs.Guest.{object_count}
-use Rattle.ir_flat.specs.Flat.{start_cells}
 use Rattle.ir_explore_run.specs.Lines.{last_line}
-use Rattle.ir_explore_run.specs.Texts.{AreTexts}
+use Rattle.ir_explore_run.specs.Texts.{Objects, objects_of, AreTexts}
 use Rattle.ir_explore_run.proofs.run.found_text.Goals as goal
 
 pub outcomes_text-requires-clause-objects : goal.outcomes_text-requires-clause-objects
@@ -18,8 +16,11 @@ returns c =
     let outcomes = c.args.explored.now.outcomes.items in
     let lines = c.in_ok-text.text.items in
     let value = c.as_slice-outcomes.ensures.value in
-    let first : c.objects.result.now ≡ start_cells guest 0 (object_count guest) =
-    c.objects.ensures.value ∙ ap (λ z. z.objects) c.in_ok-start.ensures in
+    let first : ◌≡◌ {A = Objects} (record { words = c.object_words.result; first = c.objects.result.now }) (objects_of guest) =
+    λ i. record {
+      words = c.object_words.ensures.value i;
+      first = (c.objects.ensures.value ∙ ap (λ z. z.objects) c.in_ok-start.ensures) i;
+    } in
     inl (record {
       flats = flats;
       outcomes = outcomes;
@@ -29,8 +30,8 @@ returns c =
       all = c.requires.all;
       lines = lines;
       texts = subst (λ z. AreTexts z flats outcomes (length outcomes) lines) first
-          (subst (λ z. AreTexts c.objects.result.now z outcomes (length outcomes) lines) c.as_slice-flats.ensures.value
-          (subst (λ z. AreTexts c.objects.result.now c.as_slice-flats.result.now z (length z) lines) value c.in_ok-text.ensures));
+          (subst (λ z. AreTexts (record { words = c.object_words.result; first = c.objects.result.now }) z outcomes (length outcomes) lines) c.as_slice-flats.ensures.value
+          (subst (λ z. AreTexts (record { words = c.object_words.result; first = c.objects.result.now }) c.as_slice-flats.result.now z (length z) lines) value c.in_ok-text.ensures));
       whole = c.in_ok-extend_from_slice.ensures.items ∙ ap (λ z. lines ++ z) (c.as_bytes.ensures.value ∙ c.in_ok-line.ensures
           ∙ (λ i. last_line c.args.explored.now.states.found.ended c.args.explored.now.states.found.levels (length (value i))
           (length (c.as_slice-flats.ensures.value i))));

@@ -25,7 +25,7 @@ loop-i-preserved c =
     let there : slice_get c.args.flats.now x.node ≡ Some f =
     slice_get-get_or c.args.flats.now x.node f (c.requires.nodes c.loop-i.i x at) ∙ ap Some (sym c.index-flats-shown.is) in
     let next : c.loop-i.i + 1 ≡ suc c.loop-i.i = omega arith in
-    subst (AreTexts c.args.first.now c.args.flats.now c.args.outcomes.now (c.loop-i.i + 1))
+    subst (AreTexts (record { words = c.args.started.words; first = c.args.started.first.now }) c.args.flats.now c.args.outcomes.now (c.loop-i.i + 1))
     (sym (c.in_ok-extend_from_slice.ensures.items ∙ ap (λ z. c.loop-i.text.items ++ z) c.as_slice.ensures.value))
-    (texts_more c.args.first.now c.args.flats.now c.args.outcomes.now c.loop-i.i c.loop-i.text.items c.in_ok-own.own.items x f
-    c.loop-i.invariant (at, there) (subst (λ z. IsOutcomeText c.args.first.now f z x c.in_ok-own.own.items) next c.in_ok-own.ensures))
+    (texts_more (record { words = c.args.started.words; first = c.args.started.first.now }) c.args.flats.now c.args.outcomes.now c.loop-i.i c.loop-i.text.items c.in_ok-own.own.items x f
+    c.loop-i.invariant (at, there) (subst (λ z. IsOutcomeText (record { words = c.args.started.words; first = c.args.started.first.now }) f z x c.in_ok-own.own.items) next c.in_ok-own.ensures))
