@@ -97,8 +97,8 @@ pub rising_more : (k : ℕ) (old new : List Origin) → AreRising old → ((v : 
 rising_more k old new rising most a u v x y at there order =
     let was : (w : ℕ) (n : Origin) → slice_get new w ≡ Some n → w < length old → slice_get old w ≡ Some n =
     λ w n is less.
-        let o = got old w less in
-        subst (λ z. slice_get old w ≡ Some z) (same_Some o.0 n (sym (a.stays w o.0 o.1) ∙ is)) o.1 in
+    let o = got old w less in
+    subst (λ z. slice_get old w ≡ Some z) (same_Some o.0 n (sym (a.stays w o.0 o.1) ∙ is)) o.1 in
     elim (cases_lt v (length old)) [
       | inl less ↦ rising u v x y (was u x at (omega (arith, order, less))) (was v y there less) order
       | inr late ↦

@@ -24,7 +24,12 @@ fn line_of(bytes: &[u8], number: usize) -> &[u8]
 }
 
 // Puts the line of the bytes from byte `LINE * number` on.
-fn put_line(alloc: Global, text: &mut Vec<u8>, bytes: &[u8], number: usize) -> Result<(), AllocError>
+fn put_line(
+    alloc: Global,
+    text: &mut Vec<u8>,
+    bytes: &[u8],
+    number: usize,
+) -> Result<(), AllocError>
     requires { 32 * number < length bytes.now }
     ensures { OnOk result (text.new.items ≡ text.old.items ++ byte_line bytes.now number) }
 {

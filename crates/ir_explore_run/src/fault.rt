@@ -50,7 +50,8 @@ impl ExploreFault {
     {
         match self {
             ExploreFault::Image(why) => RecordFault::of_image(why).words(),
-            ExploreFault::TooLarge => "only guests of at most 8 threads and 16 objects are explored",
+            ExploreFault::TooLarge =>
+                "only guests of at most 8 threads and 16 objects are explored",
             ExploreFault::NoMem => "memory ran out",
             ExploreFault::Write => "standard output can't be written",
         }

@@ -10,14 +10,25 @@ use ir_thread::{End, Thread};
 use std::alloc::{AllocError, Global};
 
 /// The line of an outcome, with the list that spells its order.
-pub fn outcome_line(alloc: Global, number: usize, switches: usize, list: &str) -> Result<String, AllocError>
+pub fn outcome_line(
+    alloc: Global,
+    number: usize,
+    switches: usize,
+    list: &str,
+) -> Result<String, AllocError>
     ensures { IfOk result (λ s. string_bytes s ≡ outcome_line number switches list.now) }
 {
     format!(in alloc; "outcome {number} switches {switches} order {list}\n")
 }
 
 // The line of a thread.
-fn thread_line(alloc: Global, thread: usize, end: u8, code: u32, printed: usize) -> Result<String, AllocError>
+fn thread_line(
+    alloc: Global,
+    thread: usize,
+    end: u8,
+    code: u32,
+    printed: usize,
+) -> Result<String, AllocError>
     ensures { IfOk result (λ s. string_bytes s ≡ thread_line thread end code printed) }
 {
     format!(in alloc; "thread {thread} end {end} code {code} out {printed}\n")
@@ -44,18 +55,34 @@ fn code_of(ended: Option<End>) -> u32
 }
 
 /// Puts the lines of a thread.
-pub fn put_thread(alloc: Global, text: &mut Vec<u8>, number: usize, thread: &Thread) -> Result<(), AllocError>
+pub fn put_thread(
+    alloc: Global,
+    text: &mut Vec<u8>,
+    number: usize,
+    thread: &Thread,
+) -> Result<(), AllocError>
     ensures { OnOk result (text.new.items ≡ text.old.items ++ thread_text number thread.now) }
 {
     let ended = thread.ended();
     let printed = thread.output();
-    let line = thread_line(alloc, number, number_of(ended), code_of(ended), printed.len())?;
+    let line = thread_line(
+        alloc,
+        number,
+        number_of(ended),
+        code_of(ended),
+        printed.len(),
+    )?;
     text.extend_from_slice(line.as_bytes())?;
     put_bytes(alloc, text, printed)
 }
 
 /// Puts the line of an object.
-pub fn put_object(alloc: Global, text: &mut Vec<u8>, number: usize, words: &[u32]) -> Result<(), AllocError>
+pub fn put_object(
+    alloc: Global,
+    text: &mut Vec<u8>,
+    number: usize,
+    words: &[u32],
+) -> Result<(), AllocError>
     ensures { OnOk result (text.new.items ≡ text.old.items ++ object_line number words.now) }
 {
     text.extend_from_slice(format!(in alloc; "object {number} words")?.as_bytes())?;
@@ -98,7 +125,13 @@ fn counts_text(alloc: Global, outcomes: usize, states: usize) -> Result<String, 
 }
 
 /// The last line.
-pub fn last_line(alloc: Global, ended: Ended, levels: usize, outcomes: usize, states: usize) -> Result<String, AllocError>
+pub fn last_line(
+    alloc: Global,
+    ended: Ended,
+    levels: usize,
+    outcomes: usize,
+    states: usize,
+) -> Result<String, AllocError>
     ensures { IfOk result (λ s. string_bytes s ≡ last_line ended levels outcomes states) }
 {
     let counts = counts_text(alloc, outcomes, states)?;

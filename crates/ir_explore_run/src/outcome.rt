@@ -51,7 +51,12 @@ fn put_changed(
 }
 
 // Puts the lines of the objects.
-fn put_objects(alloc: Global, text: &mut Vec<u8>, started: Started<'_>, now: &[Object]) -> Result<(), AllocError>
+fn put_objects(
+    alloc: Global,
+    text: &mut Vec<u8>,
+    started: Started<'_>,
+    now: &[Object],
+) -> Result<(), AllocError>
     requires { length now.now ≡ length started.first.now }
     ensures { OnOk result (text.new.items ≡ text.old.items ++ objects_text started.entry.words started.entry.first.now now.now (length now.now)) }
 {

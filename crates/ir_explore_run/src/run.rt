@@ -58,7 +58,13 @@ fn found_text(
         first: start.objects(),
     };
     let mut text = outcomes_text(alloc, started, flats, outcomes)?;
-    let line = last_line(alloc, found.ended, found.levels, outcomes.len(), flats.len())?;
+    let line = last_line(
+        alloc,
+        found.ended,
+        found.levels,
+        outcomes.len(),
+        flats.len(),
+    )?;
     text.extend_from_slice(line.as_bytes())?;
     Ok((text, status_of(found.ended)))
 }

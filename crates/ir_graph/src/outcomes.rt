@@ -47,7 +47,11 @@ fn list_node(flats: &[Flat<'_>], listed: &mut Vec<usize>, node: usize) -> Result
 ///
 /// # Errors
 /// Out of memory.
-pub fn list_outcomes(alloc: Global, flats: &[Flat<'_>], nodes: usize) -> Result<Vec<usize>, AllocError>
+pub fn list_outcomes(
+    alloc: Global,
+    flats: &[Flat<'_>],
+    nodes: usize,
+) -> Result<Vec<usize>, AllocError>
     requires states { AreNodes flats.now }
     requires within { nodes ≤ length flats.now }
     ensures { IfOk result (λ listed. AreOutcomes flats.now nodes listed.items) }

@@ -34,11 +34,7 @@ finished outcomes 1 states 1
 ";
 
 // What is printed of a guest: the exit status, the lines and the faults.
-fn explored(
-    rt: &HostRuntime,
-    text: &str,
-    plan: ExplorePlan,
-) -> Result<(u8, Page, Page), Fail> {
+fn explored(rt: &HostRuntime, text: &str, plan: ExplorePlan) -> Result<(u8, Page, Page), Fail> {
     let alloc = rt.alloc();
     let image = assemble(alloc, text)?;
     let bytes = write_image(alloc, &image)?;
@@ -76,7 +72,10 @@ fn too_many_states_stop_it(rt: HostRuntime) -> Result<(), Fail> {
 #[test]
 fn a_thread_that_goes_on_for_ever_stops_it(rt: HostRuntime) -> Result<(), Fail> {
     let (status, out, _) = explored(&rt, ENDLESS_LOOP, ExplorePlan::new(100, 1000, 100))?;
-    assert_eq!(rt; out.bytes.as_slice(), b"stopped private 0 covered - outcomes 0 states 0\n".as_slice());
+    assert_eq!(rt;
+        out.bytes.as_slice(),
+        b"stopped private 0 covered - outcomes 0 states 0\n".as_slice()
+    );
     assert_eq!(rt; status, 5);
     Ok(())
 }

@@ -70,6 +70,13 @@ pub fn explore<'a>(
     let flats = states.graph.flats.as_slice();
     let origins = states.found.nodes.as_slice();
     let listed = list_outcomes(alloc, flats, origins.len())?;
-    let outcomes = show_all(alloc, image, flats, origins, listed.as_slice(), bounds.private)?;
+    let outcomes = show_all(
+        alloc,
+        image,
+        flats,
+        origins,
+        listed.as_slice(),
+        bounds.private,
+    )?;
     Ok(Explored { states, outcomes })
 }
