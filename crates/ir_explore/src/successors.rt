@@ -27,6 +27,10 @@ pub trait Successors {
     /// What is so of the graph however far it has grown.
     ghost is_sound: { Self → Type 0 };
 
+    /// What was noted of a thread and a node: nothing, that the thread can't go on there, or the node to which it leads.
+    fn known(&self, thread: usize, node: usize) -> Option<Option<usize>>
+        ensures { result ≡ noted self.now thread node };
+
     /// The node to which a thread leads from a node, if it can go on there: an old one, or a new one after the others.
     ///
     /// # Errors
