@@ -5,8 +5,10 @@ mod Reached
 mod Turn
 mod OneOutcome
 mod Found
+mod Ended
 mod Entries
 mod Grown
 mod Listed
+mod Hangs
 mod Listing
 pub mod CallerLemmas

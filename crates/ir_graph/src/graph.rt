@@ -37,6 +37,14 @@ impl<'a> Successors for Graph<'a> {
 
     ghost is_sound = { λ g. IsGraph g.image.now g.flats.items (noted_in g.rows.items) (length g.rows.items) };
 
+    fn known(&self, thread: usize, node: usize) -> Option<Option<usize>> {
+        if thread < self.rows.len() {
+            known(&self.rows, thread, node)
+        } else {
+            Some(None)
+        }
+    }
+
     fn next(&mut self, thread: usize, node: usize) -> Result<Option<usize>, Stop> {
         if thread >= self.rows.len() {
             return Ok(None);

@@ -2,17 +2,20 @@
 
 ghost use Rattle.std.specs.Prelude.{◌≡◌, suc, ◌≤◌, length, IfOk};
 ghost use Rattle.ir_explore.specs.declared.search.Ended.TheVariants.{Finished, Covered};
+ghost use Rattle.ir_graph.specs.Hangs.{AreMarked, AllStand, AreWays};
 ghost use Rattle.ir_graph.specs.Outcomes.{AllListed, AllShown};
+ghost use Rattle.ir_graph.specs.Notes.{noted_in};
 ghost use Rattle.ir_graph.specs.Searched.{AreSearched};
 ghost use Rattle.ir_thread.specs.Allowed.{IsAllowed};
 ghost use Rattle.ir_thread.specs.declared.profile.Profile.TheVariants.{One};
 
 use crate::graph::Graph;
+use crate::marks::mark_states;
 use crate::nodes::Bounds;
 use crate::start::start_graph;
-use ir_explore::{Searched, Stop, run_search};
+use ir_explore::{Ended, Searched, Stop, run_search};
 use ir_image::Image;
-use std::alloc::Global;
+use std::alloc::{AllocError, Global};
 
 /// The states that were found, and how.
 #[derive(Drop)]
@@ -21,6 +24,18 @@ pub struct States<'a> {
     pub graph: Graph<'a>,
     /// How the search came to each node, and how it ended.
     pub found: Searched,
+    /// Of a finished search: which of the states can be brought to an end.
+    pub marks: Vec<bool>,
+}
+
+// Which of the states can be brought to an end, once the search is finished.
+fn marks_of(alloc: Global, graph: &Graph<'_>, ended: Ended) -> Result<Vec<bool>, AllocError>
+    ensures { IfOk result (λ marks. ended ≡ Finished → AreWays (noted_in graph.now.rows.items) (length graph.now.rows.items) graph.now.flats.items marks.items) }
+{
+    match ended {
+        Ended::Finished => mark_states(alloc, graph),
+        _ => Ok(Vec::new(alloc)),
+    }
 }
 
 /// Searches the states of a guest whose threads call no environment, by rising number of switches from thread to thread: `switches` at
@@ -39,6 +54,9 @@ pub fn search_states<'a>(
     // Each outcome of the guest is listed, once it is finished.
     ensures all { IfOk result (λ states. states.found.ended ≡ Finished → AllListed image.now states.graph.flats.items) }
     ensures nodes { IfOk result (λ states. states.found.ended ≡ Finished → length states.found.nodes.items ≡ length states.graph.flats.items) }
+    // So are the states at which its runs stand, of which exactly those are marked that can be brought to an end.
+    ensures marked { IfOk result (λ states. states.found.ended ≡ Finished → AreMarked states.graph.flats.items states.marks.items) }
+    ensures stand { IfOk result (λ states. states.found.ended ≡ Finished → AllStand image.now states.graph.flats.items) }
     // However it ends, each listed one is an outcome of the guest, and those of runs of fewer switches than levels are listed.
     ensures shown { IfOk result (λ states. AllShown image.now states.graph.flats.items) }
     ensures searched { IfOk result (λ states. AreSearched image.now states.graph.flats.items states.found.nodes.items states.found.levels) }
@@ -47,5 +65,10 @@ pub fn search_states<'a>(
     let mut graph = start_graph(alloc, image, bounds)?;
     let threads = image.entries().len();
     let found = run_search(alloc, &mut graph, threads, switches)?;
-    Ok(States { graph, found })
+    let marks = marks_of(alloc, &graph, found.ended)?;
+    Ok(States {
+        graph,
+        found,
+        marks,
+    })
 }

@@ -1,10 +1,12 @@
 use Rattle.std.proofs.Common.{length, sym, ap, ◌∙◌, subst}
 use Rattle.ir_explore.specs.Levels.{AreAsked, Covered}
 use Rattle.ir_graph.specs.Notes.{noted_in}
+use Rattle.ir_graph.specs.Hangs.{AllStand}
 use Rattle.ir_graph.specs.Outcomes.{AllListed, AllShown}
 use Rattle.ir_graph.specs.Searched.{AreSearched}
 use Rattle.ir_explore.proofs.CallerLemmas.{gone_less}
 use Rattle.ir_graph.proofs.Grown.{noted_past}
+use Rattle.ir_graph.proofs.Hangs.{are_marked, all_stand}
 use Rattle.ir_graph.proofs.Listed.{all_listed, within_listed, all_shown}
 use Rattle.ir_graph.proofs.states.search_states.Goals as goal
 
@@ -50,3 +52,29 @@ returns-clause-shown c =
     let image = c.run_search.ensures.origin ∙ c.in_ok-graph.ensures.image in
     subst (λ z. AllShown z graph.flats.items) image
     (all_shown graph.image.now graph.flats.items (noted_in rows) (length rows) c.run_search.ensures.sound)
+
+pub returns-clause-marked : goal.returns-clause-marked
+returns-clause-marked c = λ done.
+    let graph = c.run_search.new.graph in
+    let rows = graph.rows.items in
+    let flats = graph.flats.items in
+    let sound = c.run_search.ensures.sound in
+    let image = c.run_search.ensures.origin ∙ c.in_ok-graph.ensures.image in
+    let threads = ap length c.entries-threads.ensures.value ∙ ap (λ z. length z.entries) (sym image) ∙ sym sound.number in
+    are_marked graph.image.now flats (noted_in rows) (length rows) sound (λ t v l. noted_past rows t v l) c.in_ok-found.found.nodes.items
+    c.in_ok-found.ensures.reached (c.in_ok-found.ensures.all done)
+    (subst (λ z. AreAsked (noted_in rows) z (length flats)) threads (c.in_ok-found.ensures.finished done)) c.in_ok-marks.marks.items
+    (c.in_ok-marks.ensures done)
+
+pub returns-clause-stand : goal.returns-clause-stand
+returns-clause-stand c = λ done.
+    let graph = c.run_search.new.graph in
+    let rows = graph.rows.items in
+    let flats = graph.flats.items in
+    let sound = c.run_search.ensures.sound in
+    let image = c.run_search.ensures.origin ∙ c.in_ok-graph.ensures.image in
+    let threads = ap length c.entries-threads.ensures.value ∙ ap (λ z. length z.entries) (sym image) ∙ sym sound.number in
+    subst (λ z. AllStand z flats) image
+    (all_stand graph.image.now flats (noted_in rows) (length rows) sound (λ t v l. noted_past rows t v l) c.in_ok-found.found.nodes.items
+    c.in_ok-found.ensures.reached (c.in_ok-found.ensures.all done)
+    (subst (λ z. AreAsked (noted_in rows) z (length flats)) threads (c.in_ok-found.ensures.finished done)))
