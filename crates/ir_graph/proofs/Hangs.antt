@@ -11,7 +11,7 @@ use Rattle.ir_explore.specs.Origins.{AreReached}
 use Rattle.ir_explore.specs.Ways.{HasMarked}
 use Rattle.ir_explore.proofs.CallerLemmas.{asked_finished, marked_way, way_to_marked, slice_less}
 use Rattle.ir_runs.specs.Machine as machine
-use Rattle.ir_runs.specs.Machine.{Machine}
+use Rattle.ir_runs.specs.Machine.{Machine, IsLawful}
 use Rattle.ir_runs.specs.Run.{State, Step, asked, Can, after, end, IsDone}
 use Rattle.ir_runs.proofs.CallerLemmas.{Good, end_append}
 use Rattle.ir_states.specs.Counting.{Answers, IsAnswered, Counts}
@@ -181,6 +181,7 @@ module _ (guest : Guest) (flats : List Flat) (noted : ℕ → ℕ → Option (Op
   good = seen_good (thread_machine guest.code) (seen_machine guest.code) view (IsLive guest.code) (IsSpoilt guest.code) (seen_view guest.code)
       (seen_spoils guest.code) told (λ x o. refl) (tables (start_flat guest 1 One)) answers (start_is_good guest 1 One)
 
+  lawful : IsLawful m
   lawful = sourced_lawful (seen_machine guest.code) told (seen_lawful guest.code)
 
   -- a state can be brought to an end exactly where its node has a way
@@ -215,14 +216,14 @@ module _ (guest : Guest) (flats : List Flat) (noted : ℕ → ℕ → Option (Op
       let way = state_way v l in (
         λ is. way.1 (marked_way m told_here (Alike guest.code) start state noted threads (length flats) means w.done w.nodes
             (λ x here.
-                let less : x < length flats = (let a = slice_less w.done x true here in let b = w.nodes in omega (arith, a, b)) in
-                seen_done guest flats noted threads g past answers x less
-                (w.done_marked x (flat_of guest flats noted threads g past answers x) (at guest flats noted threads g past answers x less) here))
+            let less : x < length flats = (let a = slice_less w.done x true here in let b = w.nodes in omega (arith, a, b)) in
+            seen_done guest flats noted threads g past answers x less
+            (w.done_marked x (flat_of guest flats noted threads g past answers x) (at guest flats noted threads g past answers x less) here))
             v ((w.exact v).0 is)),
         λ c. (w.exact v).1 (way_to_marked m told_here (Alike guest.code) start state noted threads (length flats) means w.done w.nodes
             (λ x less done.
-                w.marked_done x (flat_of guest flats noted threads g past answers x) (at guest flats noted threads g past answers x less)
-                (really_done guest flats noted threads g past answers x less done))
+            w.marked_done x (flat_of guest flats noted threads g past answers x) (at guest flats noted threads g past answers x less)
+            (really_done guest flats noted threads g past answers x less done))
             v l (way.0 c)),
       )
 
