@@ -1,25 +1,26 @@
 -- Runs of a guest that can't be brought to an end any more.
 use Rattle.std.proofs.Common.{◌≡◌, ◌↔◌, ℕ, ◌<◌, ◌≤◌, Bool, true, Option, Some, None, List, [], ◌∷◌, ◌++◌, inl, inr, length, refl, sym, ap, ◌∙◌, subst, arith}
 use Rattle.std.specs.Prelude.{slice_get}
-use Rattle.std.proofs.lemmas.Option.{same_Some}
+use Rattle.std.proofs.lemmas.Option.{same_Some, slice_get-get_or}
+use Rattle.std.specs.List.{slice_index_or}
 use Rattle.ir_image.specs.Guest.{Guest}
 use Rattle.ir_explore.specs.declared.origin.Origin.{Origin}
 use Rattle.ir_explore.specs.Following.{IsOpen}
-use Rattle.ir_explore.specs.Levels.{AreAsked}
+use Rattle.ir_explore.specs.Levels.{AreAsked, AreGoneOver}
 use Rattle.ir_explore.specs.Meaning.{Steps}
-use Rattle.ir_explore.specs.Origins.{AreReached}
+use Rattle.ir_explore.specs.Origins.{first_origin, AreReached}
 use Rattle.ir_explore.specs.Ways.{HasMarked}
 use Rattle.ir_explore.proofs.CallerLemmas.{asked_finished, marked_way, way_to_marked, slice_less}
 use Rattle.ir_runs.specs.Machine as machine
 use Rattle.ir_runs.specs.Machine.{Machine, IsLawful}
 use Rattle.ir_runs.specs.Run.{State, Step, asked, Can, after, end, IsDone}
 use Rattle.ir_runs.proofs.CallerLemmas.{Good, end_append}
-use Rattle.ir_states.specs.Counting.{Answers, IsAnswered, Counts}
-use Rattle.ir_states.specs.Nodes.{TellsNothing}
-use Rattle.ir_states.specs.Outcomes.{IsFinished, HasWay}
+use Rattle.ir_states.specs.Counting.{Answers, IsAnswered, Counts, entering}
+use Rattle.ir_states.specs.Nodes.{TellsNothing, Path}
+use Rattle.ir_states.specs.Outcomes.{switches, IsFinished, HasWay}
 use Rattle.ir_states.specs.Sources.{Giving, answer_of, left_of, sourced, by_source}
 use Rattle.ir_states.specs.Views.{viewed, beside}
-use Rattle.ir_states.proofs.CallerLemmas.{Completes, back, finds, found, done_alike, live_run, live_unspoilt, looks_alike, real_seen, seen_good, sourced_counts, sourced_lawful, sourced_live, sourced_view, viewed_counts}
+use Rattle.ir_states.proofs.CallerLemmas.{Completes, back, finds, found, done_alike, live_run, live_unspoilt, looks_alike, real_seen, seen_good, sourced_counts, sourced_entering, sourced_lawful, sourced_live, sourced_view, viewed_counts, viewed_entering}
 use Rattle.ir_thread.specs.Calls.{most_budget}
 use Rattle.ir_thread.specs.Instance.{thread_machine}
 use Rattle.ir_thread.specs.State as thread
@@ -32,6 +33,7 @@ use Rattle.ir_graph.specs.Hangs.{IsCounting, CanEndFrom, CanEnd, IsHangOf, AreMa
 use Rattle.ir_graph.specs.Nodes.{told, seen_by, told_by, Alike, seen_of, LookAlike}
 use Rattle.ir_graph.specs.Reached.{is_sure, IsQuietRun, beginning}
 use Rattle.ir_graph.proofs.Leads.{seen_table}
+use Rattle.ir_graph.proofs.Levels.{node_level}
 use Rattle.ir_graph.proofs.Listed.{flat_of, state_of, at, code_at, seen_done, really_done, graph_means}
 use Rattle.ir_graph.proofs.Plain.{seen_after, seen_takes}
 use Rattle.ir_graph.proofs.Reached.{quiet_runs, quiet_live, quiet_given}
@@ -103,20 +105,26 @@ quiet_counting guest steps answers quiet = record {
       steps (quiet_live guest.code (beginning guest) steps quiet) (start_unspoilt guest most_budget One);
 }
 
--- a run that counts is one of the guest as a search sees it
+-- a run that counts is one of the guest as a search sees it, with the same entries
 counting_seen : (guest : Guest) (budget : ℕ) (answers : ℕ → List ℕ) (steps : List Step) → IsCounting guest budget answers steps
     → Counts (seen_by guest.code) (told_by guest.code) (seen_start guest One answers) steps
+    × (entering (seen_by guest.code) (seen_start guest One answers) steps
+    ≡ entering (thread_machine guest.code) (tables (start_flat guest budget One)) steps)
 counting_seen guest budget answers steps c =
     let m = thread_machine guest.code in
     let s : State thread.State = tables (start_flat guest budget One) in
-    let live = live_run m (IsLive guest.code) (IsSpoilt guest.code) (seen_spoils guest.code) s steps c.unspoilt in
+    let live = sourced_live m told (IsLive guest.code) (beside s answers) steps
+    (live_run m (IsLive guest.code) (IsSpoilt guest.code) (seen_spoils guest.code) s steps c.unspoilt) in
+    let is = sourced_view m (seen_machine guest.code) view (IsLive guest.code) told (seen_view guest.code) in
     let one = sourced_counts m told (beside s answers) steps in
-    let two = viewed_counts (sourced m told) (sourced (seen_machine guest.code) told) (λ x. (view x.0, x.1)) (λ x. IsLive guest.code x.0)
-    (sourced_view m (seen_machine guest.code) view (IsLive guest.code) told (seen_view guest.code)) (by_source m told)
-    (by_source (seen_machine guest.code) told) (λ t x l. ap (λ q. answer_of told q x.1) ((seen_view guest.code).asks x.0 l)) (beside s answers)
-    steps (sourced_live m told (IsLive guest.code) (beside s answers) steps live) in
-    subst (λ z. Counts (seen_by guest.code) (told_by guest.code) (beside z answers) steps) (one_start guest budget 1 One)
-    (two.0 (one.1 (c.runs, c.answered)))
+    let two = viewed_counts (sourced m told) (seen_by guest.code) (λ x. (view x.0, x.1)) (λ x. IsLive guest.code x.0) is (by_source m told)
+    (told_by guest.code) (λ t x l. ap (λ q. answer_of told q x.1) ((seen_view guest.code).asks x.0 l)) (beside s answers) steps live in
+    let order = viewed_entering (sourced m told) (seen_by guest.code) (λ x. (view x.0, x.1)) (λ x. IsLive guest.code x.0) is (beside s answers)
+    steps live ∙ sourced_entering m told (beside s answers) steps in (
+      subst (λ z. Counts (seen_by guest.code) (told_by guest.code) (beside z answers) steps) (one_start guest budget 1 One)
+          (two.0 (one.1 (c.runs, c.answered))),
+      ap (λ z. entering (seen_by guest.code) (beside z answers) steps) (one_start guest 1 budget One) ∙ order,
+    )
 
 -- a run that hangs is never continued to a complete one that counts, whatever its budget
 pub hang_never : (guest : Guest) (budget : ℕ) (answers : ℕ → List ℕ) (steps : List Step) → IsHangOf guest budget answers steps → (most : ℕ)
@@ -199,14 +207,15 @@ module _ (guest : Guest) (flats : List Flat) (noted : ℕ → ℕ → Option (Op
 
   -- a run that counts stands at a node
   run_way : (steps : List Step) → Counts m told_here start steps
-      → (v : ℕ) × (v < length flats) × (CanEnd guest answers steps ↔ Completes m told_here (state v))
+      → (v : ℕ) × (v < length flats) × Path (Steps m state noted (length flats)) 0 (entering m start steps) v
+      × (CanEnd guest answers steps ↔ Completes m told_here (state v))
   run_way steps ok =
       let a = finds m lawful told_here (Alike guest.code) (tells guest.code) start good state Node (Steps m state noted (length flats)) 0
       finished steps ok in
       let b = back m lawful told_here (Alike guest.code) (tells guest.code) start good state Node (Steps m state noted (length flats)) 0
       finished steps ok a.left a.goes a.node a.is a.alike in
       let w = state_way a.node a.is in
-      (a.node, a.is, (λ c. w.1 (b.0 c), λ c. b.1 (w.0 c)))
+      (a.node, a.is, a.path, (λ c. w.1 (b.0 c), λ c. b.1 (w.0 c)))
 
   -- a node is marked exactly where its state can be brought to an end
   node_marked : (marks : List Bool) → AreWays noted threads flats marks → (v : ℕ) → v < length flats
@@ -244,24 +253,39 @@ module _ (guest : Guest) (flats : List Flat) (noted : ℕ → ℕ → Option (Op
       let one = node_marked marks w v (slice_less flats v f is) in
       let two = state_here v f is in (λ h. two.0 (one.0 h), λ h. one.1 (two.1 h))
 
-  pub counting_stands : (budget : ℕ) (steps : List Step) → IsCounting guest budget answers steps
-      → (v : ℕ) × (f : Flat) × (slice_get flats v ≡ Some f) × (CanEnd guest answers steps ↔ CanEndFrom f answers)
-  counting_stands budget steps c =
-      let r = run_way steps (counting_seen guest budget answers steps c) in
+  pub counting_stands : (levels : ℕ) → AreGoneOver noted threads origins levels
+      → ((v : ℕ) (n : Origin) → slice_get origins v ≡ Some n → n.level ≤ levels) → slice_get origins 0 ≡ Some first_origin
+      → (budget : ℕ) (steps : List Step) → IsCounting guest budget answers steps
+      → (v : ℕ) × (f : Flat) × (n : Origin) × (slice_get flats v ≡ Some f) × (slice_get origins v ≡ Some n)
+      × (n.level ≤ switches (entering (thread_machine guest.code) (tables (start_flat guest budget One)) steps))
+      × (CanEnd guest answers steps ↔ CanEndFrom f answers)
+  counting_stands levels gone most first budget steps c =
+      let seen = counting_seen guest budget answers steps c in
+      let r = run_way steps seen.0 in
       let is = at guest flats noted threads g past answers r.0 r.1 in
-      let two = state_here r.0 (flat_of guest flats noted threads g past answers r.0) is in (
+      let two = state_here r.0 (flat_of guest flats noted threads g past answers r.0) is in
+      let n = slice_index_or origins r.0 first_origin in
+      let there : slice_get origins r.0 ≡ Some n = slice_get-get_or origins r.0 first_origin (let l = r.1 in omega (arith, l, all)) in
+      let level = node_level m state noted threads (length flats) (graph_means guest flats noted threads g past answers).idle origins levels
+      gone most (λ k at_first. ap (λ z. z.level) (sym (same_Some first_origin k (sym first ∙ at_first)))) (entering m start steps) r.0 n r.2 there
+      in (
         r.0,
         flat_of guest flats noted threads g past answers r.0,
+        n,
         is,
-        (λ h. two.0 (r.2.0 h), λ h. r.2.1 (two.1 h)),
+        there,
+        subst (λ z. n.level ≤ switches z) seen.1 level,
+        (λ h. two.0 (r.3.0 h), λ h. r.3.1 (two.1 h)),
       )
 
 module _ (guest : Guest) (flats : List Flat) (noted : ℕ → ℕ → Option (Option ℕ)) (threads : ℕ) (g : IsGraph guest flats noted threads)
     (past : (t v : ℕ) → threads ≤ t → noted t v ≡ Some None) (origins : List Origin) (reached : AreReached noted origins)
     (all : length origins ≡ length flats) (asked_all : AreAsked noted threads (length flats)) where
-  pub all_stand : AllStand guest flats
-  all_stand answers budget steps c =
-      counting_stands guest flats noted threads g past origins reached all asked_all answers budget steps c
+  pub all_stand : (levels : ℕ) → AreGoneOver noted threads origins levels
+      → ((v : ℕ) (n : Origin) → slice_get origins v ≡ Some n → n.level ≤ levels) → slice_get origins 0 ≡ Some first_origin
+      → AllStand guest flats origins
+  all_stand levels gone most first answers budget steps c =
+      counting_stands guest flats noted threads g past origins reached all asked_all answers levels gone most first budget steps c
 
   pub are_marked : (marks : List Bool) → AreWays noted threads flats marks → AreMarked flats marks
   are_marked marks w = record {

@@ -9,6 +9,7 @@ mod Ended
 mod Entries
 mod Grown
 mod Listed
+mod Levels
 mod Hangs
 mod Listing
 pub mod CallerLemmas

@@ -1,10 +1,12 @@
 -- Runs that can't be brought to an end any more.
-use Rattle.std.specs.Prelude.{◌≡◌, ◌↔◌, ℕ, Bool, false, List, Some, length, slice_get}
+use Rattle.std.specs.Prelude.{◌≡◌, ◌↔◌, ℕ, ◌≤◌, Bool, false, List, Some, length, slice_get}
 use Rattle.ir_image.specs.Guest.{Guest}
+use Rattle.ir_explore.specs.declared.origin.Origin.{Origin}
 use Rattle.ir_explore.specs.Following.{Leading, IsOpen}
 use Rattle.ir_explore.specs.Ways.{HasMarked}
 use Rattle.ir_runs.specs.Run.{Step, IsRun, IsDone, end, log}
-use Rattle.ir_states.specs.Counting.{Counts}
+use Rattle.ir_states.specs.Counting.{Counts, entering}
+use Rattle.ir_states.specs.Outcomes.{switches}
 use Rattle.ir_states.specs.Sources.{Gives}
 use Rattle.ir_states.specs.Views.{IsUnspoilt}
 use Rattle.ir_thread.specs.Instance.{thread_machine}
@@ -42,10 +44,13 @@ pub record AreMarked (flats : List Flat) (marks : List Bool) : Type 0 where
   pub marked : (v : ℕ) (f : Flat) → slice_get flats v ≡ Some f → IsOpen marks v → (answers : ℕ → List ℕ) → CanEndFrom f answers
   pub other : (v : ℕ) (f : Flat) → slice_get flats v ≡ Some f → (answers : ℕ → List ℕ) → CanEndFrom f answers → IsOpen marks v
 
--- Each run of the guest that counts stands at a listed state: it can be brought to an end exactly where that state can.
-abbrev pub AllStand : Guest → List Flat → Type 0
-AllStand guest flats = (answers : ℕ → List ℕ) (budget : ℕ) (steps : List Step) → IsCounting guest budget answers steps
-    → (v : ℕ) × (f : Flat) × (slice_get flats v ≡ Some f) × (CanEnd guest answers steps ↔ CanEndFrom f answers)
+-- Each run of the guest that counts stands at a listed state, of no higher level than it has switches: it can be brought to an end exactly where
+-- that state can.
+abbrev pub AllStand : Guest → List Flat → List Origin → Type 0
+AllStand guest flats origins = (answers : ℕ → List ℕ) (budget : ℕ) (steps : List Step) → IsCounting guest budget answers steps
+    → (v : ℕ) × (f : Flat) × (n : Origin) × (slice_get flats v ≡ Some f) × (slice_get origins v ≡ Some n)
+    × (n.level ≤ switches (entering (thread_machine guest.code) (tables (start_flat guest budget One)) steps))
+    × (CanEnd guest answers steps ↔ CanEndFrom f answers)
 
 -- of the nodes those are marked from which threads lead to one where all are done
 pub record AreWays (noted : ℕ → Leading) (threads : ℕ) (flats : List Flat) (marks : List Bool) : Type 0 where

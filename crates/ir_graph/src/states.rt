@@ -1,6 +1,6 @@
 //! The states of a guest that its runs lead over, and what is known of them.
 
-ghost use Rattle.std.specs.Prelude.{◌≡◌, suc, ◌≤◌, length, IfOk};
+ghost use Rattle.std.specs.Prelude.{◌≡◌, ℕ, suc, ◌≤◌, length, IfOk};
 ghost use Rattle.ir_explore.specs.declared.search.Ended.TheVariants.{Finished, Covered};
 ghost use Rattle.ir_graph.specs.Hangs.{AreMarked, AllStand, AreWays};
 ghost use Rattle.ir_graph.specs.Outcomes.{AllListed, AllShown};
@@ -30,7 +30,8 @@ pub struct States<'a> {
 
 // Which of the states can be brought to an end, once the search is finished.
 fn marks_of(alloc: Global, graph: &Graph<'_>, ended: Ended) -> Result<Vec<bool>, AllocError>
-    ensures { IfOk result (λ marks. ended ≡ Finished → AreWays (noted_in graph.now.rows.items) (length graph.now.rows.items) graph.now.flats.items marks.items) }
+    ensures ways { IfOk result (λ marks. ended ≡ Finished → AreWays (noted_in graph.now.rows.items) (length graph.now.rows.items) graph.now.flats.items marks.items) }
+    ensures few { IfOk result (λ marks. (n : ℕ) → (ended ≡ Finished → n ≡ length graph.now.flats.items) → length marks.items ≤ n) }
 {
     match ended {
         Ended::Finished => mark_states(alloc, graph),
@@ -56,7 +57,8 @@ pub fn search_states<'a>(
     ensures nodes { IfOk result (λ states. states.found.ended ≡ Finished → length states.found.nodes.items ≡ length states.graph.flats.items) }
     // So are the states at which its runs stand, of which exactly those are marked that can be brought to an end.
     ensures marked { IfOk result (λ states. states.found.ended ≡ Finished → AreMarked states.graph.flats.items states.marks.items) }
-    ensures stand { IfOk result (λ states. states.found.ended ≡ Finished → AllStand image.now states.graph.flats.items) }
+    ensures stand { IfOk result (λ states. states.found.ended ≡ Finished → AllStand image.now states.graph.flats.items states.found.nodes.items) }
+    ensures few { IfOk result (λ states. length states.marks.items ≤ length states.found.nodes.items) }
     // However it ends, each listed one is an outcome of the guest, and those of runs of fewer switches than levels are listed.
     ensures shown { IfOk result (λ states. AllShown image.now states.graph.flats.items) }
     ensures searched { IfOk result (λ states. AreSearched image.now states.graph.flats.items states.found.nodes.items states.found.levels) }

@@ -1,5 +1,5 @@
 use Rattle.std.proofs.Common.{length, sym, ap, ◌∙◌, subst}
-use Rattle.ir_explore.specs.Levels.{AreAsked, Covered}
+use Rattle.ir_explore.specs.Levels.{AreAsked, AreGoneOver, Covered}
 use Rattle.ir_graph.specs.Notes.{noted_in}
 use Rattle.ir_graph.specs.Hangs.{AllStand}
 use Rattle.ir_graph.specs.Outcomes.{AllListed, AllShown}
@@ -64,7 +64,7 @@ returns-clause-marked c = λ done.
     are_marked graph.image.now flats (noted_in rows) (length rows) sound (λ t v l. noted_past rows t v l) c.in_ok-found.found.nodes.items
     c.in_ok-found.ensures.reached (c.in_ok-found.ensures.all done)
     (subst (λ z. AreAsked (noted_in rows) z (length flats)) threads (c.in_ok-found.ensures.finished done)) c.in_ok-marks.marks.items
-    (c.in_ok-marks.ensures done)
+    (c.in_ok-marks.ensures.ways done)
 
 pub returns-clause-stand : goal.returns-clause-stand
 returns-clause-stand c = λ done.
@@ -74,7 +74,12 @@ returns-clause-stand c = λ done.
     let sound = c.run_search.ensures.sound in
     let image = c.run_search.ensures.origin ∙ c.in_ok-graph.ensures.image in
     let threads = ap length c.entries-threads.ensures.value ∙ ap (λ z. length z.entries) (sym image) ∙ sym sound.number in
-    subst (λ z. AllStand z flats) image
+    subst (λ z. AllStand z flats c.in_ok-found.found.nodes.items) image
     (all_stand graph.image.now flats (noted_in rows) (length rows) sound (λ t v l. noted_past rows t v l) c.in_ok-found.found.nodes.items
     c.in_ok-found.ensures.reached (c.in_ok-found.ensures.all done)
-    (subst (λ z. AreAsked (noted_in rows) z (length flats)) threads (c.in_ok-found.ensures.finished done)))
+    (subst (λ z. AreAsked (noted_in rows) z (length flats)) threads (c.in_ok-found.ensures.finished done)) c.in_ok-found.found.levels
+    (subst (λ z. AreGoneOver (noted_in rows) z c.in_ok-found.found.nodes.items c.in_ok-found.found.levels) threads c.in_ok-found.ensures.gone)
+    c.in_ok-found.ensures.levels c.in_ok-found.ensures.first)
+
+pub returns-clause-few : goal.returns-clause-few
+returns-clause-few c = c.in_ok-marks.ensures.few (length c.in_ok-found.found.nodes.items) (λ done. c.in_ok-found.ensures.all done)
