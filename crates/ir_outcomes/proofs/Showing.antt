@@ -1,9 +1,9 @@
 -- A run by an order that shows an outcome.
-use Rattle.std.proofs.Common.{◌≡◌, ℕ, suc, ◌≤◌, List, [], ◌∷◌, inr, true, length, refl, sym, ap, ◌∙◌, subst, arith}
+use Rattle.std.proofs.Common.{◌≡◌, ℕ, suc, ◌≤◌, List, [], ◌∷◌, inr, refl, sym, ap, ◌∙◌, subst, arith}
 use Rattle.std.proofs.lemmas.List.{append-nil}
 use Rattle.ir_image.specs.Guest.{Guest}
 use Rattle.ir_runs.specs.InOrder.{InTurn, EntersIfFree}
-use Rattle.ir_runs.specs.Run.{State, IsDone, after, asked, end}
+use Rattle.ir_runs.specs.Run.{State, IsDone, after, end}
 use Rattle.ir_states.specs.Outcomes.{switches}
 use Rattle.ir_thread.specs.Instance.{thread_machine}
 use Rattle.ir_thread.specs.State as thread
@@ -15,7 +15,7 @@ use Rattle.ir_outcomes.specs.Again.{steps_of, IsAgainWithin}
 use Rattle.ir_outcomes.specs.Shown.{IsShown}
 
 -- each of the steps is taken in turn
-quiet_turns : (code : List ℕ) (s : State thread.State) (order : List ℕ) → IsQuietRun code s (steps_of order)
+pub quiet_turns : (code : List ℕ) (s : State thread.State) (order : List ℕ) → IsQuietRun code s (steps_of order)
     → InTurn (thread_machine code) s order (steps_of order)
 quiet_turns code s [] quiet = refl
 quiet_turns code s (t ∷ order) (can, live, sure, rest) =

@@ -3,10 +3,11 @@
 ghost use Rattle.std.specs.Prelude.{◌≡◌, ℕ, suc, ◌≤◌, ◌<◌, length, Some, slice_get, IfOk};
 ghost use Rattle.ir_explore.specs.declared.search.Ended.TheVariants.{Finished, Covered};
 ghost use Rattle.ir_graph.specs.Reached.{AllReached};
-ghost use Rattle.ir_outcomes.specs.Explored.{AreExplored, AreAll, AreShown};
+ghost use Rattle.ir_outcomes.specs.Explored.{AreExplored, AreAll, AreHangs, AreShown};
 ghost use Rattle.ir_thread.specs.Allowed.{IsAllowed};
 ghost use Rattle.ir_thread.specs.declared.profile.Profile.TheVariants.{One};
 
+use crate::hang::{count_lost, find_hang};
 use crate::shown::{Shown, show};
 use ir_explore::{Origin, Stop};
 use ir_flat::Flat;
@@ -21,6 +22,10 @@ pub struct Explored<'a> {
     pub states: States<'a>,
     /// Its different outcomes.
     pub outcomes: Vec<Shown>,
+    /// Of a finished search: how many of the states can't be brought to an end.
+    pub hangs: usize,
+    /// A run that leads to the first of them.
+    pub hang: Option<Shown>,
 }
 
 // Each of these nodes with an order that leads to it.
@@ -61,6 +66,8 @@ pub fn explore<'a>(
     requires some { 1 ≤ bounds.nodes }
     // Once it is finished, an outcome is listed exactly where some complete run of the guest has it.
     ensures all { IfOk result (λ found. found.states.found.ended ≡ Finished → AreAll image.now found.states.graph.flats.items found.outcomes.items) }
+    // So are its hangs: one is shown exactly where some run of the guest can't be brought to an end.
+    ensures hangs { IfOk result (λ found. found.states.found.ended ≡ Finished → AreHangs image.now found.states.graph.flats.items found.hangs found.hang) }
     // However it ends, what is listed is right, and complete up to a number of switches.
     ensures explored { IfOk result (λ found. AreExplored image.now found.states.graph.flats.items found.states.found.levels found.outcomes.items) }
     ensures states { IfOk result (λ found. AllReached image.now found.states.graph.flats.items) }
@@ -78,5 +85,13 @@ pub fn explore<'a>(
         listed.as_slice(),
         bounds.private,
     )?;
-    Ok(Explored { states, outcomes })
+    let marks = states.marks.as_slice();
+    let hang = find_hang(alloc, image, flats, origins, marks, bounds.private)?;
+    let hangs = count_lost(marks);
+    Ok(Explored {
+        states,
+        outcomes,
+        hangs,
+        hang,
+    })
 }

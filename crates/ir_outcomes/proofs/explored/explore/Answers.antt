@@ -1,7 +1,17 @@
-use Rattle.std.proofs.Common.{length, sym, subst}
+use Rattle.std.proofs.Common.{◌≡◌, ℕ, ◌<◌, Some, None, length, sym, ap, ◌∙◌, subst, arith}
+use Rattle.std.specs.Prelude.{slice_get}
+use Rattle.ir_explore.specs.declared.origin.Origin.{Origin}
+use Rattle.ir_explore.specs.Following.{IsOpen}
+use Rattle.ir_explore.specs.Ways.{shut}
+use Rattle.ir_flat.specs.Flat.{Flat}
+use Rattle.ir_record.specs.Turns.{order_of_turns}
+use Rattle.ir_outcomes.specs.Hang.{IsFirst}
+use Rattle.ir_outcomes.specs.Shown.{IsShownAt}
+use Rattle.ir_outcomes.specs.declared.shown.Shown.{Shown}
+use Rattle.ir_outcomes.proofs.Lost.{are_hangs}
 use Rattle.ir_graph.specs.Listing.{AreOutcomes}
 use Rattle.ir_graph.specs.Reached.{AllReached}
-use Rattle.ir_outcomes.specs.Explored.{AreShown}
+use Rattle.ir_outcomes.specs.Explored.{AreHangs, AreShown}
 use Rattle.ir_outcomes.proofs.Listed.{explored, all_outcomes}
 use Rattle.ir_outcomes.proofs.explored.explore.Goals as goal
 
@@ -42,3 +52,25 @@ returns-clause-explored c =
 
 pub returns-clause-states : goal.returns-clause-states
 returns-clause-states c = c.in_ok-states.ensures.searched.reached
+
+pub find_hang-requires-clause-reached : goal.find_hang-requires-clause-reached
+find_hang-requires-clause-reached c =
+    subst (AllReached c.args.image.now) (sym c.as_slice-flats.ensures.value) c.in_ok-states.ensures.searched.reached
+
+pub returns-clause-hangs : goal.returns-clause-hangs
+returns-clause-hangs c = λ done.
+    let guest = c.args.image.now in
+    let flats = c.in_ok-states.states.graph.flats.items in
+    let origins = c.in_ok-states.states.found.nodes.items in
+    let marks = c.in_ok-states.states.marks.items in
+    let hang = c.in_ok-hang.hang in
+    let none = subst (λ z. hang ≡ None → (v : ℕ) → v < length z → IsOpen z v) c.as_slice-marks.ensures.value c.in_ok-hang.ensures.none in
+    let first = subst (λ z. (x : Shown) → hang ≡ Some x → IsFirst z x.node) c.as_slice-marks.ensures.value c.in_ok-hang.ensures.first in
+    let level = subst (λ z. (x : Shown) → hang ≡ Some x → (n : Origin) → slice_get z x.node ≡ Some n → x.level ≡ n.level)
+    c.as_slice-origins.ensures.value c.in_ok-hang.ensures.level in
+    let shown = subst (λ z. (x : Shown) → hang ≡ Some x → (f : Flat) → slice_get z x.node ≡ Some f
+    → IsShownAt guest f x.level (order_of_turns x.turns.items)) c.as_slice-flats.ensures.value c.in_ok-hang.ensures.shown in
+    let nodes = c.in_ok-states.ensures.nodes done in
+    subst (λ z. AreHangs guest flats z hang) (sym (c.count_lost-hangs.ensures ∙ ap shut c.as_slice-marks.ensures.value))
+    (are_hangs guest flats origins marks (c.in_ok-states.ensures.marked done) (c.in_ok-states.ensures.stand done)
+    c.in_ok-states.ensures.searched.rising (omega (arith, nodes)) hang none first level shown)
