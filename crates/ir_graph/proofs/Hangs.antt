@@ -1,5 +1,5 @@
 -- Runs of a guest that can't be brought to an end any more.
-use Rattle.std.proofs.Common.{◌≡◌, ◌↔◌, ℕ, ◌<◌, ◌≤◌, Bool, true, Option, Some, None, List, [], ◌∷◌, ◌++◌, inl, inr, length, refl, sym, ap, ◌∙◌, subst, arith}
+use Rattle.std.proofs.Common.{◌≡◌, ◌↔◌, ℕ, ◌<◌, ◌≤◌, Bool, true, Option, Some, None, List, [], ◌∷◌, ◌++◌, length, refl, sym, ap, ◌∙◌, subst, arith}
 use Rattle.std.specs.Prelude.{slice_get}
 use Rattle.std.proofs.lemmas.Option.{same_Some, slice_get-get_or}
 use Rattle.std.specs.List.{slice_index_or}
@@ -9,17 +9,16 @@ use Rattle.ir_explore.specs.Following.{IsOpen}
 use Rattle.ir_explore.specs.Levels.{AreAsked, AreGoneOver}
 use Rattle.ir_explore.specs.Meaning.{Steps}
 use Rattle.ir_explore.specs.Origins.{first_origin, AreReached}
-use Rattle.ir_explore.specs.Ways.{HasMarked}
 use Rattle.ir_explore.proofs.CallerLemmas.{asked_finished, marked_way, way_to_marked, slice_less}
 use Rattle.ir_runs.specs.Machine as machine
 use Rattle.ir_runs.specs.Machine.{Machine, IsLawful}
-use Rattle.ir_runs.specs.Run.{State, Step, asked, Can, after, end, IsDone}
+use Rattle.ir_runs.specs.Run.{State, Step, asked, after, end, IsDone}
 use Rattle.ir_runs.proofs.CallerLemmas.{Good, end_append}
 use Rattle.ir_states.specs.Counting.{Answers, IsAnswered, Counts, entering}
 use Rattle.ir_states.specs.Nodes.{TellsNothing, Path}
 use Rattle.ir_states.specs.Outcomes.{switches, IsFinished, HasWay}
 use Rattle.ir_states.specs.Sources.{Giving, answer_of, left_of, sourced, by_source}
-use Rattle.ir_states.specs.Views.{viewed, beside}
+use Rattle.ir_states.specs.Views.{beside}
 use Rattle.ir_states.proofs.CallerLemmas.{Completes, back, finds, found, done_alike, live_run, live_unspoilt, looks_alike, real_seen, seen_good, sourced_counts, sourced_entering, sourced_lawful, sourced_live, sourced_view, viewed_counts, viewed_entering}
 use Rattle.ir_thread.specs.Calls.{most_budget}
 use Rattle.ir_thread.specs.Instance.{thread_machine}
@@ -27,7 +26,7 @@ use Rattle.ir_thread.specs.State as thread
 use Rattle.ir_thread.specs.declared.profile.Profile.TheVariants.{One}
 use Rattle.ir_seen.specs.Seen.{view, seen_machine, IsLive, IsSpoilt, seen_start, IsCounted, Same}
 use Rattle.ir_seen.proofs.CallerLemmas.{seen_lawful, seen_view, seen_spoils, look_same, one_start, start_is_good, start_unspoilt}
-use Rattle.ir_flat.specs.Flat.{Flat, tables, machine, start_flat}
+use Rattle.ir_flat.specs.Flat.{Flat, tables, start_flat}
 use Rattle.ir_graph.specs.Graph.{IsGraph}
 use Rattle.ir_graph.specs.Hangs.{IsCounting, CanEndFrom, CanEnd, IsHangOf, AreMarked, AllStand, AreWays}
 use Rattle.ir_graph.specs.Nodes.{told, seen_by, told_by, Alike, seen_of, LookAlike}
@@ -35,7 +34,7 @@ use Rattle.ir_graph.specs.Reached.{is_sure, IsQuietRun, beginning}
 use Rattle.ir_graph.proofs.Leads.{seen_table}
 use Rattle.ir_graph.proofs.Levels.{node_level}
 use Rattle.ir_graph.proofs.Listed.{flat_of, state_of, at, code_at, seen_done, really_done, graph_means}
-use Rattle.ir_graph.proofs.Plain.{seen_after, seen_takes}
+use Rattle.ir_graph.proofs.Plain.{seen_after}
 use Rattle.ir_graph.proofs.Reached.{quiet_runs, quiet_live, quiet_given}
 
 -- runs that count go on alike from alike states

@@ -3,6 +3,7 @@ mod Alike
 mod Leads
 mod Reached
 mod Turn
+mod Stops
 mod OneOutcome
 mod Found
 mod Ended

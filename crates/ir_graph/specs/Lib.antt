@@ -8,3 +8,4 @@ pub mod Outcomes
 pub mod Listing
 pub mod Searched
 pub mod Hangs
+pub mod Stops

@@ -1,11 +1,15 @@
 //! The states of a guest that its runs lead over, and what is known of them.
 
-ghost use Rattle.std.specs.Prelude.{◌≡◌, ℕ, suc, ◌≤◌, length, IfOk};
-ghost use Rattle.ir_explore.specs.declared.search.Ended.TheVariants.{Finished, Covered};
+ghost use Rattle.std.specs.Prelude.{◌≡◌, ◌⊎◌, ℕ, suc, ◌≤◌, Some, length, slice_get, IfOk, IfErr};
+ghost use Rattle.ir_explore.specs.declared.search.Ended.TheVariants.{Finished, Covered, Stopped};
+ghost use Rattle.ir_explore.specs.declared.origin.Origin.{Origin};
+ghost use Rattle.ir_explore.specs.declared.stop.Stop.{Stop};
+ghost use Rattle.ir_explore.specs.declared.stop.Stop.TheVariants.{Memory};
 ghost use Rattle.ir_graph.specs.Hangs.{AreMarked, AllStand, AreWays};
 ghost use Rattle.ir_graph.specs.Outcomes.{AllListed, AllShown};
 ghost use Rattle.ir_graph.specs.Notes.{noted_in};
 ghost use Rattle.ir_graph.specs.Searched.{AreSearched};
+ghost use Rattle.ir_graph.specs.Stops.{IsStop, MayStop};
 ghost use Rattle.ir_thread.specs.Allowed.{IsAllowed};
 ghost use Rattle.ir_thread.specs.declared.profile.Profile.TheVariants.{One};
 
@@ -62,7 +66,12 @@ pub fn search_states<'a>(
     // However it ends, each listed one is an outcome of the guest, and those of runs of fewer switches than levels are listed.
     ensures shown { IfOk result (λ states. AllShown image.now states.graph.flats.items) }
     ensures searched { IfOk result (λ states. AreSearched image.now states.graph.flats.items states.found.nodes.items states.found.levels) }
+    // It ends so only where all levels that are wanted are gone over, and some state was found in the last of them.
     ensures covered { IfOk result (λ states. states.found.ended ≡ Covered → states.found.levels ≡ suc switches) }
+    ensures left { IfOk result (λ states. states.found.ended ≡ Covered → (v : ℕ) × (n : Origin) × (slice_get states.found.nodes.items v ≡ Some n) × (n.level ≡ switches)) }
+    // It stops only for a reason; none of its own but memory, and a thread that is not followed to its first entry.
+    ensures stopped { IfOk result (λ states. (stop : Stop) → states.found.ended ≡ Stopped stop → MayStop image.now states.graph.flats.items bounds.nodes bounds.private stop) }
+    ensures refused { IfErr result (λ stop. (stop ≡ Memory) ⊎ IsStop image.now bounds.private stop) }
 {
     let mut graph = start_graph(alloc, image, bounds)?;
     let threads = image.entries().len();

@@ -16,7 +16,7 @@ returns-clause-all c = λ done.
     let rows = graph.rows.items in
     let flats = graph.flats.items in
     let sound = c.run_search.ensures.sound in
-    let image = c.run_search.ensures.origin ∙ c.in_ok-graph.ensures.image in
+    let image = ap (λ z. z.0) c.run_search.ensures.origin ∙ c.in_ok-graph.ensures.image in
     let threads = ap length c.entries-threads.ensures.value ∙ ap (λ z. length z.entries) (sym image) ∙ sym sound.number in
     subst (λ z. AllListed z flats) image
     (all_listed graph.image.now flats (noted_in rows) (length rows) sound (λ t v l. noted_past rows t v l) c.in_ok-found.found.nodes.items
@@ -30,7 +30,7 @@ returns-clause-searched c =
     let flats = graph.flats.items in
     let nodes = c.in_ok-found.found.nodes.items in
     let sound = c.run_search.ensures.sound in
-    let image = c.run_search.ensures.origin ∙ c.in_ok-graph.ensures.image in
+    let image = ap (λ z. z.0) c.run_search.ensures.origin ∙ c.in_ok-graph.ensures.image in
     let threads = ap length c.entries-threads.ensures.value ∙ ap (λ z. length z.entries) (sym image) ∙ sym sound.number in
     subst (λ z. AreSearched z flats nodes c.in_ok-found.found.levels) image (record {
       states = sound.nodes;
@@ -49,7 +49,7 @@ pub returns-clause-shown : goal.returns-clause-shown
 returns-clause-shown c =
     let graph = c.run_search.new.graph in
     let rows = graph.rows.items in
-    let image = c.run_search.ensures.origin ∙ c.in_ok-graph.ensures.image in
+    let image = ap (λ z. z.0) c.run_search.ensures.origin ∙ c.in_ok-graph.ensures.image in
     subst (λ z. AllShown z graph.flats.items) image
     (all_shown graph.image.now graph.flats.items (noted_in rows) (length rows) c.run_search.ensures.sound)
 
@@ -59,7 +59,7 @@ returns-clause-marked c = λ done.
     let rows = graph.rows.items in
     let flats = graph.flats.items in
     let sound = c.run_search.ensures.sound in
-    let image = c.run_search.ensures.origin ∙ c.in_ok-graph.ensures.image in
+    let image = ap (λ z. z.0) c.run_search.ensures.origin ∙ c.in_ok-graph.ensures.image in
     let threads = ap length c.entries-threads.ensures.value ∙ ap (λ z. length z.entries) (sym image) ∙ sym sound.number in
     are_marked graph.image.now flats (noted_in rows) (length rows) sound (λ t v l. noted_past rows t v l) c.in_ok-found.found.nodes.items
     c.in_ok-found.ensures.reached (c.in_ok-found.ensures.all done)
@@ -72,7 +72,7 @@ returns-clause-stand c = λ done.
     let rows = graph.rows.items in
     let flats = graph.flats.items in
     let sound = c.run_search.ensures.sound in
-    let image = c.run_search.ensures.origin ∙ c.in_ok-graph.ensures.image in
+    let image = ap (λ z. z.0) c.run_search.ensures.origin ∙ c.in_ok-graph.ensures.image in
     let threads = ap length c.entries-threads.ensures.value ∙ ap (λ z. length z.entries) (sym image) ∙ sym sound.number in
     subst (λ z. AllStand z flats c.in_ok-found.found.nodes.items) image
     (all_stand graph.image.now flats (noted_in rows) (length rows) sound (λ t v l. noted_past rows t v l) c.in_ok-found.found.nodes.items

@@ -1,4 +1,4 @@
-use Rattle.std.proofs.Common.{length, sym, arith}
+use Rattle.std.proofs.Common.{sym, arith}
 use Rattle.ir_graph.proofs.Grown.{noted_past}
 use Rattle.ir_graph.proofs.graph.GraphSuccessors.known.Goals as goal
 
