@@ -1,8 +1,13 @@
 //! All outcomes of a guest.
 
-ghost use Rattle.std.specs.Prelude.{◌≡◌, ℕ, suc, ◌≤◌, ◌<◌, length, Some, slice_get, IfOk};
-ghost use Rattle.ir_explore.specs.declared.search.Ended.TheVariants.{Finished, Covered};
+ghost use Rattle.std.specs.Prelude.{◌≡◌, ◌⊎◌, ℕ, suc, ◌≤◌, ◌<◌, length, Some, slice_get, IfOk, IfErr};
+ghost use Rattle.ir_explore.specs.declared.search.Ended.TheVariants.{Finished, Covered, Stopped};
+ghost use Rattle.ir_explore.specs.declared.origin.Origin.{Origin};
+ghost use Rattle.ir_explore.specs.declared.stop.Stop.{Stop};
+ghost use Rattle.ir_explore.specs.declared.stop.Stop.TheVariants.{Memory};
+ghost use Rattle.ir_graph.specs.Stops.{IsStop, MayStop};
 ghost use Rattle.ir_graph.specs.Reached.{AllReached};
+ghost use Rattle.ir_outcomes.specs.Hang.{IsOrder};
 ghost use Rattle.ir_outcomes.specs.Explored.{AreExplored, AreAll, AreHangs, AreShown};
 ghost use Rattle.ir_thread.specs.Allowed.{IsAllowed};
 ghost use Rattle.ir_thread.specs.declared.profile.Profile.TheVariants.{One};
@@ -41,7 +46,8 @@ fn show_all<'a>(
     requires reached { AllReached image.now flats.now }
     requires few { length origins.now ≤ length flats.now }
     requires listed { (i v : ℕ) → slice_get listed.now i ≡ Some v → v < length origins.now }
-    ensures { IfOk result (λ outcomes. AreShown image.now flats.now origins.now listed.now (length listed.now) outcomes.items) }
+    ensures refused { IfErr result (λ stop. (stop ≡ Memory) ⊎ IsOrder stop) }
+    ensures shown { IfOk result (λ outcomes. AreShown image.now flats.now origins.now listed.now (length listed.now) outcomes.items) }
 {
     let mut outcomes = Vec::new(alloc);
     for i in 0..listed.len() {
@@ -71,7 +77,12 @@ pub fn explore<'a>(
     // However it ends, what is listed is right, and complete up to a number of switches.
     ensures explored { IfOk result (λ found. AreExplored image.now found.states.graph.flats.items found.states.found.levels found.outcomes.items) }
     ensures states { IfOk result (λ found. AllReached image.now found.states.graph.flats.items) }
+    // It ends so only where all levels that are wanted are gone over, and some state was found in the last of them.
     ensures covered { IfOk result (λ found. found.states.found.ended ≡ Covered → found.states.found.levels ≡ suc switches) }
+    ensures left { IfOk result (λ found. found.states.found.ended ≡ Covered → (v : ℕ) × (n : Origin) × (slice_get found.states.found.nodes.items v ≡ Some n) × (n.level ≡ switches)) }
+    // It stops only where the states are as many as may be, memory ends, or a run leads to a thread that is not followed.
+    ensures stopped { IfOk result (λ found. (stop : Stop) → found.states.found.ended ≡ Stopped stop → MayStop image.now found.states.graph.flats.items bounds.nodes bounds.private stop) }
+    ensures refused { IfErr result (λ stop. (stop ≡ Memory) ⊎ IsStop image.now bounds.private stop ⊎ IsOrder stop) }
 {
     let states = search_states(alloc, image, bounds, switches)?;
     let flats = states.graph.flats.as_slice();

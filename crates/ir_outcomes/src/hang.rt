@@ -1,6 +1,7 @@
 //! A state that can't be brought to an end, with an order that leads to it.
 
-ghost use Rattle.std.specs.Prelude.{◌≡◌, ℕ, ◌<◌, ◌≤◌, false, Some, None, length, slice_get, IfOk};
+ghost use Rattle.std.specs.Prelude.{◌≡◌, ◌⊎◌, ℕ, ◌<◌, ◌≤◌, false, Some, None, length, slice_get, IfOk, IfErr};
+ghost use Rattle.ir_explore.specs.declared.stop.Stop.TheVariants.{Memory, Order};
 ghost use Rattle.ir_explore.specs.declared.origin.Origin.{Origin};
 ghost use Rattle.ir_explore.specs.Following.{IsOpen};
 ghost use Rattle.ir_explore.specs.Ways.{shut};
@@ -9,12 +10,12 @@ ghost use Rattle.ir_graph.specs.Reached.{AllReached};
 ghost use Rattle.ir_record.specs.Turns.{order_of_turns};
 ghost use Rattle.ir_thread.specs.Allowed.{IsAllowed};
 ghost use Rattle.ir_thread.specs.declared.profile.Profile.TheVariants.{One};
-ghost use Rattle.ir_outcomes.specs.Hang.{IsFirst};
+ghost use Rattle.ir_outcomes.specs.Hang.{IsFirst, IsOrder};
 ghost use Rattle.ir_outcomes.specs.Shown.{IsShownAt};
 ghost use Rattle.ir_outcomes.specs.declared.shown.Shown.{Shown};
 
 use crate::path::path_to;
-use crate::rerun::run_again;
+use crate::rerun::run_to_node;
 use crate::shown::Shown;
 use ir_explore::{Origin, Stop};
 use ir_flat::Flat;
@@ -61,12 +62,13 @@ fn lead<'a>(
     requires reached { AllReached image.now flats.now }
     requires node { node < length flats.now }
     requires origin { node < length origins.now }
+    ensures refused { IfErr result (λ stop. (stop ≡ Memory) ⊎ (stop ≡ Order node)) }
     ensures node { IfOk result (λ shown. shown.node ≡ node) }
     ensures level { IfOk result (λ shown. (n : Origin) → slice_get origins.now node ≡ Some n → shown.level ≡ n.level) }
     ensures shown { IfOk result (λ shown. (f : Flat) → slice_get flats.now node ≡ Some f → IsShownAt image.now f shown.level (order_of_turns shown.turns.items)) }
 {
     let path = path_to(alloc, origins, node)?;
-    let (flat, turns) = run_again(alloc, image, path.as_slice(), limit)?;
+    let (flat, turns) = run_to_node(alloc, image, path.as_slice(), node, limit)?;
     if !same_state(alloc, &flat, &flats[node])? {
         return Err(Stop::Order(node));
     }
@@ -93,6 +95,7 @@ pub fn find_hang<'a>(
     requires reached { AllReached image.now flats.now }
     requires few { length origins.now ≤ length flats.now }
     requires marks { length marks.now ≤ length origins.now }
+    ensures refused { IfErr result (λ stop. (stop ≡ Memory) ⊎ IsOrder stop) }
     ensures none { IfOk result (λ hang. hang ≡ None → (v : ℕ) → v < length marks.now → IsOpen marks.now v) }
     ensures first { IfOk result (λ hang. (x : Shown) → hang ≡ Some x → IsFirst marks.now x.node) }
     ensures level { IfOk result (λ hang. (x : Shown) → hang ≡ Some x → (n : Origin) → slice_get origins.now x.node ≡ Some n → x.level ≡ n.level) }

@@ -31,7 +31,7 @@ returns-clause-all c = λ done.
     let shown = subst (λ z. AreShown guest flats origins z (length z) outcomes) c.as_slice.ensures.value
     (subst (λ z. AreShown guest flats z c.as_slice.result.now (length c.as_slice.result.now) outcomes) c.as_slice-origins.ensures.value
     (subst (λ z. AreShown guest z c.as_slice-origins.result.now c.as_slice.result.now (length c.as_slice.result.now) outcomes)
-    c.as_slice-flats.ensures.value c.in_ok-outcomes.ensures)) in
+    c.as_slice-flats.ensures.value c.in_ok-outcomes.ensures.shown)) in
     all_outcomes guest flats origins c.in_ok-states.states.found.levels listed outcomes c.in_ok-states.ensures.searched different shown
     (c.in_ok-states.ensures.all done) (c.in_ok-states.ensures.nodes done)
 
@@ -47,7 +47,7 @@ returns-clause-explored c =
     let shown = subst (λ z. AreShown guest flats origins z (length z) outcomes) c.as_slice.ensures.value
     (subst (λ z. AreShown guest flats z c.as_slice.result.now (length c.as_slice.result.now) outcomes) c.as_slice-origins.ensures.value
     (subst (λ z. AreShown guest z c.as_slice-origins.result.now c.as_slice.result.now (length c.as_slice.result.now) outcomes)
-    c.as_slice-flats.ensures.value c.in_ok-outcomes.ensures)) in
+    c.as_slice-flats.ensures.value c.in_ok-outcomes.ensures.shown)) in
     explored guest flats origins c.in_ok-states.states.found.levels listed outcomes c.in_ok-states.ensures.searched different shown
 
 pub returns-clause-states : goal.returns-clause-states

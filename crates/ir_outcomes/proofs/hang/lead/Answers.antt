@@ -19,7 +19,7 @@ same_state-requires c =
     let at : slice_get c.args.flats.now c.args.node ≡ Some f =
     slice_get-get_or c.args.flats.now c.args.node f c.requires.node ∙ ap Some (sym c.index-flats-node.is) in
     like_more c.in_ok-flat.flat (start_flat c.args.image.now most_budget One) f
-    (like_back (start_flat c.args.image.now most_budget One) c.in_ok-flat.flat c.in_ok-flat.ensures.again.like)
+    (like_back (start_flat c.args.image.now most_budget One) c.in_ok-flat.flat c.in_ok-flat.ensures.again.again.like)
     (c.requires.reached c.args.node f at).like
 
 pub returns-clause-level : goal.returns-clause-level
@@ -34,10 +34,10 @@ returns-clause-shown c = λ g here.
     let one = same_Some f g (sym at ∙ here) in
     let n : Origin = slice_index_or c.args.origins.now c.args.node first_origin in
     again_at c.args.image.now (order_of_turns c.in_ok-flat.turns.items) (length c.as_slice.result.now) n.level g c.in_ok-flat.flat
-    c.in_ok-flat.ensures
+    c.in_ok-flat.ensures.again
     (subst (λ z. length z ≤ suc n.level) (sym c.as_slice.ensures.value)
-    (c.in_ok-path.ensures n (slice_get-get_or c.args.origins.now c.args.node first_origin c.requires.origin)))
+    (c.in_ok-path.ensures.few n (slice_get-get_or c.args.origins.now c.args.node first_origin c.requires.origin)))
     (like_more c.in_ok-flat.flat (start_flat c.args.image.now most_budget One) g
-    (like_back (start_flat c.args.image.now most_budget One) c.in_ok-flat.flat c.in_ok-flat.ensures.again.like)
+    (like_back (start_flat c.args.image.now most_budget One) c.in_ok-flat.flat c.in_ok-flat.ensures.again.again.like)
     (c.requires.reached c.args.node g here).like)
     (subst (LookAlike c.in_ok-flat.flat) one (c.in_ok-same_state.ensures c.if-not-branch.false))
