@@ -21,10 +21,15 @@ fn a_lost_wake_up_hangs_after_one_switch(rt: HostRuntime) -> Result<(), Fail> {
     assert!(rt; found.states.found.ended == Ended::Finished);
     assert_eq!(rt; found.outcomes.len(), 2);
     assert_eq!(rt; found.hangs, 2);
-    let Some(hang) = found.hang else {
+    let Some(hang) = &found.hang else {
         return Err(Fail::from("no hang"));
     };
     assert_eq!(rt; hang.level, 1);
+    let [first, second, ..] = hang.turns.as_slice() else {
+        return Err(Fail::from("no order"));
+    };
+    assert_eq!(rt; (first.thread, first.count), (0, 14));
+    assert_eq!(rt; (second.thread, second.count), (1, 25));
     Ok(())
 }
 
