@@ -1,6 +1,6 @@
 # The commands of the repository. Each needs the Rattle kit's `rt` and Python 3, and nothing else, but for the tests of the built program.
 
-.PHONY: all try run check test edits program-test view-test c-test refuse mutate bench
+.PHONY: all try run check test edits program-test view-test c-test gdb-test refuse mutate bench
 
 all: ir
 
@@ -48,6 +48,10 @@ view-test: ir
 # Guests from C: compiled at four levels, converted, recorded, hunted in. Needs riscv64-unknown-elf-gcc beside, and says so if it isn't there.
 c-test: ir
 	python3 tests/c_guests.py ./ir
+
+# A real gdb over recordings of guests from C. Needs gdb-multiarch and riscv64-unknown-elf-gcc beside, and says so if they aren't there.
+gdb-test: ir
+	python3 tests/gdb_sessions.py ./ir
 
 # The tests of sessions as a program, of which those about memory are run here. Proves them too.
 TESTS := crates/ir_session_tests/out/ir_session_tests_tests

@@ -1,7 +1,7 @@
 //! The subcommands, in one table.
 
 use crate::asked::Asked;
-use crate::{assemble, debug, diff, elf, events, hunt, list, record, stale, trace, view, who, why};
+use crate::{assemble, debug, diff, elf, events, gdb, hunt, list, record, stale, trace, view, who, why};
 use clap::{ArgMatches, Command};
 use std::alloc::{AllocError, Global};
 
@@ -14,6 +14,7 @@ pub enum Subcommand {
     Record,
     Hunt,
     Debug,
+    Gdb,
     Trace,
     Events,
     Stale,
@@ -24,13 +25,14 @@ pub enum Subcommand {
 }
 
 /// The subcommands, in the order in which the help lists them.
-pub const SUBCOMMANDS: [Subcommand; 13] = [
+pub const SUBCOMMANDS: [Subcommand; 14] = [
     Subcommand::Assemble,
     Subcommand::Elf,
     Subcommand::List,
     Subcommand::Record,
     Subcommand::Hunt,
     Subcommand::Debug,
+    Subcommand::Gdb,
     Subcommand::Trace,
     Subcommand::Events,
     Subcommand::Stale,
@@ -81,6 +83,11 @@ impl Subcommand {
                 name: "debug",
                 about: "Debugs a recorded run, forwards and backwards",
                 after: debug::DEBUG_AFTER,
+            },
+            Subcommand::Gdb => Row {
+                name: "gdb",
+                about: "Lets gdb debug a recorded run, forwards and backwards",
+                after: gdb::GDB_AFTER,
             },
             Subcommand::Trace => Row {
                 name: "trace",
@@ -133,6 +140,7 @@ impl Subcommand {
             Subcommand::Record => record::with_arguments(alloc, command),
             Subcommand::Hunt => hunt::with_arguments(alloc, command),
             Subcommand::Debug => debug::with_arguments(alloc, command),
+            Subcommand::Gdb => gdb::with_arguments(alloc, command),
             Subcommand::Trace => trace::with_arguments(alloc, command),
             Subcommand::Events => events::with_arguments(alloc, command),
             Subcommand::Stale => stale::with_arguments(alloc, command),
@@ -152,6 +160,7 @@ impl Subcommand {
             Subcommand::Record => record::asked(alloc, matches),
             Subcommand::Hunt => hunt::asked(alloc, matches),
             Subcommand::Debug => debug::asked(alloc, matches),
+            Subcommand::Gdb => gdb::asked(alloc, matches),
             Subcommand::Trace => trace::asked(alloc, matches),
             Subcommand::Events => events::asked(alloc, matches),
             Subcommand::Stale => stale::asked(alloc, matches),

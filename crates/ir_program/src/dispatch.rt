@@ -7,6 +7,7 @@ use crate::commands::assemble::assemble_file;
 use crate::commands::debug::debug_files;
 use crate::commands::elf::convert_file;
 use crate::commands::events::events_file;
+use crate::commands::gdb::gdb_files;
 use crate::commands::hunt::hunt_file;
 use crate::commands::list::list_file;
 use crate::commands::past::{diff_files, stale_file, view_file, who_file, why_file};
@@ -170,6 +171,18 @@ where
             let mut input = Prompting::new(input, rt, terminals.input);
             debug_files(
                 &around,
+                &arguments,
+                terminals.faults,
+                &mut input,
+                out,
+                faults,
+            )
+        }
+        Asked::Gdb(arguments) => {
+            let mut input = input;
+            gdb_files(
+                rt,
+                folder,
                 &arguments,
                 terminals.faults,
                 &mut input,
