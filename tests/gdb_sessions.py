@@ -15,7 +15,7 @@ import subprocess
 import sys
 import tempfile
 import time
-from dataclasses import dataclass, field
+from dataclasses import dataclass
 from pathlib import Path
 
 from lib import TOP, Wrong, finish, program, run, use
@@ -43,7 +43,8 @@ class Session:
     # Whether a move is of one thread alone.
     locked: bool = True
     target: str = "remote"
-    before: list = field(default_factory=list)
+    # The recording, if it hasn't the guest's name.
+    trace: str = ""
 
 
 SESSIONS = {
@@ -244,6 +245,55 @@ def check_interrupt(folder):
         raise Wrong(f"an interrupt: found {found!r}")
 
 
+def check_slow_opening(folder):
+    """A recording that takes longer to open than gdb waits for an answer."""
+    ended = run("record busy.img slow.trc --budget 3000000000", folder)
+    if ended.returncode:
+        raise Wrong(f"a long recording: {ended!r}")
+    session = Session("busy", ["info threads", "stepi", "info threads"], [r"\(at 0 of 3000000000\)", r"\(at 1 of 3000000000\)"], trace="slow")
+    check_session(session, folder)
+
+
+def machine_interface(folder, lines):
+    """What gdb answers to these lines of its machine interface, each waited for."""
+    words = [GDB, "-nx", "-q", "--interpreter=mi3", "over.elf"]
+    gdb = subprocess.Popen(words, cwd=folder, stdin=subprocess.PIPE, stdout=subprocess.PIPE, stderr=subprocess.DEVNULL, text=True, errors="replace")
+    said = []
+    with gdb:
+        for number, text in enumerate(lines):
+            gdb.stdin.write(f"{number}{text}\n")
+            gdb.stdin.flush()
+            # a move is answered at once, and ends later
+            waits = [f"{number}^"] + ["*stopped"] * ("-exec-" in text)
+            for start in waits:
+                for line in gdb.stdout:
+                    said.append(line)
+                    if line.startswith(start):
+                        break
+        gdb.stdin.write("-gdb-exit\n")
+        gdb.stdin.flush()
+        said += gdb.stdout.readlines()
+    return "".join(said)
+
+
+def check_machine_interface(folder):
+    """What an editor does: a breakpoint, a stack, variables, a step, the same backwards, and threads."""
+    said = machine_interface(folder, [
+        "-gdb-set confirm off", "-gdb-set mi-async off", f"-target-select remote | {program()} gdb over.img over.trc", "-break-insert fill", "-exec-continue",
+        "-stack-list-frames", "-stack-list-variables --simple-values", "-data-evaluate-expression last", "-exec-next", "-exec-next --reverse",
+        "-exec-continue --reverse", "-thread-info", "-data-list-register-values x 32"])
+    at = 0
+    for wanted in (r'2\^connected', r'3\^done,bkpt=\{number="1",type="breakpoint"', r'\*stopped,reason="breakpoint-hit",.*bkptno="1".*func="fill"',
+                   r'5\^done,stack=\[frame=\{level="0",.*func="fill".*level="1",.*func="filler_body"', r'6\^done,variables=\[.*name="last",.*value="4"',
+                   r'7\^done,value="4"', r'\*stopped,reason="end-stepping-range",.*func="fill"', r'\*stopped,.*func="fill"',
+                   r'No more reverse-execution history[\s\S]*\*stopped,', r'11\^done,threads=\[.*target-id="Thread 1".*name="thread 0"',
+                   r'12\^done,register-values=\[\{number="32",value="0x[0-9a-f]+"'):
+        found = re.compile(wanted, re.M).search(said, at)
+        if not found:
+            raise Wrong(f"not found: {wanted!r}\n{said}")
+        at = found.end()
+
+
 def check_forged(folder):
     """What can't be opened is named on standard error, and nothing is read."""
     (folder / "none.trc").write_bytes(b"nothing")
@@ -260,7 +310,7 @@ def check_forged(folder):
 
 def words_of(session, folder):
     """How gdb is started."""
-    server = f"{program()} gdb {session.guest}.img {session.guest}.trc"
+    server = f"{program()} gdb {session.guest}.img {session.trace or session.guest}.trc"
     words = [GDB, "-nx", "-batch", f"{session.guest}.elf"]
     lines = ["set pagination off", "set confirm off", "set width 0", f"source {TOP / 'examples' / 'ir.gdb'}", f"target {session.target} | {server}"]
     if session.locked:
@@ -324,7 +374,15 @@ def check_ctrl_c(folder):
     os.write(gdb.device, b"quit\n")
 
 
-CHECKS = {"17-ctrl-c": check_ctrl_c, "18-forged": check_forged, "20-by-hand": check_by_hand, "21-full": check_full, "22-interrupt": check_interrupt}
+CHECKS = {
+    "17-ctrl-c": check_ctrl_c,
+    "18-forged": check_forged,
+    "18-slow-opening": check_slow_opening,
+    "19-machine-interface": check_machine_interface,
+    "20-by-hand": check_by_hand,
+    "21-full": check_full,
+    "22-interrupt": check_interrupt,
+}
 
 
 def made(folder):
