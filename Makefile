@@ -52,6 +52,7 @@ c-test: ir
 # A real gdb over recordings of guests from C. Needs gdb-multiarch and riscv64-unknown-elf-gcc beside, and says so if they aren't there.
 gdb-test: ir
 	python3 tests/gdb_sessions.py ./ir
+	python3 tests/gdb_sweep.py ./ir
 
 # The tests of sessions as a program, of which those about memory are run here. Proves them too.
 TESTS := crates/ir_session_tests/out/ir_session_tests_tests

@@ -43,8 +43,6 @@ class Session:
     # Whether a move is of one thread alone.
     locked: bool = True
     target: str = "remote"
-    # The recording, if it hasn't the guest's name.
-    trace: str = ""
 
 
 SESSIONS = {
@@ -247,11 +245,13 @@ def check_interrupt(folder):
 
 def check_slow_opening(folder):
     """A recording that takes longer to open than gdb waits for an answer."""
-    ended = run("record busy.img slow.trc --budget 3000000000", folder)
-    if ended.returncode:
-        raise Wrong(f"a long recording: {ended!r}")
-    session = Session("busy", ["info threads", "stepi", "info threads"], [r"\(at 0 of 3000000000\)", r"\(at 1 of 3000000000\)"], trace="slow")
-    check_session(session, folder)
+    (folder / "spin.s").write_text("        .thread spin\nspin:   jal zero, spin\n")
+    for words in ("asm spin.s spin.img", "record spin.img spin.trc --budget 3000000000"):
+        ended = run(words, folder)
+        if ended.returncode:
+            raise Wrong(f"{words}: {ended!r}")
+    wanted = [r"\(at 0 of 3000000001\)", r"\(at 1 of 3000000001\)"]
+    check_session(Session("spin", ["info threads", "stepi", "info threads"], wanted), folder)
 
 
 def machine_interface(folder, lines):
@@ -310,8 +310,10 @@ def check_forged(folder):
 
 def words_of(session, folder):
     """How gdb is started."""
-    server = f"{program()} gdb {session.guest}.img {session.trace or session.guest}.trc"
-    words = [GDB, "-nx", "-batch", f"{session.guest}.elf"]
+    server = f"{program()} gdb {session.guest}.img {session.guest}.trc"
+    words = [GDB, "-nx", "-batch", "-ex", "set architecture riscv:rv32"]
+    if (folder / f"{session.guest}.elf").exists():
+        words.append(f"{session.guest}.elf")
     lines = ["set pagination off", "set confirm off", "set width 0", f"source {TOP / 'examples' / 'ir.gdb'}", f"target {session.target} | {server}"]
     if session.locked:
         lines.append("set scheduler-locking on")
