@@ -13,6 +13,7 @@ const AFTER: &str = "A session of a source of your own:
   ir asm guest.s guest.img
   ir record guest.img guest.trc
   ir hunt guest.img guest.trc --seeds 0+1000 --until fault
+  ir explore guest.img
   ir trace guest.trc
   ir stale guest.trc
   ir stale guest.trc --image guest.img
@@ -21,7 +22,8 @@ Without a subcommand `ir` reads standard input: a line with an image in hexadeci
 hexadecimal, and then the commands of `ir debug`, a line each. With xxd for the hexadecimal:
   { for file in guest.img guest.trc; do xxd -p $file | tr -d '\\n'; echo; done; echo end; echo regs 0; } | ir
 Exit status: 0 done, 1 a fault, 2 bad arguments, 3 a refused source, LIST, image or trace, 4 a trace that doesn't fit, 5 a
-thread that didn't end by END with code 0, if `ir record` was called with --status, or no seed that `ir hunt` found.
+thread that didn't end by END with code 0, if `ir record` was called with --status, no seed that `ir hunt` found, or a search of `ir explore`
+that stopped.
 ";
 
 // The parser of all arguments.

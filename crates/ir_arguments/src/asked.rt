@@ -5,6 +5,7 @@ use crate::debug::DebugArguments;
 use crate::diff::DiffArguments;
 use crate::elf::ElfArguments;
 use crate::events::EventsArguments;
+use crate::explore::ExploreArguments;
 use crate::hunt::HuntArguments;
 use crate::list::ListArguments;
 use crate::record::RecordArguments;
@@ -42,6 +43,8 @@ pub enum Print {
     Diff(DiffArguments),
     /// A picture of a trace.
     View(ViewArguments),
+    /// The outcomes of a guest.
+    Outcomes(ExploreArguments),
 }
 
 /// What the arguments ask for.

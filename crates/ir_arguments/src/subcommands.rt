@@ -1,7 +1,9 @@
 //! The subcommands, in one table.
 
 use crate::asked::Asked;
-use crate::{assemble, debug, diff, elf, events, gdb, hunt, list, record, stale, trace, view, who, why};
+use crate::{
+    assemble, debug, diff, elf, events, explore, gdb, hunt, list, record, stale, trace, view, who, why,
+};
 use clap::{ArgMatches, Command};
 use std::alloc::{AllocError, Global};
 
@@ -13,6 +15,7 @@ pub enum Subcommand {
     List,
     Record,
     Hunt,
+    Explore,
     Debug,
     Gdb,
     Trace,
@@ -25,12 +28,13 @@ pub enum Subcommand {
 }
 
 /// The subcommands, in the order in which the help lists them.
-pub const SUBCOMMANDS: [Subcommand; 14] = [
+pub const SUBCOMMANDS: [Subcommand; 15] = [
     Subcommand::Assemble,
     Subcommand::Elf,
     Subcommand::List,
     Subcommand::Record,
     Subcommand::Hunt,
+    Subcommand::Explore,
     Subcommand::Debug,
     Subcommand::Gdb,
     Subcommand::Trace,
@@ -78,6 +82,11 @@ impl Subcommand {
                 name: "hunt",
                 about: "Records the first of many seeds' orders that fulfils conditions",
                 after: hunt::HUNT_AFTER,
+            },
+            Subcommand::Explore => Row {
+                name: "explore",
+                about: "Prints each different outcome of a guest, with an order that leads to it",
+                after: explore::EXPLORE_AFTER,
             },
             Subcommand::Debug => Row {
                 name: "debug",
@@ -139,6 +148,7 @@ impl Subcommand {
             Subcommand::List => list::with_arguments(alloc, command),
             Subcommand::Record => record::with_arguments(alloc, command),
             Subcommand::Hunt => hunt::with_arguments(alloc, command),
+            Subcommand::Explore => explore::with_arguments(alloc, command),
             Subcommand::Debug => debug::with_arguments(alloc, command),
             Subcommand::Gdb => gdb::with_arguments(alloc, command),
             Subcommand::Trace => trace::with_arguments(alloc, command),
@@ -159,6 +169,7 @@ impl Subcommand {
             Subcommand::List => list::asked(alloc, matches),
             Subcommand::Record => record::asked(alloc, matches),
             Subcommand::Hunt => hunt::asked(alloc, matches),
+            Subcommand::Explore => explore::asked(alloc, matches),
             Subcommand::Debug => debug::asked(alloc, matches),
             Subcommand::Gdb => gdb::asked(alloc, matches),
             Subcommand::Trace => trace::asked(alloc, matches),

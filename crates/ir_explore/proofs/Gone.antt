@@ -176,3 +176,19 @@ pub no_row : (threads t : ℕ) (row : List Bool) → slice_get (replicate thread
 no_row zero t row e = absurd (cc e)
 no_row (suc threads) zero row e = sym (same_Some [] row e)
 no_row (suc threads) (suc t) row e = no_row threads t row e
+
+-- what is gone over up to a level is gone over up to each one before
+pub covered_less : (noted : ℕ → Leading) (threads : ℕ) (nodes : List Origin) (c d : ℕ) → d ≤ c → Covered noted threads nodes c
+    → Covered noted threads nodes d
+covered_less noted threads nodes c d less h = record {
+  levels = h.levels;
+  opens = h.opens;
+  followed = λ k v t l. h.followed k v t (omega (arith, l, less));
+  turned = λ k v t u few few' is l. h.turned k v t u few few' is (omega (arith, l, less));
+  within = λ k v t l. h.within k v t (omega (arith, l, less));
+}
+
+pub gone_less : (noted : ℕ → Leading) (threads : ℕ) (nodes : List Origin) (n d : ℕ) → d < n → AreGoneOver noted threads nodes n
+    → Covered noted threads nodes d
+gone_less noted threads nodes zero d less h = absurd (omega (arith, less))
+gone_less noted threads nodes (suc c) d less h = covered_less noted threads nodes c d (omega (arith, less)) h

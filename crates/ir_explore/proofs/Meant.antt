@@ -48,12 +48,12 @@ turn_changes t (v ∷ ts) u n = elim (cases_eq v t) [
       omega (arith, e, f, h)
 ]
 
-turn_switches : (ts : List ℕ) (u n : ℕ) → switches (ts ++ replicate n u) ≤ suc (switches ts)
+pub turn_switches : (ts : List ℕ) (u n : ℕ) → switches (ts ++ replicate n u) ≤ suc (switches ts)
 turn_switches [] u zero = omega arith
 turn_switches [] u (suc n) = let h = same_changes u n in omega (arith, h)
 turn_switches (t ∷ ts) u n = turn_changes t ts u n
 
-alone_switches : (u n : ℕ) → switches (replicate n u) ≤ 0
+pub alone_switches : (u n : ℕ) → switches (replicate n u) ≤ 0
 alone_switches u zero = omega arith
 alone_switches u (suc n) = let h = same_changes u n in omega (arith, h)
 

@@ -5,7 +5,7 @@ use Rattle.std.proofs.lemmas.Bool.{cases_lt}
 use Rattle.std.proofs.lemmas.Option.{same_Some}
 use Rattle.ir_explore.specs.declared.origin.Origin.{Origin}
 use Rattle.ir_explore.specs.Following.{Leading, Keeps}
-use Rattle.ir_explore.specs.Origins.{Goes, BeginsAt, AreReached, Adds}
+use Rattle.ir_explore.specs.Origins.{Goes, BeginsAt, AreReached, AreRising, Adds}
 
 -- what is at a place of a list with one more
 pub pushed_cases : {A : Type 0} (xs : List A) (y : A) (v : ℕ) (n : A) → slice_get (xs ++ y ∷ []) v ≡ Some n
@@ -86,6 +86,29 @@ adds_one k old nodes new same a = record {
   longer = let h = length-append nodes (new ∷ []) in let l = a.longer in omega (arith, h, l);
 }
 
+got : (xs : List Origin) (v : ℕ) → v < length xs → (n : Origin) × (slice_get xs v ≡ Some n)
+got [] v l = absurd (omega (arith, l))
+got (x ∷ xs) zero l = (x, refl)
+got (x ∷ xs) (suc v) l = got xs v (omega (arith, l))
+
+-- nodes of level k come after those of levels up to k
+pub rising_more : (k : ℕ) (old new : List Origin) → AreRising old → ((v : ℕ) (n : Origin) → slice_get old v ≡ Some n → n.level ≤ k)
+    → Adds k old new → AreRising new
+rising_more k old new rising most a u v x y at there order =
+    let was : (w : ℕ) (n : Origin) → slice_get new w ≡ Some n → w < length old → slice_get old w ≡ Some n =
+    λ w n is less.
+    let o = got old w less in
+    subst (λ z. slice_get old w ≡ Some z) (same_Some o.0 n (sym (a.stays w o.0 o.1) ∙ is)) o.1 in
+    elim (cases_lt v (length old)) [
+      | inl less ↦ rising u v x y (was u x at (omega (arith, order, less))) (was v y there less) order
+      | inr late ↦
+          let last = a.level v y late there in
+          elim (cases_lt u (length old)) [
+            | inl less ↦ let b = most u x (was u x at less) in omega (arith, b, last)
+            | inr late_too ↦ let b = a.level u x late_too at in omega (arith, b, last)
+          ]
+    ]
+
 pub adds_both : (k : ℕ) (old nodes new : List Origin) → Adds k old nodes → Adds k nodes new → Adds k old new
 adds_both k old nodes new a b = record {
   stays = λ v n e. b.stays v n (a.stays v n e);
@@ -97,10 +120,5 @@ adds_both k old nodes new a b = record {
   longer = let x = a.longer in let y = b.longer in omega (arith, x, y);
 }
   where
-    got : (xs : List Origin) (v : ℕ) → v < length xs → (n : Origin) × (slice_get xs v ≡ Some n)
-    got [] v l = absurd (omega (arith, l))
-    got (x ∷ xs) zero l = (x, refl)
-    got (x ∷ xs) (suc v) l = got xs v (omega (arith, l))
-
     decides : (a b : ℕ) → (a < b) ⊎ (b ≤ a)
     decides a b = elim (cases_lt a b) [ inl l ↦ inl l | inr m ↦ inr m ]

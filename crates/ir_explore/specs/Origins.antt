@@ -27,6 +27,10 @@ AreReached noted nodes = (v : ℕ) (n : Origin) → slice_get nodes v ≡ Some n
 abbrev pub IsLevel : List Origin → Level → Type 0
 IsLevel nodes level = (v : ℕ) → level.first ≤ v → v < level.until → BeginsAt nodes level.number v
 
+-- the nodes come in the order of their levels
+abbrev pub AreRising : List Origin → Type 0
+AreRising nodes = (u v : ℕ) (a b : Origin) → slice_get nodes u ≡ Some a → slice_get nodes v ≡ Some b → u ≤ v → a.level ≤ b.level
+
 -- nodes of level k were added
 pub record Adds (k : ℕ) (old new : List Origin) : Type 0 where
   pub stays : (v : ℕ) (n : Origin) → slice_get old v ≡ Some n → slice_get new v ≡ Some n

@@ -3,9 +3,10 @@
 ghost use Rattle.std.specs.Prelude.{◌≡◌, ℕ, suc, [], ◌∷◌, ◌<◌, ◌≤◌, length, replicate, slice_get, Some, IfOk};
 ghost use Rattle.ir_explore.specs.declared.search.Ended.TheVariants.{Finished, Covered, Stopped};
 ghost use Rattle.ir_explore.specs.declared.stop.Stop.TheVariants.{Nodes};
+ghost use Rattle.ir_explore.specs.declared.origin.Origin.{Origin};
 ghost use Rattle.ir_explore.specs.Following.{Keeps};
 ghost use Rattle.ir_explore.specs.Levels.{rows, AreAsked, AreGoneOver};
-ghost use Rattle.ir_explore.specs.Origins.{first_origin, AreReached};
+ghost use Rattle.ir_explore.specs.Origins.{first_origin, AreReached, AreRising};
 
 use crate::level::take_level;
 use crate::origin::{Level, Origin};
@@ -84,6 +85,8 @@ pub fn run_search<S: Successors>(
     ensures gone { IfOk result (λ found. AreGoneOver (S.noted graph.new) threads found.nodes.items found.levels) }
     ensures covered { IfOk result (λ found. found.ended ≡ Covered → found.levels ≡ suc most) }
     ensures reached { IfOk result (λ found. AreReached (S.noted graph.new) found.nodes.items) }
+    ensures rising { IfOk result (λ found. AreRising found.nodes.items) }
+    ensures levels { IfOk result (λ found. (v : ℕ) (n : Origin) → slice_get found.nodes.items v ≡ Some n → n.level ≤ found.levels) }
     ensures first { IfOk result (λ found. slice_get found.nodes.items 0 ≡ Some first_origin) }
     ensures few { IfOk result (λ found. length found.nodes.items ≤ S.size graph.new) }
     ensures kept { (t : ℕ) → Keeps (S.noted graph.old t) (S.noted graph.new t) }

@@ -14,6 +14,8 @@ pub enum Stop {
     Private(usize),
     /// This thread's log is full, or its budget spent.
     Log(usize),
+    /// No order of the threads led to this node once more.
+    Order(usize),
     /// This thread calls the environment.
     World(usize),
     /// This thread tries to enter.

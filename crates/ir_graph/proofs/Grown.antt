@@ -13,6 +13,7 @@ use Rattle.ir_flat.specs.Flat.{Flat, start_flat}
 use Rattle.ir_graph.specs.Graph.{IsGraph}
 use Rattle.ir_graph.specs.Nodes.{seen_by, told_by, Alike, seen_of, AllRest, AreNodes, Stay, LeadsFrom}
 use Rattle.ir_graph.specs.Notes.{noted_in}
+use Rattle.ir_graph.specs.Reached.{IsReached, AllReached}
 use Rattle.ir_graph.specs.Plain.{GoesPlain, IsLike}
 use Rattle.ir_graph.proofs.Leads.{plain_begins}
 use Rattle.ir_graph.proofs.Plain.{like_same}
@@ -36,8 +37,9 @@ leads_stay flats new t v (Some w) stay l within h = λ f g is there.
 
 -- nodes were added
 pub graph_more : (guest : Guest) (flats new : List Flat) (noted : ℕ → ℕ → Option (Option ℕ)) (threads : ℕ)
-    → IsGraph guest flats noted threads → Stay flats new → AreNodes new → length flats ≤ length new → IsGraph guest new noted threads
-graph_more guest flats new noted threads g stay nodes more = record {
+    → IsGraph guest flats noted threads → Stay flats new → AreNodes new → AllReached guest new → length flats ≤ length new
+    → IsGraph guest new noted threads
+graph_more guest flats new noted threads g stay nodes reached more = record {
   nodes = nodes;
   some = let a = g.some in omega (arith, a, more);
   number = g.number;
@@ -46,6 +48,7 @@ graph_more guest flats new noted threads g stay nodes more = record {
   begins = λ f is. g.begins f (was flats new 0 f stay g.some is);
   asked = λ t v next few is. let a = g.asked t v next few is in omega (arith, a, more);
   within = λ t v w few is. let a = g.within t v w few is in omega (arith, a, more);
+  reached = reached;
   leads = λ t v next few is.
       leads_stay flats new t v next stay (g.asked t v next few is)
       (λ w e. g.within t v w few (is ∙ ap Some e)) (g.leads t v next few is);
@@ -71,6 +74,7 @@ graph_noted guest flats old new threads thread node to g only inside within lead
     | inl same ↦ g.within t v w few (sym same ∙ is)
     | inr p ↦ within w (same_Some to (Some w) (sym p.2 ∙ is))
   ];
+  reached = g.reached;
   leads = λ t v next few is. elim (only t v) [
     | inl same ↦ g.leads t v next few (sym same ∙ is)
     | inr p ↦
@@ -94,9 +98,9 @@ noted_past (row ∷ rows) (suc t) v l = noted_past rows t v (omega (arith, l))
 
 -- the graph at first
 pub first_graph : (guest : Guest) (budget : ℕ) (h : Flat) (noted : ℕ → ℕ → Option (Option ℕ)) (threads : ℕ)
-    → GoesPlain (start_flat guest budget One) h → AllRest h → length h.threads ≡ threads → threads ≡ length guest.entries
+    → GoesPlain (start_flat guest budget One) h → IsReached guest h → AllRest h → length h.threads ≡ threads → threads ≡ length guest.entries
     → ((t v : ℕ) → t < threads → noted t v ≡ None) → IsGraph guest (h ∷ []) noted threads
-first_graph guest budget h noted threads goes rest many number free =
+first_graph guest budget h noted threads goes reached rest many number free =
     let only : (v : ℕ) (f : Flat) → slice_get (h ∷ []) v ≡ Some f → h ≡ f =
     λ v f is. here v f is in record {
       nodes = record {
@@ -114,6 +118,7 @@ first_graph guest budget h noted threads goes rest many number free =
           (one_start guest budget 1 One) (plain_begins (start_flat guest budget One) h goes answers));
       asked = λ t v next few is. absurd (cc (sym (free t v few) ∙ is));
       within = λ t v w few is. absurd (cc (sym (free t v few) ∙ is));
+      reached = λ v f is. subst (IsReached guest) (only v f is) reached;
       leads = λ t v next few is. absurd (cc (sym (free t v few) ∙ is));
     }
   where

@@ -25,7 +25,7 @@ use Rattle.ir_graph.proofs.Alike.{past}
 use Rattle.ir_graph.proofs.Plain.{rests_live, plain_ahead, seen_after, seen_takes, seen_can}
 
 -- what a thread that rests asks of others
-rests_own : (q : Ask) → Rests q → is_own (shared_ask q) ≡ false
+pub rests_own : (q : Ask) → Rests q → is_own (shared_ask q) ≡ false
 rests_own ask.Private h = absurd h
 rests_own (ask.Env k) h = absurd h
 rests_own (ask.Enter o a) h = refl

@@ -1,8 +1,12 @@
 mod Plain
 mod Alike
 mod Leads
+mod Reached
+mod Turn
+mod OneOutcome
 mod Found
 mod Entries
 mod Grown
 mod Listed
+mod Listing
 pub mod CallerLemmas

@@ -16,6 +16,7 @@ use Rattle.ir_states.specs.Counting.{IsAtRest}
 use Rattle.ir_states.specs.Nodes.{LeadsTo}
 use Rattle.ir_states.specs.Outcomes.{IsFinished, Covers}
 use Rattle.ir_states.specs.Sources.{plain}
+use Rattle.ir_thread.specs.Instance.{thread_machine}
 use Rattle.ir_thread.specs.State.{State}
 use Rattle.ir_thread.specs.declared.profile.Profile.TheVariants.{One}
 use Rattle.ir_seen.specs.Seen.{seen_start}
@@ -23,8 +24,10 @@ use Rattle.ir_seen.proofs.CallerLemmas.{seen_view, guest_all, guest_within}
 use Rattle.ir_flat.specs.Flat.{Flat, machine, tables, thread_of}
 use Rattle.ir_graph.specs.Graph.{IsGraph}
 use Rattle.ir_graph.specs.Nodes.{told, seen_by, told_by, Alike, seen_of}
-use Rattle.ir_graph.specs.Outcomes.{outcome_of, AllListed, WithinListed}
+use Rattle.ir_graph.specs.Outcomes.{outcome_of, AllListed, WithinListed, AllShown}
 use Rattle.ir_graph.proofs.Grown.{threads_at}
+use Rattle.ir_graph.specs.Reached.{beginning}
+use Rattle.ir_graph.proofs.Reached.{quiet_counted}
 use Rattle.ir_graph.proofs.Leads.{idle_done, seen_at_rest, done_stays}
 
 abbrev pub nothing : Flat
@@ -146,3 +149,12 @@ within_listed guest flats noted threads g past origins first few c covered answe
       n.1,
       let a = n.2 in let b = r.3 in omega (arith, a, b),
     )
+
+-- a listed state where all are done is where a complete run ends
+pub all_shown : (guest : Guest) (flats : List Flat) (noted : ℕ → ℕ → Option (Option ℕ)) (threads : ℕ) → IsGraph guest flats noted threads
+    → AllShown guest flats
+all_shown guest flats noted threads g v f at done answers =
+    let r = g.reached v f at in
+    let really : run.IsDone (thread_machine guest.code) (run.end (thread_machine guest.code) (beginning guest) r.steps) =
+    subst (run.IsDone (thread_machine guest.code)) r.ends (subst (λ z. run.IsDone (thread_machine z) (tables f)) r.like.code done) in
+    (r.steps, quiet_counted guest r.steps answers r.quiet really, (at, done, ap outcome_of r.ends))

@@ -26,7 +26,7 @@ use Rattle.ir_flat.specs.Alone.{WentAlone}
 use Rattle.ir_flat.specs.Flat.{Flat, tables, machine, thread_of}
 use Rattle.ir_graph.specs.Plain.{is_plain, IsPlainRun, GoesPlain, OthersStay, IsLike, Rests, IsFair}
 
-plain_own : (q : machine.Ask) → is_plain q ≡ true → is_own q ≡ true
+pub plain_own : (q : machine.Ask) → is_plain q ≡ true → is_own q ≡ true
 plain_own machine.Private h = refl
 plain_own (machine.Env k) h = absurd (cc h)
 plain_own (machine.Enter o a) h = absurd (cc h)
@@ -157,7 +157,7 @@ plain_more f g h a b = record {
 }
 
 -- a thread that may go on is live
-fair_live : (code : List ℕ) (s : thread.State) → IsFair (ask_of code s) → IsLive code s
+pub fair_live : (code : List ℕ) (s : thread.State) → IsFair (ask_of code s) → IsLive code s
 fair_live code s fair = elim (split code s) [
   | inl live ↦ live
   | inr (inl full) ↦ absurd (subst IsFair full fair)
@@ -172,7 +172,7 @@ rests_live code s rests = elim (split code s) [
   | inr (inr spent) ↦ absurd (subst Rests spent rests)
 ]
 
-fair_plain : (q : Ask) → IsFair q → is_plain (shared_ask q) ≡ true
+pub fair_plain : (q : Ask) → IsFair q → is_plain (shared_ask q) ≡ true
 fair_plain ask.Private h = refl
 fair_plain (ask.Env k) h = absurd h
 fair_plain (ask.Enter o a) h = absurd h
@@ -197,7 +197,7 @@ one_plain f g t r fair can is code threads objects = record {
   objects = objects;
 }
 
-private_run : (code : List ℕ) (s : State thread.State) (t n : ℕ) → IsRun (thread_machine code) s (replicate n (t, 0))
+pub private_run : (code : List ℕ) (s : State thread.State) (t n : ℕ) → IsRun (thread_machine code) s (replicate n (t, 0))
     → ((k : ℕ) → k < n → ask_of code ((end (thread_machine code) s (replicate k (t, 0))).now t) ≡ ask.Private)
     → IsPlainRun code s (replicate n (t, 0))
 private_run code s t zero run each = tt
@@ -281,7 +281,7 @@ twin_after code s e u =
     (twin_ask code (s.now e.0) (ask_of code (s.now e.0)) _))
     (λ other. same_twins (s.now u))
 
-twin_end : (code : List ℕ) (s : State thread.State) (run : List Step) (u : ℕ) → AreTwins (s.now u) ((end (thread_machine code) s run).now u)
+pub twin_end : (code : List ℕ) (s : State thread.State) (run : List Step) (u : ℕ) → AreTwins (s.now u) ((end (thread_machine code) s run).now u)
 twin_end code s [] u = same_twins (s.now u)
 twin_end code s (e ∷ run) u =
     more_twins (s.now u) ((after (thread_machine code) s e).now u) ((end (thread_machine code) (after (thread_machine code) s e) run).now u)

@@ -5,10 +5,11 @@ use Rattle.ir_states.specs.Outcomes.{Begins}
 use Rattle.ir_thread.specs.declared.profile.Profile.TheVariants.{One}
 use Rattle.ir_flat.specs.Flat.{Flat}
 use Rattle.ir_seen.specs.Seen.{seen_start}
+use Rattle.ir_graph.specs.Reached.{AllReached}
 use Rattle.ir_graph.specs.Nodes.{seen_by, told_by, Alike, seen_of, AreNodes, LeadsFrom}
 
 -- The nodes are states of this guest, of which the first is where it comes to rest from its start, and what was noted of each of so many
--- threads is so.
+-- threads is so; a run leads to each.
 pub record IsGraph (guest : Guest) (flats : List Flat) (noted : ℕ → ℕ → Option (Option ℕ)) (threads : ℕ) : Type 0 where
   pub nodes : AreNodes flats
   pub some : 0 < length flats
@@ -19,4 +20,5 @@ pub record IsGraph (guest : Guest) (flats : List Flat) (noted : ℕ → ℕ → 
       → Begins (seen_by guest.code) (told_by guest.code) (Alike guest.code) (seen_start guest One answers) (seen_of f answers)
   pub asked : (t v : ℕ) (next : Option ℕ) → t < threads → noted t v ≡ Some next → v < length flats
   pub within : (t v w : ℕ) → t < threads → noted t v ≡ Some (Some w) → w < length flats
+  pub reached : AllReached guest flats
   pub leads : (t v : ℕ) (next : Option ℕ) → t < threads → noted t v ≡ Some next → LeadsFrom flats t v next

@@ -1,5 +1,9 @@
 pub mod Plain
 pub mod Nodes
 pub mod Notes
+pub mod Reached
+pub mod Turn
 pub mod Graph
 pub mod Outcomes
+pub mod Listing
+pub mod Searched

@@ -5,6 +5,7 @@ use Rattle.ir_explore.specs.declared.origin.Origin.{Origin}
 use Rattle.ir_runs.specs.Run as run
 use Rattle.ir_states.specs.Counting.{entering}
 use Rattle.ir_states.specs.Outcomes.{switches}
+use Rattle.ir_thread.specs.Calls.{most_budget}
 use Rattle.ir_thread.specs.Instance.{thread_machine}
 use Rattle.ir_thread.specs.State.{State}
 use Rattle.ir_thread.specs.declared.end.End.{End}
@@ -22,6 +23,10 @@ pub record Outcome : Type 0 where
 abbrev pub outcome_of : run.State State → Outcome
 outcome_of s = record { ends = λ t. (s.now t).ended; outputs = λ t. (s.now t).output; words = λ o. (s.objects o).words }
 
+-- two threads have one end, and printed the same
+abbrev pub EndAlike : State → State → Type 0
+EndAlike x y = (x.ended ≡ y.ended) × (x.output ≡ y.output)
+
 -- A state of the list where all threads are done has the outcome of this complete run.
 abbrev pub IsListed : Guest → List Flat → ℕ → List run.Step → ℕ → Flat → Type 0
 IsListed guest flats budget steps v f = (slice_get flats v ≡ Some f) × run.IsDone (machine f) (tables f)
@@ -38,3 +43,8 @@ abbrev pub WithinListed : Guest → List Flat → List Origin → ℕ → Type 0
 WithinListed guest flats origins c = (answers : ℕ → List ℕ) (budget : ℕ) (steps : List run.Step) → IsCounted guest budget One told answers steps
     → switches (entering (thread_machine guest.code) (tables (start_flat guest budget One)) steps) ≤ c
     → (v : ℕ) × (f : Flat) × (n : Origin) × IsListed guest flats budget steps v f × (slice_get origins v ≡ Some n) × (n.level ≤ c)
+
+-- The outcome of each listed state where all threads are done is that of a complete run of the guest, whatever the world answers.
+abbrev pub AllShown : Guest → List Flat → Type 0
+AllShown guest flats = (v : ℕ) (f : Flat) → slice_get flats v ≡ Some f → run.IsDone (machine f) (tables f) → (answers : ℕ → List ℕ)
+    → (steps : List run.Step) × IsCounted guest most_budget One told answers steps × IsListed guest flats most_budget steps v f

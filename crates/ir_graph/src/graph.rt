@@ -5,6 +5,7 @@ ghost use Rattle.ir_image.specs.Guest.{Guest};
 ghost use Rattle.ir_graph.specs.Graph.{IsGraph};
 ghost use Rattle.ir_graph.specs.Notes.{noted_in};
 
+use crate::hints::Hints;
 use crate::nodes::{Bounds, successor};
 use crate::notes::{Row, known, note};
 use ir_explore::{Stop, Successors};
@@ -18,6 +19,7 @@ pub struct Graph<'a> {
     pub alloc: Global,
     pub image: &'a Image,
     pub flats: Vec<Flat<'a>>,
+    pub hints: Hints,
     pub rows: Vec<Row>,
     pub bounds: Bounds,
 }
@@ -42,7 +44,14 @@ impl<'a> Successors for Graph<'a> {
         if let Some(next) = known(&self.rows, thread, node) {
             return Ok(next);
         }
-        let next = successor(self.alloc, &mut self.flats, thread, node, self.bounds)?;
+        let next = successor(
+            self.alloc,
+            &mut self.flats,
+            &mut self.hints,
+            thread,
+            node,
+            self.bounds,
+        )?;
         note(&mut self.rows, self.flats.len(), thread, node, next)?;
         Ok(next)
     }

@@ -1,17 +1,23 @@
 //! The graph of a guest: its states at rest, and where each thread leads from them.
 #![tactic(auto)]
 
+mod ends;
 mod graph;
+mod hints;
 mod likeness;
 mod nodes;
 mod notes;
+mod outcomes;
 mod rest;
 mod start;
 mod states;
 
+pub use ends::{is_done, same_outcome};
 pub use graph::Graph;
+pub use hints::Hints;
 pub use likeness::same_state;
 pub use nodes::{Bounds, successor};
+pub use outcomes::list_outcomes;
 pub use rest::run_to_rest;
 pub use start::start_graph;
 pub use states::{States, search_states};

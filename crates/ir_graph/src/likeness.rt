@@ -1,6 +1,6 @@
 //! States that no thread can tell apart.
 
-ghost use Rattle.std.specs.Prelude.{◌≡◌, ℕ, ◌<◌, List, [], true, length, IfOk, IsTrue, MatchOption, slice_index};
+ghost use Rattle.std.specs.Prelude.{◌≡◌, ℕ, ◌<◌, List, [], true, false, length, IfOk, IsTrue, MatchOption, slice_index};
 ghost use Rattle.std.specs.List.{slice_index_or};
 ghost use Rattle.ir_flat.specs.Flat.{empty};
 ghost use Rattle.ir_freeze.specs.Twins.{AreTwins, IsBounded};
@@ -39,10 +39,11 @@ fn same_thread(alloc: Global, first: &Thread, second: &Thread) -> Result<bool, A
     Ok(one.as_slice() == other.as_slice())
 }
 
-// Whether the objects have the same words.
-fn same_words(first: &[Object], second: &[Object]) -> bool
+/// Whether the objects have the same words.
+pub fn same_words(first: &[Object], second: &[Object]) -> bool
     requires { length second.now ≡ length first.now }
-    ensures { result ≡ true → (o : ℕ) → (slice_index_or first.now o empty).words ≡ (slice_index_or second.now o empty).words }
+    ensures same { result ≡ true → (o : ℕ) → (slice_index_or first.now o empty).words ≡ (slice_index_or second.now o empty).words }
+    ensures other { result ≡ false → ((o : ℕ) → (slice_index_or first.now o empty).words ≡ (slice_index_or second.now o empty).words) → ⊥ }
 {
     for o in 0..first.len() {
         if first[o].contents() != second[o].contents() {

@@ -6,7 +6,10 @@ ghost use Rattle.ir_explore.specs.declared.stop.Stop.TheVariants.{Nodes};
 ghost use Rattle.ir_flat.specs.Flat.{Flat};
 ghost use Rattle.ir_graph.specs.Nodes.{LookAlike, AllRest, AreNodes, Stay, LeadsFrom};
 ghost use Rattle.ir_graph.specs.Plain.{IsLike};
+ghost use Rattle.ir_graph.specs.Reached.{IsReached, AllReached};
+ghost use Rattle.ir_image.specs.Guest.{Guest};
 
+use crate::hints::{Hints, hash_of};
 use crate::likeness::same_state;
 use crate::rest::run_to_rest;
 use ir_explore::Stop;
@@ -22,24 +25,33 @@ pub struct Bounds {
     pub private: u64,
 }
 
-// A node that looks the same as this state.
-fn find(alloc: Global, flats: &[Flat<'_>], flat: &Flat<'_>) -> Result<Option<usize>, AllocError>
+// A node that looks the same as this state, if the hint for its hash leads to one.
+fn find(
+    alloc: Global,
+    flats: &[Flat<'_>],
+    hints: &Hints,
+    hash: u64,
+    flat: &Flat<'_>,
+) -> Result<Option<usize>, AllocError>
     requires { (v : ℕ) (f : Flat) → slice_get flats.now v ≡ Some f → IsLike flat.now f }
     ensures within { IfOk result (λ found. (v : ℕ) → found ≡ Some v → v < length flats.now) }
     ensures alike { IfOk result (λ found. (v : ℕ) → found ≡ Some v → (f : Flat) → slice_get flats.now v ≡ Some f → LookAlike flat.now f) }
 {
-    for v in 0..flats.len() {
-        if same_state(alloc, flat, &flats[v])? {
-            return Ok(Some(v));
-        }
+    let Some(v) = hints.node(hash, flats.len()) else {
+        return Ok(None);
+    };
+    if same_state(alloc, flat, &flats[v])? {
+        Ok(Some(v))
+    } else {
+        Ok(None)
     }
-    Ok(None)
 }
 
-// The node that looks the same as this state, a new one where there is none.
+// The node that looks the same as this state, a new one where none was found.
 fn node_of<'a>(
     alloc: Global,
     flats: &mut Vec<Flat<'a>>,
+    hints: &mut Hints,
     flat: Flat<'a>,
     most: usize,
 ) -> Result<usize, Stop>
@@ -49,6 +61,7 @@ fn node_of<'a>(
     requires room { length flats.old.items ≤ most }
     ensures nodes { AreNodes flats.new.items }
     ensures stay { Stay flats.old.items flats.new.items }
+    ensures reached { (guest : Guest) → AllReached guest flats.old.items → IsReached guest flat.entry → AllReached guest flats.new.items }
     ensures within { IfOk result (λ w. w < length flats.new.items) }
     ensures added { IfOk result (λ w. (length flats.new.items ≡ length flats.old.items) ⊎ ((w ≡ length flats.old.items) × (length flats.new.items ≡ suc (length flats.old.items)))) }
     ensures alike { IfOk result (λ w. (f : Flat) → slice_get flats.new.items w ≡ Some f → LookAlike flat.entry f) }
@@ -56,13 +69,16 @@ fn node_of<'a>(
     ensures room { length flats.new.items ≤ most }
     ensures full { IsErrOf result Nodes → length flats.new.items ≡ most }
 {
-    if let Some(v) = find(alloc, flats.as_slice(), &flat)? {
+    let first = flats.as_slice().first().unwrap_or(&flat);
+    let hash = hash_of(alloc, first, &flat)?;
+    if let Some(v) = find(alloc, flats.as_slice(), hints, hash, &flat)? {
         return Ok(v);
     }
     let node = flats.len();
     if node >= most {
         return Err(Stop::Nodes);
     }
+    hints.note(hash, node)?;
     flats.push(flat)?;
     Ok(node)
 }
@@ -74,6 +90,7 @@ fn node_of<'a>(
 pub fn successor<'a>(
     alloc: Global,
     flats: &mut Vec<Flat<'a>>,
+    hints: &mut Hints,
     thread: usize,
     node: usize,
     bounds: Bounds,
@@ -84,6 +101,7 @@ pub fn successor<'a>(
     requires room { length flats.old.items ≤ bounds.nodes }
     ensures nodes { AreNodes flats.new.items }
     ensures stay { Stay flats.old.items flats.new.items }
+    ensures reached { (guest : Guest) → AllReached guest flats.old.items → AllReached guest flats.new.items }
     ensures within { IfOk result (λ next. (w : ℕ) → next ≡ Some w → w < length flats.new.items) }
     ensures added { IfOk result (λ next. (length flats.new.items ≡ length flats.old.items) ⊎ ((next ≡ Some (length flats.old.items)) × (length flats.new.items ≡ suc (length flats.old.items)))) }
     ensures leads { IfOk result (λ next. LeadsFrom flats.new.items thread node next) }
@@ -96,6 +114,6 @@ pub fn successor<'a>(
         return Ok(None);
     }
     run_to_rest(&mut flat, thread, bounds.private)?;
-    let next = node_of(alloc, flats, flat, bounds.nodes)?;
+    let next = node_of(alloc, flats, hints, flat, bounds.nodes)?;
     Ok(Some(next))
 }

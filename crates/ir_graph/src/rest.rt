@@ -1,9 +1,10 @@
 //! A thread that runs on alone to its next entry.
 
-ghost use Rattle.std.specs.Prelude.{◌≡◌, ◌<◌, true, false, length, IfOk, OnOk, IsErrOf};
+ghost use Rattle.std.specs.Prelude.{◌≡◌, ◌<◌, ◌≤◌, true, false, length, IfOk, OnOk, IsErrOf};
 ghost use Rattle.ir_explore.specs.declared.stop.Stop.TheVariants.{Nodes};
 ghost use Rattle.ir_flat.specs.Flat.{thread_of};
 ghost use Rattle.ir_graph.specs.Plain.{IsFair, GoesPlain, OthersStay, Rests};
+ghost use Rattle.ir_graph.specs.Turn.{GoesAlone};
 ghost use Rattle.ir_seen.specs.Seen.{view};
 ghost use Rattle.ir_thread.specs.Calls.{ask_of};
 ghost use Rattle.ir_thread.specs.Instance.{shared_ask};
@@ -27,30 +28,33 @@ fn rests(thread: usize, asked: Ask) -> Result<bool, Stop>
     }
 }
 
-/// A thread runs on alone, by at most `limit` steps, to its next entry or until it is done.
+/// A thread runs on alone, by at most `limit` steps, to its next entry or until it is done; how many they are.
 ///
 /// # Errors
 /// It takes as many steps without an entry, calls the environment, tries to enter, has a full log or a spent budget.
-pub fn run_to_rest(flat: &mut Flat<'_>, thread: usize, limit: u64) -> Result<(), Stop>
+pub fn run_to_rest(flat: &mut Flat<'_>, thread: usize, limit: u64) -> Result<u64, Stop>
     requires { thread < length flat.old.threads }
     ensures goes { GoesPlain flat.old flat.new }
+    ensures alone { IfOk result (λ steps. GoesAlone flat.old flat.new thread steps 0) }
+    ensures within { IfOk result (λ steps. steps ≤ limit) }
     ensures others { OthersStay flat.old flat.new thread }
     ensures rests { OnOk result (Rests (ask_of flat.new.code (thread_of flat.new thread))) }
     ensures err { IsErrOf result Nodes → ⊥ }
 {
-    let mut left = limit;
+    let mut taken = 0;
     'private: loop {
-        let (steps, asked) = flat.run_to_ask(thread, left);
-        left -= steps;
+        let (steps, asked) = flat.run_to_ask(thread, limit - taken);
+        taken += steps;
         if rests(thread, asked)? {
-            return Ok(());
+            return Ok(taken);
         }
-        if left == 0 {
+        if taken == limit {
             return Err(Stop::Private(thread));
         }
-        if let Err(_) = flat.take(thread, asked, 0) {
-            return Err(Stop::Private(thread));
+        match flat.take(thread, asked, 0) {
+            Ok(()) => {}
+            Err(_) => unreachable!(),
         }
-        left -= 1;
+        taken += 1;
     }
 }

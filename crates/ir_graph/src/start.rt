@@ -11,6 +11,7 @@ ghost use Rattle.ir_thread.specs.Allowed.{IsAllowed};
 ghost use Rattle.ir_thread.specs.declared.profile.Profile.TheVariants.{One};
 
 use crate::graph::Graph;
+use crate::hints::{Hints, hash_of};
 use crate::nodes::Bounds;
 use crate::notes::Row;
 use crate::rest::run_to_rest;
@@ -61,12 +62,15 @@ pub fn start_graph<'a>(alloc: Global, image: &'a Image, bounds: Bounds) -> Resul
     let mut flat = Flat::start(alloc, image, MOST_BUDGET, Profile::One)?;
     rest_all(&mut flat, bounds.private)?;
     let rows = no_notes(alloc, flat.threads().len())?;
+    let mut hints = Hints::new(alloc);
+    hints.note(hash_of(alloc, &flat, &flat)?, 0)?;
     let mut flats = Vec::with_capacity(alloc, 1)?;
     flats.push(flat)?;
     Ok(Graph {
         alloc,
         image,
         flats,
+        hints,
         rows,
         bounds,
     })

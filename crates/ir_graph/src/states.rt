@@ -1,8 +1,9 @@
 //! The states of a guest that its runs lead over, and what is known of them.
 
-ghost use Rattle.std.specs.Prelude.{◌≡◌, ℕ, suc, ◌≤◌, IfOk};
+ghost use Rattle.std.specs.Prelude.{◌≡◌, suc, ◌≤◌, length, IfOk};
 ghost use Rattle.ir_explore.specs.declared.search.Ended.TheVariants.{Finished, Covered};
-ghost use Rattle.ir_graph.specs.Outcomes.{AllListed, WithinListed};
+ghost use Rattle.ir_graph.specs.Outcomes.{AllListed, AllShown};
+ghost use Rattle.ir_graph.specs.Searched.{AreSearched};
 ghost use Rattle.ir_thread.specs.Allowed.{IsAllowed};
 ghost use Rattle.ir_thread.specs.declared.profile.Profile.TheVariants.{One};
 
@@ -35,10 +36,12 @@ pub fn search_states<'a>(
 ) -> Result<States<'a>, Stop>
     requires allowed { IsAllowed One image.now }
     requires some { 1 ≤ bounds.nodes }
-    // Each outcome of the guest is listed.
+    // Each outcome of the guest is listed, once it is finished.
     ensures all { IfOk result (λ states. states.found.ended ≡ Finished → AllListed image.now states.graph.flats.items) }
-    // So is each of a run of at most so many switches.
-    ensures within { IfOk result (λ states. (c : ℕ) → states.found.levels ≡ suc c → WithinListed image.now states.graph.flats.items states.found.nodes.items c) }
+    ensures nodes { IfOk result (λ states. states.found.ended ≡ Finished → length states.found.nodes.items ≡ length states.graph.flats.items) }
+    // However it ends, each listed one is an outcome of the guest, and those of runs of fewer switches than levels are listed.
+    ensures shown { IfOk result (λ states. AllShown image.now states.graph.flats.items) }
+    ensures searched { IfOk result (λ states. AreSearched image.now states.graph.flats.items states.found.nodes.items states.found.levels) }
     ensures covered { IfOk result (λ states. states.found.ended ≡ Covered → states.found.levels ≡ suc switches) }
 {
     let mut graph = start_graph(alloc, image, bounds)?;

@@ -68,6 +68,27 @@ main:   addi a7, zero, 12
         ecall
 ";
 
+// A thread without an end.
+pub const ENDLESS_LOOP: &str = "
+        .thread main
+main:   jal zero, main
+";
+
+// Two threads print a byte each, 65 and 66, and end with code 0 and 1.
+pub const PRINTS: &str = "
+        .thread main
+        .thread main
+main:   addi a7, zero, 12
+        ecall
+        addi s0, a0, 0
+        addi a0, s0, 65
+        addi a7, zero, 2
+        ecall
+        addi a0, s0, 0
+        addi a7, zero, 1
+        ecall
+";
+
 // This guest, which the first profile allows.
 pub fn guest(alloc: Global, text: &str) -> Result<Image, Fail>
     ensures { IfOk result (λ image. IsAllowed One image) }

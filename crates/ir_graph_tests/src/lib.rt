@@ -2,6 +2,10 @@
 #![tactic(auto)]
 
 #[cfg(test)]
+mod explore_tests;
+#[cfg(test)]
 mod guests;
+#[cfg(test)]
+mod page;
 #[cfg(test)]
 mod states_tests;

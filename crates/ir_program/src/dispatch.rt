@@ -7,6 +7,7 @@ use crate::commands::assemble::assemble_file;
 use crate::commands::debug::debug_files;
 use crate::commands::elf::convert_file;
 use crate::commands::events::events_file;
+use crate::commands::explore::explore_file;
 use crate::commands::gdb::gdb_files;
 use crate::commands::hunt::hunt_file;
 use crate::commands::list::list_file;
@@ -123,6 +124,7 @@ fn print<D: Folder, O: Sink, E: Sink>(
         Print::Why(arguments) => why_file(alloc, folder, arguments, explains, out, faults),
         Print::Diff(arguments) => diff_files(alloc, folder, arguments, out, faults),
         Print::View(arguments) => view_file(alloc, folder, arguments, explains, out, faults),
+        Print::Outcomes(arguments) => explore_file(alloc, folder, arguments, out, faults),
     }
 }
 

@@ -6,4 +6,4 @@ pub use Rattle.ir_seen.proofs.Same.{look_same}
 -- a guest's start, whatever its budget
 pub use Rattle.ir_seen.proofs.Start.{one_start}
 -- what a guest's complete runs come to
-pub use Rattle.ir_seen.proofs.Guests.{start_is_good, guest_all, guest_shown, guest_within, guest_told}
+pub use Rattle.ir_seen.proofs.Guests.{start_is_good, start_unspoilt, guest_all, guest_shown, guest_within, guest_told}

@@ -17,7 +17,7 @@ use Rattle.ir_states.specs.Nodes.{LeadsTo, Noted, Path}
 use Rattle.ir_states.specs.Counting.{is_own, IsAtRest, entering}
 use Rattle.ir_states.specs.Outcomes.{IsFinished, Begins, Covers, switches}
 use Rattle.ir_states.specs.Sources.{Giving, sourced, by_source, plain}
-use Rattle.ir_states.specs.Views.{viewed, beside, IsLiveRun}
+use Rattle.ir_states.specs.Views.{viewed, beside, IsLiveRun, IsUnspoilt}
 use Rattle.ir_states.proofs.CallerLemmas.{sourced_lawful, looks_alike, seen_good, real_seen, real_all, real_shown, within, told}
 use Rattle.ir_seen.specs.Seen.{view, seen_machine, IsLive, IsSpoilt, Same, seen_start, IsCounted}
 use Rattle.ir_seen.proofs.Same.{look_same}
@@ -37,6 +37,10 @@ fresh_at code guest budget profile from zero t (inr h) = cc (ap number h)
 fresh_at code guest budget profile from (suc n) zero (inl h) = cc (ap number h)
 fresh_at code guest budget profile from (suc n) zero (inr h) = cc (ap number h)
 fresh_at code guest budget profile from (suc n) (suc t) h = fresh_at code guest budget profile (suc from) n t h
+
+pub start_unspoilt : (guest : Guest) (budget : ℕ) (profile : Profile)
+    → IsUnspoilt (IsSpoilt guest.code) (tables (start_flat guest budget profile))
+start_unspoilt guest budget profile t h = fresh_at guest.code guest budget profile 0 (length guest.entries) t h
 
 module _ {K S X : Type 0} (guest : Guest) (profile : Profile) (given : Giving S) (sources : ℕ → S) (state_of : K → run.State (State × S))
     (Node : K → Type 0) (Next : Noted K) (first : K)
@@ -78,7 +82,7 @@ module _ {K S X : Type 0} (guest : Guest) (profile : Profile) (given : Giving S)
       (seen_view guest.code) (seen_spoils guest.code) given (sourced_lawful (seen_machine guest.code) given (seen_lawful guest.code))
       (Looks (Same guest.code)) (looks_alike (sourced (seen_machine guest.code) given) (by_source (seen_machine guest.code) given)
       (Same guest.code) (look_same guest.code given)) (tables (start_flat guest budget profile)) sources (good_start budget) state_of Node
-      Next first (started budget) outcome same (λ t h. fresh_at guest.code guest budget profile 0 (length guest.entries) t h) v is done in (
+      Next first (started budget) outcome same (start_unspoilt guest budget profile) v is done in (
         r.0,
         λ live. let k = r.1 live in (record { complete = (k.0, k.2); answered = k.1; unspoilt = k.3 }, k.4),
       )

@@ -2,7 +2,7 @@ use Rattle.std.proofs.Common.{◌≡◌, suc, ◌+◌, ◌-◌, length, sym, ap,
 use Rattle.std.proofs.lemmas.List.{with_items_is}
 use Rattle.ir_explore.specs.Levels.{rows, AreGoneOver}
 use Rattle.ir_explore.specs.Origins.{BeginsAt, first_origin}
-use Rattle.ir_explore.proofs.Reached.{slice_less}
+use Rattle.ir_explore.proofs.Reached.{slice_less, rising_more}
 use Rattle.ir_explore.proofs.Gone.{LevelEnds, asked_all, gone_kept, gone_more, levels_more, next_level}
 use Rattle.ir_explore.proofs.Rows.{rows_length}
 use Rattle.ir_explore.proofs.search.run_search.Goals as goal
@@ -11,6 +11,22 @@ pub returns-in-Err-clause-gone : goal.returns-in-Err-clause-gone
 returns-in-Err-clause-gone g c =
     gone_kept (g.S.Successors.noted c.levels.graph) (g.S.Successors.noted c.take_level.new.graph) c.args.threads c.levels.nodes.items
     c.take_level.new.nodes.items c.levels.level.number c.take_level.ensures.kept c.take_level.ensures.adds.stays c.levels.invariant.gone
+
+pub returns-in-Err-clause-rising : goal.returns-in-Err-clause-rising
+returns-in-Err-clause-rising g c =
+    rising_more c.levels.level.number c.levels.nodes.items c.take_level.new.nodes.items c.levels.invariant.rising
+    (λ w n is. let a = c.levels.invariant.ends.levels w n is in omega (arith, a)) c.take_level.ensures.adds
+
+pub returns-in-Err-clause-levels : goal.returns-in-Err-clause-levels
+returns-in-Err-clause-levels g c =
+    levels_more c.levels.level.number c.levels.nodes.items c.take_level.new.nodes.items
+    (λ w n is. let a = c.levels.invariant.ends.levels w n is in omega (arith, a)) c.take_level.ensures.adds
+
+pub returns-then-level-most-clause-levels : goal.returns-then-level-most-clause-levels
+returns-then-level-most-clause-levels g c = λ w n is. let a = c.levels.invariant.ends.levels w n is in omega (arith, a)
+
+pub returns-clause-levels : goal.returns-clause-levels
+returns-clause-levels g c = λ w n is. let a = c.levels.invariant.ends.levels w n is in omega (arith, a)
 
 pub levels-preserved : goal.levels-preserved
 levels-preserved g c =
@@ -47,6 +63,8 @@ levels-preserved g c =
       gone = subst (AreGoneOver more c.args.threads new) suc_is gone;
       level = λ w low less. subst (λ z. BeginsAt new z w) suc_is
           (next_level number old new c.take_level.ensures.adds w (omega (arith, low, until)) (let a = c.len.ensures in omega (arith, less, a)));
+      rising = rising_more number old new c.levels.invariant.rising (λ w n is. let a = was.levels w n is in omega (arith, a))
+          c.take_level.ensures.adds;
       reached = c.take_level.ensures.reached;
       threads = ap length same ∙ three;
       nodes = c.in_default.ensures.nodes;

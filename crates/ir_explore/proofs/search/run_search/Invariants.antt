@@ -2,7 +2,7 @@ use Rattle.std.proofs.Common.{◌≡◌, ℕ, suc, ◌-◌, ◌≤◌, Some, len
 use Rattle.std.specs.Prelude.{slice_get}
 use Rattle.ir_explore.specs.Following.{Keeps}
 use Rattle.ir_explore.specs.Levels.{rows, AreGoneOver}
-use Rattle.ir_explore.specs.Origins.{first_origin, AreReached, IsLevel}
+use Rattle.ir_explore.specs.Origins.{first_origin, AreReached, AreRising, IsLevel}
 use Rattle.ir_explore.proofs.Gone.{LevelEnds}
 use Rattle.ir_explore.proofs.search.run_search.Given as goal
 
@@ -11,6 +11,7 @@ invariant-levels g l = record {
   ends : LevelEnds (g.S.Successors.noted l.graph) l.threads l.nodes.items (rows l.opened.items) l.level.first (l.level.number - 1);
   gone : AreGoneOver (g.S.Successors.noted l.graph) l.threads l.nodes.items l.level.number;
   level : IsLevel l.nodes.items l.level;
+  rising : AreRising l.nodes.items;
   reached : AreReached (g.S.Successors.noted l.graph) l.nodes.items;
   threads : length l.opened.items ≡ l.threads;
   nodes : length l.nodes.items ≡ g.S.Successors.size l.graph;

@@ -12,4 +12,4 @@ returns c = λ _.
     (subst (λ xs. (o : ℕ) → (slice_index_or xs o empty).words ≡ (slice_index_or c.args.second.now.objects o empty).words)
     c.objects.ensures.value
     (subst (λ ys. (o : ℕ) → (slice_index_or c.objects.result.now o empty).words ≡ (slice_index_or ys o empty).words)
-    c.objects-2.ensures.value (c.same_words.ensures c.if-not-same_words.false)))
+    c.objects-2.ensures.value (c.same_words.ensures.same c.if-not-same_words.false)))

@@ -2,11 +2,13 @@ use Rattle.std.proofs.Common.{◌≡◌, Some, sym, ◌∙◌, subst, [], ◌∷
 use Rattle.std.specs.Prelude.{slice_get}
 use Rattle.ir_explore.proofs.CallerLemmas.{pushed_stays}
 use Rattle.ir_graph.specs.Nodes.{AreNodes}
+use Rattle.ir_graph.specs.Reached.{AllReached}
 use Rattle.ir_graph.proofs.Found.{nodes_more, new_alike}
+use Rattle.ir_graph.proofs.Reached.{more_reached}
 use Rattle.ir_graph.proofs.nodes.node_of.Goals as goal
 
 pub find-requires : goal.find-requires
-find-requires c = λ v f is. c.requires.like v f (subst (λ z. slice_get z v ≡ Some f) c.as_slice.ensures.value is)
+find-requires c = λ v f is. c.requires.like v f (subst (λ z. slice_get z v ≡ Some f) c.as_slice-2.ensures.value is)
 
 pub returns-clause-nodes : goal.returns-clause-nodes
 returns-clause-nodes c =
@@ -20,3 +22,7 @@ pub returns-clause-alike : goal.returns-clause-alike
 returns-clause-alike c = λ f is.
     new_alike c.args.flats.now.items c.args.flat f c.len-node.result (c.len-node.ensures ∙ c.args.flats.now.ok.0)
     (subst (λ z. slice_get z c.len-node.result ≡ Some f) c.in_ok-push.ensures.items is)
+
+pub returns-clause-reached : goal.returns-clause-reached
+returns-clause-reached c = λ guest all is.
+    subst (AllReached guest) (sym c.in_ok-push.ensures.items) (more_reached guest c.args.flats.now.items c.args.flat all is)

@@ -1,6 +1,7 @@
 use Rattle.std.proofs.Common.{◌≡◌, Some, sym, ap, ◌∙◌}
 use Rattle.std.specs.Prelude.{slice_get}
 use Rattle.std.proofs.lemmas.Option.{slice_get-get_or}
+use Rattle.ir_graph.proofs.Reached.{step_reached}
 use Rattle.ir_graph.proofs.Found.{leads_nowhere, reached_like, reached_rests, reached_leads}
 use Rattle.ir_graph.proofs.nodes.successor.Goals as goal
 
@@ -42,3 +43,25 @@ returns-clause-leads c =
     (c.requires.thread f at) c.in_default.ensures.admitted c.in_default.ensures.taken c.in_default.ensures.code c.in_default.ensures.threads
     c.in_default.ensures.objects c.run_to_rest.ensures.goes c.node_of.new.flats.items c.in_ok-next.next c.node_of.ensures.stay
     c.in_ok-next.ensures.alike
+
+pub returns-clause-reached : goal.returns-clause-reached
+returns-clause-reached c = λ guest all.
+    let f = c.in_ok-flat.flat in
+    let at : slice_get c.args.flats.now.items c.args.node ≡ Some f =
+    slice_get-get_or c.args.flats.now.items c.args.node c.index.result.now c.requires.node ∙ ap Some (sym c.index.ensures)
+    ∙ ap Some (sym c.in_ok-flat.ensures) in
+    c.node_of.ensures.reached guest all
+    (step_reached guest f c.step.new.self c.run_to_rest.new.flat c.args.thread (all c.args.node f at)
+    (c.requires.nodes.rest c.args.node f at c.args.thread (c.requires.thread f at)) c.in_default.ensures.admitted c.in_default.ensures.taken
+    c.in_default.ensures.code c.in_default.ensures.threads c.in_default.ensures.objects c.run_to_rest.ensures.goes)
+
+pub returns-in_err-next-clause-reached : goal.returns-in_err-next-clause-reached
+returns-in_err-next-clause-reached c = λ guest all.
+    let f = c.in_ok-flat.flat in
+    let at : slice_get c.args.flats.now.items c.args.node ≡ Some f =
+    slice_get-get_or c.args.flats.now.items c.args.node c.index.result.now c.requires.node ∙ ap Some (sym c.index.ensures)
+    ∙ ap Some (sym c.in_ok-flat.ensures) in
+    c.node_of.ensures.reached guest all
+    (step_reached guest f c.step.new.self c.run_to_rest.new.flat c.args.thread (all c.args.node f at)
+    (c.requires.nodes.rest c.args.node f at c.args.thread (c.requires.thread f at)) c.in_default.ensures.admitted c.in_default.ensures.taken
+    c.in_default.ensures.code c.in_default.ensures.threads c.in_default.ensures.objects c.run_to_rest.ensures.goes)

@@ -1,10 +1,17 @@
-use Rattle.std.proofs.Common.{refl, sym, subst, arith}
+use Rattle.std.proofs.Common.{◌+◌, refl, sym, subst, arith}
 use Rattle.ir_graph.specs.Plain.{IsFair, GoesPlain, OthersStay}
 use Rattle.ir_graph.proofs.Plain.{no_plain, plain_more, one_plain, went_plain, step_others, went_others, others_more}
+use Rattle.ir_graph.proofs.Turn.{alone_none, alone_more, went_alone, fair_alone}
 use Rattle.ir_graph.proofs.rest.run_to_rest.Goals as goal
 
 pub private-init : goal.private-init
-private-init c = record { goes = no_plain c.args.flat.now; others = λ u ne. refl; thread = c.requires }
+private-init c = record {
+  goes = no_plain c.args.flat.now;
+  alone = alone_none c.args.flat.now c.args.thread;
+  others = λ u ne. refl;
+  thread = c.requires;
+  within = omega arith;
+}
 
 pub returns-in_err-rests-clause-goes : goal.returns-in_err-rests-clause-goes
 returns-in_err-rests-clause-goes c =
@@ -26,41 +33,43 @@ returns-then-branch-clause-others c =
     others_more c.args.flat.now c.private.flat c.run_to_ask-steps.new.self c.args.thread c.private.invariant.others
     (went_others c.private.flat c.run_to_ask-steps.new.self c.args.thread c.run_to_ask-steps.result.0 c.run_to_ask-steps.ensures.went)
 
-pub returns-then-left-eq0-clause-goes : goal.returns-then-left-eq0-clause-goes
-returns-then-left-eq0-clause-goes c =
+pub returns-then-taken-limit-clause-goes : goal.returns-then-taken-limit-clause-goes
+returns-then-taken-limit-clause-goes c =
     plain_more c.args.flat.now c.private.flat c.run_to_ask-steps.new.self c.private.invariant.goes
     (went_plain c.private.flat c.run_to_ask-steps.new.self c.args.thread c.run_to_ask-steps.result.0 c.run_to_ask-steps.ensures.went)
 
-pub returns-then-left-eq0-clause-others : goal.returns-then-left-eq0-clause-others
-returns-then-left-eq0-clause-others c =
+pub returns-then-taken-limit-clause-others : goal.returns-then-taken-limit-clause-others
+returns-then-taken-limit-clause-others c =
     others_more c.args.flat.now c.private.flat c.run_to_ask-steps.new.self c.args.thread c.private.invariant.others
     (went_others c.private.flat c.run_to_ask-steps.new.self c.args.thread c.run_to_ask-steps.result.0 c.run_to_ask-steps.ensures.went)
 
-pub returns-in-Err-clause-goes : goal.returns-in-Err-clause-goes
-returns-in-Err-clause-goes c =
-    subst (GoesPlain c.args.flat.now) (sym c.in-Err.ensures.unchanged)
-    (plain_more c.args.flat.now c.private.flat c.run_to_ask-steps.new.self c.private.invariant.goes
-    (went_plain c.private.flat c.run_to_ask-steps.new.self c.args.thread c.run_to_ask-steps.result.0 c.run_to_ask-steps.ensures.went))
-
-pub returns-in-Err-clause-others : goal.returns-in-Err-clause-others
-returns-in-Err-clause-others c =
-    subst (λ z. OthersStay c.args.flat.now z c.args.thread) (sym c.in-Err.ensures.unchanged)
-    (others_more c.args.flat.now c.private.flat c.run_to_ask-steps.new.self c.args.thread c.private.invariant.others
-    (went_others c.private.flat c.run_to_ask-steps.new.self c.args.thread c.run_to_ask-steps.result.0 c.run_to_ask-steps.ensures.went))
+pub returns-then-branch-clause-alone : goal.returns-then-branch-clause-alone
+returns-then-branch-clause-alone c =
+    alone_more c.args.flat.now c.private.flat c.run_to_ask-steps.new.self c.args.thread c.private.taken c.run_to_ask-steps.result.0 0 0
+    c.private.invariant.alone
+    (went_alone c.private.flat c.run_to_ask-steps.new.self c.args.thread c.run_to_ask-steps.result.0 c.run_to_ask-steps.ensures.went)
 
 pub private-preserved : goal.private-preserved
 private-preserved c =
-    let went = plain_more c.args.flat.now c.private.flat c.run_to_ask-steps.new.self c.private.invariant.goes
-    (went_plain c.private.flat c.run_to_ask-steps.new.self c.args.thread c.run_to_ask-steps.result.0 c.run_to_ask-steps.ensures.went) in
+    let start = c.args.flat.now in
+    let f = c.private.flat in
+    let g = c.run_to_ask-steps.new.self in
+    let h = c.take.new.self in
+    let t = c.args.thread in
+    let n = c.run_to_ask-steps.result.0 in
+    let w = c.run_to_ask-steps.ensures.went in
+    let went : GoesPlain start g = plain_more start f g c.private.invariant.goes (went_plain f g t n w) in
     let fair = subst IsFair c.run_to_ask-steps.ensures.asked (c.in_ok-rests.ensures.plain c.if-branch.false) in
-    let goes : GoesPlain c.args.flat.now c.take.new.self =
-    plain_more c.args.flat.now c.run_to_ask-steps.new.self c.take.new.self went
-    (one_plain c.run_to_ask-steps.new.self c.take.new.self c.args.thread 0 fair c.in_default.ensures.admitted c.in_default.ensures.taken
-    c.in_default.ensures.code c.in_default.ensures.threads c.in_default.ensures.objects) in record {
+    let one = c.in-Ok.ensures in
+    let goes : GoesPlain start h = plain_more start g h went (one_plain g h t 0 fair one.admitted one.taken one.code one.threads one.objects) in
+    record {
       goes = goes;
-      others = others_more c.args.flat.now c.run_to_ask-steps.new.self c.take.new.self c.args.thread
-          (others_more c.args.flat.now c.private.flat c.run_to_ask-steps.new.self c.args.thread c.private.invariant.others
-          (went_others c.private.flat c.run_to_ask-steps.new.self c.args.thread c.run_to_ask-steps.result.0 c.run_to_ask-steps.ensures.went))
-          (step_others c.run_to_ask-steps.new.self c.take.new.self c.args.thread 0 c.in_default.ensures.taken);
+      alone = alone_more start g h t (c.private.taken + n) 1 0 0
+          (alone_more start f g t c.private.taken n 0 0 c.private.invariant.alone (went_alone f g t n w))
+          (fair_alone g h t fair one.admitted one.taken one.code one.threads one.objects);
+      others = others_more start g h t (others_more start f g t c.private.invariant.others (went_others f g t n w))
+          (step_others g h t 0 one.taken);
       thread = let a = goes.threads in let b = c.requires in omega (arith, a, b);
+      within = let a = c.private.invariant.within in let b = c.run_to_ask-steps.ensures.within in let d = c.if-taken-limit.false in
+          omega (arith, a, b, d);
     }

@@ -1,13 +1,16 @@
-use Rattle.std.proofs.Common.{◌<◌, length}
+use Rattle.std.proofs.Common.{◌<◌, ◌≤◌, ◌-◌, length}
 use Rattle.ir_graph.specs.Plain.{GoesPlain, OthersStay}
+use Rattle.ir_graph.specs.Turn.{GoesAlone}
 use Rattle.ir_graph.proofs.rest.run_to_rest.Given as goal
 
 abbrev pub invariant-private : goal.invariant-private
 invariant-private l = record {
   goes : GoesPlain l.fn.flat l.flat;
+  alone : GoesAlone l.fn.flat l.flat l.thread l.taken 0;
   others : OthersStay l.fn.flat l.flat l.thread;
   thread : l.thread < length l.flat.threads;
+  within : l.taken ≤ l.limit;
 }
 
 abbrev pub decreases-private : goal.decreases-private
-decreases-private l = l.left
+decreases-private l = l.limit - l.taken

@@ -5,6 +5,7 @@ use Rattle.ir_graph.specs.Graph.{IsGraph}
 use Rattle.ir_graph.specs.Notes.{noted_in}
 use Rattle.ir_graph.specs.Plain.{GoesPlain}
 use Rattle.ir_graph.proofs.Grown.{first_graph}
+use Rattle.ir_graph.proofs.Reached.{start_reached}
 use Rattle.ir_graph.proofs.start.start_graph.Goals as goal
 
 pub returns-clause-threads : goal.returns-clause-threads
@@ -23,5 +24,6 @@ returns-clause-sound c =
     let free = subst (λ n. (t v : ℕ) → t < n → noted_in rows t v ≡ None) (sym c.in_ok-rows.ensures.threads) c.in_ok-rows.ensures.free in
     let flats : c.push.new.self.items ≡ h ∷ [] = c.in_ok-push.ensures.items ∙ ap (λ z. z ++ h ∷ []) c.in_ok-flats.ensures.items in
     subst (λ z. IsGraph guest z (noted_in rows) (length rows)) (sym flats)
-    (first_graph guest 1000000000000 h (noted_in rows) (length rows) goes c.in_ok-rest_all.ensures.rest (sym many)
+    (first_graph guest 1000000000000 h (noted_in rows) (length rows) goes
+    (start_reached guest h goes) c.in_ok-rest_all.ensures.rest (sym many)
     (many ∙ goes.threads ∙ threads_length guest 1000000000000 One 0 (length guest.entries)) free)

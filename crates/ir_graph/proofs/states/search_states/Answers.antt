@@ -1,9 +1,11 @@
-use Rattle.std.proofs.Common.{suc, length, sym, ap, ◌∙◌, subst}
-use Rattle.ir_explore.specs.Levels.{AreAsked, AreGoneOver}
+use Rattle.std.proofs.Common.{length, sym, ap, ◌∙◌, subst}
+use Rattle.ir_explore.specs.Levels.{AreAsked, Covered}
 use Rattle.ir_graph.specs.Notes.{noted_in}
-use Rattle.ir_graph.specs.Outcomes.{AllListed, WithinListed}
+use Rattle.ir_graph.specs.Outcomes.{AllListed, AllShown}
+use Rattle.ir_graph.specs.Searched.{AreSearched}
+use Rattle.ir_explore.proofs.CallerLemmas.{gone_less}
 use Rattle.ir_graph.proofs.Grown.{noted_past}
-use Rattle.ir_graph.proofs.Listed.{all_listed, within_listed}
+use Rattle.ir_graph.proofs.Listed.{all_listed, within_listed, all_shown}
 use Rattle.ir_graph.proofs.states.search_states.Goals as goal
 
 pub returns-clause-all : goal.returns-clause-all
@@ -19,8 +21,8 @@ returns-clause-all c = λ done.
     c.in_ok-found.ensures.reached (c.in_ok-found.ensures.all done)
     (subst (λ z. AreAsked (noted_in rows) z (length flats)) threads (c.in_ok-found.ensures.finished done)))
 
-pub returns-clause-within : goal.returns-clause-within
-returns-clause-within c = λ most levels.
+pub returns-clause-searched : goal.returns-clause-searched
+returns-clause-searched c =
     let graph = c.run_search.new.graph in
     let rows = graph.rows.items in
     let flats = graph.flats.items in
@@ -28,8 +30,23 @@ returns-clause-within c = λ most levels.
     let sound = c.run_search.ensures.sound in
     let image = c.run_search.ensures.origin ∙ c.in_ok-graph.ensures.image in
     let threads = ap length c.entries-threads.ensures.value ∙ ap (λ z. length z.entries) (sym image) ∙ sym sound.number in
-    subst (λ z. WithinListed z flats nodes most) image
-    (within_listed graph.image.now flats (noted_in rows) (length rows) sound (λ t v l. noted_past rows t v l) nodes
-    c.in_ok-found.ensures.first c.in_ok-found.ensures.few most
-    (subst (λ z. AreGoneOver (noted_in rows) z nodes (suc most)) threads
-    (subst (AreGoneOver (noted_in rows) _ nodes) levels c.in_ok-found.ensures.gone)))
+    subst (λ z. AreSearched z flats nodes c.in_ok-found.found.levels) image (record {
+      states = sound.nodes;
+      reached = sound.reached;
+      few = c.in_ok-found.ensures.few;
+      rising = c.in_ok-found.ensures.rising;
+      most = c.in_ok-found.ensures.levels;
+      within = λ most less.
+          within_listed graph.image.now flats (noted_in rows) (length rows) sound (λ t v l. noted_past rows t v l) nodes
+          c.in_ok-found.ensures.first c.in_ok-found.ensures.few most
+          (subst (λ z. Covered (noted_in rows) z nodes most) threads
+          (gone_less (noted_in rows) _ nodes c.in_ok-found.found.levels most less c.in_ok-found.ensures.gone));
+    })
+
+pub returns-clause-shown : goal.returns-clause-shown
+returns-clause-shown c =
+    let graph = c.run_search.new.graph in
+    let rows = graph.rows.items in
+    let image = c.run_search.ensures.origin ∙ c.in_ok-graph.ensures.image in
+    subst (λ z. AllShown z graph.flats.items) image
+    (all_shown graph.image.now graph.flats.items (noted_in rows) (length rows) c.run_search.ensures.sound)

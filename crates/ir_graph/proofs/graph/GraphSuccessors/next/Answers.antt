@@ -19,7 +19,8 @@ successor-requires-clause-thread c = λ f is.
 pub returns-in_err-next-clause-sound : goal.returns-in_err-next-clause-sound
 returns-in_err-next-clause-sound c =
     graph_more c.args.self.now.image.now c.args.self.now.flats.items c.successor.new.flats.items (noted_in c.args.self.now.rows.items)
-    (length c.args.self.now.rows.items) c.requires.sound c.successor.ensures.stay c.successor.ensures.nodes c.successor.ensures.grown
+    (length c.args.self.now.rows.items) c.requires.sound c.successor.ensures.stay c.successor.ensures.nodes
+    (c.successor.ensures.reached c.args.self.now.image.now c.requires.sound.reached) c.successor.ensures.grown
 
 pub returns-in_err-note-clause-sound : goal.returns-in_err-note-clause-sound
 returns-in_err-note-clause-sound c =
@@ -30,7 +31,8 @@ returns-in_err-note-clause-sound c =
     let threads : length c.note.new.rows ≡ length v.items = c.note.ensures.threads ∙ ap length value in
     let same = with_items_is v c.note.new.rows (threads ∙ sym v.ok.0) in
     let more = graph_more guest c.args.self.now.flats.items flats (noted_in v.items) (length v.items) c.requires.sound c.successor.ensures.stay
-    c.successor.ensures.nodes c.successor.ensures.grown in
+    c.successor.ensures.nodes
+    (c.successor.ensures.reached c.args.self.now.image.now c.requires.sound.reached) c.successor.ensures.grown in
     let only = subst (λ z. (t v : ℕ) → (noted_in c.note.new.rows t v ≡ noted_in z t v)
     ⊎ ((t ≡ c.args.thread) × (v ≡ c.args.node) × (noted_in c.note.new.rows t v ≡ Some c.in_ok-next.next))) value c.note.ensures.only in
     let noted = graph_noted guest flats (noted_in v.items) (noted_in c.note.new.rows) (length v.items) c.args.thread c.args.node c.in_ok-next.next
@@ -47,7 +49,8 @@ returns-clause-sound c =
     let threads : length c.note.new.rows ≡ length v.items = c.note.ensures.threads ∙ ap length value in
     let same = with_items_is v c.note.new.rows (threads ∙ sym v.ok.0) in
     let more = graph_more guest c.args.self.now.flats.items flats (noted_in v.items) (length v.items) c.requires.sound c.successor.ensures.stay
-    c.successor.ensures.nodes c.successor.ensures.grown in
+    c.successor.ensures.nodes
+    (c.successor.ensures.reached c.args.self.now.image.now c.requires.sound.reached) c.successor.ensures.grown in
     let only = subst (λ z. (t v : ℕ) → (noted_in c.note.new.rows t v ≡ noted_in z t v)
     ⊎ ((t ≡ c.args.thread) × (v ≡ c.args.node) × (noted_in c.note.new.rows t v ≡ Some c.in_ok-next.next))) value c.note.ensures.only in
     let noted = graph_noted guest flats (noted_in v.items) (noted_in c.note.new.rows) (length v.items) c.args.thread c.args.node c.in_ok-next.next

@@ -1,0 +1,140 @@
+//! The arguments of `ir explore`.
+
+ghost use Rattle.std.specs.Prelude.{◌≤◌, IfOk};
+
+use crate::asked::{Asked, Print};
+use crate::values::{IMAGE, file_arg, text_of};
+use clap::{Arg, ArgMatches, Command};
+use ir_explore_run::ExplorePlan;
+use ir_record_run::number_within;
+use std::alloc::{AllocError, Global};
+
+/// What follows the help of `ir explore`.
+pub const EXPLORE_AFTER: &str =
+    "The outcome of a run is how each thread ended, with which code, what it printed, and the words of each object. Each different
+outcome of the guest is printed once, by rising number of switches: how often another thread makes the next entry.
+  outcome K switches C order LIST                `ir record --order LIST` records a run that has it, in a budget that suffices
+  thread T end E code C out N                    each thread; then the N bytes that it printed, up to 32 a line
+  object O words W0 W1 ..                        each object whose words aren't its first words
+The last line says how the search ended, by K outcomes and N states in which each thread is before an entry or done:
+  finished outcomes K states N                   all outcomes are printed: each complete run of the guest has one of them
+  covered C outcomes K states N                  all outcomes of runs of at most C switches are, as --switches C wants
+  stopped WHY covered C outcomes K states N      it stopped before: what is printed is right, and complete up to C switches; `-`
+                                                 is for not at all. WHY is `states`, there are as many as there may be; `private
+                                                 T`, thread T took as many steps without an entry as it may; `world T`, thread T
+                                                 calls CLOCK, RANDOM or INPUT, or `try T`, TRY_WRITE, which can't be explored
+                                                 yet; `log T`, a log is full; `order N`; or `memory`
+Runs in which a budget is spent or a log is full have no outcome. Each state takes 64 KiB of memory for each thread.
+Exit status: 0 finished or covered, 1 a file that can't be read, memory or standard output that can't be written, 2 bad
+arguments, 3 a refused image, or a guest with more than 8 threads or 16 objects, 5 stopped.
+";
+
+const STATES: &str = "states";
+
+const SWITCHES: &str = "switches";
+
+const PRIVATE: &str = "private";
+
+// The most of each option.
+const MOST_STATES: u64 = 100_000_000;
+
+const MOST_SWITCHES: u64 = 1_000_000;
+
+const MOST_PRIVATE: u64 = 1_000_000_000_000;
+
+/// Which guest is explored, and how far.
+#[derive(Drop)]
+pub struct ExploreArguments {
+    /// The file of the image.
+    pub image: String,
+    /// How far its guest is explored.
+    pub plan: ExplorePlan,
+}
+
+fn states_arg<'a>(alloc: Global) -> Arg<'a> {
+    Arg::new(alloc, STATES)
+        .long(STATES)
+        .value_name("N")
+        .default_value("10000")
+        .allow_negative_numbers(true)
+        .help("The most states, from 1 to 100000000")
+}
+
+fn switches_arg<'a>(alloc: Global) -> Arg<'a> {
+    Arg::new(alloc, SWITCHES)
+        .long(SWITCHES)
+        .value_name("C")
+        .allow_negative_numbers(true)
+        .help("The most switches, at most 1000000; without it all outcomes are looked for")
+}
+
+fn private_arg<'a>(alloc: Global) -> Arg<'a> {
+    Arg::new(alloc, PRIVATE)
+        .long(PRIVATE)
+        .value_name("N")
+        .default_value("1000000")
+        .allow_negative_numbers(true)
+        .help("The most steps of a thread up to its next entry, from 1 to 1000000000000")
+}
+
+/// The command with its arguments.
+pub fn with_arguments<'a>(alloc: Global, command: Command<'a>) -> Result<Command<'a>, AllocError> {
+    command
+        .arg(file_arg(alloc, IMAGE, "The file with the image"))?
+        .arg(states_arg(alloc))?
+        .arg(switches_arg(alloc))?
+        .arg(private_arg(alloc))
+}
+
+// The number that the value of an option is, or else what is wrong with it.
+fn number_in_option(
+    alloc: Global,
+    matches: &ArgMatches<'_>,
+    option: &str,
+    least: u64,
+    most: u64,
+) -> Result<Result<u64, String>, AllocError>
+    ensures { IfOk result (λ read. IfOk read (λ number. (least ≤ number) × (number ≤ most))) }
+{
+    let value = matches.get_str(option).unwrap_or_default();
+    match number_within(least, most, value) {
+        Some(number) => Ok(Ok(number)),
+        None => Ok(Err(format!(in alloc;
+            "--{option}: '{value}' is no number from {least} to {most}"
+        )?)),
+    }
+}
+
+// The most switches that are asked for, if any are.
+fn switches_of(
+    alloc: Global,
+    matches: &ArgMatches<'_>,
+) -> Result<Result<usize, String>, AllocError> {
+    if matches.get_str(SWITCHES).is_none() {
+        return Ok(Ok(usize::MAX));
+    }
+    match number_in_option(alloc, matches, SWITCHES, 0, MOST_SWITCHES)? {
+        Ok(switches) => Ok(Ok(switches as usize)),
+        Err(why) => Ok(Err(why)),
+    }
+}
+
+/// What its arguments ask for.
+pub fn asked(alloc: Global, matches: &ArgMatches<'_>) -> Result<Asked, AllocError> {
+    let states = match number_in_option(alloc, matches, STATES, 1, MOST_STATES)? {
+        Ok(states) => states,
+        Err(why) => return Ok(Asked::Nothing(why)),
+    };
+    let private = match number_in_option(alloc, matches, PRIVATE, 1, MOST_PRIVATE)? {
+        Ok(private) => private,
+        Err(why) => return Ok(Asked::Nothing(why)),
+    };
+    let switches = match switches_of(alloc, matches)? {
+        Ok(switches) => switches,
+        Err(why) => return Ok(Asked::Nothing(why)),
+    };
+    Ok(Asked::Print(Print::Outcomes(ExploreArguments {
+        image: text_of(alloc, matches, IMAGE)?,
+        plan: ExplorePlan::new(states as usize, private, switches),
+    })))
+}

@@ -1,0 +1,43 @@
+-- The lines of outcomes, one after the other.
+use Rattle.std.proofs.Common.{◌≡◌, ℕ, suc, ◌+◌, ◌-◌, ◌≤◌, ◌<◌, List, [], ◌∷◌, ◌++◌, inl, inr, Some, length, length-append, take, drop, refl, sym, ap, ◌∙◌, subst, arith}
+use Rattle.std.specs.Prelude.{slice_get, flat_map}
+use Rattle.std.specs.List.{slice_index_or}
+use Rattle.std.proofs.lemmas.List.{length-drop, take_all, append-nil}
+use Rattle.std.proofs.lemmas.Grind.{flat_map-append}
+use Rattle.std.proofs.lemmas.Option.{same_Some, slice_get-get_or}
+use Rattle.ir_explore.proofs.CallerLemmas.{pushed_cases}
+use Rattle.ir_flat.specs.Flat.{Flat}
+use Rattle.ir_outcomes.specs.Explored.{IsAt}
+use Rattle.ir_outcomes.specs.declared.shown.Shown.{Shown}
+use Rattle.ir_explore_run.specs.Texts.{Objects, IsOutcomeText, AreTexts}
+
+-- what is left of bytes, where that is no more than a line
+pub last_line_of : (bytes : List ℕ) (k : ℕ) → length bytes - k ≤ 32 → take (length bytes - k) (drop k bytes) ≡ take 32 (drop k bytes)
+last_line_of bytes k few =
+    let size = length-drop k bytes in
+    take_all (length bytes - k) (drop k bytes) (omega (arith, size)) ∙ sym (take_all 32 (drop k bytes) (omega (arith, size, few)))
+
+-- the lines of no outcome
+pub no_texts : (o : Objects) (flats : List Flat) (outcomes : List Shown) → AreTexts o flats outcomes 0 []
+no_texts o flats outcomes = record { texts = []; count = refl; each = λ i x f own at is. absurd (cc is); joined = refl }
+
+-- those of one more
+pub texts_more : (o : Objects) (flats : List Flat) (outcomes : List Shown) (many : ℕ) (text own : List ℕ) (x : Shown) (f : Flat)
+    → AreTexts o flats outcomes many text → IsAt flats outcomes many x f → IsOutcomeText o f (suc many) x own
+    → AreTexts o flats outcomes (many + 1) (text ++ own)
+texts_more o flats outcomes many text own x f t at is = record {
+  texts = t.texts ++ own ∷ [];
+  count = let a = length-append t.texts (own ∷ []) in let b = t.count in omega (arith, a, b);
+  each = λ i y g other there here. elim (pushed_cases t.texts own i other here) [
+    | inl old ↦ t.each i y g other there old
+    | inr p ↦
+        let place : i ≡ many = p.0 ∙ t.count in
+        let shown : x ≡ y = same_Some x y (sym at.0 ∙ subst (λ z. slice_get outcomes z ≡ Some y) place there.0) in
+        let state : f ≡ g = same_Some f g (sym at.1 ∙ subst (λ z. slice_get flats z.node ≡ Some g) (sym shown) there.1) in
+        subst (λ z. IsOutcomeText o g (suc z) y other) (sym place)
+        (subst (IsOutcomeText o g (suc many) y) p.1
+        (subst (λ z. IsOutcomeText o g (suc many) z own) shown (subst (λ z. IsOutcomeText o z (suc many) x own) state is)))
+  ];
+  joined = ap (λ z. z ++ own) t.joined
+      ∙ sym (flat_map-append (λ z. z) t.texts (own ∷ []) ∙ ap (λ z. flat_map (λ z. z) t.texts ++ z) (append-nil own));
+}

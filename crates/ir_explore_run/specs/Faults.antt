@@ -1,0 +1,65 @@
+-- Why nothing was printed of a guest, and what that leaves.
+use Rattle.std.specs.Prelude.{◌≡◌, ◌⊎◌, ℕ, List, [], codes, Ok, Err, ⊤, false}
+use Rattle.std.specs.Io.KnownBytes.{Appends}
+use Rattle.ir_files.specs.Writers.{Writer, Took, Failed}
+use Rattle.ir_files.specs.declared.exit_status.ExitStatus.{ExitStatus}
+use Rattle.ir_files.specs.declared.exit_status.ExitStatus.TheVariants as status
+use Rattle.ir_image.specs.Guest.{Guest}
+use Rattle.ir_image.specs.Reading.{guest_at}
+use Rattle.ir_image.specs.declared.image_err.ImageErr.{ImageErr}
+use Rattle.ir_image.specs.declared.image_err.ImageErr.TheVariants as image
+use Rattle.ir_record_run.specs.Faults.{image_words}
+use Rattle.ir_thread.specs.Allowed.{IsAllowed}
+use Rattle.ir_thread.specs.declared.profile.Profile.TheVariants.{One}
+use Rattle.ir_explore_run.specs.Texts.{IsAnswerAbout}
+use Rattle.ir_explore_run.specs.declared.fault.ExploreFault.{ExploreFault}
+use Rattle.ir_explore_run.specs.declared.fault.ExploreFault.TheVariants.{Image, TooLarge, NoMem, Write}
+
+-- the fault that a refusal of the image is
+abbrev pub image_fault : ImageErr → ExploreFault
+image_fault image.NoMem = NoMem
+image_fault image.Short = Image image.Short
+image_fault image.Magic = Image image.Magic
+image_fault image.Count = Image image.Count
+image_fault image.Entry = Image image.Entry
+image_fault image.Trailing = Image image.Trailing
+
+-- the exit status of a fault
+abbrev pub fault_status : ExploreFault → ExitStatus
+fault_status (Image e) = status.Refused
+fault_status TooLarge = status.Refused
+fault_status NoMem = status.Failed
+fault_status Write = status.Failed
+
+-- a fault in words
+abbrev pub fault_words : ExploreFault → List ℕ
+fault_words (Image e) = image_words e
+fault_words TooLarge = codes "only guests of at most 8 threads and 16 objects are explored"
+fault_words NoMem = codes "memory ran out"
+fault_words Write = codes "standard output can't be written"
+
+-- the answer about the guest that these bytes encode, which the first profile allows, was written whole
+pub record Answers (bytes : List ℕ) (answered : ExitStatus) (w : Writer) : Type 0 where
+  pub guest : Guest
+  pub is : guest_at bytes ≡ Ok guest
+  pub allowed : IsAllowed One guest
+  pub text : List ℕ
+  pub answer : IsAnswerAbout guest answered text
+  pub took : Took w text
+
+-- such an answer was stopped by the writer
+pub record BreaksOff (bytes : List ℕ) (w : Writer) : Type 0 where
+  pub guest : Guest
+  pub is : guest_at bytes ≡ Ok guest
+  pub answered : ExitStatus
+  pub text : List ℕ
+  pub answer : IsAnswerAbout guest answered text
+  pub failed : Failed w text
+
+-- Why there is no answer. The image is refused for its first fault, or its guest is too large, or memory ran out: then nothing is written.
+-- Or the writer failed.
+abbrev pub HasNone : ExploreFault → List ℕ → Writer → Type 0
+HasNone (Image e) bytes w = (guest_at bytes ≡ Err e) × Took w []
+HasNone TooLarge bytes w = ((guest : Guest) × (guest_at bytes ≡ Ok guest) × (IsAllowed One guest → ⊥)) × Took w []
+HasNone NoMem bytes w = Took w []
+HasNone Write bytes w = BreaksOff bytes w

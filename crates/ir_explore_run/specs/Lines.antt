@@ -1,0 +1,80 @@
+-- The lines of `ir explore`.
+use Rattle.std.specs.Prelude.{ℕ, zero, suc, ◌-◌, ◌*◌, List, [], ◌∷◌, ◌++◌, codes, decimal, length, take, drop, flat_map, if◌then◌else◌, Option, Some, None}
+use Rattle.hex.specs.Hex.{encode_lower}
+use Rattle.ir_thread.specs.Ends.{end_number, end_code}
+use Rattle.ir_thread.specs.State.{State}
+use Rattle.ir_thread.specs.declared.end.End.{End}
+use Rattle.ir_text.specs.Answers.{hex_word}
+use Rattle.ir_text.specs.Texts.{lines_for}
+use Rattle.ir_explore.specs.declared.search.Ended.{Ended}
+use Rattle.ir_explore.specs.declared.search.Ended.TheVariants.{Finished, Covered, Stopped}
+use Rattle.ir_explore.specs.declared.stop.Stop.{Stop}
+use Rattle.ir_explore.specs.declared.stop.Stop.TheVariants as stop
+
+-- the line of an outcome by its number, with the list that spells its order
+abbrev pub outcome_line : ℕ → ℕ → List ℕ → List ℕ
+outcome_line number switches list =
+    codes "outcome " ++ (decimal number ++ (codes " switches " ++ (decimal switches ++ (codes " order " ++ (list ++ 10 ∷ [])))))
+
+-- the line of a thread: how it ended, and how many bytes it printed
+abbrev pub thread_line : ℕ → ℕ → ℕ → ℕ → List ℕ
+thread_line thread end code printed =
+    codes "thread " ++ (decimal thread ++ (codes " end " ++ (decimal end ++ (codes " code " ++ (decimal code
+    ++ (codes " out " ++ (decimal printed ++ 10 ∷ [])))))))
+
+-- of bytes, the line from byte 32 * k on
+abbrev pub byte_line : List ℕ → ℕ → List ℕ
+byte_line bytes k = encode_lower (take 32 (drop (32 * k) bytes)) ++ 10 ∷ []
+
+-- the first n lines of bytes
+abbrev pub byte_lines : List ℕ → ℕ → List ℕ
+byte_lines bytes zero = []
+byte_lines bytes (suc n) = byte_lines bytes n ++ byte_line bytes n
+
+-- the number of an end and its code, zeros where there is none
+abbrev pub number_of : Option End → ℕ
+number_of None = 0
+number_of (Some e) = end_number e
+
+abbrev pub code_of : Option End → ℕ
+code_of None = 0
+code_of (Some e) = end_code e
+
+-- the lines of a thread
+abbrev pub thread_text : ℕ → State → List ℕ
+thread_text t s = thread_line t (number_of s.ended) (code_of s.ended) (length s.output)
+    ++ byte_lines s.output (lines_for 32 (length s.output))
+
+-- words, each after a blank
+abbrev pub words_text : List ℕ → List ℕ
+words_text words = flat_map (λ w. codes " " ++ hex_word w) words
+
+-- the line of an object
+abbrev pub object_line : ℕ → List ℕ → List ℕ
+object_line object words = codes "object " ++ (decimal object ++ (codes " words" ++ (words_text words ++ 10 ∷ [])))
+
+-- why a search stopped, in words
+abbrev pub why_text : Stop → List ℕ
+why_text stop.Nodes = codes "states"
+why_text (stop.Private t) = codes "private " ++ decimal t
+why_text (stop.Log t) = codes "log " ++ decimal t
+why_text (stop.Order v) = codes "order " ++ decimal v
+why_text (stop.World t) = codes "world " ++ decimal t
+why_text (stop.Try t) = codes "try " ++ decimal t
+why_text stop.Memory = codes "memory"
+
+-- up to how many switches the outcomes are complete, if so many levels are gone over
+abbrev pub covered_text : ℕ → List ℕ
+covered_text zero = codes "-"
+covered_text (suc c) = decimal c
+
+-- how many outcomes there are, and how many states
+abbrev pub counts_text : ℕ → ℕ → List ℕ
+counts_text outcomes states = codes "outcomes " ++ (decimal outcomes ++ (codes " states " ++ (decimal states ++ 10 ∷ [])))
+
+-- the last line
+abbrev pub last_line : Ended → ℕ → ℕ → ℕ → List ℕ
+last_line Finished levels outcomes states = codes "finished " ++ counts_text outcomes states
+last_line Covered levels outcomes states = codes "covered " ++ (covered_text levels ++ (codes " " ++ counts_text outcomes states))
+last_line (Stopped why) levels outcomes states =
+    codes "stopped " ++ (why_text why ++ (codes " covered " ++ (covered_text levels ++ (codes " " ++ counts_text outcomes states))))

@@ -1,0 +1,91 @@
+-- What `ir explore` writes.
+use Rattle.std.specs.Prelude.{◌≡◌, ◌≢◌, ◌⊎◌, ℕ, zero, suc, List, [], ◌∷◌, ◌++◌, length, take, flat_map, if◌then◌else◌, nat_eq, Ok, Err, Result, Some, slice_get}
+use Rattle.std.specs.List.{slice_index_or}
+use Rattle.std.specs.Cmp.Lexicographic.{pointwise}
+use Rattle.std.specs.String.{string_bytes}
+use Rattle.ir_explore.specs.declared.search.Ended.{Ended}
+use Rattle.ir_explore.specs.declared.search.Ended.TheVariants.{Finished, Covered, Stopped}
+use Rattle.ir_explore.specs.declared.stop.Stop.{Stop}
+use Rattle.ir_files.specs.declared.exit_status.ExitStatus.{ExitStatus}
+use Rattle.ir_files.specs.declared.exit_status.ExitStatus.TheVariants as status
+use Rattle.ir_flat.specs.Flat.{Flat, idle, start_cells, empty}
+use Rattle.ir_image.specs.Guest.{Guest, object_count, object_words}
+use Rattle.ir_image.specs.declared.image_err.ImageErr.{ImageErr}
+use Rattle.ir_object.specs.Cell.{Cell}
+use Rattle.ir_order.specs.Spelling.{Spells}
+use Rattle.ir_outcomes.specs.Explored.{IsAt, AreExplored, AreAll}
+use Rattle.ir_outcomes.specs.declared.shown.Shown.{Shown}
+use Rattle.ir_record.specs.Turns.{order_of_turns}
+use Rattle.ir_thread.specs.State.{State}
+use Rattle.ir_explore_run.specs.Lines.{outcome_line, thread_text, object_line, last_line}
+
+-- the lines of the first n threads
+abbrev pub threads_text : List State → ℕ → List ℕ
+threads_text threads zero = []
+threads_text threads (suc n) = threads_text threads n ++ thread_text n (slice_index_or threads n idle)
+
+-- the line of an object whose words aren't its first ones
+abbrev pub object_text : ℕ → List ℕ → List ℕ → List ℕ
+object_text o first words = if pointwise nat_eq words first then [] else object_line o words
+
+-- the same of the first n objects, of so many words each
+abbrev pub objects_text : ℕ → List Cell → List Cell → ℕ → List ℕ
+objects_text words first now zero = []
+objects_text words first now (suc n) =
+    objects_text words first now n
+    ++ object_text n (take words (slice_index_or first n empty).words) (take words (slice_index_or now n empty).words)
+
+-- the list spells this order, and is empty where the order is
+pub record IsListOf (list order : List ℕ) : Type 0 where
+  pub spells : order ≢ [] → Spells list order
+  pub none : order ≡ [] → list ≡ []
+
+-- the objects of a guest at first, and how many words each has
+pub record Objects : Type 0 where
+  pub words : ℕ
+  pub first : List Cell
+
+abbrev pub objects_of : Guest → Objects
+objects_of guest = record { words = object_words guest; first = start_cells guest 0 (object_count guest) }
+
+-- the lines of an outcome, by its number
+abbrev pub IsOutcomeText : Objects → Flat → ℕ → Shown → List ℕ → Type 0
+IsOutcomeText o f number x text = (list : List ℕ) × IsListOf list (order_of_turns x.turns.items)
+    × (text ≡ outcome_line number x.level list ++ (threads_text f.threads (length f.threads) ++ objects_text o.words o.first f.objects (length f.objects)))
+
+-- the lines of all outcomes
+pub record AreTexts (o : Objects) (flats : List Flat) (outcomes : List Shown) (many : ℕ) (text : List ℕ) : Type 0 where
+  pub texts : List (List ℕ)
+  pub count : length texts ≡ many
+  pub each : (i : ℕ) (x : Shown) (f : Flat) (own : List ℕ) → IsAt flats outcomes i x f → slice_get texts i ≡ Some own
+      → IsOutcomeText o f (suc i) x own
+  pub joined : text ≡ flat_map (λ own. own) texts
+
+-- the exit status of a search that ended so
+abbrev pub status_of : Ended → ExitStatus
+status_of Finished = status.Done
+status_of Covered = status.Done
+status_of (Stopped why) = status.NotSo
+
+-- the outcomes of the guest are printed, and how the search for them ended: once it is finished, they are all
+pub record IsFound (guest : Guest) (answered : ExitStatus) (text : List ℕ) : Type 0 where
+  pub flats : List Flat
+  pub outcomes : List Shown
+  pub levels : ℕ
+  pub ended : Ended
+  pub explored : AreExplored guest flats levels outcomes
+  pub all : ended ≡ Finished → AreAll guest flats outcomes
+  pub lines : List ℕ
+  pub texts : AreTexts (objects_of guest) flats outcomes (length outcomes) lines
+  pub whole : text ≡ lines ++ last_line ended levels (length outcomes) (length flats)
+  pub status : answered ≡ status_of ended
+
+-- no outcome is printed, and why
+pub record IsStopped (answered : ExitStatus) (text : List ℕ) : Type 0 where
+  pub why : Stop
+  pub whole : text ≡ last_line (Stopped why) 0 0 0
+  pub status : answered ≡ status.NotSo
+
+-- the answer about a guest
+abbrev pub IsAnswerAbout : Guest → ExitStatus → List ℕ → Type 0
+IsAnswerAbout guest answered text = IsFound guest answered text ⊎ IsStopped answered text

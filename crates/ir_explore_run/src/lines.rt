@@ -1,0 +1,147 @@
+//! The lines of `ir explore`.
+
+ghost use Rattle.std.specs.Prelude.{◌≡◌, ◌++◌, IfOk, OnOk};
+ghost use Rattle.std.specs.String.{string_bytes};
+ghost use Rattle.ir_explore_run.specs.Lines.{outcome_line, thread_line, thread_text, object_line, number_of, code_of, why_text, covered_text, counts_text, last_line};
+
+use crate::bytes::{put_bytes, put_words};
+use ir_explore::{Ended, Stop};
+use ir_thread::{End, Thread};
+use std::alloc::{AllocError, Global};
+
+/// The line of an outcome, with the list that spells its order.
+pub fn outcome_line(
+    alloc: Global,
+    number: usize,
+    switches: usize,
+    list: &str,
+) -> Result<String, AllocError>
+    ensures { IfOk result (λ s. string_bytes s ≡ outcome_line number switches list.now) }
+{
+    format!(in alloc; "outcome {number} switches {switches} order {list}\n")
+}
+
+// The line of a thread.
+fn thread_line(
+    alloc: Global,
+    thread: usize,
+    end: u8,
+    code: u32,
+    printed: usize,
+) -> Result<String, AllocError>
+    ensures { IfOk result (λ s. string_bytes s ≡ thread_line thread end code printed) }
+{
+    format!(in alloc; "thread {thread} end {end} code {code} out {printed}\n")
+}
+
+// The number of an end, 0 where there is none.
+fn number_of(ended: Option<End>) -> u8
+    ensures { result ≡ number_of ended }
+{
+    match ended {
+        None => 0,
+        Some(end) => end.number(),
+    }
+}
+
+// The code of an end, 0 where there is none.
+fn code_of(ended: Option<End>) -> u32
+    ensures { result ≡ code_of ended }
+{
+    match ended {
+        None => 0,
+        Some(end) => end.code(),
+    }
+}
+
+/// Puts the lines of a thread.
+pub fn put_thread(
+    alloc: Global,
+    text: &mut Vec<u8>,
+    number: usize,
+    thread: &Thread,
+) -> Result<(), AllocError>
+    ensures { OnOk result (text.new.items ≡ text.old.items ++ thread_text number thread.now) }
+{
+    let ended = thread.ended();
+    let printed = thread.output();
+    let line = thread_line(
+        alloc,
+        number,
+        number_of(ended),
+        code_of(ended),
+        printed.len(),
+    )?;
+    text.extend_from_slice(line.as_bytes())?;
+    put_bytes(alloc, text, printed)
+}
+
+/// Puts the line of an object.
+pub fn put_object(
+    alloc: Global,
+    text: &mut Vec<u8>,
+    number: usize,
+    words: &[u32],
+) -> Result<(), AllocError>
+    ensures { OnOk result (text.new.items ≡ text.old.items ++ object_line number words.now) }
+{
+    text.extend_from_slice(format!(in alloc; "object {number} words")?.as_bytes())?;
+    put_words(text, words)?;
+    text.push(b'\n')?;
+    Ok(())
+}
+
+// Why a search stopped, in words.
+fn why_text(alloc: Global, stop: Stop) -> Result<String, AllocError>
+    ensures { IfOk result (λ s. string_bytes s ≡ why_text stop) }
+{
+    match stop {
+        Stop::Nodes => String::from_str(alloc, "states"),
+        Stop::Private(thread) => format!(in alloc; "private {thread}"),
+        Stop::Log(thread) => format!(in alloc; "log {thread}"),
+        Stop::Order(node) => format!(in alloc; "order {node}"),
+        Stop::World(thread) => format!(in alloc; "world {thread}"),
+        Stop::Try(thread) => format!(in alloc; "try {thread}"),
+        Stop::Memory => String::from_str(alloc, "memory"),
+    }
+}
+
+// Up to how many switches the outcomes are complete, if so many levels are gone over.
+fn covered_text(alloc: Global, levels: usize) -> Result<String, AllocError>
+    ensures { IfOk result (λ s. string_bytes s ≡ covered_text levels) }
+{
+    if levels == 0 {
+        return String::from_str(alloc, "-");
+    }
+    let switches = levels - 1;
+    format!(in alloc; "{switches}")
+}
+
+// How many outcomes there are, and how many states.
+fn counts_text(alloc: Global, outcomes: usize, states: usize) -> Result<String, AllocError>
+    ensures { IfOk result (λ s. string_bytes s ≡ counts_text outcomes states) }
+{
+    format!(in alloc; "outcomes {outcomes} states {states}\n")
+}
+
+/// The last line.
+pub fn last_line(
+    alloc: Global,
+    ended: Ended,
+    levels: usize,
+    outcomes: usize,
+    states: usize,
+) -> Result<String, AllocError>
+    ensures { IfOk result (λ s. string_bytes s ≡ last_line ended levels outcomes states) }
+{
+    let counts = counts_text(alloc, outcomes, states)?;
+    let covered = covered_text(alloc, levels)?;
+    match ended {
+        Ended::Finished => format!(in alloc; "finished {counts}"),
+        Ended::Covered => format!(in alloc; "covered {covered} {counts}"),
+        Ended::Stopped(stop) => {
+            let why = why_text(alloc, stop)?;
+            format!(in alloc; "stopped {why} covered {covered} {counts}")
+        }
+    }
+}

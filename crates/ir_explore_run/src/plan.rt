@@ -1,0 +1,33 @@
+//! How far a guest is explored.
+
+ghost use Rattle.std.specs.Prelude.{◌≡◌, ◌≤◌};
+
+use ir_graph::Bounds;
+
+/// How far a guest is explored.
+#[derive(Clone, Copy, Debug)]
+pub struct ExplorePlan {
+    /// How many states there may be, and how many steps of a thread up to its next entry.
+    pub bounds: Bounds,
+    /// The most switches of the thread that enters.
+    pub switches: usize,
+    ghost some: { 1 ≤ bounds.nodes },
+}
+
+impl ExplorePlan {
+    /// At most so many states, steps of a thread up to its next entry, and switches.
+    pub fn new(states: usize, private: u64, switches: usize) -> ExplorePlan
+        requires { 1 ≤ states }
+        ensures states { result.bounds.nodes ≡ states }
+        ensures private { result.bounds.private ≡ private }
+        ensures switches { result.switches ≡ switches }
+    {
+        ExplorePlan {
+            bounds: Bounds {
+                nodes: states,
+                private,
+            },
+            switches,
+        }
+    }
+}

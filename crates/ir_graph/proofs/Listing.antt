@@ -1,0 +1,155 @@
+-- The list of different outcomes, node by node.
+use Rattle.std.proofs.Common.{◌≡◌, ℕ, suc, ◌<◌, ◌≤◌, List, [], ◌∷◌, ◌++◌, ◌⊎◌, inl, inr, Some, length, refl, sym, ap, ◌∙◌, subst, arith}
+use Rattle.std.specs.Prelude.{slice_get}
+use Rattle.std.proofs.lemmas.Bool.{cases_lt}
+use Rattle.std.specs.List.{slice_index_or}
+use Rattle.std.proofs.lemmas.Option.{same_Some, slice_get-get_or}
+use Rattle.ir_explore.proofs.CallerLemmas.{pushed_cases, pushed_stays, slice_less}
+use Rattle.ir_runs.specs.Run.{IsDone}
+use Rattle.ir_flat.specs.Flat.{Flat, machine, tables}
+use Rattle.ir_graph.specs.Listing.{HasOutcome, AreOutcomes}
+use Rattle.ir_graph.specs.Outcomes.{outcome_of}
+
+pub none_listed : (flats : List Flat) → AreOutcomes flats 0 []
+none_listed flats = record {
+  done = λ i v is. absurd (cc is);
+  all = λ v f less at done. absurd (omega (arith, less));
+  different = λ i j v w f g is. absurd (cc is);
+  rising = λ i j v w is. absurd (cc is);
+}
+
+below : (v until : ℕ) → v < suc until → (v < until) ⊎ (until ≡ v)
+below v until l = elim (cases_lt v until) [ inl less ↦ inl less | inr most ↦ inr (omega (arith, l, most)) ]
+
+module _ (flats : List Flat) (until : ℕ) (listed : List ℕ) (f : Flat) (o : AreOutcomes flats until listed)
+    (at : slice_get flats until ≡ Some f) where
+  -- a node where some thread goes on
+  pub going_skipped : (IsDone (machine f) (tables f) → ⊥) → AreOutcomes flats (suc until) listed
+  going_skipped never = record {
+    done = λ i v is. let d = o.done i v is in (let a = d.0 in omega (arith, a), d.1);
+    all = λ v g less here done. elim (below v until less) [
+      | inl old ↦ o.all v g old here done
+      | inr same ↦
+          let one : f ≡ g = same_Some f g (sym at ∙ subst (λ z. slice_get flats z ≡ Some g) (sym same) here) in
+          absurd (never (subst (λ z. IsDone (machine z) (tables z)) (sym one) done))
+    ];
+    different = o.different;
+    rising = o.rising;
+  }
+
+  -- a node whose outcome is listed
+  pub same_skipped : HasOutcome flats listed f → AreOutcomes flats (suc until) listed
+  same_skipped h = record {
+    done = λ i v is. let d = o.done i v is in (let a = d.0 in omega (arith, a), d.1);
+    all = λ v g less here done. elim (below v until less) [
+      | inl old ↦ o.all v g old here done
+      | inr same ↦
+          let one : f ≡ g = same_Some f g (sym at ∙ subst (λ z. slice_get flats z ≡ Some g) (sym same) here) in (
+            moved h g one,
+            let a = (o.done h.place h.node h.stands).0 in omega (arith, a, same),
+          )
+    ];
+    different = o.different;
+    rising = o.rising;
+  }
+    where
+      moved : HasOutcome flats listed f → (g : Flat) → f ≡ g → HasOutcome flats listed g
+      moved h g one = record {
+        place = h.place;
+        node = h.node;
+        state = h.state;
+        stands = h.stands;
+        at = h.at;
+        same = h.same ∙ ap (λ z. outcome_of (tables z)) one;
+      }
+
+  -- a node with an outcome that isn't listed yet
+  pub new_listed : IsDone (machine f) (tables f) → (HasOutcome flats listed f → ⊥) → AreOutcomes flats (suc until) (listed ++ until ∷ [])
+  new_listed done fresh = record {
+    done = λ i v is. elim (pushed_cases listed until i v is) [
+      | inl old ↦ let d = o.done i v old in (let a = d.0 in omega (arith, a), d.1)
+      | inr p ↦ (
+        let e = p.1 in omega (arith, e),
+        λ g here.
+            subst (λ z. IsDone (machine z) (tables z)) (same_Some f g (sym at ∙ subst (λ z. slice_get flats z ≡ Some g) (sym p.1) here)) done,
+      )
+    ];
+    all = λ v g less here ends. elim (below v until less) [
+      | inl old ↦ let h = o.all v g old here ends in (longer g h.0, h.1)
+      | inr same ↦
+          let one : f ≡ g = same_Some f g (sym at ∙ subst (λ z. slice_get flats z ≡ Some g) (sym same) here) in (
+            itself g one,
+            omega (arith, same),
+          )
+    ];
+    different = λ i j v w g h is too here there same. elim (pushed_cases listed until i v is) [
+      | inl old ↦ elim (pushed_cases listed until j w too) [
+        | inl old_too ↦ o.different i j v w g h old old_too here there same
+        | inr q ↦ absurd (fresh (meets i v g h old here (new_at w h q.1 there) same))
+      ]
+      | inr p ↦ elim (pushed_cases listed until j w too) [
+        | inl old_too ↦ absurd (fresh (meets j w h g old_too there (new_at v g p.1 here) (sym same)))
+        | inr q ↦ p.0 ∙ sym q.0
+      ]
+    ];
+    rising = λ i j v w is too before. elim (pushed_cases listed until j w too) [
+      | inl old_too ↦ elim (pushed_cases listed until i v is) [
+        | inl old ↦ o.rising i j v w old old_too before
+        | inr p ↦ absurd (let a = slice_less listed j w old_too in let b = p.0 in omega (arith, a, b, before))
+      ]
+      | inr q ↦ elim (pushed_cases listed until i v is) [
+        | inl old ↦ let a = (o.done i v old).0 in let b = q.1 in omega (arith, a, b)
+        | inr p ↦ absurd (let a = p.0 in let b = q.0 in omega (arith, a, b, before))
+      ]
+    ];
+  }
+    where
+      new_at : (v : ℕ) (g : Flat) → until ≡ v → slice_get flats v ≡ Some g → f ≡ g
+      new_at v g same here = same_Some f g (sym at ∙ subst (λ z. slice_get flats z ≡ Some g) (sym same) here)
+
+      meets : (i v : ℕ) (g h : Flat) → slice_get listed i ≡ Some v → slice_get flats v ≡ Some g → f ≡ h
+          → outcome_of (tables g) ≡ outcome_of (tables h) → HasOutcome flats listed f
+      meets i v g h is here one same = record {
+        place = i;
+        node = v;
+        state = g;
+        stands = is;
+        at = here;
+        same = same ∙ sym (ap (λ z. outcome_of (tables z)) one);
+      }
+
+      longer : (g : Flat) → HasOutcome flats listed g → HasOutcome flats (listed ++ until ∷ []) g
+      longer g h = record {
+        place = h.place;
+        node = h.node;
+        state = h.state;
+        stands = pushed_stays listed (until ∷ []) h.place h.node h.stands;
+        at = h.at;
+        same = h.same;
+      }
+
+      last : (xs : List ℕ) (x : ℕ) → slice_get (xs ++ x ∷ []) (length xs) ≡ Some x
+      last [] x = refl
+      last (y ∷ xs) x = last xs x
+
+      itself : (g : Flat) → f ≡ g → HasOutcome flats (listed ++ until ∷ []) g
+      itself g one = record {
+        place = length listed;
+        node = until;
+        state = f;
+        stands = last listed until;
+        at = at;
+        same = ap (λ z. outcome_of (tables z)) one;
+      }
+
+-- the state of a listed node, as it is read
+pub listed_here : (flats : List Flat) (listed : List ℕ) (i d : ℕ) (e : Flat)
+    → ((i v : ℕ) → slice_get listed i ≡ Some v → v < length flats) → i < length listed
+    → e ≡ slice_index_or flats (slice_index_or listed i d) e
+    → (v : ℕ) × (slice_get listed i ≡ Some v) × (slice_get flats v ≡ Some e)
+listed_here flats listed i d e within less is =
+    let at : slice_get listed i ≡ Some (slice_index_or listed i d) = slice_get-get_or listed i d less in (
+      slice_index_or listed i d,
+      at,
+      slice_get-get_or flats (slice_index_or listed i d) e (within i (slice_index_or listed i d) at) ∙ ap Some (sym is),
+    )

@@ -1,0 +1,127 @@
+-- One thread that goes on alone.
+use Rattle.std.proofs.Common.{◌≡◌, ℕ, zero, suc, ◌+◌, ◌<◌, Bool, true, false, cond, List, [], ◌∷◌, ◌++◌, length, refl, sym, ap, ◌∙◌, subst, arith}
+use Rattle.std.specs.Prelude.{replicate}
+use Rattle.ir_runs.specs.Machine as machine
+use Rattle.ir_runs.specs.Object.{Admits, target}
+use Rattle.ir_runs.specs.Machine.{act_of}
+use Rattle.ir_runs.specs.Run.{State, Step, asked, act, Can, after, end}
+use Rattle.ir_runs.proofs.CallerLemmas.{end_append}
+use Rattle.ir_states.specs.Counting.{is_own, entering}
+use Rattle.ir_states.proofs.CallerLemmas.{entering_append}
+use Rattle.ir_thread.specs.Calls.{ask_of}
+use Rattle.ir_thread.specs.Instance.{thread_machine, shared_ask}
+use Rattle.ir_thread.specs.State as thread
+use Rattle.ir_thread.specs.declared.ask.Ask.{Ask}
+use Rattle.ir_thread.specs.declared.ask.Ask.TheVariants as ask
+use Rattle.ir_freeze.specs.Twins.{AreTwins}
+use Rattle.ir_flat.specs.Alone.{WentAlone}
+use Rattle.ir_flat.specs.Flat.{Flat, tables, machine, thread_of}
+use Rattle.ir_graph.specs.Plain.{IsPlainRun, GoesPlain, IsFair, Rests, IsLike}
+use Rattle.ir_graph.specs.Reached.{IsQuietRun}
+use Rattle.ir_graph.specs.Turn.{GoesAlone}
+use Rattle.ir_graph.proofs.Leads.{rests_own}
+use Rattle.ir_graph.proofs.Plain.{rests_live, plain_own, fair_live, fair_plain, private_run, twin_end}
+use Rattle.ir_graph.proofs.Reached.{plain_run_quiet, rests_quiet, quiet_append}
+
+pub one_after : {A : Type 0} (x : A) (n k : ℕ) → replicate (n + k) x ≡ replicate n x ++ replicate k x
+one_after x zero k = let e : zero + k ≡ k = omega arith in ap (λ z. replicate z x) e
+one_after x (suc n) k =
+    let e : suc n + k ≡ suc (n + k) = omega arith in
+    ap (λ z. replicate z x) e ∙ (λ i. x ∷ one_after x n k i)
+
+pub alone_none : (f : Flat) (t : ℕ) → GoesAlone f f t 0 0
+alone_none f t = record { quiet = tt; ends = refl; enters = refl; code = refl; threads = refl; objects = refl }
+
+pub alone_more : (f g h : Flat) (t n k e d : ℕ) → GoesAlone f g t n e → GoesAlone g h t k d → GoesAlone f h t (n + k) (e + d)
+alone_more f g h t n k e d a b =
+    let first : List Step = replicate n (t, 0) in
+    let more : List Step = replicate k (t, 0) in
+    let run : replicate (n + k) (t, 0) ≡ replicate n (t, 0) ++ replicate k (t, 0) = one_after (t, 0) n k in
+    let quiet : IsQuietRun f.code (end (machine f) (tables f) first) more =
+    subst (λ z. IsQuietRun f.code z more) a.ends (subst (λ z. IsQuietRun z (tables g) more) a.code b.quiet) in
+    let ends : tables h ≡ end (machine f) (tables f) (replicate n (t, 0) ++ replicate k (t, 0)) =
+    b.ends ∙ ap (λ z. end (thread_machine z) (tables g) more) a.code ∙ ap (λ z. end (machine f) z more) a.ends
+    ∙ sym (end_append (machine f) (tables f) first more) in
+    let enters : entering (machine f) (tables f) (replicate n (t, 0) ++ replicate k (t, 0)) ≡ replicate e t ++ replicate d t =
+    entering_append (machine f) (tables f) first more
+    ∙ (λ i. a.enters i ++ (ap (λ z. entering (machine f) z more) (sym a.ends)
+    ∙ ap (λ z. entering (thread_machine z) (tables g) more) (sym a.code) ∙ b.enters) i) in record {
+      quiet = subst (IsQuietRun f.code (tables f)) (sym run) (quiet_append f.code (tables f) first more a.quiet quiet);
+      ends = ends ∙ ap (end (machine f) (tables f)) (sym run);
+      enters = ap (entering (machine f) (tables f)) run ∙ enters ∙ sym (one_after t e d);
+      code = b.code ∙ a.code;
+      threads = b.threads ∙ a.threads;
+      objects = b.objects ∙ a.objects;
+    }
+
+plain_enters : (code : List ℕ) (s : State thread.State) (run : List Step) → IsPlainRun code s run → entering (thread_machine code) s run ≡ []
+plain_enters code s [] plain = refl
+plain_enters code s (e ∷ run) (can, live, is, rest) =
+    ap (λ b. cond b (entering (thread_machine code) (after (thread_machine code) s e) run)
+    (e.0 ∷ entering (thread_machine code) (after (thread_machine code) s e) run)) (plain_own (asked (thread_machine code) s e.0) is)
+    ∙ plain_enters code (after (thread_machine code) s e) run rest
+
+-- private steps
+pub went_alone : (f g : Flat) (t n : ℕ) → WentAlone f g t n → GoesAlone f g t n 0
+went_alone f g t n w =
+    let p = private_run f.code (tables f) t n w.runs w.each in record {
+      quiet = plain_run_quiet f.code (tables f) (replicate n (t, 0)) p;
+      ends = w.ends;
+      enters = plain_enters f.code (tables f) (replicate n (t, 0)) p;
+      code = w.code;
+      threads = w.threads;
+      objects = w.objects;
+    }
+
+-- one step of a thread that may go on
+pub fair_alone : (f g : Flat) (t : ℕ) → IsFair (ask_of f.code (thread_of f t)) → Can (machine f) (tables f) (t, 0)
+    → tables g ≡ after (machine f) (tables f) (t, 0) → g.code ≡ f.code → length g.threads ≡ length f.threads
+    → length g.objects ≡ length f.objects → GoesAlone f g t 1 0
+fair_alone f g t fair can is code threads objects =
+    let p : IsPlainRun f.code (tables f) ((t, 0) ∷ []) =
+    (can, fair_live f.code (thread_of f t) fair, fair_plain (ask_of f.code (thread_of f t)) fair, tt) in record {
+      quiet = plain_run_quiet f.code (tables f) ((t, 0) ∷ []) p;
+      ends = is;
+      enters = plain_enters f.code (tables f) ((t, 0) ∷ []) p;
+      code = code;
+      threads = threads;
+      objects = objects;
+    }
+
+-- one step of a thread that rests
+pub entry_alone : (f g : Flat) (t : ℕ) → Rests (ask_of f.code (thread_of f t)) → Can (machine f) (tables f) (t, 0)
+    → tables g ≡ after (machine f) (tables f) (t, 0) → g.code ≡ f.code → length g.threads ≡ length f.threads
+    → length g.objects ≡ length f.objects → GoesAlone f g t 1 1
+entry_alone f g t rests can is code threads objects = record {
+  quiet = (can, rests_live f.code (thread_of f t) rests, rests_quiet (ask_of f.code (thread_of f t)) rests, tt);
+  ends = is;
+  enters = ap (λ b. cond b [] (t ∷ [])) (rests_own (ask_of f.code (thread_of f t)) rests);
+  code = code;
+  threads = threads;
+  objects = objects;
+}
+
+-- there is each step of a thread that may go on
+pub fair_can : (f : Flat) (t : ℕ) → IsFair (ask_of f.code (thread_of f t)) → Can (machine f) (tables f) (t, 0)
+fair_can f t fair = by (ask_of f.code (thread_of f t)) fair
+  where
+    by : (q : Ask) → IsFair q → Admits (machine f) (act_of (shared_ask q) 0) ((tables f).objects (target (act_of (shared_ask q) 0)))
+    by ask.Private h = tt
+    by (ask.Env k) h = absurd h
+    by (ask.Enter o a) h = absurd h
+    by (ask.Try o) h = absurd h
+    by (ask.Leave o a) h = tt
+    by (ask.Get o i) h = tt
+    by (ask.Put o i v) h = tt
+    by ask.Print h = tt
+    by (ask.End e) h = tt
+    by ask.Done h = absurd h
+
+-- the guest stays the same
+pub alone_like : (f g : Flat) (t n e : ℕ) → GoesAlone f g t n e → IsLike f g
+alone_like f g t n e a = record {
+  code = a.code;
+  threads = a.threads;
+  objects = a.objects;
+  twins = λ u. subst (AreTwins (thread_of f u)) (ap (λ z. z.now u) (sym a.ends)) (twin_end f.code (tables f) (replicate n (t, 0)) u);
+}

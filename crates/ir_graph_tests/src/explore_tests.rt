@@ -1,0 +1,100 @@
+//! What `ir explore` prints.
+
+use crate::guests::{ENDLESS_LOOP, LOST_UPDATE, PRINTS};
+use crate::page::{ENDLESS, Page, empty_page};
+use ir_asm::assemble;
+use ir_explore_run::{ExplorePlan, explore_run};
+use ir_image::write_image;
+use std::test::Fail;
+
+const BOTH: &[u8] = b"outcome 1 switches 1 order 1x25,0x25
+thread 0 end 1 code 0 out 0
+thread 1 end 1 code 0 out 0
+object 0 words 00000002 00000000 00000000 00000000 00000000 00000000 00000000 00000000
+outcome 2 switches 2 order 0x13,1x25,0x12
+thread 0 end 1 code 0 out 0
+thread 1 end 1 code 0 out 0
+object 0 words 00000001 00000000 00000000 00000000 00000000 00000000 00000000 00000000
+finished outcomes 2 states 12
+";
+
+const FIRST: &[u8] = b"outcome 1 switches 1 order 1x25,0x25
+thread 0 end 1 code 0 out 0
+thread 1 end 1 code 0 out 0
+object 0 words 00000002 00000000 00000000 00000000 00000000 00000000 00000000 00000000
+covered 1 outcomes 1 states 11
+";
+
+const PRINTED: &[u8] = b"outcome 1 switches 0 order 0x9,1x9
+thread 0 end 1 code 0 out 1
+41
+thread 1 end 1 code 1 out 1
+42
+finished outcomes 1 states 1
+";
+
+// What is printed of a guest: the exit status, the lines and the faults.
+fn explored(rt: &HostRuntime, text: &str, plan: ExplorePlan) -> Result<(u8, Page, Page), Fail> {
+    let alloc = rt.alloc();
+    let image = assemble(alloc, text)?;
+    let bytes = write_image(alloc, &image)?;
+    let mut out = empty_page(rt, 1000, ENDLESS);
+    let mut faults = empty_page(rt, 1000, ENDLESS);
+    let status = explore_run(alloc, bytes.as_slice(), plan, &mut out, &mut faults);
+    Ok((status.number(), out, faults))
+}
+
+#[test]
+fn a_lost_update_is_printed_with_both_orders(rt: HostRuntime) -> Result<(), Fail> {
+    let (status, out, faults) = explored(&rt, LOST_UPDATE, ExplorePlan::new(100, 1000, 100))?;
+    assert_eq!(rt; out.bytes.as_slice(), BOTH);
+    assert_eq!(rt; status, 0);
+    assert!(rt; faults.bytes.is_empty());
+    Ok(())
+}
+
+#[test]
+fn with_one_switch_the_first_is_printed(rt: HostRuntime) -> Result<(), Fail> {
+    let (status, out, _) = explored(&rt, LOST_UPDATE, ExplorePlan::new(100, 1000, 1))?;
+    assert_eq!(rt; out.bytes.as_slice(), FIRST);
+    assert_eq!(rt; status, 0);
+    Ok(())
+}
+
+#[test]
+fn too_many_states_stop_it(rt: HostRuntime) -> Result<(), Fail> {
+    let (status, out, _) = explored(&rt, LOST_UPDATE, ExplorePlan::new(3, 1000, 100))?;
+    assert!(rt; out.bytes.as_slice().starts_with(b"stopped states covered "));
+    assert_eq!(rt; status, 5);
+    Ok(())
+}
+
+#[test]
+fn a_thread_that_goes_on_for_ever_stops_it(rt: HostRuntime) -> Result<(), Fail> {
+    let (status, out, _) = explored(&rt, ENDLESS_LOOP, ExplorePlan::new(100, 1000, 100))?;
+    assert_eq!(rt;
+        out.bytes.as_slice(),
+        b"stopped private 0 covered - outcomes 0 states 0\n".as_slice()
+    );
+    assert_eq!(rt; status, 5);
+    Ok(())
+}
+
+#[test]
+fn what_is_printed_by_threads_is_shown(rt: HostRuntime) -> Result<(), Fail> {
+    let (status, out, _) = explored(&rt, PRINTS, ExplorePlan::new(100, 1000, 100))?;
+    assert_eq!(rt; out.bytes.as_slice(), PRINTED);
+    assert_eq!(rt; status, 0);
+    Ok(())
+}
+
+#[test]
+fn bytes_that_are_no_image_are_refused(rt: HostRuntime) {
+    let mut out = empty_page(&rt, 1000, ENDLESS);
+    let mut faults = empty_page(&rt, 1000, ENDLESS);
+    let plan = ExplorePlan::new(100, 1000, 100);
+    let status = explore_run(rt.alloc(), b"no image", plan, &mut out, &mut faults);
+    assert_eq!(rt; status.number(), 3);
+    assert!(rt; out.bytes.is_empty());
+    assert!(rt; !faults.bytes.is_empty());
+}

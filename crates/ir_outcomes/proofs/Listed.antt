@@ -1,0 +1,141 @@
+-- The outcomes of a guest, listed.
+use Rattle.std.proofs.Common.{◌≡◌, ℕ, zero, suc, ◌+◌, ◌<◌, ◌≤◌, List, [], ◌∷◌, ◌++◌, inl, inr, Some, length, length-append, refl, sym, ap, ◌∙◌, subst, arith}
+use Rattle.std.specs.Prelude.{slice_get}
+use Rattle.std.specs.List.{slice_index_or}
+use Rattle.std.proofs.lemmas.Bool.{cases_lt}
+use Rattle.std.proofs.lemmas.Option.{same_Some, slice_get-get_or}
+use Rattle.ir_image.specs.Guest.{Guest}
+use Rattle.ir_explore.specs.declared.origin.Origin.{Origin}
+use Rattle.ir_explore.specs.Origins.{first_origin}
+use Rattle.ir_explore.proofs.CallerLemmas.{pushed_cases, slice_less}
+use Rattle.ir_runs.specs.Run.{Step, IsDone}
+use Rattle.ir_record.specs.Turns.{order_of_turns}
+use Rattle.ir_thread.specs.Calls.{most_budget}
+use Rattle.ir_thread.specs.declared.profile.Profile.TheVariants.{One}
+use Rattle.ir_flat.specs.Flat.{Flat, machine, tables}
+use Rattle.ir_seen.specs.Seen.{IsCounted}
+use Rattle.ir_graph.specs.Listing.{HasOutcome, AreOutcomes}
+use Rattle.ir_graph.specs.Nodes.{told}
+use Rattle.ir_graph.specs.Outcomes.{Outcome, outcome_of, IsListed, AllListed}
+use Rattle.ir_graph.specs.Searched.{AreSearched}
+use Rattle.ir_outcomes.specs.Again.{steps_of}
+use Rattle.ir_outcomes.specs.Explored.{outcome_by, switches_by, IsOutcomeOf, IsAt, IsIn, AreExplored, AreAll, AreShown}
+use Rattle.ir_outcomes.specs.Shown.{IsShown}
+use Rattle.ir_outcomes.specs.declared.shown.Shown.{Shown}
+
+-- one more is shown
+pub shown_more : (guest : Guest) (flats : List Flat) (origins : List Origin) (listed : List ℕ) (many : ℕ) (outcomes : List Shown) (x : Shown)
+    → AreShown guest flats origins listed many outcomes → slice_get listed many ≡ Some x.node
+    → ((n : Origin) → slice_get origins x.node ≡ Some n → x.level ≡ n.level)
+    → ((f : Flat) → slice_get flats x.node ≡ Some f → IsShown guest f x.level (order_of_turns x.turns.items))
+    → AreShown guest flats origins listed (many + 1) (outcomes ++ x ∷ [])
+shown_more guest flats origins listed many outcomes x s node level shown = record {
+  count = let a = length-append outcomes (x ∷ []) in let b = s.count in omega (arith, a, b);
+  node = λ i y is. elim (pushed_cases outcomes x i y is) [
+    | inl old ↦ s.node i y old
+    | inr p ↦ subst (λ z. slice_get listed i ≡ Some z.node) p.1
+        (subst (λ z. slice_get listed z ≡ Some x.node) (sym (p.0 ∙ s.count)) node)
+  ];
+  level = λ i y n is at. elim (pushed_cases outcomes x i y is) [
+    | inl old ↦ s.level i y n old at
+    | inr p ↦
+        ap (λ z. z.level) (sym p.1) ∙ level n (subst (λ z. slice_get origins z.node ≡ Some n) (sym p.1) at)
+  ];
+  shown = λ i y f at. elim (pushed_cases outcomes x i y at.0) [
+    | inl old ↦ s.shown i y f (old, at.1)
+    | inr p ↦
+        subst (λ z. IsShown guest f z.level (order_of_turns z.turns.items)) p.1
+        (shown f (subst (λ z. slice_get flats z.node ≡ Some f) (sym p.1) at.1))
+  ];
+}
+
+module _ (guest : Guest) (flats : List Flat) (origins : List Origin) (levels : ℕ) (listed : List ℕ) (outcomes : List Shown)
+    (searched : AreSearched guest flats origins levels) (different : AreOutcomes flats (length origins) listed)
+    (shown : AreShown guest flats origins listed (length listed) outcomes) where
+  -- a listed node is shown
+  in_list : (i v : ℕ) → slice_get listed i ≡ Some v → (x : Shown) × (slice_get outcomes i ≡ Some x) × (x.node ≡ v)
+  in_list i v is =
+      let less : i < length outcomes = (let a = slice_less listed i v is in let b = shown.count in omega (arith, a, b)) in
+      let x = at outcomes i less in
+      (x.0, x.1, same_Some x.0.node v (sym (shown.node i x.0 x.1) ∙ is))
+    where
+      at : (xs : List Shown) (i : ℕ) → i < length xs → (x : Shown) × (slice_get xs i ≡ Some x)
+      at [] i l = absurd (omega (arith, l))
+      at (x ∷ xs) zero l = (x, refl)
+      at (x ∷ xs) (suc i) l = at xs i (omega (arith, l))
+
+  -- where a listed node has the outcome of a state, it is in the list
+  has_in : (f : Flat) → HasOutcome flats listed f → IsIn flats outcomes (outcome_of (tables f))
+  has_in f h =
+      let x = in_list h.place h.node h.stands in
+      (h.place, x.0, h.state, (x.1, subst (λ z. slice_get flats z ≡ Some h.state) (sym x.2) h.at), h.same)
+
+  origin_at : (i : ℕ) (x : Shown) → slice_get outcomes i ≡ Some x → (n : Origin) × (slice_get origins x.node ≡ Some n)
+  origin_at i x is =
+      let l = (different.done i x.node (shown.node i x is)).0 in
+      (slice_index_or origins x.node first_origin, slice_get-get_or origins x.node first_origin l)
+
+  -- what a run of few switches comes to is in the list
+  in_covered : (c : ℕ) → c < levels → (answers : ℕ → List ℕ) (budget : ℕ) (steps : List Step)
+      → IsCounted guest budget One told answers steps → switches_by guest budget steps ≤ c
+      → IsIn flats outcomes (outcome_by guest budget steps)
+  in_covered c less answers budget steps counted few =
+      let r = searched.within c less answers budget steps counted few in
+      let h = different.all r.0 r.1 (slice_less origins r.0 r.2 r.4) r.3.0 r.3.1 in
+      subst (IsIn flats outcomes) r.3.2 (has_in r.1 h.0)
+
+  level_least : (i : ℕ) (x : Shown) (f : Flat) → IsAt flats outcomes i x f → (answers : ℕ → List ℕ) (budget : ℕ) (steps : List Step)
+      → IsCounted guest budget One told answers steps → outcome_by guest budget steps ≡ outcome_of (tables f)
+      → x.level ≤ switches_by guest budget steps
+  level_least i x f at answers budget steps counted same = elim (cases_lt (switches_by guest budget steps) x.level) [
+    | inl less ↦
+        let n = origin_at i x at.0 in
+        let level : x.level ≡ n.0.level = shown.level i x n.0 at.0 n.1 in
+        let most = searched.most x.node n.0 n.1 in
+        let r = searched.within (switches_by guest budget steps) (omega (arith, less, level, most)) answers budget steps counted (omega arith) in
+        let h = different.all r.0 r.1 (slice_less origins r.0 r.2 r.4) r.3.0 r.3.1 in
+        let one : h.0.place ≡ i =
+        different.different h.0.place i h.0.node x.node h.0.state f h.0.stands (shown.node i x at.0) h.0.at at.1 (h.0.same ∙ r.3.2 ∙ same) in
+        let node : h.0.node ≡ x.node =
+        same_Some h.0.node x.node (sym (subst (λ z. slice_get listed z ≡ Some h.0.node) one h.0.stands) ∙ shown.node i x at.0) in
+        let before : x.node ≤ r.0 = (let a = h.1 in omega (arith, a, node)) in
+        let rise = searched.rising x.node r.0 n.0 r.2 n.1 r.4 before in
+        let late = r.5 in
+        absurd (omega (arith, less, level, rise, late))
+    | inr most ↦ most
+  ]
+
+  pub explored : AreExplored guest flats levels outcomes
+  explored = record {
+    shown = shown.shown;
+    fewest = level_least;
+    different = λ i j x y f g at there same.
+        different.different i j x.node y.node f g (shown.node i x at.0) (shown.node j y there.0) at.1 there.1 same;
+    rising = λ i j x y is there before.
+        let n = origin_at i x is in
+        let m = origin_at j y there in
+        let less = different.rising i j x.node y.node (shown.node i x is) (shown.node j y there) before in
+        let rise = searched.rising x.node y.node n.0 m.0 n.1 m.1 (omega (arith, less)) in
+        let a = shown.level i x n.0 is n.1 in
+        let b = shown.level j y m.0 there m.1 in
+        omega (arith, rise, a, b);
+    nodes = λ i x is.
+        let l = (different.done i x.node (shown.node i x is)).0 in
+        let few = searched.few in
+        omega (arith, l, few);
+    covered = in_covered;
+  }
+
+  -- once the search is finished, the list is that of all outcomes
+  pub all_outcomes : AllListed guest flats → length origins ≡ length flats → AreAll guest flats outcomes
+  all_outcomes all nodes x = (
+    λ h.
+        let r = all h.0 h.1 h.2 h.3 in
+        let less : r.0 < length origins = (let a = slice_less flats r.0 r.1 r.2.0 in omega (arith, a, nodes)) in
+        let k = different.all r.0 r.1 less r.2.0 r.2.1 in
+        subst (IsIn flats outcomes) (r.2.2 ∙ h.4) (has_in r.1 k.0),
+    λ h.
+        let s = shown.shown h.0 h.1 h.2 h.3 in
+        let order = order_of_turns h.1.turns.items in
+        ((λ t. []), most_budget, steps_of order, s.counted (λ t. []), s.same ∙ h.4),
+  )

@@ -1,0 +1,24 @@
+-- An outcome of a guest, and an order that leads to it.
+use Rattle.std.specs.Prelude.{◌≡◌, ℕ, ◌≤◌, List, length}
+use Rattle.ir_image.specs.Guest.{Guest}
+use Rattle.ir_runs.specs.InOrder.{IsByOrder}
+use Rattle.ir_runs.specs.Run.{end}
+use Rattle.ir_states.specs.Counting.{entering}
+use Rattle.ir_states.specs.Outcomes.{switches}
+use Rattle.ir_thread.specs.Calls.{most_budget}
+use Rattle.ir_thread.specs.Instance.{thread_machine}
+use Rattle.ir_thread.specs.declared.profile.Profile.TheVariants.{One}
+use Rattle.ir_flat.specs.Flat.{Flat, tables}
+use Rattle.ir_seen.specs.Seen.{IsCounted}
+use Rattle.ir_graph.specs.Nodes.{told}
+use Rattle.ir_graph.specs.Outcomes.{outcome_of}
+use Rattle.ir_graph.specs.Reached.{beginning}
+use Rattle.ir_outcomes.specs.Again.{steps_of}
+
+-- The run by this order is a complete one, whatever the world answers. It has the outcome of the state, and switches the thread that enters
+-- at most so often.
+pub record IsShown (guest : Guest) (f : Flat) (level : ℕ) (order : List ℕ) : Type 0 where
+  pub counted : (answers : ℕ → List ℕ) → IsCounted guest most_budget One told answers (steps_of order)
+  pub by_order : IsByOrder (thread_machine guest.code) (beginning guest) (length guest.entries) order (steps_of order)
+  pub same : outcome_of (end (thread_machine guest.code) (beginning guest) (steps_of order)) ≡ outcome_of (tables f)
+  pub few : switches (entering (thread_machine guest.code) (beginning guest) (steps_of order)) ≤ level

@@ -1,0 +1,82 @@
+//! All outcomes of a guest.
+
+ghost use Rattle.std.specs.Prelude.{◌≡◌, ℕ, suc, ◌≤◌, ◌<◌, length, Some, slice_get, IfOk};
+ghost use Rattle.ir_explore.specs.declared.search.Ended.TheVariants.{Finished, Covered};
+ghost use Rattle.ir_graph.specs.Reached.{AllReached};
+ghost use Rattle.ir_outcomes.specs.Explored.{AreExplored, AreAll, AreShown};
+ghost use Rattle.ir_thread.specs.Allowed.{IsAllowed};
+ghost use Rattle.ir_thread.specs.declared.profile.Profile.TheVariants.{One};
+
+use crate::shown::{Shown, show};
+use ir_explore::{Origin, Stop};
+use ir_flat::Flat;
+use ir_graph::{Bounds, States, list_outcomes, search_states};
+use ir_image::Image;
+use std::alloc::Global;
+
+/// What was found out about a guest.
+#[derive(Drop)]
+pub struct Explored<'a> {
+    /// Its states, and how the search ended.
+    pub states: States<'a>,
+    /// Its different outcomes.
+    pub outcomes: Vec<Shown>,
+}
+
+// Each of these nodes with an order that leads to it.
+fn show_all<'a>(
+    alloc: Global,
+    image: &'a Image,
+    flats: &[Flat<'a>],
+    origins: &[Origin],
+    listed: &[usize],
+    limit: u64,
+) -> Result<Vec<Shown>, Stop>
+    requires allowed { IsAllowed One image.now }
+    requires reached { AllReached image.now flats.now }
+    requires few { length origins.now ≤ length flats.now }
+    requires listed { (i v : ℕ) → slice_get listed.now i ≡ Some v → v < length origins.now }
+    ensures { IfOk result (λ outcomes. AreShown image.now flats.now origins.now listed.now (length listed.now) outcomes.items) }
+{
+    let mut outcomes = Vec::new(alloc);
+    for i in 0..listed.len() {
+        let shown = show(alloc, image, flats, origins, listed[i], limit)?;
+        outcomes.push(shown)?;
+    }
+    Ok(outcomes)
+}
+
+/// The different outcomes of a guest whose threads call no environment, each with an order that leads to it, by rising number of switches
+/// from thread to thread: of `switches` at most, if they aren't all found before.
+///
+/// # Errors
+/// Some thread doesn't come to its first entry, out of memory, or an order that was found doesn't lead to its outcome once more.
+pub fn explore<'a>(
+    alloc: Global,
+    image: &'a Image,
+    bounds: Bounds,
+    switches: usize,
+) -> Result<Explored<'a>, Stop>
+    requires allowed { IsAllowed One image.now }
+    requires some { 1 ≤ bounds.nodes }
+    // Once it is finished, an outcome is listed exactly where some complete run of the guest has it.
+    ensures all { IfOk result (λ found. found.states.found.ended ≡ Finished → AreAll image.now found.states.graph.flats.items found.outcomes.items) }
+    // However it ends, what is listed is right, and complete up to a number of switches.
+    ensures explored { IfOk result (λ found. AreExplored image.now found.states.graph.flats.items found.states.found.levels found.outcomes.items) }
+    ensures states { IfOk result (λ found. AllReached image.now found.states.graph.flats.items) }
+    ensures covered { IfOk result (λ found. found.states.found.ended ≡ Covered → found.states.found.levels ≡ suc switches) }
+{
+    let states = search_states(alloc, image, bounds, switches)?;
+    let flats = states.graph.flats.as_slice();
+    let origins = states.found.nodes.as_slice();
+    let listed = list_outcomes(alloc, flats, origins.len())?;
+    let outcomes = show_all(
+        alloc,
+        image,
+        flats,
+        origins,
+        listed.as_slice(),
+        bounds.private,
+    )?;
+    Ok(Explored { states, outcomes })
+}

@@ -1,0 +1,62 @@
+//! An outcome with an order that leads to it.
+
+ghost use Rattle.std.specs.Prelude.{◌≡◌, ℕ, ◌<◌, Some, length, slice_get, IfOk};
+ghost use Rattle.ir_explore.specs.declared.origin.Origin.{Origin};
+ghost use Rattle.ir_flat.specs.Flat.{Flat};
+ghost use Rattle.ir_graph.specs.Reached.{AllReached};
+ghost use Rattle.ir_record.specs.Turns.{order_of_turns};
+ghost use Rattle.ir_thread.specs.Allowed.{IsAllowed};
+ghost use Rattle.ir_thread.specs.declared.profile.Profile.TheVariants.{One};
+ghost use Rattle.ir_outcomes.specs.Shown.{IsShown};
+
+use crate::path::path_to;
+use crate::rerun::run_again;
+use ir_explore::{Origin, Stop};
+use ir_flat::Flat;
+use ir_graph::{is_done, same_outcome};
+use ir_image::Image;
+use ir_record::Turns;
+use std::alloc::Global;
+
+/// An outcome: a node that has it first, and an order that leads to it.
+#[derive(Debug, Drop)]
+pub struct Shown {
+    /// The node.
+    pub node: usize,
+    /// How often the thread that enters is switched.
+    pub level: usize,
+    /// The steps of the threads, in turn.
+    pub turns: Vec<Turns>,
+}
+
+/// The outcome of a node where all threads are done, with an order that leads to it.
+///
+/// # Errors
+/// Out of memory. No order was found.
+pub fn show<'a>(
+    alloc: Global,
+    image: &'a Image,
+    flats: &[Flat<'a>],
+    origins: &[Origin],
+    node: usize,
+    limit: u64,
+) -> Result<Shown, Stop>
+    requires allowed { IsAllowed One image.now }
+    requires reached { AllReached image.now flats.now }
+    requires node { node < length flats.now }
+    requires origin { node < length origins.now }
+    ensures node { IfOk result (λ shown. shown.node ≡ node) }
+    ensures level { IfOk result (λ shown. (n : Origin) → slice_get origins.now node ≡ Some n → shown.level ≡ n.level) }
+    ensures shown { IfOk result (λ shown. (f : Flat) → slice_get flats.now node ≡ Some f → IsShown image.now f shown.level (order_of_turns shown.turns.items)) }
+{
+    let path = path_to(alloc, origins, node)?;
+    let (flat, turns) = run_again(alloc, image, path.as_slice(), limit)?;
+    if !is_done(&flat) || !same_outcome(&flat, &flats[node]) {
+        return Err(Stop::Order(node));
+    }
+    Ok(Shown {
+        node,
+        level: origins[node].level,
+        turns,
+    })
+}
