@@ -13,7 +13,7 @@ use Rattle.ir_packet.specs.declared.request.Motion.{Motion}
 abbrev pub IsThere : Request → Type 0
 IsThere r = (n : ℕ) → r ≡ request.Register n → n < 33
 
-AreThere : Option Request → Type 0
+abbrev pub AreThere : Option Request → Type 0
 AreThere None = ⊤
 AreThere (Some r) = IsThere r
 
@@ -90,7 +90,7 @@ restart_there rest = by_restart (drop (index_of 59 rest) rest)
 
 -- ---- rows
 
-AllMake : List Row → Type 0
+abbrev pub AllMake : List Row → Type 0
 AllMake [] = ⊤
 AllMake (r ∷ rows) = ((rest : List ℕ) → IsThere (r.makes rest)) × AllMake rows
 
@@ -112,60 +112,60 @@ by_any None p = λ n e. absurd cc
 by_any (Some r) p = p
 
 queries_make : AllMake queries
-queries_make = (
-  λ rest n e. absurd cc,
-  plain_there request.NoAcknowledgements (λ n e. absurd cc),
-  λ rest n e. absurd cc,
-  plain_there request.Offsets (λ n e. absurd cc),
-  plain_there request.Symbols (λ n e. absurd cc),
-  tt,
-)
+queries_make =
+    ((λ rest n e. absurd cc),
+    ((plain_there request.NoAcknowledgements (λ n e. absurd cc)),
+    ((λ rest n e. absurd cc),
+    ((plain_there request.Offsets (λ n e. absurd cc)),
+    ((plain_there request.Symbols (λ n e. absurd cc)), tt)))))
 
 texts_make : AllMake texts
-texts_make = (two_there request.Description (λ a b n e. absurd cc), two_there request.Threads (λ a b n e. absurd cc), tt)
+texts_make =
+    ((two_there request.Description (λ a b n e. absurd cc)),
+    ((two_there request.Threads (λ a b n e. absurd cc)), tt))
 
 restarts_make : AllMake restarts
-restarts_make = (plain_there request.Extended (λ n e. absurd cc), restart_there, λ rest n e. absurd cc, tt)
+restarts_make =
+    ((plain_there request.Extended (λ n e. absurd cc)),
+    (restart_there,
+    ((λ rest n e. absurd cc), tt)))
 
 commands_make : AllMake commands
-commands_make = (console_there, plain_there request.Motions (λ n e. absurd cc), actions_there, tt)
+commands_make =
+    (console_there,
+    ((plain_there request.Motions (λ n e. absurd cc)),
+    (actions_there, tt)))
 
 points_make : AllMake points
-points_make = (
-  two_there (λ a kind. request.SetBreak a false) (λ a b n e. absurd cc),
-  two_there (λ a kind. request.SetBreak a true) (λ a b n e. absurd cc),
-  two_there request.SetWatch (λ a b n e. absurd cc),
-  two_there (λ a kind. request.ClearBreak a false) (λ a b n e. absurd cc),
-  two_there (λ a kind. request.ClearBreak a true) (λ a b n e. absurd cc),
-  two_there request.ClearWatch (λ a b n e. absurd cc),
-  tt,
-)
+points_make =
+    ((two_there (λ a kind. request.SetBreak a false) (λ a b n e. absurd cc)),
+    ((two_there (λ a kind. request.SetBreak a true) (λ a b n e. absurd cc)),
+    ((two_there request.SetWatch (λ a b n e. absurd cc)),
+    ((two_there (λ a kind. request.ClearBreak a false) (λ a b n e. absurd cc)),
+    ((two_there (λ a kind. request.ClearBreak a true) (λ a b n e. absurd cc)),
+    ((two_there request.ClearWatch (λ a b n e. absurd cc)), tt))))))
 
 letters_make : AllMake letters
-letters_make = (
-  plain_there request.Reason (λ n e. absurd cc),
-  thread_there request.General (λ w n e. absurd cc),
-  thread_there request.Choose (λ w n e. absurd cc),
-  one_there request.Alive (λ a n e. absurd cc),
-  plain_there request.Registers (λ n e. absurd cc),
-  one_there register register_there,
-  two_there request.Memory (λ a b n e. absurd cc),
-  tt,
-)
+letters_make =
+    ((plain_there request.Reason (λ n e. absurd cc)),
+    ((thread_there request.General (λ w n e. absurd cc)),
+    ((thread_there request.Choose (λ w n e. absurd cc)),
+    ((one_there request.Alive (λ a n e. absurd cc)),
+    ((plain_there request.Registers (λ n e. absurd cc)),
+    ((one_there register register_there),
+    ((two_there request.Memory (λ a b n e. absurd cc)), tt)))))))
 
 ends_make : AllMake requests.ends
-ends_make = (
-  λ rest n e. absurd cc,
-  λ rest n e. absurd cc,
-  λ rest n e. absurd cc,
-  plain_there _ (λ n e. absurd cc),
-  plain_there _ (λ n e. absurd cc),
-  plain_there _ (λ n e. absurd cc),
-  plain_there _ (λ n e. absurd cc),
-  λ rest n e. absurd cc,
-  λ rest n e. absurd cc,
-  tt,
-)
+ends_make =
+    ((λ rest n e. absurd cc),
+    ((λ rest n e. absurd cc),
+    ((λ rest n e. absurd cc),
+    ((plain_there _ (λ n e. absurd cc)),
+    ((plain_there _ (λ n e. absurd cc)),
+    ((plain_there _ (λ n e. absurd cc)),
+    ((plain_there _ (λ n e. absurd cc)),
+    ((λ rest n e. absurd cc),
+    ((λ rest n e. absurd cc), tt)))))))))
 
 named_there : (payload : List ℕ) → AreThere (asked_named payload)
 unfolding asked_named asked_queries asked_texts asked_restarts asked_commands

@@ -1,5 +1,5 @@
 -- From a connection to what was opened.
-use Rattle.std.proofs.Common.{◌≡◌, ◌≤◌, ◌∙◌, ℕ, true, false, List, [], Option, Some, None, Result, Ok, Err, IfSome, refl, sym, ap, subst, arith}
+use Rattle.std.proofs.Common.{◌≡◌, ◌≤◌, ◌∙◌, ℕ, Bool, true, false, List, [], Option, Some, None, Result, Ok, Err, OnOk, OnErr, IfSome, refl, sym, ap, subst, arith, append-nil}
 use Rattle.std.specs.Io.KnownBytes.{Appends, Consumes}
 use Rattle.std.proofs.KnownBytes.{Appends-nil, Consumes-nil}
 use Rattle.ir_stream.specs.Devices.{AppendsPrefix, Reads}
@@ -190,3 +190,15 @@ ready_quiet (Ok ended.ImageRefused) P p = tt
 ready_quiet (Ok ended.TraceRefused) P p = tt
 ready_quiet (Ok ended.NotFit) P p = tt
 ready_quiet (Err e) P p = p
+
+-- what a writer took of a text
+pub announced : {X E : Type 0} (r : Result X E) (w w' : Option (List ℕ)) (broken : Bool) (text : List ℕ) → OnOk r (Appends w w' text)
+    → OnErr r (AppendsPrefix w w' text) → OnErr r (broken ≡ true) → AppendsPrefix w w' text × (broken ≡ false → Appends w w' text)
+announced (Ok x) w w' broken text ok prefix err = (
+  record { part = text; more = []; splits = sym (append-nil text); grown = ok },
+  λ e. ok,
+)
+announced (Err x) w w' broken text ok prefix err = (prefix, λ e. absurd (both broken err e))
+  where
+    both : (b : Bool) → b ≡ true → b ≡ false → ⊥
+    both b is isnt = cc
