@@ -1,5 +1,5 @@
 -- What is written for a request or an item, by its kind.
-use Rattle.std.proofs.Common.{◌≡◌, ◌⊎◌, ◌∙◌, ◌&&◌, ℕ, Bool, true, false, List, [], Option, Result, IfOk, codes, not, refl, sym, ap, subst, inl, inr}
+use Rattle.std.proofs.Common.{◌≡◌, ◌⊎◌, ◌&&◌, ℕ, Bool, true, false, List, [], Option, Result, IfOk, codes, not, refl, sym, subst, inl, inr}
 use Rattle.std.specs.Io.KnownBytes.{Appends}
 use Rattle.std.proofs.KnownBytes.{Appends-nil}
 use Rattle.ir_stream.specs.Devices.{AppendsPrefix}
@@ -17,9 +17,8 @@ use Rattle.ir_packet.specs.declared.reply.Reply.TheVariants as reply
 use Rattle.ir_packet.specs.declared.request.Request.{Request}
 use Rattle.ir_packet.specs.declared.request.Request.TheVariants as request
 use Rattle.ir_debug.specs.Machine.Answers.{quits}
-use Rattle.ir_gdb.specs.Replies.{has_reply}
 use Rattle.ir_gdb.proofs.Answering.{packet_sent, packet_part}
-use Rattle.ir_gdb.specs.Connection.{Link, Connecting, sent, sign, unacknowledged, is_copy, is_packet, before_reply, AnswersLine, AnswersBy, AnswersRequest, AnswersPacket, AnswersNew, AnswersItem, AnswersItemBy, ends_request, ends_by, ends, Sent, SentInPart}
+use Rattle.ir_gdb.specs.Connection.{Link, sent, sign, unacknowledged, is_copy, is_packet, before_reply, AnswersLine, AnswersBy, AnswersRequest, AnswersPacket, AnswersNew, AnswersItem, AnswersItemBy, ends_request, ends_by, ends, Sent, SentInPart}
 
 -- ---- requests
 
@@ -58,38 +57,6 @@ replied request.Detach kill console quiet = λ l payload text next is. is
 replied request.Kill kill console quiet = absurd (kill refl)
 replied request.Malformed kill console quiet = λ l payload text next is. is
 replied request.Unknown kill console quiet = λ l payload text next is. is
-
-pub has_one : (asked : Request) → (asked ≡ request.Kill → ⊥) → (asked ≡ request.Console → ⊥) → has_reply asked ≡ true
-has_one request.Supported kill console = refl
-has_one request.NoAcknowledgements kill console = refl
-has_one request.Reason kill console = refl
-has_one (request.General who) kill console = refl
-has_one (request.Choose who) kill console = refl
-has_one (request.Alive id) kill console = refl
-has_one (request.Description from most) kill console = refl
-has_one (request.Threads from most) kill console = refl
-has_one request.Attached kill console = refl
-has_one request.Offsets kill console = refl
-has_one request.Symbols kill console = refl
-has_one request.Motions kill console = refl
-has_one request.Registers kill console = refl
-has_one (request.Register i) kill console = refl
-has_one (request.Memory a size) kill console = refl
-has_one request.Change kill console = refl
-has_one (request.SetBreak a hardware) kill console = refl
-has_one (request.ClearBreak a hardware) kill console = refl
-has_one (request.SetWatch a size) kill console = refl
-has_one (request.ClearWatch a size) kill console = refl
-has_one (request.Move motion who) kill console = refl
-has_one request.Console kill console = absurd (console refl)
-has_one request.Extended kill console = refl
-has_one request.Restart kill console = refl
-has_one (request.RestartAt i) kill console = refl
-has_one request.EndProcess kill console = refl
-has_one request.Detach kill console = refl
-has_one request.Kill kill console = absurd (kill refl)
-has_one request.Malformed kill console = refl
-has_one request.Unknown kill console = refl
 
 pub goes_on : (asked : Request) → (asked ≡ request.Kill → ⊥) → (asked ≡ request.Detach → ⊥) → ends_request asked ≡ false
 goes_on request.Supported kill detach = refl

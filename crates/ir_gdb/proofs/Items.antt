@@ -1,8 +1,8 @@
 -- What a stream holds byte by byte, and what is written for its items.
-use Rattle.std.proofs.Common.{◌≡◌, ◌==◌, if◌then◌else◌, ◌≤◌, ◌<◌, ◌+◌, ◌-◌, ◌/◌, ◌∙◌, ℕ, zero, suc, Bool, true, false, cond, ltb, min, List, [], ◌∷◌, ◌++◌, length, take, drop, Option, Some, None, Result, Ok, Err, IfSome, refl, sym, ap, subst, arith, append_assoc, append-nil, length-append, ltb-false, lt-ltb, le-ltb, take_all}
+use Rattle.std.proofs.Common.{◌≡◌, ◌==◌, if◌then◌else◌, ◌≤◌, ◌<◌, ◌+◌, ◌-◌, ◌∙◌, ℕ, zero, suc, Bool, true, false, cond, ltb, List, [], ◌∷◌, ◌++◌, length, take, Option, Some, None, Ok, Err, IfSome, refl, sym, ap, subst, arith, append_assoc, append-nil, length-append, ltb-false, lt-ltb, le-ltb, take_all}
 use Rattle.std.specs.Io.KnownBytes.{Appends, Consumes, Keeps, IsAtEnd}
 use Rattle.std.proofs.KnownBytes.{Consumes-nil, Consumes-trans, Consumes-kept, Consumes-whole, Appends-nil, Appends-trans}
-use Rattle.ir_stream.specs.Devices.{AppendsPrefix, Reads}
+use Rattle.ir_stream.specs.Devices.{Reads}
 use Rattle.ir_stream.specs.declared.serving.Served.TheVariants.{Quit, InputEnd}
 use Rattle.ir_stream.specs.declared.serving.Fault.TheVariants as fault
 use Rattle.ir_packet.specs.Packets.{unescaped, unescaped_from, escape, two_digits, checksum, is_number}
@@ -12,7 +12,7 @@ use Rattle.ir_packet.specs.Reading.{kept, items_found, item_found}
 use Rattle.ir_packet.specs.declared.found.Found.{Found}
 use Rattle.ir_packet.specs.declared.found.Found.TheVariants as found
 use Rattle.ir_packet.proofs.CallerLemmas.{ends-kept, step-kept, items_from-append}
-use Rattle.ir_gdb.specs.Connection.{Link, AnswersItem, Rest, Answers, ends, Wrote, Sent, SentInPart, before_reply, WroteInPart, served_by, LeadsTo}
+use Rattle.ir_gdb.specs.Connection.{Link, AnswersItem, Rest, Answers, ends, Wrote, Sent, SentInPart, before_reply, WroteInPart, LeadsTo}
 
 -- ---- the payload of a packet that is found
 

@@ -47,8 +47,9 @@ module _ (s u : Stub) (number : Option ℕ) (next : Stub) (old new : List ℕ) (
         λ run of. subst (λ (b : Bool). RestartsBy b run s number (told_text has.run (restarted s cut)) next)
             (sym may ∙ ap (λ (x : Stub). x.extended) at)
             (subst (λ (m : Option (List ℕ)). RestartsAt m run s (told_text has.run (restarted s cut)) next)
-            (sym some ∙ ap (λ (x : Stub). restart_cut x number) at)
-            (append_cancel_left old (told_text has.run (restarted s cut)) (told_text run (restarted s cut)) (sym first ∙ each run of),
-            said ∙ ap spoken is)),
+            (sym some ∙ ap (λ (x : Stub). restart_cut x number) at) (
+              append_cancel_left old (told_text has.run (restarted s cut)) (told_text run (restarted s cut)) (sym first ∙ each run of),
+              said ∙ ap spoken is,
+            )),
         first,
       )

@@ -1,6 +1,6 @@
 -- From a connection to what was opened.
-use Rattle.std.proofs.Common.{◌≡◌, ◌≤◌, ◌∙◌, ℕ, Bool, true, false, List, [], Option, Some, None, Result, Ok, Err, OnOk, OnErr, IfSome, refl, sym, ap, subst, arith, append-nil}
-use Rattle.std.specs.Io.KnownBytes.{Appends, Consumes}
+use Rattle.std.proofs.Common.{◌≡◌, ◌∙◌, ℕ, Bool, true, false, List, [], Option, Some, None, Result, Ok, Err, OnOk, OnErr, IfSome, refl, sym, ap, subst, arith, append-nil}
+use Rattle.std.specs.Io.KnownBytes.{Appends}
 use Rattle.std.proofs.KnownBytes.{Appends-nil, Consumes-nil}
 use Rattle.ir_stream.specs.Devices.{AppendsPrefix, Reads}
 use Rattle.ir_stream.specs.Endings.{IfEnded}
@@ -8,7 +8,6 @@ use Rattle.ir_stream.specs.declared.serving.Served.{Served}
 use Rattle.ir_stream.specs.declared.serving.Served.TheVariants as served
 use Rattle.ir_stream.specs.declared.serving.Fault.{Fault}
 use Rattle.ir_stream.specs.declared.serving.Fault.TheVariants as fault
-use Rattle.ir_packet.specs.Stream.{items}
 use Rattle.ir_debug.specs.Machine.Desk.{Desk}
 use Rattle.ir_debug.specs.Machine.Opening.{Opening, Opens, opening_text}
 use Rattle.ir_debug.specs.Machine.Opening as opening
@@ -22,8 +21,8 @@ use Rattle.ir_debug.specs.declared.ended.Ended.TheVariants as ended
 use Rattle.ir_debug.specs.declared.ended.SessionErr.{SessionErr}
 use Rattle.ir_debug.specs.declared.ended.SessionErr.TheVariants as err
 use Rattle.ir_gdb.specs.Stub.{Stub, stub_of}
-use Rattle.ir_gdb.specs.Connection.{Link, link_of, Wrote, WroteInPart, LeadsTo}
-use Rattle.ir_gdb.specs.Session.{first_link, Serves, Refuses, IsRefused, Connects, Connected, Announced, AnsweredWhole, AnsweredInPart, IfNotRefused}
+use Rattle.ir_gdb.specs.Connection.{Link, link_of, LeadsTo}
+use Rattle.ir_gdb.specs.Session.{first_link, Serves, Refuses, Connects, Connected, Announced, IfNotRefused}
 
 -- ---- a connection
 

@@ -5,7 +5,7 @@ use Rattle.ir_gdb.specs.Stub.{Stub}
 use Rattle.ir_packet.specs.Replies.{number_text}
 use Rattle.ir_timeline.specs.Positions.{last_of}
 use Rattle.ir_gdb.specs.Stops.{position_of}
-use Rattle.ir_gdb.specs.Texts.{place_text, thread_text, first_threads_text, threads_text}
+use Rattle.ir_gdb.specs.Texts.{place_text, thread_text, first_threads_text}
 
 first_threads_text-next : (s : Stub) (n : ℕ) → first_threads_text s (n + 1) ≡ first_threads_text s n ++ thread_text s n
 unfolding first_threads_text

@@ -1,4 +1,4 @@
-use Rattle.std.proofs.Common.{◌≡◌, ◌∙◌, List, ℕ, refl, ap, subst}
+use Rattle.std.proofs.Common.{◌∙◌, refl, ap, subst}
 use Rattle.ir_packet.specs.Replies.{reply_text}
 use Rattle.ir_packet.specs.declared.reply.Reply.TheVariants.{NoMemory}
 use Rattle.ir_gdb.specs.Stub.{Stub}

@@ -1,4 +1,4 @@
-use Rattle.std.proofs.Common.{◌≡◌, ◌∙◌, ◌++◌, List, ℕ, sym, ap, subst}
+use Rattle.std.proofs.Common.{◌≡◌, ◌∙◌, ◌++◌, List, ℕ, ap}
 use Rattle.ir_packet.specs.Requests.{console_line}
 use Rattle.ir_gdb.specs.Connection.{Connecting}
 use Rattle.ir_gdb.proofs.Lines.{goes_if, consulted}

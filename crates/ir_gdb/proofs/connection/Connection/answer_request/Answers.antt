@@ -1,8 +1,8 @@
-use Rattle.std.proofs.Common.{refl, ap, ◌∙◌, sym}
+use Rattle.std.proofs.Common.{ap, ◌∙◌, sym}
 use Rattle.ir_stream.specs.Endings.{flow_after}
-use Rattle.ir_gdb.specs.Connection.{Connecting, Link, unacknowledged}
-use Rattle.ir_gdb.proofs.Answering.{err_from, on_ok, on_err}
-use Rattle.ir_gdb.proofs.Arms.{has_one, goes_on, replied_sent, replied_part, detach_sent, detach_part, console_sent, console_part, quiet_sent, quiet_part, kill_sent}
+use Rattle.ir_gdb.specs.Connection.{Connecting, unacknowledged}
+use Rattle.ir_gdb.proofs.Answering.{err_from}
+use Rattle.ir_gdb.proofs.Arms.{goes_on, replied_sent, replied_part, detach_sent, detach_part, console_sent, console_part, quiet_sent, quiet_part, kill_sent}
 use Rattle.ir_gdb.proofs.connection.Connection.answer_request.Goals as goal
 
 pub returns-in-Kill-clause-ok : goal.returns-in-Kill-clause-ok

@@ -1,9 +1,8 @@
-use Rattle.std.proofs.Common.{◌≡◌, ◌∙◌, Bool, true, false, Some, refl, sym, ap, subst}
+use Rattle.std.proofs.Common.{◌≡◌, ◌∙◌, Bool, true, false, refl, sym, ap, subst}
 use Rattle.ir_stream.specs.Endings.{flow_after}
 use Rattle.ir_stream.specs.declared.serving.Flow.{Flow}
-use Rattle.ir_stream.specs.declared.serving.Flow.TheVariants.{Goes, Quits}
+use Rattle.ir_stream.specs.declared.serving.Flow.TheVariants.{Quits}
 use Rattle.ir_packet.specs.Reading.{Reading, item_found, items_found}
-use Rattle.ir_packet.specs.declared.found.Found.{Found}
 use Rattle.ir_packet.specs.Stream as stream
 use Rattle.ir_gdb.specs.Connection.{Connecting, ends}
 use Rattle.ir_gdb.proofs.Items.{At, payload_few, at_start, at_byte, at_item, quit_ended, quit_known, write_failed}
@@ -28,9 +27,9 @@ loop-taken-init g c = record {
 pub loop-taken-preserved-in_default : goal.loop-taken-preserved-in_default
 loop-taken-preserved-in_default g c =
     let at : At c.args.self.now.link (g.R.Source.left c.args.reader.now) (g.W.Sink.written c.args.writer.now)
-        (g.R.Source.left c.loop-taken.reader) (g.W.Sink.written c.loop-taken.writer)
-        (record { stub = c.self.inside.remote.stub; acknowledges = c.self.inside.acknowledges; is_owed = c.self.inside.is_owed })
-        c.self.inside.reader.place c.loop-taken.taken =
+    (g.R.Source.left c.loop-taken.reader) (g.W.Sink.written c.loop-taken.writer)
+    (record { stub = c.self.inside.remote.stub; acknowledges = c.self.inside.acknowledges; is_owed = c.self.inside.is_owed })
+    c.self.inside.reader.place c.loop-taken.taken =
     subst (λ (x : Connecting). At c.args.self.now.link (g.R.Source.left c.args.reader.now) (g.W.Sink.written c.args.writer.now)
     (g.R.Source.left c.loop-taken.reader) (g.W.Sink.written c.loop-taken.writer) x.link x.reading.place c.loop-taken.taken)
     (sym c.self.view_is) c.loop-taken.invariant.at in
@@ -51,9 +50,9 @@ take-requires-in-loop-taken-after_bounds g c κs within = λ is.
 pub returns-in_err-take-clause-write : goal.returns-in_err-take-clause-write
 returns-in_err-take-clause-write g c =
     let at : At c.args.self.now.link (g.R.Source.left c.args.reader.now) (g.W.Sink.written c.args.writer.now)
-        (g.R.Source.left c.loop-taken.reader) (g.W.Sink.written c.loop-taken.writer)
-        (record { stub = c.self.inside.remote.stub; acknowledges = c.self.inside.acknowledges; is_owed = c.self.inside.is_owed })
-        c.self.inside.reader.place c.loop-taken.taken =
+    (g.R.Source.left c.loop-taken.reader) (g.W.Sink.written c.loop-taken.writer)
+    (record { stub = c.self.inside.remote.stub; acknowledges = c.self.inside.acknowledges; is_owed = c.self.inside.is_owed })
+    c.self.inside.reader.place c.loop-taken.taken =
     subst (λ (x : Connecting). At c.args.self.now.link (g.R.Source.left c.args.reader.now) (g.W.Sink.written c.args.writer.now)
     (g.R.Source.left c.loop-taken.reader) (g.W.Sink.written c.loop-taken.writer) x.link x.reading.place c.loop-taken.taken)
     (sym c.self.view_is) c.loop-taken.invariant.at in
@@ -61,18 +60,18 @@ returns-in_err-take-clause-write g c =
       c.in-Byte.ensures.broken ∙ c.loop-taken.invariant.reads,
       c.in_err-take.ensures.err,
       write_failed c.args.self.now.link (g.R.Source.left c.args.reader.now) (g.W.Sink.written c.args.writer.now)
-    (g.R.Source.left c.loop-taken.reader) (g.R.Source.left c.next_byte.new.reader) (g.W.Sink.written c.loop-taken.writer) _
-    c.self.inside.reader.place c.loop-taken.taken at c.in-Byte.byte c.in-Some.found c.take.new.self.payload c.in-Byte.ensures.bytes
-    c.in-Some.ensures.found
-      c.args.limit c.loop-taken-test.true (g.W.Sink.written c.take-in-loop-taken.new.writer) c.in_err-take.ensures.prefix,
+          (g.R.Source.left c.loop-taken.reader) (g.R.Source.left c.next_byte.new.reader) (g.W.Sink.written c.loop-taken.writer) _
+          c.self.inside.reader.place c.loop-taken.taken at c.in-Byte.byte c.in-Some.found c.take.new.self.payload c.in-Byte.ensures.bytes
+          c.in-Some.ensures.found
+          c.args.limit c.loop-taken-test.true (g.W.Sink.written c.take-in-loop-taken.new.writer) c.in_err-take.ensures.prefix,
     )
 
 pub returns-in-Quits-clause-ended : goal.returns-in-Quits-clause-ended
 returns-in-Quits-clause-ended g c =
     let at : At c.args.self.now.link (g.R.Source.left c.args.reader.now) (g.W.Sink.written c.args.writer.now)
-        (g.R.Source.left c.loop-taken.reader) (g.W.Sink.written c.loop-taken.writer)
-        (record { stub = c.self.inside.remote.stub; acknowledges = c.self.inside.acknowledges; is_owed = c.self.inside.is_owed })
-        c.self.inside.reader.place c.loop-taken.taken =
+    (g.R.Source.left c.loop-taken.reader) (g.W.Sink.written c.loop-taken.writer)
+    (record { stub = c.self.inside.remote.stub; acknowledges = c.self.inside.acknowledges; is_owed = c.self.inside.is_owed })
+    c.self.inside.reader.place c.loop-taken.taken =
     subst (λ (x : Connecting). At c.args.self.now.link (g.R.Source.left c.args.reader.now) (g.W.Sink.written c.args.writer.now)
     (g.R.Source.left c.loop-taken.reader) (g.W.Sink.written c.loop-taken.writer) x.link x.reading.place c.loop-taken.taken)
     (sym c.self.view_is) c.loop-taken.invariant.at in
@@ -87,9 +86,9 @@ returns-in-Quits-clause-ended g c =
 pub returns-in-Quits-clause-known : goal.returns-in-Quits-clause-known
 returns-in-Quits-clause-known g c =
     let at : At c.args.self.now.link (g.R.Source.left c.args.reader.now) (g.W.Sink.written c.args.writer.now)
-        (g.R.Source.left c.loop-taken.reader) (g.W.Sink.written c.loop-taken.writer)
-        (record { stub = c.self.inside.remote.stub; acknowledges = c.self.inside.acknowledges; is_owed = c.self.inside.is_owed })
-        c.self.inside.reader.place c.loop-taken.taken =
+    (g.R.Source.left c.loop-taken.reader) (g.W.Sink.written c.loop-taken.writer)
+    (record { stub = c.self.inside.remote.stub; acknowledges = c.self.inside.acknowledges; is_owed = c.self.inside.is_owed })
+    c.self.inside.reader.place c.loop-taken.taken =
     subst (λ (x : Connecting). At c.args.self.now.link (g.R.Source.left c.args.reader.now) (g.W.Sink.written c.args.writer.now)
     (g.R.Source.left c.loop-taken.reader) (g.W.Sink.written c.loop-taken.writer) x.link x.reading.place c.loop-taken.taken)
     (sym c.self.view_is) c.loop-taken.invariant.at in
@@ -104,17 +103,17 @@ returns-in-Quits-clause-known g c =
 pub loop-taken-preserved : goal.loop-taken-preserved
 loop-taken-preserved g c =
     let at : At c.args.self.now.link (g.R.Source.left c.args.reader.now) (g.W.Sink.written c.args.writer.now)
-        (g.R.Source.left c.loop-taken.reader) (g.W.Sink.written c.loop-taken.writer)
-        (record { stub = c.self.inside.remote.stub; acknowledges = c.self.inside.acknowledges; is_owed = c.self.inside.is_owed })
-        c.self.inside.reader.place c.loop-taken.taken =
+    (g.R.Source.left c.loop-taken.reader) (g.W.Sink.written c.loop-taken.writer)
+    (record { stub = c.self.inside.remote.stub; acknowledges = c.self.inside.acknowledges; is_owed = c.self.inside.is_owed })
+    c.self.inside.reader.place c.loop-taken.taken =
     subst (λ (x : Connecting). At c.args.self.now.link (g.R.Source.left c.args.reader.now) (g.W.Sink.written c.args.writer.now)
     (g.R.Source.left c.loop-taken.reader) (g.W.Sink.written c.loop-taken.writer) x.link x.reading.place c.loop-taken.taken)
     (sym c.self.view_is) c.loop-taken.invariant.at in
     record {
       at = at_item c.args.self.now.link (g.R.Source.left c.args.reader.now) (g.W.Sink.written c.args.writer.now)
-    (g.R.Source.left c.loop-taken.reader) (g.R.Source.left c.next_byte.new.reader) (g.W.Sink.written c.loop-taken.writer) _
-    c.self.inside.reader.place c.loop-taken.taken at c.in-Byte.byte c.in-Some.found c.take.new.self.payload c.in-Byte.ensures.bytes
-    c.in-Some.ensures.found
+          (g.R.Source.left c.loop-taken.reader) (g.R.Source.left c.next_byte.new.reader) (g.W.Sink.written c.loop-taken.writer) _
+          c.self.inside.reader.place c.loop-taken.taken at c.in-Byte.byte c.in-Some.found c.take.new.self.payload c.in-Byte.ensures.bytes
+          c.in-Some.ensures.found
           c.take-in-loop-taken.new.self.link (g.W.Sink.written c.take-in-loop-taken.new.writer) c.take-in-loop-taken.new.self.reading.place
           (ap (λ (r : Reading). r.place) c.in_ok-take.ensures.reading ∙ c.in-Some.ensures.place)
           (goes c.in_ok-take.field-0 (ends (record { stub = c.self.inside.remote.stub; acknowledges = c.self.inside.acknowledges; is_owed = c.self.inside.is_owed })

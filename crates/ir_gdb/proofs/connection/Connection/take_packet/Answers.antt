@@ -1,7 +1,7 @@
-use Rattle.std.proofs.Common.{◌≡◌, ◌∙◌, ap}
+use Rattle.std.proofs.Common.{◌∙◌, ap}
 use Rattle.ir_packet.specs.Requests.{request_of}
 use Rattle.ir_gdb.specs.Connection.{Connecting}
-use Rattle.ir_gdb.proofs.Answering.{err_from, on_ok, on_err}
+use Rattle.ir_gdb.proofs.Answering.{on_ok, on_err}
 use Rattle.ir_gdb.proofs.Requests.{asked_register}
 use Rattle.ir_gdb.proofs.Arms.{packet_sent_by, packet_part_by}
 use Rattle.ir_gdb.proofs.connection.Connection.take_packet.Goals as goal

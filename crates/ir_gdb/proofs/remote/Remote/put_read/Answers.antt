@@ -1,4 +1,4 @@
-use Rattle.std.proofs.Common.{◌≡◌, ◌∙◌, ℕ, List, length, refl, ap, arith, inl, inr}
+use Rattle.std.proofs.Common.{ℕ, List, length, refl, ap, arith, inl, inr}
 use Rattle.ir_packet.specs.declared.request.Request.TheVariants as request
 use Rattle.ir_gdb.proofs.Answering.{on_ok, on_err}
 use Rattle.ir_gdb.proofs.Replying.{none_else, supported_put, description_put, threads_put, reason_put, registers_put, register_put, memory_put, move_put, restart_put, restart_at_put, lacks_by, supported_length, description_length}

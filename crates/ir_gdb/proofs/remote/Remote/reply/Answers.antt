@@ -1,4 +1,4 @@
-use Rattle.std.proofs.Common.{◌≡◌, ◌∙◌, ◌++◌, ℕ, List, length, Some, None, sym, ap, arith}
+use Rattle.std.proofs.Common.{◌≡◌, ◌∙◌, ◌++◌, ℕ, List, length, None, sym, ap, arith}
 use Rattle.ir_gdb.specs.Stub.{Stub}
 use Rattle.ir_gdb.specs.Replies.{plain_reply}
 use Rattle.ir_gdb.proofs.Written.{short_reply}

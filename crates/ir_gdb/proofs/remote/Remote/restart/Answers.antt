@@ -1,7 +1,6 @@
-use Rattle.std.proofs.Common.{rules, ◌≡◌, ◌∙◌, ℕ, List, true, Option, Some, length, refl, sym, ap, subst, arith}
+use Rattle.std.proofs.Common.{rules, ◌≡◌, ◌∙◌, ℕ, List, true, length, sym, ap, arith}
 use Rattle.ir_packet.specs.declared.reply.Reply.TheVariants.{NotPermitted}
 use Rattle.ir_gdb.specs.Serving.{Serving}
-use Rattle.ir_gdb.specs.Restarts.{restart_cut}
 use Rattle.ir_gdb.proofs.Written.{short_reply}
 use Rattle.ir_gdb.proofs.Restarting.{restart_put_at}
 use Rattle.ir_gdb.proofs.remote.Remote.restart.Goals as goal

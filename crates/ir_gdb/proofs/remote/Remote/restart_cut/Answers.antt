@@ -1,4 +1,4 @@
-use Rattle.std.proofs.Common.{◌≡◌, List, ℕ, sym, subst}
+use Rattle.std.proofs.Common.{List, ℕ, sym, subst}
 use Rattle.ir_timeline.specs.Positions.{Cuts}
 use Rattle.ir_gdb.specs.Serving.{Serving}
 use Rattle.ir_gdb.proofs.remote.Remote.restart_cut.Goals as goal
