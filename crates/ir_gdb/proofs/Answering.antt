@@ -1,5 +1,5 @@
 -- From replies to what is written for an item.
-use Rattle.std.proofs.Common.{◌≡◌, ◌∙◌, ◌⊎◌, append-nil, ℕ, Bool, true, false, List, [], ◌∷◌, ◌++◌, Option, Some, None, Result, Ok, Err, OnOk, OnErr, codes, refl, sym, ap, subst, inl, inr}
+use Rattle.std.proofs.Common.{◌≡◌, ◌∙◌, ◌⊎◌, append-nil, ℕ, Bool, true, false, List, [], ◌++◌, Option, Result, Ok, Err, OnOk, OnErr, codes, refl, sym, ap, subst, inl, inr}
 use Rattle.std.specs.Prelude.{⊤}
 use Rattle.std.specs.Io.KnownBytes.{Appends}
 use Rattle.std.proofs.KnownBytes.{Appends-nil, Appends-trans}
@@ -9,13 +9,12 @@ use Rattle.ir_cut.specs.Positions.{EachRun}
 use Rattle.ir_packet.specs.Packets.{packet_of}
 use Rattle.ir_packet.specs.Replies.{reply_text}
 use Rattle.ir_packet.specs.Requests.{request_of}
-use Rattle.ir_packet.specs.Stream.{Item, TooLong}
+use Rattle.ir_packet.specs.Stream.{TooLong}
 use Rattle.ir_packet.specs.declared.reply.Reply.TheVariants as reply
 use Rattle.ir_packet.specs.declared.request.Request.{Request}
-use Rattle.ir_packet.specs.declared.request.Request.TheVariants as request
 use Rattle.ir_gdb.specs.Stub.{Stub}
 use Rattle.ir_gdb.specs.Replies.{CarriesOut, Lacks, Replies}
-use Rattle.ir_gdb.specs.Connection.{Link, sent, sign, answer_text, Responds, AnswersLine, AnswersBy, AnswersRequest, AnswersPacket, AnswersNew, unacknowledged, Sent, SentInPart}
+use Rattle.ir_gdb.specs.Connection.{Link, sent, sign, answer_text, Responds, AnswersLine, AnswersBy, AnswersRequest, AnswersPacket, AnswersNew, Sent, SentInPart}
 
 pub on_ok : {X E : Type 0} (r : Result X E) (P Q : Type 0) → (P → Q) → OnOk r P → OnOk r Q
 on_ok (Ok x) P Q go p = go p
@@ -133,9 +132,6 @@ quit_part b l line w w' quits grown = record {
   is = inl (sent l l.stub, line_quits b l line quits);
   grown = grown;
 }
-
-Lacked : Link → List ℕ → Link → Type 0
-Lacked l line mid = (mid ≡ l) ⊎ ((s : Stub) × Responds l.stub line s (λ text. ⊤) × (mid ≡ record l { stub = s }))
 
 line_lacks : (b : Bool) (l : Link) (line : List ℕ) (mid next : Link) → b ≡ false
     → ((mid ≡ l) ⊎ ((s : Stub) × Responds l.stub line s (λ text. ⊤) × (mid ≡ record l { stub = s }))) → next ≡ sent mid mid.stub

@@ -1,8 +1,8 @@
 -- What a stream holds byte by byte, and what is written for its items.
-use Rattle.std.proofs.Common.{◌≡◌, ◌≤◌, ◌<◌, ◌+◌, ◌-◌, ◌/◌, ◌∙◌, ℕ, zero, suc, Bool, true, false, cond, ltb, min, List, [], ◌∷◌, ◌++◌, length, take, drop, Option, Some, None, Result, Ok, Err, IfSome, refl, sym, ap, subst, arith, append_assoc, append-nil, length-append, ltb-false, lt-ltb, le-ltb, take_all}
+use Rattle.std.proofs.Common.{◌≡◌, ◌==◌, if◌then◌else◌, ◌≤◌, ◌<◌, ◌+◌, ◌-◌, ◌∙◌, ℕ, zero, suc, Bool, true, false, cond, ltb, List, [], ◌∷◌, ◌++◌, length, take, Option, Some, None, Ok, Err, IfSome, refl, sym, ap, subst, arith, append_assoc, append-nil, length-append, ltb-false, lt-ltb, le-ltb, take_all}
 use Rattle.std.specs.Io.KnownBytes.{Appends, Consumes, Keeps, IsAtEnd}
 use Rattle.std.proofs.KnownBytes.{Consumes-nil, Consumes-trans, Consumes-kept, Consumes-whole, Appends-nil, Appends-trans}
-use Rattle.ir_stream.specs.Devices.{AppendsPrefix, Reads}
+use Rattle.ir_stream.specs.Devices.{Reads}
 use Rattle.ir_stream.specs.declared.serving.Served.TheVariants.{Quit, InputEnd}
 use Rattle.ir_stream.specs.declared.serving.Fault.TheVariants as fault
 use Rattle.ir_packet.specs.Packets.{unescaped, unescaped_from, escape, two_digits, checksum, is_number}
@@ -12,7 +12,7 @@ use Rattle.ir_packet.specs.Reading.{kept, items_found, item_found}
 use Rattle.ir_packet.specs.declared.found.Found.{Found}
 use Rattle.ir_packet.specs.declared.found.Found.TheVariants as found
 use Rattle.ir_packet.proofs.CallerLemmas.{ends-kept, step-kept, items_from-append}
-use Rattle.ir_gdb.specs.Connection.{Link, AnswersItem, Rest, Answers, ends, Wrote, Sent, SentInPart, before_reply, WroteInPart, served_by, LeadsTo}
+use Rattle.ir_gdb.specs.Connection.{Link, AnswersItem, Rest, Answers, ends, Wrote, Sent, SentInPart, before_reply, WroteInPart, LeadsTo}
 
 -- ---- the payload of a packet that is found
 
@@ -138,7 +138,7 @@ pub record At (l0 : Link) (input w0 left written : Option (List ℕ)) (l : Link)
   pub text : List ℕ
   pub answers : Answers l0 (items bytes) false text l
   pub grown : Appends w0 written text
-  pub place : place ≡ kept (place_after Between bytes)
+  pub stands : place ≡ kept (place_after Between bytes)
 
 pub at_start : (l : Link) (input w0 : Option (List ℕ)) (place : Place) → place ≡ Between → At l input w0 input w0 l place 0
 unfolding items_from place_after
@@ -149,7 +149,7 @@ at_start l input w0 place begins = record {
   text = [];
   answers = Answers-nil l;
   grown = Appends-nil w0;
-  place = begins;
+  stands = begins;
 }
 
 items_from-one : (p : Place) (b : ℕ) → items_from p (b ∷ []) ≡ stream.ends p b
@@ -182,12 +182,14 @@ take-whole (x ∷ xs) rest zero e = absurd (positive (length xs) e)
 take-whole (x ∷ xs) rest (suc n) e = let less : length xs ≡ n = omega (arith, e) in ap (λ (ys : List ℕ). x ∷ ys) (take-whole xs rest n less)
 
 take-front : (xs rest : List ℕ) (limit : ℕ) → length xs ≤ limit → take limit (xs ++ rest) ≡ xs ++ take (limit - length xs) rest
-take-front [] rest limit h = refl
+take-front [] rest limit h = let all : limit ≡ limit - 0 = omega arith in ap (λ (k : ℕ). take k rest) all
 take-front (x ∷ xs) rest zero h = absurd (none (length xs) h)
   where
     none : (k : ℕ) → suc k ≤ 0 → ⊥
     none k h = omega (arith, h)
-take-front (x ∷ xs) rest (suc limit) h = ap (λ (ys : List ℕ). x ∷ ys) (take-front xs rest limit (omega (arith, h)))
+take-front (x ∷ xs) rest (suc limit) h =
+    let less : limit - length xs ≡ suc limit - suc (length xs) = omega arith in
+    ap (λ (ys : List ℕ). x ∷ ys) (take-front xs rest limit (omega (arith, h))) ∙ ap (λ (k : ℕ). x ∷ (xs ++ take k rest)) less
 
 -- whatever comes behind
 any_behind : (input left : Option (List ℕ)) (bytes : List ℕ) (P : List ℕ → Type 0) → Consumes input left bytes
@@ -207,15 +209,15 @@ module _ (l0 : Link) (input w0 left left' written : Option (List ℕ)) (l : Link
     parts = Consumes-trans input left left' at.bytes (b ∷ []) at.parts took;
     text = at.text;
     answers = subst (λ (xs : List Item). Answers l0 xs false at.text l)
-        (sym (items-push at.bytes b place [] at.place finds ∙ append-nil (items at.bytes))) at.answers;
+        (sym (items-push at.bytes b place [] at.stands finds ∙ append-nil (items at.bytes))) at.answers;
     grown = at.grown;
-    place = place-push at.bytes b place next at.place steps;
+    stands = place-push at.bytes b place next at.stands steps;
   }
 
   module _ (b : ℕ) (f : Found) (payload : List ℕ) (took : Consumes left left' (b ∷ []))
       (finds : items_found (Some f) payload ≡ stream.ends place b) where
     all_items : items (at.bytes ++ b ∷ []) ≡ items at.bytes ++ item_found f payload ∷ []
-    all_items = items-push at.bytes b place (item_found f payload ∷ []) at.place finds
+    all_items = items-push at.bytes b place (item_found f payload ∷ []) at.stands finds
 
     all_taken : Consumes input left' (at.bytes ++ b ∷ [])
     all_taken = Consumes-trans input left left' at.bytes (b ∷ []) at.parts took
@@ -240,7 +242,7 @@ module _ (l0 : Link) (input w0 left left' written : Option (List ℕ)) (l : Link
       text = at.text ++ s.text;
       answers = all_answers next written' false goes s;
       grown = Appends-trans w0 written written' at.text s.text at.grown s.grown;
-      place = place-push at.bytes b place place' at.place steps;
+      stands = place-push at.bytes b place place' at.stands steps;
     }
 
     module _ (limit : ℕ) (below : n < limit) where

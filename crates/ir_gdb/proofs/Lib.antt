@@ -16,3 +16,8 @@ mod Threads
 mod Stopping
 mod Ranging
 mod Telling
+mod Arms
+mod Together
+mod Moving
+mod Replying
+mod Restarting

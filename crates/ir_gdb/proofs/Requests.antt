@@ -1,6 +1,6 @@
 -- Registers that packets name.
-use Rattle.std.proofs.Common.{◌≡◌, ◌≤◌, ◌<◌, ◌+◌, ℕ, Bool, true, false, leb, List, [], ◌∷◌, Option, Some, None, refl, sym, subst, arith, leb-true, if◌then◌else◌, drop}
-use Rattle.std.specs.Prelude.{⊤, codes, nat_le}
+use Rattle.std.proofs.Common.{◌≡◌, ◌≤◌, ◌<◌, ℕ, Bool, true, false, leb, List, [], ◌∷◌, Option, Some, None, refl, sym, subst, arith, leb-true, if◌then◌else◌, drop}
+use Rattle.std.specs.Prelude.{⊤}
 use Rattle.ir_packet.specs.Numbers.{number, decimal_number, index_of, before, behind, are_pairs}
 use Rattle.ir_packet.specs.Requests.{plain, whatever, of_number, of_numbers, one, two, of_who, who_of, thread, register, console, move_of, mover_of, motion_of, thread_behind, others_of, first_action, actions, restart_with, restart, Row, queries, texts, restarts, commands, points, letters, after_name, made_by, asked_in, or_else, or_unknown, asked_queries, asked_texts, asked_restarts, asked_commands, asked_named, asked_points, asked_ends, asked_letters, request_of}
 use Rattle.ir_packet.specs.Requests as requests
@@ -13,7 +13,7 @@ use Rattle.ir_packet.specs.declared.request.Motion.{Motion}
 abbrev pub IsThere : Request → Type 0
 IsThere r = (n : ℕ) → r ≡ request.Register n → n < 33
 
-AreThere : Option Request → Type 0
+abbrev pub AreThere : Option Request → Type 0
 AreThere None = ⊤
 AreThere (Some r) = IsThere r
 
@@ -90,9 +90,12 @@ restart_there rest = by_restart (drop (index_of 59 rest) rest)
 
 -- ---- rows
 
-AllMake : List Row → Type 0
+abbrev pub AllMake : List Row → Type 0
 AllMake [] = ⊤
 AllMake (r ∷ rows) = ((rest : List ℕ) → IsThere (r.makes rest)) × AllMake rows
+
+both : {P Q : Type 0} → P → Q → P × Q
+both p q = (p, q)
 
 by_row : (r : Row) (rest : Option (List ℕ)) (next : Option Request) → ((rest : List ℕ) → IsThere (r.makes rest)) → AreThere next
     → AreThere (made_by r rest next)
@@ -112,60 +115,60 @@ by_any None p = λ n e. absurd cc
 by_any (Some r) p = p
 
 queries_make : AllMake queries
-queries_make = (
-  λ rest n e. absurd cc,
-  plain_there request.NoAcknowledgements (λ n e. absurd cc),
-  λ rest n e. absurd cc,
-  plain_there request.Offsets (λ n e. absurd cc),
-  plain_there request.Symbols (λ n e. absurd cc),
-  tt,
-)
+queries_make =
+    both (λ rest n e. absurd cc)
+    (both (plain_there request.NoAcknowledgements (λ n e. absurd cc))
+    (both (λ rest n e. absurd cc)
+    (both (plain_there request.Offsets (λ n e. absurd cc))
+    (both (plain_there request.Symbols (λ n e. absurd cc)) tt))))
 
 texts_make : AllMake texts
-texts_make = (two_there request.Description (λ a b n e. absurd cc), two_there request.Threads (λ a b n e. absurd cc), tt)
+texts_make =
+    both (two_there request.Description (λ a b n e. absurd cc))
+    (both (two_there request.Threads (λ a b n e. absurd cc)) tt)
 
 restarts_make : AllMake restarts
-restarts_make = (plain_there request.Extended (λ n e. absurd cc), restart_there, λ rest n e. absurd cc, tt)
+restarts_make =
+    both (plain_there request.Extended (λ n e. absurd cc))
+    (both restart_there
+    (both (λ rest n e. absurd cc) tt))
 
 commands_make : AllMake commands
-commands_make = (console_there, plain_there request.Motions (λ n e. absurd cc), actions_there, tt)
+commands_make =
+    both console_there
+    (both (plain_there request.Motions (λ n e. absurd cc))
+    (both actions_there tt))
 
 points_make : AllMake points
-points_make = (
-  two_there (λ a kind. request.SetBreak a false) (λ a b n e. absurd cc),
-  two_there (λ a kind. request.SetBreak a true) (λ a b n e. absurd cc),
-  two_there request.SetWatch (λ a b n e. absurd cc),
-  two_there (λ a kind. request.ClearBreak a false) (λ a b n e. absurd cc),
-  two_there (λ a kind. request.ClearBreak a true) (λ a b n e. absurd cc),
-  two_there request.ClearWatch (λ a b n e. absurd cc),
-  tt,
-)
+points_make =
+    both (two_there (λ a kind. request.SetBreak a false) (λ a b n e. absurd cc))
+    (both (two_there (λ a kind. request.SetBreak a true) (λ a b n e. absurd cc))
+    (both (two_there request.SetWatch (λ a b n e. absurd cc))
+    (both (two_there (λ a kind. request.ClearBreak a false) (λ a b n e. absurd cc))
+    (both (two_there (λ a kind. request.ClearBreak a true) (λ a b n e. absurd cc))
+    (both (two_there request.ClearWatch (λ a b n e. absurd cc)) tt)))))
 
 letters_make : AllMake letters
-letters_make = (
-  plain_there request.Reason (λ n e. absurd cc),
-  thread_there request.General (λ w n e. absurd cc),
-  thread_there request.Choose (λ w n e. absurd cc),
-  one_there request.Alive (λ a n e. absurd cc),
-  plain_there request.Registers (λ n e. absurd cc),
-  one_there register register_there,
-  two_there request.Memory (λ a b n e. absurd cc),
-  tt,
-)
+letters_make =
+    both (plain_there request.Reason (λ n e. absurd cc))
+    (both (thread_there request.General (λ w n e. absurd cc))
+    (both (thread_there request.Choose (λ w n e. absurd cc))
+    (both (one_there request.Alive (λ a n e. absurd cc))
+    (both (plain_there request.Registers (λ n e. absurd cc))
+    (both (one_there register register_there)
+    (both (two_there request.Memory (λ a b n e. absurd cc)) tt))))))
 
 ends_make : AllMake requests.ends
-ends_make = (
-  λ rest n e. absurd cc,
-  λ rest n e. absurd cc,
-  λ rest n e. absurd cc,
-  plain_there _ (λ n e. absurd cc),
-  plain_there _ (λ n e. absurd cc),
-  plain_there _ (λ n e. absurd cc),
-  plain_there _ (λ n e. absurd cc),
-  λ rest n e. absurd cc,
-  λ rest n e. absurd cc,
-  tt,
-)
+ends_make =
+    both (λ rest n e. absurd cc)
+    (both (λ rest n e. absurd cc)
+    (both (λ rest n e. absurd cc)
+    (both (plain_there _ (λ n e. absurd cc))
+    (both (plain_there _ (λ n e. absurd cc))
+    (both (plain_there _ (λ n e. absurd cc))
+    (both (plain_there _ (λ n e. absurd cc))
+    (both (λ rest n e. absurd cc)
+    (both (λ rest n e. absurd cc) tt))))))))
 
 named_there : (payload : List ℕ) → AreThere (asked_named payload)
 unfolding asked_named asked_queries asked_texts asked_restarts asked_commands

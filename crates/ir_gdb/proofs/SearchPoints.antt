@@ -1,8 +1,7 @@
 -- Points as those of one search.
-use Rattle.std.proofs.Common.{◌≡◌, ◌≤◌, ◌<◌, ◌+◌, ◌-◌, ◌*◌, ◌/◌, ◌%◌, ◌∙◌, ℕ, zero, suc, List, [], ◌∷◌, ◌++◌, length, refl, sym, ap, subst, arith, append_assoc}
+use Rattle.std.proofs.Common.{◌≡◌, ◌≤◌, ◌+◌, ◌-◌, ◌*◌, ◌/◌, ◌%◌, ◌∙◌, ℕ, zero, suc, List, [], ◌∷◌, ◌++◌, length, refl, sym, ap, subst, arith, append_assoc}
 use Rattle.std.specs.List.{AllByRecursion}
 use Rattle.ir_mach.specs.Core.{memory_start, memory_size}
-use Rattle.ir_mach.specs.Memory.{IsMemoryWord}
 use Rattle.ir_command.specs.declared.command.Point.TheVariants.{Watch}
 use Rattle.ir_hits.specs.Hits.{Numbered, AreWatchable}
 use Rattle.ir_gdb.specs.declared.point.Breakpoint.{Breakpoint}

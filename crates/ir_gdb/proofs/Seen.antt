@@ -1,15 +1,16 @@
 -- Bytes of the objects in hand.
-use Rattle.std.proofs.Common.{◌≡◌, ◌≤◌, ◌<◌, ◌+◌, ◌-◌, ◌/◌, ◌%◌, ◌∙◌, ℕ, Bool, true, false, ltb, cond, List, length, slice_index_or, slice_index, Option, Some, None, refl, sym, ap, subst, arith, lt-ltb, le-ltb}
+use Rattle.std.proofs.Common.{◌≡◌, ◌≤◌, ◌<◌, ◌+◌, ◌-◌, ◌/◌, ◌%◌, ◌∙◌, ℕ, Bool, cond, List, length, slice_index_or, slice_index, Some, None, sym, ap, arith, lt-ltb, le-ltb}
 use Rattle.ir_image.specs.Guest.{object_count, object_words, most_objects}
 use Rattle.ir_flat.specs.Flat.{empty}
+use Rattle.ir_mach.specs.Memory.{byte_at}
 use Rattle.ir_object.specs.Cell.{Cell}
 use Rattle.ir_runs.specs.Object.{Object}
 use Rattle.ir_runs.specs.Run.{Step}
 use Rattle.ir_runs.specs.Cuts.{object_at}
 use Rattle.ir_cut.specs.Positions.{EachRun, machine_of, start_of, cut_of}
 use Rattle.ir_gdb.specs.Serving.{Serving, IsThere}
-use Rattle.ir_gdb.specs.Stub.{Stub}
-use Rattle.ir_gdb.specs.Reads.{object_size, object_byte, word_byte, objects_start, byte_seen}
+use Rattle.ir_gdb.specs.Reads.{object_size, object_byte, word_byte, objects_start, byte_seen, current_of, bytes_there}
+use Rattle.ir_gdb.proofs.Bytes.{bytes_there_stop}
 
 pub objects_in_hand : (s : Serving) (n : ℕ) → IsThere s → n < object_count s.stub.desk.fitted.guest → n < length s.state.objects
 objects_in_hand s n there below = let count = there.at.objects in omega (arith, count, below)
@@ -45,5 +46,28 @@ pub none_seen : (s : Serving) (address : ℕ) → object_count s.stub.desk.fitte
 none_seen s address few past = λ run is.
     let high : objects_start ≤ address = omega (arith, past) in
     let behind : object_count s.stub.desk.fitted.guest ≤ (address - objects_start) / object_size = omega (arith, few, past) in
-    ap (λ (t : Bool). cond t _ (object_byte run s.stub (address - objects_start))) (le-ltb address objects_start high)
+    let near = byte_at s.stub.desk.fitted.guest.code (current_of run s.stub s.stub.general).core.memory address in
+    ap (λ (t : Bool). cond t near (object_byte run s.stub (address - objects_start))) (le-ltb address objects_start high)
     ∙ sym (no_object s (address - objects_start) behind run is)
+
+-- where the next byte isn't there, those so far are all
+pub bytes_end : (s : Serving) (xs : List ℕ) (n count address : ℕ) → n < count
+    → EachRun s.stub.desk.fitted (λ run. xs ≡ bytes_there (byte_seen run s.stub) n address) → length xs ≡ n
+    → EachRun s.stub.desk.fitted (λ run. None ≡ byte_seen run s.stub (address + n))
+    → EachRun s.stub.desk.fitted (λ run. xs ≡ bytes_there (byte_seen run s.stub) count address)
+bytes_end s xs n count address below are len none run whole =
+    let is = are run whole in
+    let full : length (bytes_there (byte_seen run s.stub) n address) ≡ n = ap (λ (ys : List ℕ). length ys) (sym is) ∙ len in
+    let within : n ≤ count = omega (arith, below) in
+    is ∙ sym (bytes_there_stop (byte_seen run s.stub) n count address within full (sym (none run whole)))
+
+-- they end at the last address
+pub last_address : (s : Serving) (xs : List ℕ) (n count address : ℕ) → IsThere s → n < count → (address + n < 0x100000000 → ⊥)
+    → EachRun s.stub.desk.fitted (λ run. xs ≡ bytes_there (byte_seen run s.stub) n address) → length xs ≡ n
+    → EachRun s.stub.desk.fitted (λ run. xs ≡ bytes_there (byte_seen run s.stub) count address)
+last_address s xs n count address there below past are len =
+    let fits = there.flat.few_objects in
+    let objects = there.at.objects in
+    let few : object_count s.stub.desk.fitted.guest ≤ most_objects = omega (arith, fits, objects) in
+    let high : 0x100000000 ≤ address + n = grind (arith, past) in
+    bytes_end s xs n count address below are len (λ run whole. sym (none_seen s (address + n) few high run whole))

@@ -1,6 +1,6 @@
 -- From a connection to what was opened.
-use Rattle.std.proofs.Common.{◌≡◌, ◌≤◌, ◌∙◌, ℕ, true, false, List, [], Option, Some, None, Result, Ok, Err, IfSome, refl, sym, ap, subst, arith}
-use Rattle.std.specs.Io.KnownBytes.{Appends, Consumes}
+use Rattle.std.proofs.Common.{◌≡◌, ◌∙◌, ℕ, Bool, true, false, List, [], Option, Some, None, Result, Ok, Err, OnOk, OnErr, IfSome, refl, sym, ap, subst, arith, append-nil}
+use Rattle.std.specs.Io.KnownBytes.{Appends}
 use Rattle.std.proofs.KnownBytes.{Appends-nil, Consumes-nil}
 use Rattle.ir_stream.specs.Devices.{AppendsPrefix, Reads}
 use Rattle.ir_stream.specs.Endings.{IfEnded}
@@ -8,7 +8,6 @@ use Rattle.ir_stream.specs.declared.serving.Served.{Served}
 use Rattle.ir_stream.specs.declared.serving.Served.TheVariants as served
 use Rattle.ir_stream.specs.declared.serving.Fault.{Fault}
 use Rattle.ir_stream.specs.declared.serving.Fault.TheVariants as fault
-use Rattle.ir_packet.specs.Stream.{items}
 use Rattle.ir_debug.specs.Machine.Desk.{Desk}
 use Rattle.ir_debug.specs.Machine.Opening.{Opening, Opens, opening_text}
 use Rattle.ir_debug.specs.Machine.Opening as opening
@@ -22,8 +21,8 @@ use Rattle.ir_debug.specs.declared.ended.Ended.TheVariants as ended
 use Rattle.ir_debug.specs.declared.ended.SessionErr.{SessionErr}
 use Rattle.ir_debug.specs.declared.ended.SessionErr.TheVariants as err
 use Rattle.ir_gdb.specs.Stub.{Stub, stub_of}
-use Rattle.ir_gdb.specs.Connection.{Link, link_of, Wrote, WroteInPart, LeadsTo}
-use Rattle.ir_gdb.specs.Session.{first_link, Serves, Refuses, IsRefused, Connects, Connected, Announced, AnsweredWhole, AnsweredInPart, IfNotRefused}
+use Rattle.ir_gdb.specs.Connection.{Link, link_of, LeadsTo}
+use Rattle.ir_gdb.specs.Session.{first_link, Serves, Refuses, Connects, Connected, Announced, IfNotRefused}
 
 -- ---- a connection
 
@@ -190,3 +189,15 @@ ready_quiet (Ok ended.ImageRefused) P p = tt
 ready_quiet (Ok ended.TraceRefused) P p = tt
 ready_quiet (Ok ended.NotFit) P p = tt
 ready_quiet (Err e) P p = p
+
+-- what a writer took of a text
+pub announced : {X E : Type 0} (r : Result X E) (w w' : Option (List ℕ)) (broken : Bool) (text : List ℕ) → OnOk r (Appends w w' text)
+    → OnErr r (AppendsPrefix w w' text) → OnErr r (broken ≡ true) → AppendsPrefix w w' text × (broken ≡ false → Appends w w' text)
+announced (Ok x) w w' broken text ok prefix err = (
+  record { part = text; more = []; splits = sym (append-nil text); grown = ok },
+  λ e. ok,
+)
+announced (Err x) w w' broken text ok prefix err = (prefix, λ e. absurd (both broken err e))
+  where
+    both : (b : Bool) → b ≡ true → b ≡ false → ⊥
+    both b is isnt = cc

@@ -1,9 +1,8 @@
 -- What the stub always holds, with a point more or fewer.
-use Rattle.std.proofs.Common.{◌≡◌, ◌≤◌, ◌<◌, ◌+◌, ◌∙◌, ℕ, suc, Bool, true, false, cond, not, ltb, leb, List, [], ◌∷◌, ◌++◌, length, refl, sym, ap, subst, arith, length-append, ltb-true, leb-true}
+use Rattle.std.proofs.Common.{◌≡◌, ◌≤◌, ◌<◌, ◌+◌, ℕ, suc, Bool, true, false, cond, not, ltb, leb, List, [], ◌∷◌, ◌++◌, length, refl, arith, length-append, ltb-true, leb-true}
 use Rattle.std.specs.Prelude.{◌&&◌}
 use Rattle.std.specs.List.{filter, AllByRecursion}
 use Rattle.ir_mach.specs.Core.{memory_start, memory_size}
-use Rattle.ir_mach.specs.Memory.{lies_in_memory}
 use Rattle.ir_gdb.specs.declared.point.Breakpoint.{Breakpoint}
 use Rattle.ir_gdb.specs.declared.point.Watched.{Watched}
 use Rattle.ir_gdb.specs.Stub.{Stub, IsStub, IsWatched, most_points, most_watched}

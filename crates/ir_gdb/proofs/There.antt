@@ -4,8 +4,7 @@ use Rattle.std.specs.Prelude.{Result, Ok, Err, IfOk}
 use Rattle.ir_flat.specs.Flat.{idle}
 use Rattle.ir_fit.specs.Fit.{FittedTrace, HasRun}
 use Rattle.ir_cut.specs.Laws.{LeastExact, GreatestExact}
-use Rattle.ir_cut.specs.Positions.{EachRun, IsConsistentCut, machine_of, start_of, cut_of}
-use Rattle.ir_runs.specs.Run.{count}
+use Rattle.ir_cut.specs.Positions.{EachRun, IsConsistentCut, cut_of}
 use Rattle.ir_hits.specs.Hits.{thread_at}
 use Rattle.ir_weave.specs.Standing.{StandsAt}
 use Rattle.ir_debug.specs.Machine.Moves.{ToLeast, ToGreatest}

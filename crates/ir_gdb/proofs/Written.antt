@@ -1,5 +1,5 @@
 -- Packets of a session's answer.
-use Rattle.std.proofs.Common.{◌≡◌, ◌≤◌, ◌<◌, ◌+◌, ◌-◌, ◌/◌, ◌∙◌, ℕ, zero, suc, Bool, true, false, leb, min, List, [], ◌∷◌, ◌++◌, length, take, drop, refl, sym, ap, subst, arith, length-drop, take_all, drop_of_length-le, leb-true, leb-false}
+use Rattle.std.proofs.Common.{◌≡◌, ◌≤◌, ◌<◌, ◌+◌, ◌/◌, ◌∙◌, ℕ, suc, Bool, true, false, leb, min, List, [], ◌++◌, length, take, drop, refl, sym, ap, arith, length-drop, take_all, drop_of_length-le, leb-true, leb-false}
 use Rattle.ir_packet.specs.Packets.{packet_of}
 use Rattle.ir_packet.specs.Replies.{output_text, reply_text}
 use Rattle.ir_packet.specs.declared.reply.Reply.{Reply}

@@ -1,5 +1,5 @@
 -- Replies to packets that move no thread and set no point.
-use Rattle.std.specs.Prelude.{ℕ, zero, suc, ◌+◌, ◌-◌, ◌*◌, ◌/◌, ◌%◌, nat_lt, min, List, [], ◌∷◌, ◌++◌, slice_index, Option, Some, None, if◌then◌else◌}
+use Rattle.std.specs.Prelude.{ℕ, zero, suc, ◌+◌, ◌-◌, ◌/◌, ◌%◌, nat_lt, min, List, [], ◌∷◌, ◌++◌, slice_index, Option, Some, None, if◌then◌else◌}
 use Rattle.hex.specs.Hex.{encode_lower}
 use Rattle.ir_image.specs.Guest.{object_words, object_count}
 use Rattle.ir_mach.specs.Core.{Core}

@@ -1,5 +1,5 @@
 -- The replies to requests.
-use Rattle.std.specs.Prelude.{◌≡◌, ◌⊎◌, ◌==◌, ℕ, Bool, true, false, List, Option, Some, None}
+use Rattle.std.specs.Prelude.{◌≡◌, ◌⊎◌, ℕ, Bool, true, false, List, Option, Some, None}
 use Rattle.ir_runs.specs.Run.{Step}
 use Rattle.ir_cut.specs.Positions.{EachRun}
 use Rattle.ir_packet.specs.Replies.{reply_text, piece_text}

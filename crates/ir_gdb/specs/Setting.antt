@@ -1,5 +1,5 @@
 -- Breakpoints and watches that gdb sets and takes away.
-use Rattle.std.specs.Prelude.{ℕ, ◌+◌, ◌*◌, ◌%◌, ◌==◌, ◌&&◌, not, nat_lt, nat_le, Bool, true, false, List, [], ◌∷◌, ◌++◌, length, find, is_some, if◌then◌else◌}
+use Rattle.std.specs.Prelude.{ℕ, ◌+◌, ◌%◌, ◌==◌, ◌&&◌, not, nat_lt, nat_le, Bool, true, false, List, [], ◌∷◌, ◌++◌, length, find, is_some, if◌then◌else◌}
 use Rattle.std.specs.List.{filter}
 use Rattle.ir_image.specs.Guest.{Guest}
 use Rattle.ir_mach.specs.Memory.{lies_in_memory}

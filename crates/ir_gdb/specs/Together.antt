@@ -56,10 +56,14 @@ abbrev pub meets : Stub → Direction → List Stopped → List ℕ → ℕ → 
 meets s direction each cut u = not (position_of s u == cut_of cut u)
     && (is_hit (stop_among each u).reason && is_on_way direction (stop_among each u).position (cut_of cut u))
 
+-- whether thread u is t, or has none
+abbrev pub passes : Stub → Direction → List Stopped → List ℕ → ℕ → ℕ → Bool
+passes s direction each cut t u = (u == t) || not (meets s direction each cut u)
+
 -- whether none of the first n threads but t has
 unfoldable pub is_free : Stub → Direction → List Stopped → List ℕ → ℕ → ℕ → Bool
 is_free s direction each cut t zero = true
-is_free s direction each cut t (suc u) = is_free s direction each cut t u && ((u == t) || not (meets s direction each cut u))
+is_free s direction each cut t (suc u) = is_free s direction each cut t u && passes s direction each cut t u
 
 -- whether no thread but t has
 abbrev pub is_all_free : Stub → Direction → List Stopped → List ℕ → ℕ → Bool
@@ -75,6 +79,11 @@ pub record IsMet (run : List Step) (s : Stub) (direction : Direction) (each : Li
 abbrev pub IsNotMet : List Step → Stub → Direction → List Stopped → List ℕ → ℕ → Type 0
 IsNotMet run s direction each cut u = (meets s direction each cut u ≡ false)
     ⊎ ((own : List ℕ) × Comes run s direction u (stop_among each u).position own × (is_all_free s direction each own u ≡ false))
+
+-- it is met so where it comes to its hit at this cut, or isn't
+abbrev pub MetAt : List Step → Stub → Direction → List Stopped → List ℕ → ℕ → Option (List ℕ) → Type 0
+MetAt run s direction each cut u (Some own) = IsMet run s direction each cut u own
+MetAt run s direction each cut u None = IsNotMet run s direction each cut u
 
 -- no thread below n but t is met so
 abbrev pub NoneMet : List Step → Stub → Direction → List Stopped → List ℕ → ℕ → ℕ → Type 0
@@ -97,10 +106,14 @@ abbrev pub or_else : Option Halt → Halt → Halt
 or_else None h = h
 or_else (Some met) h = met
 
+-- whether thread u is another than t, and isn't where it is in a cut
+abbrev pub moves : Stub → List ℕ → ℕ → ℕ → Bool
+moves s cut t u = not (u == t) && not (position_of s u == cut_of cut u)
+
 -- whether one of the first n threads but t isn't where it is in a cut
 unfoldable pub moves_other : Stub → List ℕ → ℕ → ℕ → Bool
 moves_other s cut t zero = false
-moves_other s cut t (suc u) = moves_other s cut t u || (not (u == t) && not (position_of s u == cut_of cut u))
+moves_other s cut t (suc u) = moves_other s cut t u || moves s cut t u
 
 -- by whether another moves: the first that is met, or thread t at its own stop
 abbrev pub MetBy : Bool → List Step → Stub → Direction → List ℕ → Halt → Halt → Type 0

@@ -19,6 +19,8 @@ use ir_timeline::thread_count;
 use std::alloc::{AllocError, Global};
 use std::marker::Model;
 
+mod among;
+mod cuts;
 mod lines;
 mod memory;
 mod moves;
@@ -189,6 +191,13 @@ impl Remote {
                 Reply::Done
             }
         }
+    }
+
+    // There is a run of the guest with its trace.
+    fn has_run(&self)
+        ensures { HasRun self.now.stub.desk.fitted }
+    {
+        self.debugger.fitted().known();
     }
 
     // Brings the run in hand to the cut.

@@ -1,6 +1,6 @@
 //! What is written for an item of the stream.
 
-ghost use Rattle.std.specs.Prelude.{◌≡◌, ◌≤◌, ◌<◌, ℕ, [], length, codes, true, IfOk, IfErr, OnOk, OnErr};
+ghost use Rattle.std.specs.Prelude.{◌≡◌, ◌≤◌, ◌<◌, ◌&&◌, ℕ, [], length, codes, true, IfOk, IfErr, OnOk, OnErr};
 ghost use Rattle.ir_stream.specs.Endings.{flow_after};
 ghost use Rattle.ir_packet.specs.Reading.{item_found};
 ghost use Rattle.ir_packet.specs.Requests.{request_of, console_line};
@@ -186,21 +186,29 @@ impl Connection {
         ensures err { OnErr result (W.broken writer.new ≡ true) }
     {
         match found {
-            Found::Packet => return self.take_packet(hands, writer),
-            Found::TooLong => return self.take_long(writer),
-            Found::BadSum => self.acknowledge(b"-", writer)?,
-            Found::Interrupt => self.remote.interrupt(),
-            Found::Acknowledged => self.is_owed = false,
-            Found::Refused => {}
+            Found::Packet => self.take_packet(hands, writer),
+            Found::TooLong => self.take_long(writer),
+            Found::BadSum => {
+                self.acknowledge(b"-", writer)?;
+                Ok(Flow::Goes)
+            }
+            Found::Interrupt => {
+                self.remote.interrupt();
+                Ok(Flow::Goes)
+            }
+            Found::Acknowledged => {
+                self.is_owed = false;
+                Ok(Flow::Goes)
+            }
+            Found::Refused => Ok(Flow::Goes),
         }
-        Ok(Flow::Goes)
     }
 
-    // Whether what is read now is a copy: gdb sends a packet again where it has waited for the reply.
-    fn is_copy(&self) -> bool
-        ensures { result ≡ is_copy self.now.link }
+    // Whether what was found is a copy: gdb sends a packet again where it has waited for the reply.
+    fn is_copy(&self, found: Found) -> bool
+        ensures { (payload : _) → result ≡ (is_copy self.now.link && is_packet (item_found found payload)) }
     {
-        self.acknowledges && self.is_owed
+        self.acknowledges && self.is_owed && is_packet(found)
     }
 
     // Answers what was found.
@@ -219,7 +227,7 @@ impl Connection {
         ensures prefix { OnErr result (SentInPart (AnswersItem self.old.link (item_found found self.old.reading.payload)) (before_reply self.old.link (item_found found self.old.reading.payload)) (W.written writer.old) (W.written writer.new)) }
         ensures err { OnErr result (W.broken writer.new ≡ true) }
     {
-        if self.is_copy() && is_packet(found) {
+        if self.is_copy(found) {
             return Ok(Flow::Goes);
         }
         self.take_new(hands, found, writer)

@@ -1,43 +1,33 @@
 //! Moves, and the stops that end them.
 
-ghost use Rattle.std.specs.Prelude.{◌≡◌, ◌<◌, ◌≤◌, ◌+◌, ◌++◌, true, false, length, OnOk, OnErr, IfOk, IfSome, List, ℕ, option_map, vec_len, vec_capacity};
+ghost use Rattle.std.specs.Prelude.{◌≡◌, ◌<◌, ◌≤◌, ◌+◌, ◌++◌, true, false, OnOk, OnErr, IfSome, List, ℕ, option_map, vec_len, vec_capacity};
 ghost use Rattle.ir_cut.specs.Positions.{EachRun};
+ghost use Rattle.ir_fit.specs.Fit.{HasRun};
 ghost use Rattle.ir_timeline.specs.Positions.{Cuts, threads_of};
 ghost use Rattle.ir_gdb.specs.Reads.{thread_of_id};
 ghost use Rattle.ir_gdb.specs.Serving.{IsThere};
 ghost use Rattle.ir_gdb.specs.Stub.{Stub, spoken};
-ghost use Rattle.ir_gdb.specs.Stops.{direction_of, end_of};
-ghost use Rattle.ir_gdb.specs.Together.{Halt, halt, AreWithin, MetBy, StopsAmong, FirstStop, first_met, furthest, StepsAmong, ContinuesAmong, MovesAlone, MovesAmong};
+ghost use Rattle.ir_gdb.specs.Stops.{direction_of};
+ghost use Rattle.ir_gdb.specs.Together.{Halt, halt, MovesAlone};
 ghost use Rattle.ir_gdb.specs.Moves.{stop_with, told_text, after_told, interrupted_at, settled, moving, moving_of, Leads, Moves};
 ghost use Rattle.ir_gdb.specs.Replies.{RepliesToMove};
 
 use crate::remote::{Remote, thread_of_id};
-use crate::stopped::{Moving, Stopped, Told, is_hit};
+use crate::stopped::{Moving, Told};
 use ir_command::Direction;
 use ir_cut::Cut;
 use ir_mach::Mach;
 use ir_object::Hands;
 use ir_packet::{Motion, Mover, Reason, Reply, Stop, put_stop, put_text, reply_text};
-use ir_timeline::{first_cut, last_cut};
-use std::alloc::{AllocError, Global};
+use std::alloc::AllocError;
 
 // The direction of a motion.
-fn direction_of(motion: Motion) -> Direction
+pub(crate) fn direction_of(motion: Motion) -> Direction
     ensures { result ≡ direction_of motion }
 {
     match motion {
         Motion::Step | Motion::Range(_, _) | Motion::Continue => Direction::Forwards,
         Motion::StepBack | Motion::ContinueBack => Direction::Backwards,
-    }
-}
-
-// Why all threads stop that have no hit in a direction.
-fn end_of(direction: Direction) -> Reason
-    ensures { result ≡ end_of direction }
-{
-    match direction {
-        Direction::Forwards => Reason::End,
-        Direction::Backwards => Reason::Begin,
     }
 }
 
@@ -149,161 +139,8 @@ impl Remote {
         let to = self.stop_of(hands, thread, motion)?;
         let direction = direction_of(motion);
         let alloc = hands.alloc();
-        let debugger = &self.debugger;
-        let cut = debugger.cut_with(alloc, thread, direction, to.position)?;
+        let cut = self.cut_to(alloc, thread, direction, to.position)?;
         self.settle(hands, cut, thread, to.reason)
-    }
-
-    // The first that is met on the way to a cut stops, or a thread at its own stop.
-    fn settle_first<H: Hands>(
-        &mut self,
-        hands: &H,
-        cut: Cut,
-        thread: u32,
-        direction: Direction,
-        reason: Reason,
-    ) -> Result<(), AllocError>
-        requires cut { Cuts self.old.stub.desk.fitted cut }
-        requires thread { thread < threads_of self.old.stub.desk.fitted }
-        ensures ok { OnOk result ((h : Halt) × EachRun self.old.stub.desk.fitted (λ run. MetBy true run self.old.stub direction cut (halt thread cut reason) h) × (self.new.stub ≡ settled self.old.stub h)) }
-        ensures err { OnErr result (self.new.stub ≡ spoken self.old.stub) }
-    {
-        let each = self.stops(hands, thread, direction)?;
-        let each = each.as_slice();
-        match self.first_met(hands.alloc(), direction, each, &cut, thread)? {
-            Some((other, own)) => self.settle(hands, own, other, each[other as usize].reason),
-            None => self.settle(hands, cut, thread, reason),
-        }
-    }
-
-    // A few steps of one thread, which a hit of another may stop on its way.
-    fn step_among<H: Hands>(
-        &mut self,
-        hands: &H,
-        thread: u32,
-        motion: Motion,
-    ) -> Result<(), AllocError>
-        requires { thread < threads_of self.old.stub.desk.fitted }
-        ensures ok { OnOk result ((h : Halt) × EachRun self.old.stub.desk.fitted (λ run. StepsAmong run self.old.stub thread motion h) × (self.new.stub ≡ settled self.old.stub h)) }
-        ensures err { OnErr result (self.new.stub ≡ spoken self.old.stub) }
-    {
-        let to = self.stop_of(hands, thread, motion)?;
-        let direction = direction_of(motion);
-        let alloc = hands.alloc();
-        let debugger = &self.debugger;
-        let cut = debugger.cut_with(alloc, thread, direction, to.position)?;
-        if self.moves_other(&cut, thread) {
-            return self.settle_first(hands, cut, thread, direction, to.reason);
-        }
-        self.settle(hands, cut, thread, to.reason)
-    }
-
-    // The stop where a thread continues: that of a thread that has a hit on the way, or its own hit. None where there is none.
-    fn stop_among(
-        &self,
-        alloc: Global,
-        direction: Direction,
-        each: &[Stopped],
-        thread: u32,
-    ) -> Result<Option<(u32, Cut)>, AllocError>
-        requires within { AreWithin self.now.stub each.now }
-        requires thread { thread < threads_of self.now.stub.desk.fitted }
-        ensures stops { IfOk result (λ stop. EachRun self.now.stub.desk.fitted (λ run. StopsAmong run self.now.stub direction each.now thread (first_met each.now stop))) }
-        ensures cuts { IfOk result (λ stop. IfSome stop (λ m. Cuts self.now.stub.desk.fitted m.1)) }
-        ensures threads { IfOk result (λ stop. IfSome stop (λ m. m.0 < threads_of self.now.stub.desk.fitted)) }
-    {
-        let to = each[thread as usize];
-        let debugger = &self.debugger;
-        let cut = debugger.cut_with(alloc, thread, direction, to.position)?;
-        if let Some(met) = self.first_met(alloc, direction, each, &cut, thread)? {
-            return Ok(Some(met));
-        }
-        if is_hit(to.reason) {
-            return Ok(Some((thread, cut)));
-        }
-        Ok(None)
-    }
-
-    // The stop of the first thread that has one, of this thread and then the others by their numbers.
-    fn first_stop(
-        &self,
-        alloc: Global,
-        direction: Direction,
-        each: &[Stopped],
-        thread: u32,
-    ) -> Result<Option<(u32, Cut)>, AllocError>
-        requires within { AreWithin self.now.stub each.now }
-        requires thread { thread < threads_of self.now.stub.desk.fitted }
-        ensures stops { IfOk result (λ stop. EachRun self.now.stub.desk.fitted (λ run. FirstStop run self.now.stub direction each.now thread (first_met each.now stop))) }
-        ensures cuts { IfOk result (λ stop. IfSome stop (λ m. Cuts self.now.stub.desk.fitted m.1)) }
-        ensures threads { IfOk result (λ stop. IfSome stop (λ m. m.0 < threads_of self.now.stub.desk.fitted)) }
-    {
-        if let Some(stop) = self.stop_among(alloc, direction, each, thread)? {
-            return Ok(Some(stop));
-        }
-        'threads: for other in 0..each.len() as u32 {
-            if other == thread {
-                continue;
-            }
-            if let Some(stop) = self.stop_among(alloc, direction, each, other)? {
-                return Ok(Some(stop));
-            }
-        }
-        Ok(None)
-    }
-
-    // The cut at which all threads are that have no hit in a direction.
-    fn furthest(&self, alloc: Global, direction: Direction) -> Result<Cut, AllocError>
-        ensures value { IfOk result (λ cut. cut ≡ furthest self.now.stub direction) }
-        ensures cut { IfOk result (λ cut. Cuts self.now.stub.desk.fitted cut) }
-    {
-        match direction {
-            Direction::Forwards => last_cut(alloc, self.debugger.fitted()),
-            Direction::Backwards => first_cut(alloc, self.debugger.fitted()),
-        }
-    }
-
-    // All threads continue, and the first hit stops them.
-    fn continue_all<H: Hands>(
-        &mut self,
-        hands: &H,
-        thread: u32,
-        direction: Direction,
-    ) -> Result<(), AllocError>
-        requires { thread < threads_of self.old.stub.desk.fitted }
-        ensures ok { OnOk result ((h : Halt) × EachRun self.old.stub.desk.fitted (λ run. ContinuesAmong run self.old.stub thread direction h) × (self.new.stub ≡ settled self.old.stub h)) }
-        ensures err { OnErr result (self.new.stub ≡ spoken self.old.stub) }
-    {
-        let alloc = hands.alloc();
-        let each = self.stops(hands, thread, direction)?;
-        let each = each.as_slice();
-        match self.first_stop(alloc, direction, each, thread)? {
-            Some((other, cut)) => self.settle(hands, cut, other, each[other as usize].reason),
-            None => {
-                let cut = self.furthest(alloc, direction)?;
-                self.settle(hands, cut, thread, end_of(direction))
-            }
-        }
-    }
-
-    // A move of one thread, in which the others may be stopped at their hits.
-    fn move_among<H: Hands>(
-        &mut self,
-        hands: &H,
-        thread: u32,
-        motion: Motion,
-    ) -> Result<(), AllocError>
-        requires { thread < threads_of self.old.stub.desk.fitted }
-        ensures ok { OnOk result ((h : Halt) × EachRun self.old.stub.desk.fitted (λ run. MovesAmong run self.old.stub thread motion h) × (self.new.stub ≡ settled self.old.stub h)) }
-        ensures err { OnErr result (self.new.stub ≡ spoken self.old.stub) }
-    {
-        match motion {
-            Motion::Continue => self.continue_all(hands, thread, Direction::Forwards),
-            Motion::ContinueBack => self.continue_all(hands, thread, Direction::Backwards),
-            Motion::Step | Motion::Range(_, _) | Motion::StepBack => {
-                self.step_among(hands, thread, motion)
-            }
-        }
     }
 
     // The thread of an id that moves.
@@ -392,6 +229,13 @@ impl Remote {
         Ok(())
     }
 
+    // There is a run of the guest with its trace.
+    fn known(&self)
+        ensures { HasRun self.now.stub.desk.fitted }
+    {
+        self.debugger.fitted().known();
+    }
+
     /// A move: puts the stop that ends it at the end.
     ///
     /// # Errors
@@ -408,6 +252,7 @@ impl Remote {
         ensures err { OnErr result ((self.new.stub ≡ spoken self.old.stub) × (out.new.items ≡ out.old.items)) }
         ensures capacity { vec_capacity out.new ≡ vec_capacity out.old }
     {
+        self.known();
         let Some(who) = self.moving_of(mover) else {
             put_text(out, reply_text(Reply::NotPermitted));
             return Ok(());

@@ -1,15 +1,29 @@
 //! Registers and memory of the general thread.
 
-ghost use Rattle.std.specs.Prelude.{◌≡◌, ◌<◌, ◌≤◌, ◌+◌, ◌*◌, ◌++◌, OnOk, OnErr, vec_len, vec_capacity};
+ghost use Rattle.std.specs.Prelude.{◌≡◌, ◌<◌, ◌≤◌, ◌+◌, ◌*◌, ◌++◌, OnOk, OnErr, length, vec_len, vec_capacity};
 ghost use Rattle.ir_cut.specs.Positions.{EachRun};
 ghost use Rattle.ir_gdb.specs.Stub.{spoken};
-ghost use Rattle.ir_gdb.specs.Reads.{registers_text, register_text, memory_text};
+ghost use Rattle.ir_gdb.specs.Reads.{registers_text, register_text, memory_text, bytes_text};
 
 use crate::registers::{put_registers, word_of};
 use crate::remote::Remote;
 use ir_object::Hands;
 use ir_packet::{Reply, put_hex, put_text, put_word, reply_text};
 use std::alloc::AllocError;
+
+// Puts bytes that were read at the end; if there are none, that the address is bad.
+fn put_bytes(out: &mut Vec<u8>, bytes: &[u8])
+    requires few { length bytes.now ≤ 2000 }
+    requires room { vec_len out.old + 4000 ≤ vec_capacity out.old }
+    ensures bytes { out.new.items ≡ out.old.items ++ bytes_text bytes.now }
+    ensures capacity { vec_capacity out.new ≡ vec_capacity out.old }
+{
+    if bytes.is_empty() {
+        put_text(out, reply_text(Reply::BadAddress));
+        return;
+    }
+    put_hex(out, bytes);
+}
 
 impl Remote {
     /// `g`: puts the registers of the general thread at the end.
@@ -69,12 +83,7 @@ impl Remote {
         ensures capacity { vec_capacity out.new ≡ vec_capacity out.old }
     {
         self.bring_here(hands)?;
-        let bytes = self.bytes_here(address, size);
-        if bytes.is_empty() {
-            put_text(out, reply_text(Reply::BadAddress));
-        } else {
-            put_hex(out, bytes.as_slice());
-        }
+        put_bytes(out, self.bytes_here(address, size).as_slice());
         Ok(())
     }
 }

@@ -54,20 +54,26 @@ impl Remote {
         ensures err { OnErr result (Lacks self.old.stub request self.new.stub × (out.new.items ≡ out.old.items)) }
         ensures capacity { vec_capacity out.new ≡ vec_capacity out.old }
     {
+        self.has_run();
         match request {
-            Request::Supported => put_text(out, supported()),
-            Request::Description(from, most) => put_piece(out, description(), from, most),
-            Request::Threads(from, most) => self.threads(hands.alloc(), from, most, out)?,
-            Request::Reason => self.reason(hands, out)?,
-            Request::Registers => self.registers(hands, out)?,
-            Request::Register(number) => self.register(hands, number, out)?,
-            Request::Memory(address, size) => self.memory(hands, address, size, out)?,
-            Request::Move(motion, mover) => self.make_move(hands, motion, mover, out)?,
-            Request::Restart => self.restart(hands, None, out)?,
-            Request::RestartAt(number) => self.restart(hands, Some(number), out)?,
+            Request::Supported => {
+                put_text(out, supported());
+                Ok(())
+            }
+            Request::Description(from, most) => {
+                put_piece(out, description(), from, most);
+                Ok(())
+            }
+            Request::Threads(from, most) => self.threads(hands.alloc(), from, most, out),
+            Request::Reason => self.reason(hands, out),
+            Request::Registers => self.registers(hands, out),
+            Request::Register(number) => self.register(hands, number, out),
+            Request::Memory(address, size) => self.memory(hands, address, size, out),
+            Request::Move(motion, mover) => self.make_move(hands, motion, mover, out),
+            Request::Restart => self.restart(hands, None, out),
+            Request::RestartAt(number) => self.restart(hands, Some(number), out),
             _ => unreachable!(),
         }
-        Ok(())
     }
 
     /// Puts the reply to a request at the end.

@@ -62,6 +62,7 @@ impl Remote {
         ensures err { OnErr result ((self.new.stub ≡ spoken self.old.stub) × (out.new.items ≡ out.old.items)) }
         ensures capacity { vec_capacity out.new ≡ vec_capacity out.old }
     {
+        self.has_run();
         self.speak();
         if !self.extended {
             return Ok(());

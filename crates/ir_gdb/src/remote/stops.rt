@@ -13,41 +13,13 @@ use crate::point::Watched;
 use crate::remote::Remote;
 use crate::stopped::{Stopped, after_range, end_above, end_below, reason_of_hit, stop_above};
 use ir_command::Direction;
-use ir_cut::{Cut, greatest_exact, least_exact};
+use ir_cut::Cut;
 use ir_hits::NumberedPoint;
 use ir_object::Hands;
 use ir_packet::{Motion, Reason};
-use ir_timeline::last_position;
 use std::alloc::{AllocError, Global};
 
 impl Remote {
-    // The position of a thread.
-    pub fn position(&self, thread: u32) -> u64
-        requires { thread < threads_of self.now.stub.desk.fitted }
-        ensures value { result ≡ position_of self.now.stub thread }
-        ensures within { result ≤ last_of self.now.stub.desk.fitted thread }
-    {
-        self.debugger.fitted().known();
-        self.debugger.at().position(thread as usize)
-    }
-
-    // Its last position.
-    pub fn last(&self, thread: u32) -> u64
-        requires { thread < threads_of self.now.stub.desk.fitted }
-        ensures { result ≡ last_of self.now.stub.desk.fitted thread }
-    {
-        last_position(self.debugger.fitted(), thread as usize)
-    }
-
-    // The cut at which all threads are.
-    fn here(&self) -> Result<Cut, AllocError>
-        ensures value { IfOk result (λ cut. cut ≡ self.now.stub.desk.at) }
-        ensures cut { IfOk result (λ cut. Cuts self.now.stub.desk.fitted cut) }
-    {
-        self.debugger.fitted().known();
-        self.debugger.at().copy()
-    }
-
     // The watches, if they count.
     fn watches_if(&self, watched: bool) -> &[Watched]
         ensures value { result.now ≡ watches_if self.now.stub watched }
@@ -144,19 +116,6 @@ impl Remote {
         })
     }
 
-    // The cut at which all threads are when one has advanced to a position, and is there.
-    fn cut_ahead(&self, alloc: Global, thread: u32, position: u64) -> Result<Cut, AllocError>
-        requires thread { thread < threads_of self.now.stub.desk.fitted }
-        requires within { (position_of self.now.stub thread ≤ position) × (position ≤ last_of self.now.stub.desk.fitted thread) }
-        ensures cut { IfOk result (λ cut. Cuts self.now.stub.desk.fitted cut) }
-        ensures there { IfOk result (λ cut. EachRun self.now.stub.desk.fitted (λ run. cut_of cut thread ≡ position)) }
-    {
-        least_exact();
-        self.debugger.fitted().known();
-        let forwards = Direction::Forwards;
-        self.debugger.cut_with(alloc, thread, forwards, position)
-    }
-
     // The pc of a thread at a position that isn't below its own.
     fn pc_at<H: Hands>(&mut self, hands: &H, thread: u32, position: u64) -> Result<u32, AllocError>
         requires thread { thread < threads_of self.old.stub.desk.fitted }
@@ -248,19 +207,6 @@ impl Remote {
         let hit = self.debugger.search(hands, thread, forwards, points)?;
         let last = self.last(thread);
         Ok(end_above(self.watches_if(watched), self.breaks.as_slice(), last, hit))
-    }
-
-    // The cut at which all threads are when one has gone back to a position, and is there.
-    fn cut_behind(&self, alloc: Global, thread: u32, position: u64) -> Result<Cut, AllocError>
-        requires thread { thread < threads_of self.now.stub.desk.fitted }
-        requires within { (position ≤ position_of self.now.stub thread) × (position ≤ last_of self.now.stub.desk.fitted thread) }
-        ensures cut { IfOk result (λ cut. Cuts self.now.stub.desk.fitted cut) }
-        ensures there { IfOk result (λ cut. cut_of cut thread ≡ position) }
-    {
-        greatest_exact();
-        self.debugger.fitted().known();
-        let backwards = Direction::Backwards;
-        self.debugger.cut_with(alloc, thread, backwards, position)
     }
 
     // Why a thread that isn't at 0 stays where it is when it moves back: a watch hits it there.

@@ -1,20 +1,29 @@
 //! Which thread stops where a move of one brings others along that have hits on their way.
 
-ghost use Rattle.std.specs.Prelude.{◌≡◌, ◌≤◌, ◌<◌, true, length, IfOk, IfSome, MatchOption, IsOk};
-ghost use Rattle.ir_cut.specs.Positions.{EachRun, IsConsistentCut};
-ghost use Rattle.ir_timeline.specs.Positions.{Cuts, threads_of, last_of};
+ghost use Rattle.std.specs.Prelude.{◌≡◌, ◌≤◌, ◌<◌, ◌&&◌, ◌||◌, ◌==◌, not, length, IfOk, IfSome};
+ghost use Rattle.ir_cut.specs.Positions.{EachRun};
+ghost use Rattle.ir_timeline.specs.Positions.{Cuts, threads_of};
 ghost use Rattle.ir_gdb.specs.Stub.{spoken};
-ghost use Rattle.ir_gdb.specs.Together.{AreStops, AreWithin, meets, is_free, is_all_free, moves_other, FirstMet, first_met};
+ghost use Rattle.ir_gdb.specs.Stops.{position_of};
+ghost use Rattle.ir_gdb.specs.Together.{AreStops, AreWithin, meets, passes, is_free, is_all_free, moves, moves_other, MetAt, FirstMet, first_met};
 
 use crate::remote::Remote;
 use crate::stopped::{Stopped, is_hit};
 use ir_command::Direction;
 use ir_cut::Cut;
 use ir_object::Hands;
-use ir_timeline::thread_count;
 use std::alloc::{AllocError, Global};
 
 impl Remote {
+    // How many threads there are.
+    #[tactic(auto, using(ir_image::proofs::CallerLemmas::few_threads))]
+    pub(crate) fn count(&self) -> u32
+        ensures value { result ≡ threads_of self.now.stub.desk.fitted }
+        ensures few { result ≤ 16 }
+    {
+        self.debugger.fitted().image().entries().len() as u32
+    }
+
     // Where each thread stops that continues alone in a direction. Watches count for one thread.
     pub fn stops<H: Hands>(
         &mut self,
@@ -26,7 +35,8 @@ impl Remote {
         ensures stops { IfOk result (λ each. EachRun self.old.stub.desk.fitted (λ run. AreStops run self.old.stub direction mover each.items)) }
         ensures within { IfOk result (λ each. AreWithin self.old.stub each.items) }
     {
-        let count = thread_count(self.debugger.fitted()) as u32;
+        self.speak();
+        let count = self.count();
         let mut stops = Vec::with_capacity(hands.alloc(), count as usize)?;
         'threads: for thread in 0..count {
             let stopped = self.continued(hands, thread, direction, thread == mover)?;
@@ -54,32 +64,93 @@ impl Remote {
         }
     }
 
-    // Whether no other thread than this one has.
+    // Whether a thread is the one that moves, or has no hit on its way to a cut.
+    fn passes(
+        &self,
+        direction: Direction,
+        each: &[Stopped],
+        cut: &Cut,
+        thread: u32,
+        other: u32,
+    ) -> bool
+        requires other { other < threads_of self.now.stub.desk.fitted }
+        requires count { length each.now ≡ threads_of self.now.stub.desk.fitted }
+        requires cut { length cut.now ≡ threads_of self.now.stub.desk.fitted }
+        ensures { result ≡ passes self.now.stub direction each.now cut.now thread other }
+    {
+        if other == thread {
+            return true;
+        }
+        !self.meets(direction, each, cut, other)
+    }
+
+    // Whether no other thread than this one has a hit on its way to a cut.
+    #[tactic(auto, using(crate::proofs::Together::none_yet, crate::proofs::Together::still_free, crate::proofs::Together::not_free))]
     fn is_free(&self, direction: Direction, each: &[Stopped], cut: &Cut, thread: u32) -> bool
         requires count { length each.now ≡ threads_of self.now.stub.desk.fitted }
         requires cut { length cut.now ≡ threads_of self.now.stub.desk.fitted }
         ensures { result ≡ is_all_free self.now.stub direction each.now cut.now thread }
     {
-        'threads: for other in 0..each.len() as u32 {
-            if other != thread && self.meets(direction, each, cut, other) {
+        let count = self.count();
+        'threads: for other in 0..count {
+            if !self.passes(direction, each, cut, thread, other) {
                 return false;
             }
         }
         true
     }
 
+    // Whether a thread is another than this one, and isn't where it is in a cut.
+    fn moves(&self, cut: &Cut, thread: u32, other: u32) -> bool
+        requires other { other < threads_of self.now.stub.desk.fitted }
+        requires cut { length cut.now ≡ threads_of self.now.stub.desk.fitted }
+        ensures { result ≡ moves self.now.stub cut.now thread other }
+    {
+        if other == thread {
+            return false;
+        }
+        self.position(other) != cut.position(other as usize)
+    }
+
     // Whether another thread than this one isn't where it is in a cut.
+    #[tactic(auto, using(crate::proofs::Together::none_moved_yet, crate::proofs::Together::none_moved, crate::proofs::Together::one_moved))]
     pub fn moves_other(&self, cut: &Cut, thread: u32) -> bool
         requires { length cut.now ≡ threads_of self.now.stub.desk.fitted }
         ensures { result ≡ moves_other self.now.stub cut.now thread (threads_of self.now.stub.desk.fitted) }
     {
-        let count = thread_count(self.debugger.fitted()) as u32;
+        let count = self.count();
         'threads: for other in 0..count {
-            if other != thread && self.position(other) != cut.position(other as usize) {
+            if self.moves(cut, thread, other) {
                 return true;
             }
         }
         false
+    }
+
+    // The cut at which a thread comes to its hit, if it has one on its way to a cut and no other has one on its way to that.
+    fn met(
+        &self,
+        alloc: Global,
+        direction: Direction,
+        each: &[Stopped],
+        cut: &Cut,
+        thread: u32,
+    ) -> Result<Option<Cut>, AllocError>
+        requires within { AreWithin self.now.stub each.now }
+        requires cut { length cut.now ≡ threads_of self.now.stub.desk.fitted }
+        requires thread { thread < threads_of self.now.stub.desk.fitted }
+        ensures met { IfOk result (λ met. EachRun self.now.stub.desk.fitted (λ run. MetAt run self.now.stub direction each.now cut.now thread met)) }
+        ensures cuts { IfOk result (λ met. IfSome met (λ own. Cuts self.now.stub.desk.fitted own)) }
+    {
+        if !self.meets(direction, each, cut, thread) {
+            return Ok(None);
+        }
+        let position = each[thread as usize].position;
+        let own = self.cut_to(alloc, thread, direction, position)?;
+        if self.is_free(direction, each, &own, thread) {
+            return Ok(Some(own));
+        }
+        Ok(None)
     }
 
     // The lowest other thread that has a hit on its way to a cut, and comes to that hit with no hit of another on the way; and the cut
@@ -98,13 +169,12 @@ impl Remote {
         ensures cuts { IfOk result (λ met. IfSome met (λ m. Cuts self.now.stub.desk.fitted m.1)) }
         ensures threads { IfOk result (λ met. IfSome met (λ m. m.0 < threads_of self.now.stub.desk.fitted)) }
     {
-        'threads: for other in 0..each.len() as u32 {
-            if other == thread || !self.meets(direction, each, cut, other) {
+        let count = self.count();
+        'threads: for other in 0..count {
+            if other == thread {
                 continue;
             }
-            let position = each[other as usize].position;
-            let own = self.debugger.cut_with(alloc, other, direction, position)?;
-            if self.is_free(direction, each, &own, other) {
+            if let Some(own) = self.met(alloc, direction, each, cut, other)? {
                 return Ok(Some((other, own)));
             }
         }

@@ -1,4 +1,4 @@
-use Rattle.std.proofs.Common.{◌≡◌, ◌∙◌, ◌++◌, List, ℕ, sym, ap, subst}
+use Rattle.std.proofs.Common.{◌≡◌, ◌∙◌, ◌++◌, List, ℕ, ap}
 use Rattle.ir_packet.specs.Requests.{console_line}
 use Rattle.ir_gdb.specs.Connection.{Connecting}
 use Rattle.ir_gdb.proofs.Lines.{goes_if, consulted}
@@ -13,12 +13,10 @@ returns-clause-answer g c =
           (c.as_slice.ensures.value ∙ line) c.if-quits.false,
       (
         c.respond.new.self.stub,
-        (
-          consulted c.self.inside.remote.stub c.args.self.now.link.stub c.as_slice-line.result.now
-              (console_line c.args.self.now.reading.payload) c.respond.new.self.stub c.in-Ok.answered.bytes.items
-              c.respond.new.writer.bytes.items (ap (λ (x : Connecting). x.link.stub) c.self.view_is) (c.as_slice-line.ensures.value ∙ line)
-              c.in-Ok.ensures.bytes c.in-Ok-respond.ensures.ok,
-          ap (λ (x : Connecting). record x.link { stub = c.respond.new.self.stub }) c.self.view_is,
-        ),
+        consulted c.self.inside.remote.stub c.args.self.now.link.stub c.as_slice-line.result.now
+            (console_line c.args.self.now.reading.payload) c.respond.new.self.stub c.in-Ok.answered.bytes.items
+            c.respond.new.writer.bytes.items (ap (λ (x : Connecting). x.link.stub) c.self.view_is) (c.as_slice-line.ensures.value ∙ line)
+            c.in-Ok.ensures.bytes c.in-Ok-respond.ensures.ok,
+        ap (λ (x : Connecting). record x.link { stub = c.respond.new.self.stub }) c.self.view_is,
       ),
     )

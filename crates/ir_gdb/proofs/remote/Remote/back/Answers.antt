@@ -1,4 +1,4 @@
-use Rattle.std.proofs.Common.{◌≡◌, ◌-◌, ◌∙◌, ℕ, Option, sym, ap}
+use Rattle.std.proofs.Common.{◌-◌, ◌∙◌, ℕ, Option, sym, ap}
 use Rattle.ir_packet.specs.declared.reply.Reason.{Reason}
 use Rattle.ir_packet.specs.declared.reply.Reason.TheVariants as reason
 use Rattle.ir_gdb.specs.Stops.{stopped, position_of, after_back}

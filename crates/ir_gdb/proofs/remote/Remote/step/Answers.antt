@@ -1,4 +1,4 @@
-use Rattle.std.proofs.Common.{◌≡◌, ◌<◌, ◌∙◌, ◌+◌, ℕ, List, Option, sym, ap}
+use Rattle.std.proofs.Common.{◌≡◌, ◌∙◌, ◌+◌, ℕ, List, Option, sym, ap}
 use Rattle.ir_cut.specs.Positions.{cut_of}
 use Rattle.ir_timeline.specs.Positions.{last_of}
 use Rattle.ir_packet.specs.declared.reply.Reason.{Reason}

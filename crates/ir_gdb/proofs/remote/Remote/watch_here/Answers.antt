@@ -1,4 +1,4 @@
-use Rattle.std.proofs.Common.{◌≡◌, ◌-◌, ◌∙◌, ℕ, ap, subst}
+use Rattle.std.proofs.Common.{◌-◌, ◌∙◌, ℕ, ap, subst}
 use Rattle.std.proofs.lemmas.Result.{IfOk-weaker}
 use Rattle.ir_cut.specs.Positions.{EachRun, cut_of}
 use Rattle.ir_timeline.specs.Positions.{last_of}

@@ -1,12 +1,11 @@
-use Rattle.std.proofs.Common.{◌≡◌, ◌<◌, ◌+◌, ◌∙◌, ℕ, List, refl, sym, ap, subst, arith, Fits, w64}
+use Rattle.std.proofs.Common.{◌≡◌, ◌+◌, ◌∙◌, ℕ, List, sym, ap, subst}
 use Rattle.ir_fit.specs.Fit.{FittedTrace}
 use Rattle.ir_cut.specs.Positions.{cut_of}
-use Rattle.ir_timeline.specs.Positions.{Cuts, threads_of, last_of}
+use Rattle.ir_timeline.specs.Positions.{Cuts}
 use Rattle.ir_gdb.specs.declared.point.Watched.{Watched}
 use Rattle.ir_gdb.specs.Points.{watch_points}
 use Rattle.ir_gdb.specs.Serving.{Serving}
 use Rattle.ir_gdb.specs.Stub.{Stub, spoken}
-use Rattle.ir_gdb.specs.Stops.{watches_if}
 use Rattle.ir_gdb.proofs.Stopping.{seen, watches_after, watches_spoken, next_watch}
 use Rattle.ir_gdb.proofs.remote.Remote.watch_next.Goals as goal
 
