@@ -1,7 +1,9 @@
 //! The subcommands, in one table.
 
 use crate::asked::Asked;
-use crate::{assemble, debug, diff, elf, events, gdb, hunt, list, record, stale, trace, view, who, why};
+use crate::{
+    assemble, debug, diff, elf, events, gdb, hunt, list, record, stale, trace, view, who, why,
+};
 use clap::{ArgMatches, Command};
 use std::alloc::{AllocError, Global};
 
