@@ -22,13 +22,13 @@ abbrev pub TookOrFailed : Writer → List ℕ → Type 0
 TookOrFailed faults text = AppendsPrefix faults.before faults.after text
     × (faults.failed ≡ false → Appends faults.before faults.after text)
 
--- A connection that ended so; `untouched` says that the reader and the writer are as they were, and `quiet` that no fault was reported. If
+-- A connection that ended so; `untouched` says that the reader and the writer are as they were, and `unreported` that no fault was reported. If
 -- nothing was opened, why is announced.
-pub record Closed (image trace : List ℕ) (ended : Ended) (reader : Reader) (writer faults : Writer) (untouched quiet : Type 0) : Type 0 where
+pub record Closed (image trace : List ℕ) (ended : Ended) (reader : Reader) (writer faults : Writer) (untouched unreported : Type 0) : Type 0 where
   pub led : Led image trace (Ok ended) reader writer
   pub unread : IfRefused (Ok ended) untouched
   pub announced : IfRefused (Ok ended) (Announced image trace (Ok ended) (TookOrFailed faults))
-  pub quiet : IfNotRefused (Ok ended) quiet
+  pub quiet : IfNotRefused (Ok ended) unreported
 
 -- what a fault of a connection leaves
 abbrev pub Stopped : List ℕ → List ℕ → SessionErr → Reader → Writer → Type 0 → Type 0
