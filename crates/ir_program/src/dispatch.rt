@@ -183,8 +183,7 @@ where
         Asked::Gdb(arguments) => {
             let mut input = input;
             gdb_files(
-                rt,
-                folder,
+                &around,
                 &arguments,
                 terminals.faults,
                 &mut input,
