@@ -1,8 +1,7 @@
 -- What `ir explore` writes.
-use Rattle.std.specs.Prelude.{◌≡◌, ◌≢◌, ◌⊎◌, ℕ, zero, suc, ◌+◌, Bool, true, Option, None, List, [], ◌∷◌, ◌++◌, length, take, flat_map, if◌then◌else◌, nat_eq, Ok, Err, Result, Some, slice_get}
+use Rattle.std.specs.Prelude.{◌≡◌, ◌≢◌, ◌⊎◌, ℕ, zero, suc, ◌+◌, Bool, true, Option, None, List, [], ◌++◌, length, take, flat_map, if◌then◌else◌, nat_eq, Some, slice_get}
 use Rattle.std.specs.List.{slice_index_or}
 use Rattle.std.specs.Cmp.Lexicographic.{pointwise}
-use Rattle.std.specs.String.{string_bytes}
 use Rattle.ir_explore.specs.declared.search.Ended.{Ended}
 use Rattle.ir_explore.specs.declared.search.Ended.TheVariants.{Finished, Covered, Stopped}
 use Rattle.ir_explore.specs.declared.stop.Stop.{Stop}
@@ -10,7 +9,6 @@ use Rattle.ir_files.specs.declared.exit_status.ExitStatus.{ExitStatus}
 use Rattle.ir_files.specs.declared.exit_status.ExitStatus.TheVariants as status
 use Rattle.ir_flat.specs.Flat.{Flat, idle, start_cells, empty}
 use Rattle.ir_image.specs.Guest.{Guest, object_count, object_words}
-use Rattle.ir_image.specs.declared.image_err.ImageErr.{ImageErr}
 use Rattle.ir_object.specs.Cell.{Cell}
 use Rattle.ir_order.specs.Spelling.{Spells}
 use Rattle.ir_outcomes.specs.Explored.{IsAt, AreExplored, AreAll}

@@ -1,6 +1,5 @@
 -- Hangs are where no marked node is.
-use Rattle.std.proofs.Common.{◌≡◌, ◌↔◌, ℕ, zero, suc, ◌<◌, Option, Some, None, Bool, List, inl, inr, length, refl, sym, ◌∙◌, subst}
-use Rattle.std.specs.Prelude.{slice_get}
+use Rattle.std.proofs.Common.{◌≡◌, ◌↔◌, ℕ, zero, suc, ◌<◌, Option, Some, Bool, List, inl, inr, length, refl, sym, ◌∙◌, subst}
 use Rattle.std.proofs.lemmas.Bool.{cases_lt}
 use Rattle.std.proofs.lemmas.Option.{same_Some}
 use Rattle.ir_image.specs.Guest.{Guest}
@@ -20,7 +19,7 @@ use Rattle.ir_thread.specs.declared.profile.Profile.TheVariants.{One}
 use Rattle.ir_seen.specs.Seen.{view, seen_machine, IsLive, IsSpoilt, Same, seen_start}
 use Rattle.ir_seen.proofs.CallerLemmas.{seen_lawful, seen_view, seen_spoils, look_same, start_is_good}
 use Rattle.ir_flat.specs.Flat.{Flat, machine, tables, thread_of, start_flat}
-use Rattle.ir_graph.specs.Nodes.{told, seen_by, told_by, Alike, seen_of}
+use Rattle.ir_graph.specs.Nodes.{told, seen_by, told_by, Alike}
 use Rattle.ir_graph.specs.Ways.{EndsIn, IsMarked, AreWays, IsWhole, HangsMarked}
 use Rattle.ir_graph.proofs.Listed.{flat_of, state_of, at, code_at, really_done, graph_means}
 
