@@ -2,7 +2,8 @@
 
 use crate::asked::Asked;
 use crate::{
-    assemble, debug, diff, elf, events, explore, gdb, hunt, list, record, stale, trace, view, who, why,
+    assemble, debug, diff, elf, events, explore, gdb, hunt, list, record, stale, trace, view, who,
+    why,
 };
 use clap::{ArgMatches, Command};
 use std::alloc::{AllocError, Global};

@@ -5,3 +5,5 @@ pub use Rattle.ir_explore.proofs.Meant.{turn_switches, alone_switches, node_orde
 pub use Rattle.ir_explore.proofs.Gone.{gone_less}
 -- a list with one more
 pub use Rattle.ir_explore.proofs.Reached.{pushed_cases, pushed_stays, slice_less}
+-- places of a row that are not opened
+pub use Rattle.ir_explore.proofs.Opens.{shut, shut_less}

@@ -9,4 +9,6 @@ mod Entries
 mod Grown
 mod Listed
 mod Listing
+mod Marked
+mod Hanging
 pub mod CallerLemmas

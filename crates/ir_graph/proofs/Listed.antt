@@ -55,10 +55,10 @@ module _ (guest : Guest) (flats : List Flat) (noted : ℕ → ℕ → Option (Op
   abbrev pub state_of : ℕ → run.State (State × List ℕ)
   state_of v = seen_of (flat_of v) answers
 
-  at : (v : ℕ) → v < length flats → slice_get flats v ≡ Some (flat_of v)
+  pub at : (v : ℕ) → v < length flats → slice_get flats v ≡ Some (flat_of v)
   at v l = slice_get-get_or flats v nothing l
 
-  code_at : (v : ℕ) → v < length flats → (flat_of v).code ≡ guest.code
+  pub code_at : (v : ℕ) → v < length flats → (flat_of v).code ≡ guest.code
   code_at v l = (g.nodes.like 0 v (flat_of 0) (flat_of v) (at 0 g.some) (at v l)).code ∙ g.code (flat_of 0) (at 0 g.some)
 
   -- a number that is no thread's has no step
@@ -97,7 +97,7 @@ module _ (guest : Guest) (flats : List Flat) (noted : ℕ → ℕ → Option (Op
   }
 
   -- a node where all are done, as the search sees them, is one where all are done
-  really_done : (v : ℕ) → v < length flats → run.IsDone (seen_by guest.code) (state_of v) → run.IsDone (machine (flat_of v)) (tables (flat_of v))
+  pub really_done : (v : ℕ) → v < length flats → run.IsDone (seen_by guest.code) (state_of v) → run.IsDone (machine (flat_of v)) (tables (flat_of v))
   really_done v l done t =
       subst (λ z. run.asked (seen_by z) (state_of v) t ≡ machines.Done → run.asked (machine (flat_of v)) (tables (flat_of v)) t ≡ machines.Done)
       (code_at v l) ((seen_view (flat_of v).code).done (thread_of (flat_of v) t)).1 (done t)

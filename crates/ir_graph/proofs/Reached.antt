@@ -1,6 +1,5 @@
 -- Runs that lead to the states of a guest's graph.
-use Rattle.std.proofs.Common.{◌≡◌, ℕ, zero, suc, Bool, true, false, List, [], ◌∷◌, ◌++◌, Some, inl, inr, eqb, length, refl, sym, ap, ◌∙◌, subst}
-use Rattle.std.specs.Prelude.{slice_get}
+use Rattle.std.proofs.Common.{◌≡◌, ℕ, Bool, true, false, List, [], ◌∷◌, ◌++◌, inl, inr, eqb, length, refl, sym, ap, ◌∙◌, subst}
 use Rattle.ir_explore.proofs.CallerLemmas.{pushed_cases}
 use Rattle.ir_image.specs.Guest.{Guest}
 use Rattle.ir_runs.specs.Labels.{Label, logged}
@@ -11,7 +10,7 @@ use Rattle.ir_runs.specs.Run.{State, Step, asked, act, Can, after, end, IsRun, I
 use Rattle.ir_runs.proofs.CallerLemmas.{end_append}
 use Rattle.ir_runs.specs.declared.access.Access.TheVariants.{Reading, Writing}
 use Rattle.ir_states.specs.Sources.{Giving, Gives}
-use Rattle.ir_states.specs.Views.{IsLiveRun, IsUnspoilt}
+use Rattle.ir_states.specs.Views.{IsLiveRun}
 use Rattle.ir_states.proofs.CallerLemmas.{live_unspoilt}
 use Rattle.ir_thread.specs.Calls.{ask_of, most_budget}
 use Rattle.ir_thread.specs.Instance.{thread_machine, shared_ask}

@@ -1,12 +1,11 @@
 -- One thread that goes on alone.
-use Rattle.std.proofs.Common.{◌≡◌, ℕ, zero, suc, ◌+◌, ◌<◌, Bool, true, false, cond, List, [], ◌∷◌, ◌++◌, length, refl, sym, ap, ◌∙◌, subst, arith}
+use Rattle.std.proofs.Common.{◌≡◌, ℕ, zero, suc, ◌+◌, cond, List, [], ◌∷◌, ◌++◌, length, refl, sym, ap, ◌∙◌, subst, arith}
 use Rattle.std.specs.Prelude.{replicate}
-use Rattle.ir_runs.specs.Machine as machine
 use Rattle.ir_runs.specs.Object.{Admits, target}
 use Rattle.ir_runs.specs.Machine.{act_of}
-use Rattle.ir_runs.specs.Run.{State, Step, asked, act, Can, after, end}
+use Rattle.ir_runs.specs.Run.{State, Step, asked, Can, after, end}
 use Rattle.ir_runs.proofs.CallerLemmas.{end_append}
-use Rattle.ir_states.specs.Counting.{is_own, entering}
+use Rattle.ir_states.specs.Counting.{entering}
 use Rattle.ir_states.proofs.CallerLemmas.{entering_append}
 use Rattle.ir_thread.specs.Calls.{ask_of}
 use Rattle.ir_thread.specs.Instance.{thread_machine, shared_ask}
@@ -16,7 +15,7 @@ use Rattle.ir_thread.specs.declared.ask.Ask.TheVariants as ask
 use Rattle.ir_freeze.specs.Twins.{AreTwins}
 use Rattle.ir_flat.specs.Alone.{WentAlone}
 use Rattle.ir_flat.specs.Flat.{Flat, tables, machine, thread_of}
-use Rattle.ir_graph.specs.Plain.{IsPlainRun, GoesPlain, IsFair, Rests, IsLike}
+use Rattle.ir_graph.specs.Plain.{IsPlainRun, IsFair, Rests, IsLike}
 use Rattle.ir_graph.specs.Reached.{IsQuietRun}
 use Rattle.ir_graph.specs.Turn.{GoesAlone}
 use Rattle.ir_graph.proofs.Leads.{rests_own}

@@ -7,3 +7,4 @@ pub mod Graph
 pub mod Outcomes
 pub mod Listing
 pub mod Searched
+pub mod Ways

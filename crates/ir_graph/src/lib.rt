@@ -11,6 +11,7 @@ mod outcomes;
 mod rest;
 mod start;
 mod states;
+mod ways;
 
 pub use ends::{is_done, same_outcome};
 pub use graph::Graph;
@@ -21,3 +22,4 @@ pub use outcomes::list_outcomes;
 pub use rest::run_to_rest;
 pub use start::start_graph;
 pub use states::{States, search_states};
+pub use ways::mark_ways;

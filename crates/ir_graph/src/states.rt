@@ -3,7 +3,9 @@
 ghost use Rattle.std.specs.Prelude.{◌≡◌, suc, ◌≤◌, length, IfOk};
 ghost use Rattle.ir_explore.specs.declared.search.Ended.TheVariants.{Finished, Covered};
 ghost use Rattle.ir_graph.specs.Outcomes.{AllListed, AllShown};
+ghost use Rattle.ir_graph.specs.Notes.{noted_in};
 ghost use Rattle.ir_graph.specs.Searched.{AreSearched};
+ghost use Rattle.ir_graph.specs.Ways.{IsWhole};
 ghost use Rattle.ir_thread.specs.Allowed.{IsAllowed};
 ghost use Rattle.ir_thread.specs.declared.profile.Profile.TheVariants.{One};
 
@@ -38,6 +40,7 @@ pub fn search_states<'a>(
     requires some { 1 ≤ bounds.nodes }
     // Each outcome of the guest is listed, once it is finished.
     ensures all { IfOk result (λ states. states.found.ended ≡ Finished → AllListed image.now states.graph.flats.items) }
+    ensures whole { IfOk result (λ states. states.found.ended ≡ Finished → IsWhole image.now states.graph.flats.items (noted_in states.graph.rows.items) (length states.graph.rows.items) states.found.nodes.items) }
     ensures nodes { IfOk result (λ states. states.found.ended ≡ Finished → length states.found.nodes.items ≡ length states.graph.flats.items) }
     // However it ends, each listed one is an outcome of the guest, and those of runs of fewer switches than levels are listed.
     ensures shown { IfOk result (λ states. AllShown image.now states.graph.flats.items) }

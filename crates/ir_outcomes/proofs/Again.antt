@@ -1,6 +1,6 @@
 -- Runs of a guest by an order, turn by turn.
 use Rattle.std.proofs.lemmas.Bool.{cases_eq}
-use Rattle.std.proofs.Common.{◌≡◌, ◌≢◌, ◌⊎◌, inl, inr, ℕ, zero, suc, List, [], ◌∷◌, ◌++◌, replicate, map, ◌+◌, ◌-◌, ◌≤◌, arith, refl, sym, ap, ◌∙◌, subst}
+use Rattle.std.proofs.Common.{◌≡◌, ◌≢◌, ◌⊎◌, inl, inr, ℕ, zero, suc, List, [], ◌∷◌, ◌++◌, replicate, ◌+◌, ◌≤◌, arith, refl, sym, ap, ◌∙◌, subst}
 use Rattle.ir_image.specs.Guest.{Guest}
 use Rattle.ir_runs.specs.Run.{State, Step, end}
 use Rattle.ir_runs.proofs.CallerLemmas.{end_append}
@@ -10,7 +10,7 @@ use Rattle.ir_thread.specs.Calls.{most_budget}
 use Rattle.ir_thread.specs.Instance.{thread_machine}
 use Rattle.ir_thread.specs.State as thread
 use Rattle.ir_thread.specs.declared.profile.Profile.TheVariants.{One}
-use Rattle.ir_flat.specs.Flat.{Flat, machine, tables, start_flat}
+use Rattle.ir_flat.specs.Flat.{Flat, tables, start_flat}
 use Rattle.ir_graph.specs.Reached.{IsQuietRun, beginning}
 use Rattle.ir_graph.specs.Turn.{GoesAlone}
 use Rattle.ir_graph.proofs.CallerLemmas.{like_same, like_more, alone_like, quiet_append}
@@ -102,3 +102,12 @@ within_next guest order order' f g t e k w none more = (
         subst (λ z. IsAgainWithin guest order' z g) one
         (within_first guest order' g t e (more [] (subst (λ z. IsAgain guest order z f) (none first) w.again)))
     by (inr later) = within_more guest order order' f g t e k (omega (arith, later)) w (more w.entries w.again)
+
+-- fewer switches than so many are fewer than more
+pub within_wide : (guest : Guest) (order : List ℕ) (most more : ℕ) (f : Flat) → most ≤ more → IsAgainWithin guest order most f
+    → IsAgainWithin guest order more f
+within_wide guest order most more f l w = record {
+  entries = w.entries;
+  again = w.again;
+  few = let k = w.few in omega (arith, k, l);
+}

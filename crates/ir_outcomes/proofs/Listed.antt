@@ -8,18 +8,18 @@ use Rattle.ir_image.specs.Guest.{Guest}
 use Rattle.ir_explore.specs.declared.origin.Origin.{Origin}
 use Rattle.ir_explore.specs.Origins.{first_origin}
 use Rattle.ir_explore.proofs.CallerLemmas.{pushed_cases, slice_less}
-use Rattle.ir_runs.specs.Run.{Step, IsDone}
+use Rattle.ir_runs.specs.Run.{Step}
 use Rattle.ir_record.specs.Turns.{order_of_turns}
 use Rattle.ir_thread.specs.Calls.{most_budget}
 use Rattle.ir_thread.specs.declared.profile.Profile.TheVariants.{One}
-use Rattle.ir_flat.specs.Flat.{Flat, machine, tables}
+use Rattle.ir_flat.specs.Flat.{Flat, tables}
 use Rattle.ir_seen.specs.Seen.{IsCounted}
 use Rattle.ir_graph.specs.Listing.{HasOutcome, AreOutcomes}
 use Rattle.ir_graph.specs.Nodes.{told}
-use Rattle.ir_graph.specs.Outcomes.{Outcome, outcome_of, IsListed, AllListed}
+use Rattle.ir_graph.specs.Outcomes.{outcome_of, AllListed}
 use Rattle.ir_graph.specs.Searched.{AreSearched}
 use Rattle.ir_outcomes.specs.Again.{steps_of}
-use Rattle.ir_outcomes.specs.Explored.{outcome_by, switches_by, IsOutcomeOf, IsAt, IsIn, AreExplored, AreAll, AreShown}
+use Rattle.ir_outcomes.specs.Explored.{outcome_by, switches_by, IsAt, IsIn, AreExplored, AreAll, AreShown}
 use Rattle.ir_outcomes.specs.Shown.{IsShown}
 use Rattle.ir_outcomes.specs.declared.shown.Shown.{Shown}
 

@@ -2,6 +2,7 @@
 #![tactic(auto)]
 
 mod explored;
+mod hang;
 mod path;
 mod rerun;
 mod shown;

@@ -1,6 +1,5 @@
 use Rattle.std.proofs.Common.{◌≡◌, ℕ, ◌<◌, Some}
 use Rattle.std.specs.Prelude.{slice_get}
-use Rattle.ir_runs.specs.Run as run
 use Rattle.ir_flat.specs.Flat.{Flat, tables}
 use Rattle.ir_graph.specs.Outcomes.{outcome_of}
 use Rattle.ir_graph.proofs.outcomes.is_listed.Given as goal

@@ -1,5 +1,5 @@
-use Rattle.std.proofs.Common.{◌+◌, refl, sym, subst, arith}
-use Rattle.ir_graph.specs.Plain.{IsFair, GoesPlain, OthersStay}
+use Rattle.std.proofs.Common.{◌+◌, refl, subst, arith}
+use Rattle.ir_graph.specs.Plain.{IsFair, GoesPlain}
 use Rattle.ir_graph.proofs.Plain.{no_plain, plain_more, one_plain, went_plain, step_others, went_others, others_more}
 use Rattle.ir_graph.proofs.Turn.{alone_none, alone_more, went_alone, fair_alone}
 use Rattle.ir_graph.proofs.rest.run_to_rest.Goals as goal

@@ -4,6 +4,7 @@ use Rattle.ir_graph.specs.Notes.{noted_in}
 use Rattle.ir_graph.specs.Outcomes.{AllListed, AllShown}
 use Rattle.ir_graph.specs.Searched.{AreSearched}
 use Rattle.ir_explore.proofs.CallerLemmas.{gone_less}
+use Rattle.ir_graph.specs.Ways.{IsWhole}
 use Rattle.ir_graph.proofs.Grown.{noted_past}
 use Rattle.ir_graph.proofs.Listed.{all_listed, within_listed, all_shown}
 use Rattle.ir_graph.proofs.states.search_states.Goals as goal
@@ -50,3 +51,20 @@ returns-clause-shown c =
     let image = c.run_search.ensures.origin ∙ c.in_ok-graph.ensures.image in
     subst (λ z. AllShown z graph.flats.items) image
     (all_shown graph.image.now graph.flats.items (noted_in rows) (length rows) c.run_search.ensures.sound)
+
+pub returns-clause-whole : goal.returns-clause-whole
+returns-clause-whole c = λ done.
+    let graph = c.run_search.new.graph in
+    let rows = graph.rows.items in
+    let flats = graph.flats.items in
+    let nodes = c.in_ok-found.found.nodes.items in
+    let sound = c.run_search.ensures.sound in
+    let image = c.run_search.ensures.origin ∙ c.in_ok-graph.ensures.image in
+    let threads = ap length c.entries-threads.ensures.value ∙ ap (λ z. length z.entries) (sym image) ∙ sym sound.number in
+    subst (λ z. IsWhole z flats (noted_in rows) (length rows) nodes) image (record {
+      graph = sound;
+      past = λ t v l. noted_past rows t v l;
+      reached = c.in_ok-found.ensures.reached;
+      nodes = c.in_ok-found.ensures.all done;
+      asked = subst (λ z. AreAsked (noted_in rows) z (length flats)) threads (c.in_ok-found.ensures.finished done);
+    })

@@ -1,6 +1,10 @@
-use Rattle.std.proofs.Common.{length, sym, subst}
+use Rattle.std.proofs.Common.{◌<◌, length, sym, subst}
 use Rattle.ir_graph.specs.Listing.{AreOutcomes}
+use Rattle.ir_graph.specs.Notes.{noted_in}
 use Rattle.ir_graph.specs.Reached.{AllReached}
+use Rattle.ir_graph.specs.Ways.{IsMarked}
+use Rattle.ir_graph.proofs.CallerLemmas.{hangs_marked}
+use Rattle.ir_outcomes.specs.Hangs.{IsHangShown}
 use Rattle.ir_outcomes.specs.Explored.{AreShown}
 use Rattle.ir_outcomes.proofs.Listed.{explored, all_outcomes}
 use Rattle.ir_outcomes.proofs.explored.explore.Goals as goal
@@ -42,3 +46,19 @@ returns-clause-explored c =
 
 pub returns-clause-states : goal.returns-clause-states
 returns-clause-states c = c.in_ok-states.ensures.searched.reached
+
+pub returns-clause-hangs : goal.returns-clause-hangs
+returns-clause-hangs c = λ done.
+    let guest = c.args.image.now in
+    let flats = c.in_ok-states.states.graph.flats.items in
+    let rows = c.in_ok-states.states.graph.rows.items in
+    let origins = c.in_ok-states.states.found.nodes.items in
+    let ways = c.in_ok-ways.ways.items in
+    let are = c.in_ok-ways.ensures done in
+    let value = c.as_slice-2.ensures.value in record {
+      size = are.size;
+      marked = hangs_marked guest flats (noted_in rows) (length rows) origins (c.in_ok-states.ensures.whole done) ways are;
+      none = λ e v l.
+          subst (λ z. IsMarked z v) value (c.in_ok-hang.ensures.none done e v (subst (λ z. v < length z) (sym value) l));
+      found = λ x e. subst (λ z. IsHangShown guest flats z x) value (c.in_ok-hang.ensures.found x e);
+    }
