@@ -163,10 +163,22 @@ def outcome_of(state):
     return tuple((*thread.ended, thread.printed) for thread in threads), words
 
 
+def hang_of(least, before, done):
+    """The fewest switches to a state from which no run comes to an end, or none if there is no such state."""
+    ways, queue = set(done), deque(done)
+    while queue:
+        for state in before.get(queue.popleft(), ()):
+            if state not in ways:
+                ways.add(state)
+                queue.append(state)
+    return min((switches for (state, _), switches in least.items() if state not in ways), default=None)
+
+
 def judged(guest, objects):
-    """Each outcome, with the fewest switches that lead to it."""
+    """Each outcome, with the fewest switches that lead to it; and the fewest switches to a hang, or none."""
     start = ((START,) * len(guest), (0,) * (WORDS * objects))
     least, found, queue = {(start, None): 0}, {}, deque([(start, None)])
+    before, done = {}, set()
     while queue:
         state, last = queue.popleft()
         switches, is_done = least[state, last], True
@@ -176,15 +188,17 @@ def judged(guest, objects):
                 continue
             is_done = False
             on, is_entry = step
+            before.setdefault(on, set()).add(state)
             node = (on, t if is_entry else last)
             more = is_entry and last not in (None, t)
             if node not in least or switches + more < least[node]:
                 least[node] = switches + more
                 (queue.append if more else queue.appendleft)(node)
         if is_done:
+            done.add(state)
             outcome = outcome_of(state)
             found[outcome] = min(found.get(outcome, switches), switches)
-    return found
+    return found, hang_of(least, before, done)
 
 
 # What the program says.
@@ -241,14 +255,16 @@ def check_guest(folder, guest, objects):
     if ended.returncode:
         raise Wrong(f"{guest}: {ended!r}")
     found, last = listed(lines, objects)
-    wanted = {(threads, words): switches for (threads, words), switches in judged(guest, objects).items()}
+    wanted, hang = judged(guest, objects)
     told = {(row.threads, row.words): row.switches for row in found}
     if told != wanted or len(told) != len(found):
         raise Wrong(f"{guest}: the program lists {told}, the judge {wanted}")
     if [row.switches for row in found] != sorted(row.switches for row in found):
         raise Wrong(f"{guest}: switches don't rise")
-    if not re.fullmatch(rf"finished outcomes {len(found)} states \d+ hangs 0", last):
-        raise Wrong(f"{guest}: the last line is {last!r}")
+    hangs = [int(line.split()[2]) for line in lines if line.startswith("hang ")]
+    many = "0" if hang is None else r"[1-9]\d*"
+    if hangs != ([] if hang is None else [hang]) or not re.fullmatch(rf"finished outcomes {len(found)} states \d+ hangs {many}", last):
+        raise Wrong(f"{guest}: hangs after {hangs} switches, wanted {hang}, and the last line is {last!r}")
     for row in found:
         check_order(folder, "guest", row, len(guest), objects)
 
@@ -311,7 +327,17 @@ ON_PAPER = [
     *((f"a writer and {r} readers that tell what they saw",
        [[("set", 0, 1), *entries("enter_write", 0, 1, [("put", 0, 0, 0)])], *[[*entries("enter_read", 0, 1, [("get", 0, 0, 0)]), ("print", 0)]] * r],
        1, 2**r, None) for r in (1, 2, 3)),
-    *((f"a lost update of {n} threads, {k} rounds each", [ROUND * k] * n, 1, n if k == 1 else n * k - 1, None) for n, k in ((2, 1), (3, 1), (2, 2), (2, 3))),
+    *((f"a lost update of {n} threads, {k} rounds each", [ROUND * k] * n, 1, n if k == 1 else n * k - 1, None)
+      for n, k in ((2, 1), (3, 1), (2, 2), (2, 3))),
+]
+
+
+# A thread sleeps until word 2 is 1, unless word 0 is 1 already. The other sets word 0, and word 2 only if it sees in word 1 that one sleeps. The
+# wake-up is lost if it comes between.
+LOST_WAKE_UP = [
+    [*entries("enter_read", 0, 1, [("get", 0, 0, 0)]), ("skip", 0, 1, 12), ("set", 1, 1), *entries("enter_write", 0, 1, [("put", 0, 1, 1)]),
+     *entries("enter_read", 0, 1, [("get", 0, 2, 2)]), ("skip", 2, 0, 8)],
+    [("set", 0, 1), ("enter_write", 0), ("put", 0, 0, 0), ("get", 0, 1, 1), ("skip", 1, 0, 6), ("put", 0, 2, 0), ("leave", 0)],
 ]
 
 
@@ -342,7 +368,8 @@ def main():
     chance, passed, failed = random.Random(asked.seed), 0, 0
     with tempfile.TemporaryDirectory() as place:
         folder = Path(place)
-        checks = [lambda: check_examples(folder), *(lambda row=row: check_on_paper(folder, row) for row in ON_PAPER),
+        checks = [lambda: check_examples(folder), lambda: check_guest(folder, LOST_WAKE_UP, 1),
+                  *(lambda row=row: check_on_paper(folder, row) for row in ON_PAPER),
                   *(lambda: check_guest(folder, *random_guest(chance)) for _ in range(asked.guests))]
         for check in checks:
             try:
