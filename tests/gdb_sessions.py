@@ -367,13 +367,47 @@ def check_ctrl_c(folder):
     prompt = rb"\(gdb\) $"
     gdb.type(b"", prompt)
     gdb.type(f"target remote | {program()} gdb busy.img busy.trc\n".encode(), prompt)
-    for text in (b"set scheduler-locking on\n", b"set can-use-hw-watchpoints 0\n", b"watch made[63]\n"):
+    for text in (b"set scheduler-locking on\n", b"set can-use-hw-watchpoints 0\n", b"watch made[63] if made[63] == 1\n"):
         gdb.type(text, prompt)
     os.write(gdb.device, b"continue\n")
     time.sleep(1.5)
     gdb.type(b"\x03", rb"SIGINT[\s\S]*\(gdb\) $")
     gdb.type(b"info threads\n", rb"thread 1[\s\S]*\(gdb\) $")
     os.write(gdb.device, b"quit\n")
+
+
+def guide_of(text):
+    """The commands of a page for the shell, each with what is typed in gdb, and what they write."""
+    commands, is_written = [], False
+    for line in text.splitlines():
+        if line.startswith("    $ "):
+            commands.append((line[6:], [], []))
+        elif line.startswith("    (gdb) "):
+            commands[-1][1].append(line[10:])
+            is_written = True
+        elif line.startswith("    ") and is_written:
+            commands[-1][2].append(line[4:].rstrip())
+        elif line:
+            is_written = False
+    return commands
+
+
+def check_guide(folder):
+    """The commands of the guide's page, and each line that gdb writes there, in turn."""
+    (folder / "ir").symlink_to(program())
+    (folder / "examples").symlink_to(TOP / "examples")
+    for command, typed, wanted in guide_of((TOP / "docs" / "guide" / "gdb.md").read_text()):
+        words = ["bash", "-c", command]
+        if typed:
+            words = [GDB, "-nx", "-q", "-batch", "-ex", "set width 0", command.split()[-1]]
+            for text in typed:
+                words += ["-ex", text]
+        ended = subprocess.run(words, cwd=folder, stdin=subprocess.DEVNULL, stdout=subprocess.PIPE, stderr=subprocess.STDOUT, text=True, timeout=100,
+                               check=False)
+        written = iter(ended.stdout.splitlines())
+        missing = [line for line in wanted if line and not any(line == found.rstrip() for found in written)]
+        if missing or (ended.returncode and not typed):
+            raise Wrong(f"{command}: not written: {missing}\n{ended.stdout}")
 
 
 CHECKS = {
@@ -384,6 +418,7 @@ CHECKS = {
     "20-by-hand": check_by_hand,
     "21-full": check_full,
     "22-interrupt": check_interrupt,
+    "23-guide": check_guide,
 }
 
 
