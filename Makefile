@@ -1,6 +1,6 @@
 # The commands of the repository. Each needs the Rattle kit's `rt` and Python 3, and nothing else, but for the tests of the built program.
 
-.PHONY: all try run check test edits program-test view-test c-test refuse mutate bench
+.PHONY: all try run check test edits program-test view-test c-test gdb-test explore-test refuse mutate bench
 
 all: ir
 
@@ -49,6 +49,15 @@ view-test: ir
 c-test: ir
 	python3 tests/c_guests.py ./ir
 
+# A real gdb over recordings of guests from C. Needs gdb-multiarch and riscv64-unknown-elf-gcc beside, and says so if they aren't there.
+gdb-test: ir
+	python3 tests/gdb_sessions.py ./ir
+	python3 tests/gdb_sweep.py ./ir
+
+# All outcomes of small guests, against a judge that takes each step of each thread; each order is recorded.
+explore-test: ir
+	python3 tests/exploring.py ./ir
+
 # The tests of sessions as a program, of which those about memory are run here. Proves them too.
 TESTS := crates/ir_session_tests/out/ir_session_tests_tests
 
@@ -72,3 +81,4 @@ bench: ir
 	python3 bench/speed.py ./ir crates/ir_bench/out/ir_bench
 	python3 bench/hunting.py ./ir
 	python3 bench/traces.py ./ir
+	python3 bench/exploring.py ./ir

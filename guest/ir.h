@@ -74,90 +74,65 @@ typedef struct made_by_IR_THREAD *ir_entry(void);
 #define IR_TABLE_(part) __attribute__((section(part), used, aligned(4)))
 
 /* ---- How a call is made: its number in a7, its arguments in a0 to a2, its answer in a0. All other registers stay as they are.
-   "memory" keeps what you wrote between two calls between them. Calls are inlined at every level. */
+   "memory" keeps what you wrote between two calls between them. Calls are inlined at every level.
+
+   Each call is a macro and a function. By the macro its instructions belong to the line of yours that makes it, so a debugger stops
+   there. The function is what a pointer to it points to. */
 
 #define IR_CALL_ static inline __attribute__((always_inline, artificial))
-#define IR_ARGUMENT_(register_, value) register ir_word register_##_ __asm__(#register_) = (ir_word)(value)
-#define IR_ANSWER_ register ir_word a0_ __asm__("a0")
+#define IR_SET_(register_, value) register ir_word register_##_ __asm__(#register_) = (value)
 #define IR_ECALL_(...) __asm__ volatile("ecall" : __VA_ARGS__ : "memory")
+
+/* A call of this number that has an answer and no argument, and one that has an argument and no answer. */
+#define IR_ASK_(number) __extension__ \
+    ({ IR_SET_(a7, number); register ir_word a0_ __asm__("a0"); IR_ECALL_("=r"(a0_) : "r"(a7_)); a0_; })
+#define IR_TELL_(number, value) __extension__ \
+    ({ ir_word one_ = (value); IR_SET_(a7, number); IR_SET_(a0, one_); IR_ECALL_(: "r"(a7_), "r"(a0_)); })
 
 /* ---- Calls about an object. Each can lead to end 9: there is no such object. */
 
 /* Enters an object for reading. Waits while another thread holds it for writing.
    End 10: its number isn't above those of all objects that the thread holds. End 14: the thread has 1,048,576 events. */
-IR_CALL_ void ir_enter_read(ir_word object)
-{
-    IR_ARGUMENT_(a7, 7);
-    IR_ARGUMENT_(a0, object);
-    IR_ECALL_(: "r"(a7_), "r"(a0_));
-}
+#define ir_enter_read(object) IR_TELL_(7, object)
+IR_CALL_ void (ir_enter_read)(ir_word object) { ir_enter_read(object); }
 
 /* Enters an object for writing. Waits while another thread holds it. Ends 10 and 14, as above. */
-IR_CALL_ void ir_enter_write(ir_word object)
-{
-    IR_ARGUMENT_(a7, 8);
-    IR_ARGUMENT_(a0, object);
-    IR_ECALL_(: "r"(a7_), "r"(a0_));
-}
+#define ir_enter_write(object) IR_TELL_(8, object)
+IR_CALL_ void (ir_enter_write)(ir_word object) { ir_enter_write(object); }
 
 /* Tries to enter an object for writing, and doesn't wait. Gives 1 if the thread now holds it, or 0 if nothing changed. It may give 0
    even if no thread holds the object. End 8: the recording is without --profile 2. Ends 10 and 14, as above. */
-IR_CALL_ __attribute__((warn_unused_result)) int ir_try_write(ir_word object)
-{
-    IR_ARGUMENT_(a7, 13);
-    IR_ARGUMENT_(a0, object);
-    IR_ECALL_("+r"(a0_) : "r"(a7_));
-    return (int)a0_;
-}
+#define ir_try_write(object) ir_used_(__extension__ \
+    ({ ir_word one_ = (object); IR_SET_(a7, 13); IR_SET_(a0, one_); IR_ECALL_("+r"(a0_) : "r"(a7_)); a0_; }))
+IR_CALL_ __attribute__((warn_unused_result)) int ir_used_(ir_word answer) { return (int)answer; }
+IR_CALL_ __attribute__((warn_unused_result)) int (ir_try_write)(ir_word object) { return ir_try_write(object); }
 
 /* Leaves an object. End 11: the thread doesn't hold it. */
-IR_CALL_ void ir_leave(ir_word object)
-{
-    IR_ARGUMENT_(a7, 9);
-    IR_ARGUMENT_(a0, object);
-    IR_ECALL_(: "r"(a7_), "r"(a0_));
-}
+#define ir_leave(object) IR_TELL_(9, object)
+IR_CALL_ void (ir_leave)(ir_word object) { ir_leave(object); }
 
 /* Gives a word of an object that the thread holds. The index is below IR_WORDS, or it is end 9. End 11: the thread doesn't hold it. */
-IR_CALL_ ir_word ir_get(ir_word object, ir_word index)
-{
-    IR_ARGUMENT_(a7, 10);
-    IR_ARGUMENT_(a0, object);
-    IR_ARGUMENT_(a1, index);
-    IR_ECALL_("+r"(a0_) : "r"(a7_), "r"(a1_));
-    return a0_;
-}
+#define ir_get(object, index) __extension__ \
+    ({ ir_word one_ = (object), two_ = (index); IR_SET_(a7, 10); IR_SET_(a0, one_); IR_SET_(a1, two_); \
+       IR_ECALL_("+r"(a0_) : "r"(a7_), "r"(a1_)); a0_; })
+IR_CALL_ ir_word (ir_get)(ir_word object, ir_word index) { return ir_get(object, index); }
 
 /* Puts a word into an object that the thread holds for writing. The index is below IR_WORDS, or it is end 9. End 11: the thread doesn't
    hold it, or holds it for reading. */
-IR_CALL_ void ir_put(ir_word object, ir_word index, ir_word value)
-{
-    IR_ARGUMENT_(a7, 11);
-    IR_ARGUMENT_(a0, object);
-    IR_ARGUMENT_(a1, index);
-    IR_ARGUMENT_(a2, value);
-    IR_ECALL_(: "r"(a7_), "r"(a0_), "r"(a1_), "r"(a2_));
-}
+#define ir_put(object, index, value) __extension__ \
+    ({ ir_word one_ = (object), two_ = (index), three_ = (value); IR_SET_(a7, 11); IR_SET_(a0, one_); IR_SET_(a1, two_); IR_SET_(a2, three_); \
+       IR_ECALL_(: "r"(a7_), "r"(a0_), "r"(a1_), "r"(a2_)); })
+IR_CALL_ void (ir_put)(ir_word object, ir_word index, ir_word value) { ir_put(object, index, value); }
 
 /* ---- Calls about the thread itself */
 
 /* Gives the thread's number, from 0 on. */
-IR_CALL_ ir_word ir_self(void)
-{
-    IR_ARGUMENT_(a7, 12);
-    IR_ANSWER_;
-    IR_ECALL_("=r"(a0_) : "r"(a7_));
-    return a0_;
-}
+#define ir_self() IR_ASK_(12)
+IR_CALL_ ir_word (ir_self)(void) { return ir_self(); }
 
 /* Ends the thread with this code, end 1, from any of its functions. It releases what the thread holds. */
-IR_CALL_ __attribute__((noreturn)) void ir_end(ir_word code)
-{
-    IR_ARGUMENT_(a7, 1);
-    IR_ARGUMENT_(a0, code);
-    IR_ECALL_(: "r"(a7_), "r"(a0_));
-    __builtin_unreachable();
-}
+#define ir_end(code) __extension__ ({ IR_TELL_(1, code); __builtin_unreachable(); })
+IR_CALL_ __attribute__((noreturn)) void (ir_end)(ir_word code) { ir_end(code); }
 
 /* Takes this number of turns of an empty loop. A thread that enters an object again and again, until a word of it changes, should pause
    between the entries: it logs fewer events. */
@@ -170,20 +145,12 @@ IR_CALL_ void ir_pause(ir_word turns)
 /* ---- Printing. `ir record --output PREFIX` writes what thread T prints to the file PREFIX.T. End 12: it would be over 65,536 bytes. */
 
 /* Prints the low byte of its argument. */
-IR_CALL_ void ir_putc(int byte)
-{
-    IR_ARGUMENT_(a7, 2);
-    IR_ARGUMENT_(a0, byte);
-    IR_ECALL_(: "r"(a7_), "r"(a0_));
-}
+#define ir_putc(byte) IR_TELL_(2, byte)
+IR_CALL_ void (ir_putc)(int byte) { ir_putc(byte); }
 
 /* Prints a number in decimal, with its sign, and a line feed. */
-IR_CALL_ void ir_putn(int number)
-{
-    IR_ARGUMENT_(a7, 3);
-    IR_ARGUMENT_(a0, number);
-    IR_ECALL_(: "r"(a7_), "r"(a0_));
-}
+#define ir_putn(number) IR_TELL_(3, number)
+IR_CALL_ void (ir_putn)(int number) { ir_putn(number); }
 
 /* Prints a text, and no line feed of its own. */
 IR_CALL_ void ir_puts(const char *text)
@@ -195,31 +162,16 @@ IR_CALL_ void ir_puts(const char *text)
 /* ---- Calls to the world. Their answers are logged, so a replay has them too. End 14: the thread has 1,048,576 events. */
 
 /* Gives the milliseconds since the recording began, or 0, 1, 2 and so on if the recording has an order. */
-IR_CALL_ ir_word ir_clock(void)
-{
-    IR_ARGUMENT_(a7, 4);
-    IR_ANSWER_;
-    IR_ECALL_("=r"(a0_) : "r"(a7_));
-    return a0_;
-}
+#define ir_clock() IR_ASK_(4)
+IR_CALL_ ir_word (ir_clock)(void) { return ir_clock(); }
 
 /* Gives a random word. `ir record --random S` says where the words start. */
-IR_CALL_ ir_word ir_random(void)
-{
-    IR_ARGUMENT_(a7, 5);
-    IR_ANSWER_;
-    IR_ECALL_("=r"(a0_) : "r"(a7_));
-    return a0_;
-}
+#define ir_random() IR_ASK_(5)
+IR_CALL_ ir_word (ir_random)(void) { return ir_random(); }
 
 /* Gives the next byte of `ir record --input FILE`, or -1 at its end. Each thread reads FILE from the start. */
-IR_CALL_ int ir_input(void)
-{
-    IR_ARGUMENT_(a7, 6);
-    IR_ANSWER_;
-    IR_ECALL_("=r"(a0_) : "r"(a7_));
-    return (int)a0_;
-}
+#define ir_input() ((int)IR_ASK_(6))
+IR_CALL_ int (ir_input)(void) { return ir_input(); }
 
 /* ---- The functions of guest/ir_mem.c. There is no other library. */
 

@@ -38,9 +38,9 @@ def matches(found, wanted):
 
 
 def test_pages(folder):
-    """Each command of the README, of the guide and of the page of the examples writes what follows it there; `make` isn't run. The page of
-    guests from C is run by c_guests.py, since it wants their compiler."""
-    guide = [page for page in sorted((TOP / "docs" / "guide").glob("*.md")) if page.name != "c-guests.md"]
+    """Each command of the README, of the guide and of the page of the examples writes what follows it there; `make` isn't run. The pages of
+    guests from C and of gdb are run by c_guests.py and gdb_sessions.py, since they want their compiler."""
+    guide = [page for page in sorted((TOP / "docs" / "guide").glob("*.md")) if page.name not in ("c-guests.md", "gdb.md")]
     pages = [TOP / "README.md", *guide, TOP / "examples" / "README.md"]
     for number, page in enumerate(pages):
         place = folder / f"page{number}"

@@ -60,6 +60,8 @@ pub enum Asked {
     Hunt(HuntArguments),
     /// A session of an image and a trace in files.
     Debug(DebugArguments),
+    /// gdb's protocol over an image and a trace in files.
+    Gdb(DebugArguments),
     /// Lines about files.
     Print(Print),
     /// This text, about the program.

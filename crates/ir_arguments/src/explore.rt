@@ -16,8 +16,10 @@ outcome of the guest is printed once, by rising number of switches: how often an
   outcome K switches C order LIST                `ir record --order LIST` records a run that has it, in a budget that suffices
   thread T end E code C out N                    each thread; then the N bytes that it printed, up to 32 a line
   object O words W0 W1 ..                        each object whose words aren't its first words
+  hang switches C order LIST                     LIST leads to where no run comes to an end any more, if there is such a place
 The last line says how the search ended, by K outcomes and N states in which each thread is before an entry or done:
-  finished outcomes K states N                   all outcomes are printed: each complete run of the guest has one of them
+  finished outcomes K states N hangs H           all outcomes are printed: each complete run of the guest has one of them. From H
+                                                 states no run comes to an end any more
   covered C outcomes K states N                  all outcomes of runs of at most C switches are, as --switches C wants
   stopped WHY covered C outcomes K states N      it stopped before: what is printed is right, and complete up to C switches; `-`
                                                  is for not at all. WHY is `states`, there are as many as there may be; `private

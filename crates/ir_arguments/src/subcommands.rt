@@ -2,7 +2,8 @@
 
 use crate::asked::Asked;
 use crate::{
-    assemble, debug, diff, elf, events, explore, hunt, list, record, stale, trace, view, who, why,
+    assemble, debug, diff, elf, events, explore, gdb, hunt, list, record, stale, trace, view, who,
+    why,
 };
 use clap::{ArgMatches, Command};
 use std::alloc::{AllocError, Global};
@@ -17,6 +18,7 @@ pub enum Subcommand {
     Hunt,
     Explore,
     Debug,
+    Gdb,
     Trace,
     Events,
     Stale,
@@ -27,7 +29,7 @@ pub enum Subcommand {
 }
 
 /// The subcommands, in the order in which the help lists them.
-pub const SUBCOMMANDS: [Subcommand; 14] = [
+pub const SUBCOMMANDS: [Subcommand; 15] = [
     Subcommand::Assemble,
     Subcommand::Elf,
     Subcommand::List,
@@ -35,6 +37,7 @@ pub const SUBCOMMANDS: [Subcommand; 14] = [
     Subcommand::Hunt,
     Subcommand::Explore,
     Subcommand::Debug,
+    Subcommand::Gdb,
     Subcommand::Trace,
     Subcommand::Events,
     Subcommand::Stale,
@@ -91,6 +94,11 @@ impl Subcommand {
                 about: "Debugs a recorded run, forwards and backwards",
                 after: debug::DEBUG_AFTER,
             },
+            Subcommand::Gdb => Row {
+                name: "gdb",
+                about: "Lets gdb debug a recorded run, forwards and backwards",
+                after: gdb::GDB_AFTER,
+            },
             Subcommand::Trace => Row {
                 name: "trace",
                 about: "Prints a trace in lines",
@@ -143,6 +151,7 @@ impl Subcommand {
             Subcommand::Hunt => hunt::with_arguments(alloc, command),
             Subcommand::Explore => explore::with_arguments(alloc, command),
             Subcommand::Debug => debug::with_arguments(alloc, command),
+            Subcommand::Gdb => gdb::with_arguments(alloc, command),
             Subcommand::Trace => trace::with_arguments(alloc, command),
             Subcommand::Events => events::with_arguments(alloc, command),
             Subcommand::Stale => stale::with_arguments(alloc, command),
@@ -163,6 +172,7 @@ impl Subcommand {
             Subcommand::Hunt => hunt::asked(alloc, matches),
             Subcommand::Explore => explore::asked(alloc, matches),
             Subcommand::Debug => debug::asked(alloc, matches),
+            Subcommand::Gdb => gdb::asked(alloc, matches),
             Subcommand::Trace => trace::asked(alloc, matches),
             Subcommand::Events => events::asked(alloc, matches),
             Subcommand::Stale => stale::asked(alloc, matches),

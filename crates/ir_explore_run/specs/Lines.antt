@@ -1,5 +1,5 @@
 -- The lines of `ir explore`.
-use Rattle.std.specs.Prelude.{ℕ, zero, suc, ◌-◌, ◌*◌, List, [], ◌∷◌, ◌++◌, codes, decimal, length, take, drop, flat_map, if◌then◌else◌, Option, Some, None}
+use Rattle.std.specs.Prelude.{ℕ, zero, suc, ◌*◌, List, [], ◌∷◌, ◌++◌, codes, decimal, length, take, drop, flat_map, Option, Some, None}
 use Rattle.hex.specs.Hex.{encode_lower}
 use Rattle.ir_thread.specs.Ends.{end_number, end_code}
 use Rattle.ir_thread.specs.State.{State}
@@ -68,13 +68,26 @@ abbrev pub covered_text : ℕ → List ℕ
 covered_text zero = codes "-"
 covered_text (suc c) = decimal c
 
+-- the line of a hang, with the list that spells the order that leads to it
+abbrev pub hang_line : ℕ → List ℕ → List ℕ
+hang_line switches list = codes "hang switches " ++ (decimal switches ++ (codes " order " ++ (list ++ 10 ∷ [])))
+
 -- how many outcomes there are, and how many states
 abbrev pub counts_text : ℕ → ℕ → List ℕ
-counts_text outcomes states = codes "outcomes " ++ (decimal outcomes ++ (codes " states " ++ (decimal states ++ 10 ∷ [])))
+counts_text outcomes states = codes "outcomes " ++ (decimal outcomes ++ (codes " states " ++ decimal states))
+
+-- how a search ended
+abbrev pub ended_text : Ended → ℕ → List ℕ
+ended_text Finished levels = codes "finished"
+ended_text Covered levels = codes "covered " ++ covered_text levels
+ended_text (Stopped why) levels = codes "stopped " ++ (why_text why ++ (codes " covered " ++ covered_text levels))
+
+-- how many states have no way to an end, where that is known
+abbrev pub hangs_text : Ended → ℕ → List ℕ
+hangs_text Finished hangs = codes " hangs " ++ decimal hangs
+hangs_text Covered hangs = []
+hangs_text (Stopped why) hangs = []
 
 -- the last line
-abbrev pub last_line : Ended → ℕ → ℕ → ℕ → List ℕ
-last_line Finished levels outcomes states = codes "finished " ++ counts_text outcomes states
-last_line Covered levels outcomes states = codes "covered " ++ (covered_text levels ++ (codes " " ++ counts_text outcomes states))
-last_line (Stopped why) levels outcomes states =
-    codes "stopped " ++ (why_text why ++ (codes " covered " ++ (covered_text levels ++ (codes " " ++ counts_text outcomes states))))
+abbrev pub last_line : List ℕ → List ℕ → List ℕ → List ℕ
+last_line ended counts hangs = ended ++ (codes " " ++ (counts ++ (hangs ++ 10 ∷ [])))

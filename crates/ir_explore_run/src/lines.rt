@@ -2,7 +2,7 @@
 
 ghost use Rattle.std.specs.Prelude.{◌≡◌, ◌++◌, IfOk, OnOk};
 ghost use Rattle.std.specs.String.{string_bytes};
-ghost use Rattle.ir_explore_run.specs.Lines.{outcome_line, thread_line, thread_text, object_line, number_of, code_of, why_text, covered_text, counts_text, last_line};
+ghost use Rattle.ir_explore_run.specs.Lines.{outcome_line, thread_line, thread_text, object_line, number_of, code_of, why_text, covered_text, hang_line, counts_text, ended_text, hangs_text, last_line};
 
 use crate::bytes::{put_bytes, put_words};
 use ir_explore::{Ended, Stop};
@@ -117,31 +117,53 @@ fn covered_text(alloc: Global, levels: usize) -> Result<String, AllocError>
     format!(in alloc; "{switches}")
 }
 
-// How many outcomes there are, and how many states.
-fn counts_text(alloc: Global, outcomes: usize, states: usize) -> Result<String, AllocError>
+/// The line of a hang, with the list that spells the order that leads to it.
+pub fn hang_line(alloc: Global, switches: usize, list: &str) -> Result<String, AllocError>
+    ensures { IfOk result (λ s. string_bytes s ≡ hang_line switches list.now) }
+{
+    format!(in alloc; "hang switches {switches} order {list}\n")
+}
+
+/// How many outcomes there are, and how many states.
+pub fn counts_text(alloc: Global, outcomes: usize, states: usize) -> Result<String, AllocError>
     ensures { IfOk result (λ s. string_bytes s ≡ counts_text outcomes states) }
 {
-    format!(in alloc; "outcomes {outcomes} states {states}\n")
+    format!(in alloc; "outcomes {outcomes} states {states}")
+}
+
+/// How a search ended that has gone over so many levels.
+pub fn ended_text(alloc: Global, ended: Ended, levels: usize) -> Result<String, AllocError>
+    ensures { IfOk result (λ s. string_bytes s ≡ ended_text ended levels) }
+{
+    let covered = covered_text(alloc, levels)?;
+    match ended {
+        Ended::Finished => String::from_str(alloc, "finished"),
+        Ended::Covered => format!(in alloc; "covered {covered}"),
+        Ended::Stopped(stop) => {
+            let why = why_text(alloc, stop)?;
+            format!(in alloc; "stopped {why} covered {covered}")
+        }
+    }
+}
+
+/// How many states have no way to an end, where that is known.
+pub fn hangs_text(alloc: Global, ended: Ended, hangs: usize) -> Result<String, AllocError>
+    ensures { IfOk result (λ s. string_bytes s ≡ hangs_text ended hangs) }
+{
+    match ended {
+        Ended::Finished => format!(in alloc; " hangs {hangs}"),
+        _ => Ok(String::new(alloc)),
+    }
 }
 
 /// The last line.
 pub fn last_line(
     alloc: Global,
-    ended: Ended,
-    levels: usize,
-    outcomes: usize,
-    states: usize,
+    ended: &str,
+    counts: &str,
+    hangs: &str,
 ) -> Result<String, AllocError>
-    ensures { IfOk result (λ s. string_bytes s ≡ last_line ended levels outcomes states) }
+    ensures { IfOk result (λ s. string_bytes s ≡ last_line ended.now counts.now hangs.now) }
 {
-    let counts = counts_text(alloc, outcomes, states)?;
-    let covered = covered_text(alloc, levels)?;
-    match ended {
-        Ended::Finished => format!(in alloc; "finished {counts}"),
-        Ended::Covered => format!(in alloc; "covered {covered} {counts}"),
-        Ended::Stopped(stop) => {
-            let why = why_text(alloc, stop)?;
-            format!(in alloc; "stopped {why} covered {covered} {counts}")
-        }
-    }
+    format!(in alloc; "{ended} {counts}{hangs}\n")
 }

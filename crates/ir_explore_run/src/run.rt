@@ -6,6 +6,7 @@ ghost use Rattle.ir_files.specs.Writers.{writer_of, Reports, fault_text};
 ghost use Rattle.ir_files.specs.declared.exit_status.ExitStatus.TheVariants as status;
 ghost use Rattle.ir_graph.specs.Reached.{AllReached};
 ghost use Rattle.ir_outcomes.specs.Explored.{AreExplored, AreAll};
+ghost use Rattle.ir_outcomes.specs.Hangs.{AreHangs};
 ghost use Rattle.ir_image.specs.Guest.{Guest};
 ghost use Rattle.ir_thread.specs.Allowed.{IsAllowed};
 ghost use Rattle.ir_thread.specs.declared.profile.Profile.TheVariants.{One};
@@ -14,10 +15,9 @@ ghost use Rattle.ir_explore_run.specs.Texts.{IsAnswerAbout, status_of};
 ghost use Rattle.ir_explore_run.specs.declared.fault.ExploreFault.{ExploreFault};
 
 use crate::fault::ExploreFault;
-use crate::lines::last_line;
 use crate::outcome::Started;
 use crate::plan::ExplorePlan;
-use crate::texts::outcomes_text;
+use crate::texts::{Ending, end_line, hang_text, hangs_in, outcomes_text};
 use ir_explore::{Ended, Stop};
 use ir_files::{ExitStatus, tell};
 use ir_flat::Flat;
@@ -47,6 +47,7 @@ fn found_text(
     requires explored { AreExplored image.now explored.now.states.graph.flats.items explored.now.states.found.levels explored.now.outcomes.items }
     requires all { explored.now.states.found.ended ≡ Finished → AreAll image.now explored.now.states.graph.flats.items explored.now.outcomes.items }
     requires states { AllReached image.now explored.now.states.graph.flats.items }
+    requires hangs { explored.now.states.found.ended ≡ Finished → AreHangs image.now explored.now.states.graph.flats.items explored.now.ways.items explored.now.hang }
     ensures { IfOk result (λ answer. IsAnswerAbout image.now answer.1 answer.0.items) }
 {
     let start = Flat::start(alloc, image, 0, Profile::One)?;
@@ -58,13 +59,16 @@ fn found_text(
         first: start.objects(),
     };
     let mut text = outcomes_text(alloc, started, flats, outcomes)?;
-    let line = last_line(
-        alloc,
-        found.ended,
-        found.levels,
-        outcomes.len(),
-        flats.len(),
-    )?;
+    let hang = hang_text(alloc, &explored.hang)?;
+    text.extend_from_slice(hang.as_bytes())?;
+    let ending = Ending {
+        ended: found.ended,
+        levels: found.levels,
+        outcomes: outcomes.len(),
+        states: flats.len(),
+        hangs: hangs_in(explored.ways.as_slice()),
+    };
+    let line = end_line(alloc, ending)?;
     text.extend_from_slice(line.as_bytes())?;
     Ok((text, status_of(found.ended)))
 }
@@ -73,7 +77,14 @@ fn found_text(
 fn stopped_text(alloc: Global, why: Stop) -> Result<(Vec<u8>, ExitStatus), AllocError>
     ensures { IfOk result (λ answer. (guest : Guest) → IsAnswerAbout guest answer.1 answer.0.items) }
 {
-    let line = last_line(alloc, Ended::Stopped(why), 0, 0, 0)?;
+    let ending = Ending {
+        ended: Ended::Stopped(why),
+        levels: 0,
+        outcomes: 0,
+        states: 0,
+        hangs: 0,
+    };
+    let line = end_line(alloc, ending)?;
     let text = Vec::from_slice(alloc, line.as_bytes())?;
     Ok((text, ExitStatus::NotSo))
 }

@@ -1,14 +1,18 @@
 //! The lines of all outcomes.
 
-ghost use Rattle.std.specs.Prelude.{◌≡◌, ℕ, ◌<◌, length, Some, slice_get, IfOk};
+ghost use Rattle.std.specs.Prelude.{◌≡◌, ℕ, ◌<◌, ◌≤◌, length, Some, slice_get, IfOk};
+ghost use Rattle.std.specs.String.{string_bytes};
 ghost use Rattle.ir_flat.specs.Flat.{Flat, start_cells};
 ghost use Rattle.ir_graph.specs.Reached.{AllReached};
 ghost use Rattle.ir_image.specs.Guest.{object_count};
 ghost use Rattle.ir_outcomes.specs.declared.shown.Shown.{Shown};
-ghost use Rattle.ir_explore_run.specs.Texts.{AreTexts};
+ghost use Rattle.ir_explore_run.specs.Texts.{AreTexts, IsHangText, hangs_in, end_line};
 
+use crate::lines::{counts_text, ended_text, hang_line, hangs_text, last_line};
 use crate::outcome::{Started, outcome_text};
+use ir_explore::Ended;
 use ir_flat::Flat;
+use ir_order::list_of;
 use ir_outcomes::Shown;
 use std::alloc::{AllocError, Global};
 
@@ -30,4 +34,56 @@ pub fn outcomes_text(
         text.extend_from_slice(own.as_slice())?;
     }
     Ok(text)
+}
+
+/// The line of a hang, if one is known.
+pub fn hang_text(alloc: Global, hang: &Option<Shown>) -> Result<String, AllocError>
+    ensures { IfOk result (λ text. IsHangText hang.now (string_bytes text)) }
+{
+    match hang {
+        None => Ok(String::new(alloc)),
+        Some(shown) => {
+            let list = list_of(alloc, shown.turns.as_slice())?;
+            hang_line(alloc, shown.level, list.as_str())
+        }
+    }
+}
+
+/// How many states have no way to an end.
+pub fn hangs_in(ways: &[bool]) -> usize
+    ensures value { result ≡ hangs_in ways.now (length ways.now) }
+    ensures few { result ≤ length ways.now }
+{
+    let mut hangs = 0;
+    for n in 0..ways.len() {
+        if !ways[n] {
+            hangs += 1;
+        }
+    }
+    hangs
+}
+
+/// How a search ended.
+#[derive(Clone, Copy)]
+pub struct Ending {
+    /// How it ended.
+    pub ended: Ended,
+    /// How many levels it has gone over.
+    pub levels: usize,
+    /// How many outcomes there are.
+    pub outcomes: usize,
+    /// How many states.
+    pub states: usize,
+    /// How many of them have no way to an end.
+    pub hangs: usize,
+}
+
+/// The last line.
+pub fn end_line(alloc: Global, ending: Ending) -> Result<String, AllocError>
+    ensures { IfOk result (λ s. string_bytes s ≡ end_line ending.ended ending.levels ending.outcomes ending.states ending.hangs) }
+{
+    let ended = ended_text(alloc, ending.ended, ending.levels)?;
+    let counts = counts_text(alloc, ending.outcomes, ending.states)?;
+    let hangs = hangs_text(alloc, ending.ended, ending.hangs)?;
+    last_line(alloc, ended.as_str(), counts.as_str(), hangs.as_str())
 }

@@ -1,6 +1,6 @@
 //! What `ir explore` prints.
 
-use crate::guests::{ENDLESS_LOOP, LOST_UPDATE, PRINTS};
+use crate::guests::{ENDLESS_LOOP, LOST_UPDATE, POLLS, PRINTS};
 use crate::page::{ENDLESS, Page, empty_page};
 use ir_asm::assemble;
 use ir_explore_run::{ExplorePlan, explore_run};
@@ -15,7 +15,7 @@ outcome 2 switches 2 order 0x13,1x25,0x12
 thread 0 end 1 code 0 out 0
 thread 1 end 1 code 0 out 0
 object 0 words 00000001 00000000 00000000 00000000 00000000 00000000 00000000 00000000
-finished outcomes 2 states 12
+finished outcomes 2 states 12 hangs 0
 ";
 
 const FIRST: &[u8] = b"outcome 1 switches 1 order 1x25,0x25
@@ -30,7 +30,11 @@ thread 0 end 1 code 0 out 1
 41
 thread 1 end 1 code 1 out 1
 42
-finished outcomes 1 states 1
+finished outcomes 1 states 1 hangs 0
+";
+
+const HANGING: &[u8] = b"hang switches 0 order 0x2,1x3
+finished outcomes 0 states 1 hangs 1
 ";
 
 // What is printed of a guest: the exit status, the lines and the faults.
@@ -84,6 +88,14 @@ fn a_thread_that_goes_on_for_ever_stops_it(rt: HostRuntime) -> Result<(), Fail> 
 fn what_is_printed_by_threads_is_shown(rt: HostRuntime) -> Result<(), Fail> {
     let (status, out, _) = explored(&rt, PRINTS, ExplorePlan::new(100, 1000, 100))?;
     assert_eq!(rt; out.bytes.as_slice(), PRINTED);
+    assert_eq!(rt; status, 0);
+    Ok(())
+}
+
+#[test]
+fn a_thread_that_waits_for_what_never_comes_hangs(rt: HostRuntime) -> Result<(), Fail> {
+    let (status, out, _) = explored(&rt, POLLS, ExplorePlan::new(100, 1000, 100))?;
+    assert_eq!(rt; out.bytes.as_slice(), HANGING);
     assert_eq!(rt; status, 0);
     Ok(())
 }

@@ -149,6 +149,31 @@ pub const ENDLESS_LOOP: &str = "
 main:   jal zero, main
 ";
 
+// A thread reads word 0 of object 0 until it isn't 0. The other one ends.
+pub const POLLS: &str = "
+        .objects 1
+        .thread main
+        .thread other
+main:   addi a0, zero, 0
+        addi a7, zero, 7
+        ecall
+        addi a0, zero, 0
+        addi a1, zero, 0
+        addi a7, zero, 10
+        ecall
+        addi s0, a0, 0
+        addi a0, zero, 0
+        addi a7, zero, 9
+        ecall
+        beq s0, zero, main
+        addi a0, zero, 0
+        addi a7, zero, 1
+        ecall
+other:  addi a0, zero, 0
+        addi a7, zero, 1
+        ecall
+";
+
 // Two threads print a byte each, 65 and 66, and end with code 0 and 1.
 pub const PRINTS: &str = "
         .thread main

@@ -7,6 +7,7 @@ pub mod debug;
 pub mod elf;
 pub mod events;
 pub mod explore;
+pub mod gdb;
 pub mod hunt;
 pub mod list;
 pub mod maps;

@@ -8,6 +8,7 @@ use crate::commands::debug::debug_files;
 use crate::commands::elf::convert_file;
 use crate::commands::events::events_file;
 use crate::commands::explore::explore_file;
+use crate::commands::gdb::gdb_files;
 use crate::commands::hunt::hunt_file;
 use crate::commands::list::list_file;
 use crate::commands::past::{diff_files, stale_file, view_file, who_file, why_file};
@@ -171,6 +172,17 @@ where
         Asked::Debug(arguments) => {
             let mut input = Prompting::new(input, rt, terminals.input);
             debug_files(
+                &around,
+                &arguments,
+                terminals.faults,
+                &mut input,
+                out,
+                faults,
+            )
+        }
+        Asked::Gdb(arguments) => {
+            let mut input = input;
+            gdb_files(
                 &around,
                 &arguments,
                 terminals.faults,

@@ -7,6 +7,7 @@ mod debugging;
 mod dispatch;
 mod ends;
 mod fault;
+mod gdb;
 mod hints;
 mod line;
 mod list_err;

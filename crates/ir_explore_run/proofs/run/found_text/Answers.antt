@@ -1,6 +1,7 @@
-use Rattle.std.proofs.Common.{◌≡◌, ◌++◌, Some, inl, length, sym, ap, ◌∙◌, subst}
+use Rattle.std.proofs.Common.{◌≡◌, ◌++◌, Some, inl, length, sym, ap, ◌∙◌, subst, append_assoc}
 use Rattle.std.specs.Prelude.{slice_get}
-use Rattle.ir_explore_run.specs.Lines.{last_line}
+use Rattle.std.specs.String.{string_bytes}
+use Rattle.ir_explore_run.specs.Texts.{hangs_in, end_line}
 use Rattle.ir_explore_run.specs.Texts.{Objects, objects_of, AreTexts}
 use Rattle.ir_explore_run.proofs.run.found_text.Goals as goal
 
@@ -21,6 +22,14 @@ returns c =
       words = c.object_words.ensures.value i;
       first = (c.objects.ensures.value ∙ ap (λ z. z.objects) c.in_ok-start.ensures) i;
     } in
+    let ended = c.args.explored.now.states.found.ended in
+    let levels = c.args.explored.now.states.found.levels in
+    let ways = c.args.explored.now.ways.items in
+    let hangs : c.hangs_in.result ≡ hangs_in ways (length ways) =
+    c.hangs_in.ensures.value ∙ ap (λ z. hangs_in z (length z)) c.as_slice.ensures.value in
+    let ending : end_line ended levels (length c.as_slice-outcomes.result.now) (length c.as_slice-flats.result.now) c.hangs_in.result
+    ≡ end_line ended levels (length outcomes) (length flats) (hangs_in ways (length ways)) =
+    λ i. end_line ended levels (length (value i)) (length (c.as_slice-flats.ensures.value i)) (hangs i) in
     inl (record {
       flats = flats;
       outcomes = outcomes;
@@ -32,8 +41,14 @@ returns c =
       texts = subst (λ z. AreTexts z flats outcomes (length outcomes) lines) first
           (subst (λ z. AreTexts (record { words = c.object_words.result; first = c.objects.result.now }) z outcomes (length outcomes) lines) c.as_slice-flats.ensures.value
           (subst (λ z. AreTexts (record { words = c.object_words.result; first = c.objects.result.now }) c.as_slice-flats.result.now z (length z) lines) value c.in_ok-text.ensures));
-      whole = c.in_ok-extend_from_slice.ensures.items ∙ ap (λ z. lines ++ z) (c.as_bytes.ensures.value ∙ c.in_ok-line.ensures
-          ∙ (λ i. last_line c.args.explored.now.states.found.ended c.args.explored.now.states.found.levels (length (value i))
-          (length (c.as_slice-flats.ensures.value i))));
+      ways = c.args.explored.now.ways.items;
+      hang = c.args.explored.now.hang;
+      hangs = c.requires.hangs;
+      hang_lines = string_bytes c.in_ok-hang.hang;
+      hang_text = c.in_ok-hang.ensures;
+      whole = c.in_ok-extend_from_slice-2.ensures.items
+          ∙ (λ i. (c.in_ok-extend_from_slice.ensures.items ∙ ap (λ z. lines ++ z) c.as_bytes.ensures.value) i
+          ++ (c.as_bytes-2.ensures.value ∙ c.in_ok-line.ensures ∙ ending) i)
+          ∙ append_assoc lines (string_bytes c.in_ok-hang.hang) (end_line ended levels (length outcomes) (length flats) (hangs_in ways (length ways)));
       status = c.status_of.ensures;
     })

@@ -1,0 +1,99 @@
+#!/usr/bin/env python3
+"""How long `ir explore` takes over small guests, and how many outcomes and states they have.
+
+python3 bench/exploring.py IR [--large]
+
+A line for each guest: its outcomes, its states, the seconds, the states a second and the most memory in megabytes. With --large also the guests of
+more than 10^5 states. The status is 1 if a count isn't the one that stands here.
+"""
+import argparse
+import os
+import re
+import subprocess
+import sys
+import tempfile
+import time
+from pathlib import Path
+
+from faults import TOP, call, check_then_act, get, of_threads, put, reads, repeated, sequence_lock, writes
+
+LAST = re.compile(r"finished outcomes (\d+) states (\d+) hangs (\d+)")
+
+
+def lost_update(threads, rounds):
+    """Threads that read a word in one entry, and write one more in the next."""
+    turn = reads(get(0, "s1")) + "        addi s1, s1, 1\n" + writes(put(0, "s1"))
+    return of_threads(["main"] * threads, f"main:\n{repeated('again', rounds, turn)}{call(1, 'zero, 0')}")
+
+
+def own_objects(threads, rounds):
+    """Threads that enter the object of their own number."""
+    own = "        addi a7, zero, 12\n        ecall\n        addi s1, a0, 0\n"
+    turn = call(8, "s1, 0") + call(9, "s1, 0")
+    code = f"main:\n{own}{repeated('again', rounds, turn)}{call(1, 'zero, 0')}"
+    return f"        .objects {threads}\n" + "        .thread main\n" * threads + code
+
+
+def polling(rounds):
+    """Thread 0 puts numbers into a word when it is 0, and thread 1 takes them and puts 0 there: each looks until it may."""
+    giving = writes(get(0, "s1") + "        bne s1, zero, full\n        addi s2, s2, 1\n" + put(0, "s2") + "full:\n")
+    taking = writes(get(0, "s1") + "        beq s1, zero, empty\n        addi s2, s2, 1\n" + put(0, "zero") + "empty:\n")
+    loops = [f"{name}:\n        addi s3, zero, {rounds}\n{name}s:\n{body}        blt s2, s3, {name}s\n{call(1, 'zero, 0')}"
+             for name, body in (("give", giving), ("take", taking))]
+    return of_threads(["give", "take"], "".join(loops))
+
+
+def guests():
+    """Each guest with its outcomes and states; none where they aren't known."""
+    for name, outcomes, states in (("lost_update", 2, 12), ("two_locks", 1, 8), ("counter", 1, 16)):
+        yield name, (TOP / "examples" / f"{name}.s").read_text(encoding="ascii"), outcomes, states
+    for threads, rounds, outcomes in ((2, 5, 9), (3, 3, 8)):
+        yield f"lost update, {threads} threads, {rounds} rounds", lost_update(threads, rounds), outcomes, None
+    for readers, rounds in ((1, 2), (1, 4), (2, 2)):
+        yield f"sequence lock, {1 + readers} threads, {rounds} rounds", sequence_lock(readers, rounds), None, None
+    yield "check, then act, 3 rounds", check_then_act(2, 3), None, None
+    yield "polling, 4 rounds", polling(4), 1, None
+    for threads, rounds in ((3, 3), (4, 4), (6, 3)):
+        yield f"own objects, {threads} threads, {rounds} rounds", own_objects(threads, rounds), 1, (rounds + 1) ** threads
+
+
+def large():
+    """Guests of more than 10^5 states."""
+    yield "lost update, 4 threads, 2 rounds", lost_update(4, 2), 7, None
+    yield "own objects, 8 threads, 3 rounds", own_objects(8, 3), 1, 4**8
+
+
+def explored(program, folder, source):
+    """The last line over a guest, the seconds, and the most memory in kilobytes."""
+    (folder / "guest.s").write_text(source, encoding="ascii")
+    subprocess.run([program, "asm", "guest.s", "guest.img"], cwd=folder, check=True)
+    start = time.monotonic()
+    with (folder / "out").open("wb") as out:
+        run = subprocess.Popen([program, "explore", "guest.img"], cwd=folder, stdout=out)
+        _, _, used = os.wait4(run.pid, 0)
+    seconds = time.monotonic() - start
+    return (folder / "out").read_text(encoding="ascii").splitlines()[-1], seconds, used.ru_maxrss
+
+
+def main():
+    parser = argparse.ArgumentParser(description=__doc__.splitlines()[0])
+    parser.add_argument("program", metavar="IR", help="the built program")
+    parser.add_argument("--large", action="store_true", help="also guests of more than 10^5 states")
+    asked = parser.parse_args()
+    program, is_bad = os.path.abspath(asked.program), False
+    print("| Guest | Outcomes | States | Seconds | States a second | MB |\n|---|---|---|---|---|---|")
+    with tempfile.TemporaryDirectory() as place:
+        for name, source, outcomes, states in [*guests(), *(large() if asked.large else ())]:
+            last, seconds, memory = explored(program, Path(place), source)
+            found = LAST.fullmatch(last)
+            if not found:
+                print(f"| {name} | {last} | | {seconds:.2f} | | {memory / 1000:.0f} |", flush=True)
+                is_bad = True
+                continue
+            print(f"| {name} | {found[1]} | {found[2]} | {seconds:.2f} | {int(found[2]) / seconds:,.0f} | {memory / 1000:.0f} |", flush=True)
+            is_bad |= outcomes not in (None, int(found[1])) or states not in (None, int(found[2]))
+    sys.exit(is_bad)
+
+
+if __name__ == "__main__":
+    main()

@@ -1,0 +1,40 @@
+//! The arguments of `ir gdb`.
+
+use crate::asked::Asked;
+use crate::debug::DebugArguments;
+use crate::values::{IMAGE, TRACE, file_arg, text_of};
+use clap::{ArgMatches, Command};
+use std::alloc::{AllocError, Global};
+
+/// What follows the help of `ir gdb`.
+pub const GDB_AFTER: &str =
+    "gdb starts this program itself and speaks its remote serial protocol over standard input and output:
+  $ gdb-multiarch guest.elf
+  (gdb) source examples/ir.gdb
+  (gdb) target remote | ir gdb guest.img guest.trc
+The ELF file is the one that the image was made of, with debug information. It is read by gdb alone.
+All of gdb's commands that look, stop and move work, backwards too. Nothing can be changed: `set var` and `call` are refused.
+  continue                      to the next hit of any thread, in an order that the run allows
+  reverse-continue              the same backwards
+  set scheduler-locking on      moves one thread alone: the others go as far as they must, and don't stop it
+  watch X                       counts for the thread that moves, since each thread has memory of its own
+  monitor LINE                  a command of `ir debug`, such as `monitor pos`
+  x/8xw 0x80000040              object 1: object O is 64 bytes of memory from 0x80000000 + 64 * O on
+What can't be opened is named on standard error in the lines of `ir debug`.
+Exit status: 0 done, 1 a fault, 2 bad arguments, 3 a refused image or trace, 4 a trace that doesn't fit.
+";
+
+/// The command with its arguments.
+pub fn with_arguments<'a>(alloc: Global, command: Command<'a>) -> Result<Command<'a>, AllocError> {
+    command
+        .arg(file_arg(alloc, IMAGE, "The file with the image"))?
+        .arg(file_arg(alloc, TRACE, "The file with the trace"))
+}
+
+/// What its arguments ask for.
+pub fn asked(alloc: Global, matches: &ArgMatches<'_>) -> Result<Asked, AllocError> {
+    Ok(Asked::Gdb(DebugArguments {
+        image: text_of(alloc, matches, IMAGE)?,
+        trace: text_of(alloc, matches, TRACE)?,
+    }))
+}

@@ -1,0 +1,254 @@
+-- What is written for a request or an item, by its kind.
+use Rattle.std.proofs.Common.{◌≡◌, ◌⊎◌, ◌&&◌, ℕ, Bool, true, false, List, [], Option, Result, IfOk, codes, not, refl, sym, subst, inl, inr}
+use Rattle.std.specs.Io.KnownBytes.{Appends}
+use Rattle.std.proofs.KnownBytes.{Appends-nil}
+use Rattle.ir_stream.specs.Devices.{AppendsPrefix}
+use Rattle.ir_stream.specs.Endings.{flow_after}
+use Rattle.ir_stream.specs.declared.serving.Flow.{Flow}
+use Rattle.ir_packet.specs.Packets.{packet_of}
+use Rattle.ir_packet.specs.Replies.{reply_text}
+use Rattle.ir_packet.specs.Requests.{request_of, console_line}
+use Rattle.ir_packet.specs.Reading.{item_found}
+use Rattle.ir_packet.specs.Stream.{Item}
+use Rattle.ir_packet.specs.Stream as stream
+use Rattle.ir_packet.specs.declared.found.Found.{Found}
+use Rattle.ir_packet.specs.declared.found.Found.TheVariants as found
+use Rattle.ir_packet.specs.declared.reply.Reply.TheVariants as reply
+use Rattle.ir_packet.specs.declared.request.Request.{Request}
+use Rattle.ir_packet.specs.declared.request.Request.TheVariants as request
+use Rattle.ir_debug.specs.Machine.Answers.{quits}
+use Rattle.ir_gdb.proofs.Answering.{packet_sent, packet_part}
+use Rattle.ir_gdb.specs.Connection.{Link, sent, sign, unacknowledged, is_copy, is_packet, before_reply, AnswersLine, AnswersBy, AnswersRequest, AnswersPacket, AnswersNew, AnswersItem, AnswersItemBy, ends_request, ends_by, ends, Sent, SentInPart}
+
+-- ---- requests
+
+-- what is written for the request is its reply
+abbrev pub IsReplied : Request → Type 0
+IsReplied asked = (l : Link) (payload text : List ℕ) (next : Link) → AnswersBy l asked text next → AnswersRequest l payload asked text next
+
+replied : (asked : Request) → (asked ≡ request.Kill → ⊥) → (asked ≡ request.Console → ⊥) → (asked ≡ request.NoAcknowledgements → ⊥) → IsReplied asked
+replied request.Supported kill console quiet = λ l payload text next is. is
+replied request.NoAcknowledgements kill console quiet = absurd (quiet refl)
+replied request.Reason kill console quiet = λ l payload text next is. is
+replied (request.General who) kill console quiet = λ l payload text next is. is
+replied (request.Choose who) kill console quiet = λ l payload text next is. is
+replied (request.Alive id) kill console quiet = λ l payload text next is. is
+replied (request.Description from most) kill console quiet = λ l payload text next is. is
+replied (request.Threads from most) kill console quiet = λ l payload text next is. is
+replied request.Attached kill console quiet = λ l payload text next is. is
+replied request.Offsets kill console quiet = λ l payload text next is. is
+replied request.Symbols kill console quiet = λ l payload text next is. is
+replied request.Motions kill console quiet = λ l payload text next is. is
+replied request.Registers kill console quiet = λ l payload text next is. is
+replied (request.Register i) kill console quiet = λ l payload text next is. is
+replied (request.Memory a size) kill console quiet = λ l payload text next is. is
+replied request.Change kill console quiet = λ l payload text next is. is
+replied (request.SetBreak a hardware) kill console quiet = λ l payload text next is. is
+replied (request.ClearBreak a hardware) kill console quiet = λ l payload text next is. is
+replied (request.SetWatch a size) kill console quiet = λ l payload text next is. is
+replied (request.ClearWatch a size) kill console quiet = λ l payload text next is. is
+replied (request.Move motion who) kill console quiet = λ l payload text next is. is
+replied request.Console kill console quiet = absurd (console refl)
+replied request.Extended kill console quiet = λ l payload text next is. is
+replied request.Restart kill console quiet = λ l payload text next is. is
+replied (request.RestartAt i) kill console quiet = λ l payload text next is. is
+replied request.EndProcess kill console quiet = λ l payload text next is. is
+replied request.Detach kill console quiet = λ l payload text next is. is
+replied request.Kill kill console quiet = absurd (kill refl)
+replied request.Malformed kill console quiet = λ l payload text next is. is
+replied request.Unknown kill console quiet = λ l payload text next is. is
+
+pub goes_on : (asked : Request) → (asked ≡ request.Kill → ⊥) → (asked ≡ request.Detach → ⊥) → ends_request asked ≡ false
+goes_on request.Supported kill detach = refl
+goes_on request.NoAcknowledgements kill detach = refl
+goes_on request.Reason kill detach = refl
+goes_on (request.General who) kill detach = refl
+goes_on (request.Choose who) kill detach = refl
+goes_on (request.Alive id) kill detach = refl
+goes_on (request.Description from most) kill detach = refl
+goes_on (request.Threads from most) kill detach = refl
+goes_on request.Attached kill detach = refl
+goes_on request.Offsets kill detach = refl
+goes_on request.Symbols kill detach = refl
+goes_on request.Motions kill detach = refl
+goes_on request.Registers kill detach = refl
+goes_on (request.Register i) kill detach = refl
+goes_on (request.Memory a size) kill detach = refl
+goes_on request.Change kill detach = refl
+goes_on (request.SetBreak a hardware) kill detach = refl
+goes_on (request.ClearBreak a hardware) kill detach = refl
+goes_on (request.SetWatch a size) kill detach = refl
+goes_on (request.ClearWatch a size) kill detach = refl
+goes_on (request.Move motion who) kill detach = refl
+goes_on request.Console kill detach = refl
+goes_on request.Extended kill detach = refl
+goes_on request.Restart kill detach = refl
+goes_on (request.RestartAt i) kill detach = refl
+goes_on request.EndProcess kill detach = refl
+goes_on request.Detach kill detach = absurd (detach refl)
+goes_on request.Kill kill detach = absurd (kill refl)
+goes_on request.Malformed kill detach = refl
+goes_on request.Unknown kill detach = refl
+
+replied_is : (l : Link) (payload : List ℕ) (asked : Request) (text : List ℕ) → IsReplied asked
+    → ((next : Link) × AnswersBy l asked text next) ⊎ (text ≡ []) → ((next : Link) × AnswersRequest l payload asked text next) ⊎ (text ≡ [])
+replied_is l payload asked text replies (inl (next, is)) = inl (next, replies l payload text next is)
+replied_is l payload asked text replies (inr none) = inr none
+
+module _ (l : Link) (payload : List ℕ) (asked : Request) (next : Link) (w w' : Option (List ℕ)) where
+  reply_sent : IsReplied asked → Sent (AnswersBy l asked) next w w' → Sent (AnswersRequest l payload asked) next w w'
+  reply_sent replies s = record { text = s.text; is = replies l payload s.text next s.is; grown = s.grown }
+
+  reply_part : IsReplied asked → SentInPart (AnswersBy l asked) [] w w' → SentInPart (AnswersRequest l payload asked) [] w w'
+  reply_part replies s = record { text = s.text; is = replied_is l payload asked s.text replies s.is; grown = s.grown }
+
+  module _ (kill : asked ≡ request.Kill → ⊥) (console : asked ≡ request.Console → ⊥) (quiet : asked ≡ request.NoAcknowledgements → ⊥) where
+    pub replied_sent : Sent (AnswersBy l asked) next w w' → Sent (AnswersRequest l payload asked) next w w'
+    replied_sent = reply_sent (replied asked kill console quiet)
+
+    pub replied_part : SentInPart (AnswersBy l asked) [] w w' → SentInPart (AnswersRequest l payload asked) [] w w'
+    replied_part = reply_part (replied asked kill console quiet)
+
+  pub detach_sent : asked ≡ request.Detach → Sent (AnswersBy l asked) next w w' → Sent (AnswersRequest l payload asked) next w w'
+  detach_sent is = reply_sent (subst IsReplied (sym is) (λ l payload text next a. a))
+
+  pub detach_part : asked ≡ request.Detach → SentInPart (AnswersBy l asked) [] w w' → SentInPart (AnswersRequest l payload asked) [] w w'
+  detach_part is = reply_part (subst IsReplied (sym is) (λ l payload text next a. a))
+
+  pub console_sent : asked ≡ request.Console → Sent (AnswersLine (quits (console_line payload)) l (console_line payload)) next w w'
+      → Sent (AnswersRequest l payload asked) next w w'
+  console_sent is s = subst (λ (r : Request). Sent (AnswersRequest l payload r) next w w') (sym is)
+      (record { text = s.text; is = s.is; grown = s.grown })
+
+  pub console_part : asked ≡ request.Console → SentInPart (AnswersLine (quits (console_line payload)) l (console_line payload)) [] w w'
+      → SentInPart (AnswersRequest l payload asked) [] w w'
+  console_part is s = subst (λ (r : Request). SentInPart (AnswersRequest l payload r) [] w w') (sym is)
+      (record { text = s.text; is = s.is; grown = s.grown })
+
+  pub quiet_sent : asked ≡ request.NoAcknowledgements → next ≡ unacknowledged (sent l l.stub)
+      → Appends w w' (packet_of (reply_text reply.Done)) → Sent (AnswersRequest l payload asked) next w w'
+  quiet_sent is after grown = subst (λ (r : Request). Sent (AnswersRequest l payload r) next w w') (sym is)
+      (record { text = packet_of (reply_text reply.Done); is = (refl, after); grown = grown })
+
+  pub quiet_part : asked ≡ request.NoAcknowledgements → AppendsPrefix w w' (packet_of (reply_text reply.Done))
+      → SentInPart (AnswersRequest l payload asked) [] w w'
+  quiet_part is grown = subst (λ (r : Request). SentInPart (AnswersRequest l payload r) [] w w') (sym is)
+      (record { text = packet_of (reply_text reply.Done); is = inl (unacknowledged (sent l l.stub), (refl, refl)); grown = grown })
+
+pub kill_sent : (l : Link) (payload : List ℕ) (asked : Request) (w : Option (List ℕ)) → asked ≡ request.Kill
+    → Sent (AnswersRequest l payload asked) l w w
+kill_sent l payload asked w is = subst (λ (r : Request). Sent (AnswersRequest l payload r) l w w) (sym is)
+    (record { text = []; is = (refl, refl); grown = Appends-nil w })
+
+-- ---- items that are no copies
+
+module _ (l : Link) (payload : List ℕ) (f : Found) (next : Link) (w w' : Option (List ℕ)) where
+  pub packet_answered : f ≡ found.Packet → Sent (AnswersPacket l payload) next w w' → Sent (AnswersNew l (item_found f payload)) next w w'
+  packet_answered is s = subst (λ (x : Found). Sent (AnswersNew l (item_found x payload)) next w w') (sym is)
+      (record { text = s.text; is = s.is; grown = s.grown })
+
+  pub packet_answered_part : f ≡ found.Packet → SentInPart (AnswersPacket l payload) (sign l (codes "+")) w w'
+      → SentInPart (AnswersNew l (item_found f payload)) (before_reply l (item_found f payload)) w w'
+  packet_answered_part is s = subst (λ (x : Found). SentInPart (AnswersNew l (item_found x payload)) (before_reply l (item_found x payload)) w w')
+      (sym is) (record { text = s.text; is = s.is; grown = s.grown })
+
+  pub long_answered : f ≡ found.TooLong → Sent (AnswersNew l stream.TooLong) next w w' → Sent (AnswersNew l (item_found f payload)) next w w'
+  long_answered is s = subst (λ (x : Found). Sent (AnswersNew l (item_found x payload)) next w w') (sym is) s
+
+  pub long_answered_part : f ≡ found.TooLong → SentInPart (AnswersNew l stream.TooLong) [] w w'
+      → SentInPart (AnswersNew l (item_found f payload)) (before_reply l (item_found f payload)) w w'
+  long_answered_part is s = subst (λ (x : Found). SentInPart (AnswersNew l (item_found x payload)) (before_reply l (item_found x payload)) w w')
+      (sym is) s
+
+  pub bad_answered : f ≡ found.BadSum → next ≡ l → Appends w w' (sign l (codes "-")) → Sent (AnswersNew l (item_found f payload)) next w w'
+  bad_answered is same grown = subst (λ (x : Found). Sent (AnswersNew l (item_found x payload)) next w w') (sym is)
+      (record { text = sign l (codes "-"); is = (refl, same); grown = grown })
+
+  pub bad_answered_part : f ≡ found.BadSum → AppendsPrefix w w' (sign l (codes "-"))
+      → SentInPart (AnswersNew l (item_found f payload)) (before_reply l (item_found f payload)) w w'
+  bad_answered_part is grown = subst (λ (x : Found). SentInPart (AnswersNew l (item_found x payload)) (before_reply l (item_found x payload)) w w')
+      (sym is) (record { text = sign l (codes "-"); is = inl (l, (refl, refl)); grown = grown })
+
+module _ (l : Link) (payload : List ℕ) (f : Found) (next : Link) (w : Option (List ℕ)) where
+  pub interrupt_answered : f ≡ found.Interrupt → next ≡ record l { stub = record l.stub { interrupted = true } }
+      → Sent (AnswersNew l (item_found f payload)) next w w
+  interrupt_answered is after = subst (λ (x : Found). Sent (AnswersNew l (item_found x payload)) next w w) (sym is)
+      (record { text = []; is = (refl, after); grown = Appends-nil w })
+
+  pub acknowledged_answered : f ≡ found.Acknowledged → next ≡ record l { is_owed = false } → Sent (AnswersNew l (item_found f payload)) next w w
+  acknowledged_answered is after = subst (λ (x : Found). Sent (AnswersNew l (item_found x payload)) next w w) (sym is)
+      (record { text = []; is = (refl, after); grown = Appends-nil w })
+
+  pub refused_answered : f ≡ found.Refused → next ≡ l → Sent (AnswersNew l (item_found f payload)) next w w
+  refused_answered is same = subst (λ (x : Found). Sent (AnswersNew l (item_found x payload)) next w w) (sym is)
+      (record { text = []; is = (refl, same); grown = Appends-nil w })
+
+pub packet_flow : {E : Type 0} (r : Result Flow E) (payload : List ℕ) (f : Found) → f ≡ found.Packet
+    → IfOk r (λ x. x ≡ flow_after (ends_request (request_of payload))) → IfOk r (λ x. x ≡ flow_after (ends_by (item_found f payload)))
+packet_flow r payload f is p = subst (λ (y : Found). IfOk r (λ x. x ≡ flow_after (ends_by (item_found y payload)))) (sym is) p
+
+pub goes_flow : {E : Type 0} (r : Result Flow E) (b : Bool) → b ≡ false → IfOk r (λ x. x ≡ flow_after false) → IfOk r (λ x. x ≡ flow_after b)
+goes_flow r b is p = subst (λ (c : Bool). IfOk r (λ x. x ≡ flow_after c)) (sym is) p
+
+-- ---- copies
+
+module _ (l : Link) (item : Item) where
+  pub copy_dropped : (w : Option (List ℕ)) → (is_copy l && is_packet item) ≡ true → Sent (AnswersItem l item) l w w
+  copy_dropped w both = record { text = []; is = dropped (is_copy l && is_packet item) both; grown = Appends-nil w }
+    where
+      dropped : (b : Bool) → b ≡ true → AnswersItemBy b l item [] l
+      dropped true e = (refl, refl)
+      dropped false e = absurd cc
+
+  new_is : (b : Bool) (text : List ℕ) (next : Link) → b ≡ false → AnswersNew l item text next → AnswersItemBy b l item text next
+  new_is true text next e is = absurd cc
+  new_is false text next e is = is
+
+  pub new_sent : (next : Link) (w w' : Option (List ℕ)) → (is_copy l && is_packet item) ≡ false → Sent (AnswersNew l item) next w w'
+      → Sent (AnswersItem l item) next w w'
+  new_sent next w w' new s = record { text = s.text; is = new_is (is_copy l && is_packet item) s.text next new s.is; grown = s.grown }
+
+  part_is : (text before : List ℕ) → (is_copy l && is_packet item) ≡ false → ((next : Link) × AnswersNew l item text next) ⊎ (text ≡ before)
+      → ((next : Link) × AnswersItem l item text next) ⊎ (text ≡ before)
+  part_is text before new (inl (next, is)) = inl (next, new_is (is_copy l && is_packet item) text next new is)
+  part_is text before new (inr none) = inr none
+
+  pub new_part : (before : List ℕ) (w w' : Option (List ℕ)) → (is_copy l && is_packet item) ≡ false → SentInPart (AnswersNew l item) before w w'
+      → SentInPart (AnswersItem l item) before w w'
+  new_part before w w' new s = record { text = s.text; is = part_is s.text before new s.is; grown = s.grown }
+
+pub copy_goes : (l : Link) (item : Item) → (is_copy l && is_packet item) ≡ true → ends l item ≡ false
+copy_goes l item both = by_copy (is_copy l) both
+  where
+    by_copy : (b : Bool) → (b && is_packet item) ≡ true → (not b && ends_by item) ≡ false
+    by_copy true e = refl
+    by_copy false e = absurd cc
+
+no_packet_goes : (item : Item) → is_packet item ≡ false → ends_by item ≡ false
+no_packet_goes (stream.Packet payload) e = absurd cc
+no_packet_goes stream.BadSum e = refl
+no_packet_goes stream.TooLong e = refl
+no_packet_goes stream.Interrupt e = refl
+no_packet_goes stream.Acknowledged e = refl
+no_packet_goes stream.Refused e = refl
+
+new_ends : (b : Bool) (item : Item) → (b && is_packet item) ≡ false → (not b && ends_by item) ≡ ends_by item
+new_ends true item new = sym (no_packet_goes item new)
+new_ends false item new = refl
+
+pub new_flow : {E : Type 0} (r : Result Flow E) (l : Link) (item : Item) → (is_copy l && is_packet item) ≡ false
+    → IfOk r (λ x. x ≡ flow_after (ends_by item)) → IfOk r (λ x. x ≡ flow_after (ends l item))
+new_flow r l item new p = subst (λ (b : Bool). IfOk r (λ x. x ≡ flow_after b)) (sym (new_ends (is_copy l) item new)) p
+
+-- ---- packets, whose request is read first
+
+pub packet_sent_by : (l : Link) (payload : List ℕ) (asked : Request) (next : Link) (w w1 w2 : Option (List ℕ)) → asked ≡ request_of payload
+    → Appends w w1 (sign l (codes "+")) → Sent (AnswersRequest l payload asked) next w1 w2 → Sent (AnswersPacket l payload) next w w2
+packet_sent_by l payload asked next w w1 w2 is first rest = packet_sent l payload next w w1 w2 first
+    (subst (λ (r : Request). Sent (AnswersRequest l payload r) next w1 w2) is rest)
+
+pub packet_part_by : (l : Link) (payload : List ℕ) (asked : Request) (w w1 w2 : Option (List ℕ)) → asked ≡ request_of payload
+    → Appends w w1 (sign l (codes "+")) → SentInPart (AnswersRequest l payload asked) [] w1 w2
+    → SentInPart (AnswersPacket l payload) (sign l (codes "+")) w w2
+packet_part_by l payload asked w w1 w2 is first rest = packet_part l payload w w1 w2 first
+    (subst (λ (r : Request). SentInPart (AnswersRequest l payload r) [] w1 w2) is rest)

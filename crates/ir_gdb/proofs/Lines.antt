@@ -1,0 +1,68 @@
+-- From an answer of the session's debugger to the reply to a line.
+use Rattle.std.specs.Prelude.{⊤}
+use Rattle.std.proofs.Common.{◌≡◌, ◌∙◌, ◌⊎◌, ◌++◌, ℕ, Bool, true, false, List, [], Option, None, Some, Result, Ok, Err, refl, sym, ap, subst}
+use Rattle.ir_fit.specs.Fit.{FittedTrace, IsRunOf}
+use Rattle.ir_command.specs.Commands.{command_of}
+use Rattle.ir_command.specs.declared.command.Command.{Command}
+use Rattle.ir_command.specs.declared.refusal.Refusal.{Refusal}
+use Rattle.ir_debug.specs.declared.answer.Answer.{Answer}
+use Rattle.ir_debug.specs.Machine.Answers.{RepliesBy, Replies, quits}
+use Rattle.ir_debug.specs.Machine.Desk.{Desk}
+use Rattle.ir_debug.specs.Debugging.{Debugging, IsAnswer, IsText}
+use Rattle.ir_gdb.specs.Stub.{Stub}
+use Rattle.ir_gdb.specs.declared.console.Answered.{Answered}
+use Rattle.ir_gdb.specs.Connection.{Link, with_desk, Responds, Consults}
+
+-- the answer's text is one that the small machine may reply with
+pub responds : (asked : Result (Option Command) Refusal) (line : List ℕ) (s next : Stub) (old new : Debugging) (answer : Answer) (P : List ℕ → Type 0)
+    → asked ≡ command_of line → s.desk ≡ old.desk → next ≡ with_desk s new.desk → IsAnswer asked old new answer → IsText new answer P
+    → Responds s line next P
+unfolding Replies
+responds asked line s next old new answer P is same after a t = (t.0, new.desk, replies, after, t.2)
+  where
+    replies : Replies s.desk line t.0 new.desk
+    replies = subst (λ (d : Desk). Replies d line t.0 new.desk) (sym same) (λ run of.
+        let at : IsRunOf new.desk.fitted.guest new.desk.fitted.recorded run =
+        subst (λ (f : FittedTrace). IsRunOf f.guest f.recorded run) (sym a.fitted) of in
+        subst (λ (x : Result (Option Command) Refusal). RepliesBy x run old.desk t.0 new.desk) is
+        (subst (λ (text : List ℕ). RepliesBy asked run old.desk text new.desk) (sym (t.1 run at)) (a.answers run of)))
+
+-- a line without words has no answer
+pub responds_nothing : (asked : Result (Option Command) Refusal) (line : List ℕ) (s : Stub) (P : List ℕ → Type 0) → asked ≡ command_of line
+    → asked ≡ Ok None → P [] → Responds s line s P
+unfolding Replies
+responds_nothing asked line s P is none p = ([], s.desk, replies, refl, p)
+  where
+    replies : Replies s.desk line [] s.desk
+    replies = λ run of. subst (λ (x : Result (Option Command) Refusal). RepliesBy x run s.desk [] s.desk) (sym none ∙ is) (refl, refl)
+
+-- ---- a line that is read
+
+pub quits_if : (line text : List ℕ) (b : Bool) → b ≡ quits text → text ≡ line → b ≡ true → quits line ≡ true
+quits_if line text b is same q = sym (ap quits same) ∙ sym is ∙ q
+
+pub goes_if : (line text : List ℕ) (b : Bool) → b ≡ quits text → text ≡ line → b ≡ false → quits line ≡ false
+goes_if line text b is same q = sym (ap quits same) ∙ sym is ∙ q
+
+-- what a session answers, kept from nothing on
+pub consulted : (s s0 : Stub) (text line : List ℕ) (next : Stub) (old new : List ℕ) → s ≡ s0 → text ≡ line → old ≡ []
+    → Responds s text next (λ answer. new ≡ old ++ answer) → Responds s0 line next (λ answer. new ≡ answer)
+consulted s s0 text line next old new same is none r = (
+  r.0,
+  r.1,
+  subst (λ (x : Stub). Replies x.desk line r.0 r.1) same (subst (λ (x : List ℕ). Replies s.desk x r.0 r.1) is r.2),
+  subst (λ (x : Stub). next ≡ with_desk x r.1) same r.3,
+  r.4 ∙ ap (λ (x : List ℕ). x ++ r.0) none,
+)
+
+module _ {E : Type 0} (l next : Link) (line : List ℕ) (r : Result (Option Answered) E) (is : Consults l line r next) where
+  pub some_consulted : (a : Answered) → r ≡ Ok (Some a) → (quits line ≡ false)
+      × ((s : Stub) × Responds l.stub line s (λ text. a.bytes.items ≡ text) × (next ≡ record l { stub = s }))
+  some_consulted a ok = subst (λ (x : Result (Option Answered) E). Consults l line x next) ok is
+
+  pub none_consulted : r ≡ Ok None → (quits line ≡ true) × (next ≡ l)
+  none_consulted ok = subst (λ (x : Result (Option Answered) E). Consults l line x next) ok is
+
+  pub err_consulted : (e : E) → r ≡ Err e → (quits line ≡ false)
+      × ((next ≡ l) ⊎ ((s : Stub) × Responds l.stub line s (λ text. ⊤) × (next ≡ record l { stub = s })))
+  err_consulted e failed = subst (λ (x : Result (Option Answered) E). Consults l line x next) failed is

@@ -1,0 +1,12 @@
+use Rattle.std.proofs.Common.{arith, ap, length, List, ℕ}
+use Rattle.ir_gdb.proofs.Written.{short_reply}
+use Rattle.ir_gdb.proofs.connection.Connection.send_reply.Goals as goal
+
+pub put_text-requires : goal.put_text-requires
+put_text-requires g c =
+    let short = short_reply c.args.reply in
+    let text = ap (λ (xs : List ℕ). length xs) c.reply_text.ensures in
+    let room = c.self.invariant.0 in
+    let kept = c.clear.ensures.capacity in
+    let none = c.clear.ensures.len in
+    omega (arith, short, text, room, kept, none)

@@ -1,0 +1,24 @@
+use Rattle.std.proofs.Common.{◌∙◌, ap, refl}
+use Rattle.ir_gdb.specs.Stub.{Stub, spoken}
+use Rattle.ir_gdb.proofs.Moving.{one_longer, own_pushed, within_pushed}
+use Rattle.ir_gdb.proofs.remote.Remote.stops.Goals as goal
+
+pub threads-preserved : goal.threads-preserved
+threads-preserved g c =
+    let s = c.args.self.now.stub in
+    let u = c.threads.self.stub in
+    let n = c.threads.thread in
+    let xs = c.threads.stops.items in
+    let ys = c.push.new.self.items in
+    let x = c.in_ok-stopped.stopped in
+    let same = c.threads.invariant.stub in
+    record {
+      stub = c.continued.ensures.stub ∙ ap (λ (y : Stub). spoken y) same;
+      len = one_longer xs ys x n c.threads.invariant.len c.in_ok-push.ensures.items;
+      own =
+          own_pushed s u c.args.direction c.args.mover n _ xs ys x same c.threads.invariant.len refl c.in_ok-push.ensures.items
+          c.in_ok-stopped.ensures.stops c.threads.invariant.own;
+      within =
+          within_pushed s u n xs ys x same c.threads.invariant.len c.in_ok-push.ensures.items c.in_ok-stopped.ensures.within
+          c.threads.invariant.within;
+    }

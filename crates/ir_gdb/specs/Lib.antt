@@ -1,0 +1,14 @@
+pub mod Fixed
+pub mod Stub
+pub mod Serving
+pub mod Reads
+pub mod Points
+pub mod Setting
+pub mod Stops
+pub mod Together
+pub mod Moves
+pub mod Restarts
+pub mod Texts
+pub mod Replies
+pub mod Connection
+pub mod Session

@@ -1,0 +1,74 @@
+-- Moves that packets ask for, and the stops that they are answered by.
+use Rattle.std.specs.Prelude.{◌≡◌, ℕ, ◌+◌, Bool, true, false, List, Option, Some, None, option_map}
+use Rattle.ir_mach.specs.Core.{Core, register}
+use Rattle.ir_runs.specs.Run.{Step}
+use Rattle.ir_debug.specs.Machine.Desk.{moved}
+use Rattle.ir_packet.specs.Replies.{stop_text}
+use Rattle.ir_packet.specs.declared.reply.Reason.TheVariants as reason
+use Rattle.ir_packet.specs.declared.reply.Stop.{Stop}
+use Rattle.ir_packet.specs.declared.request.Motion.{Motion}
+use Rattle.ir_packet.specs.declared.request.Mover.{Mover}
+use Rattle.ir_packet.specs.declared.request.Mover.TheVariants as mover
+use Rattle.ir_gdb.specs.declared.stopped.Told.{Told}
+use Rattle.ir_gdb.specs.declared.stopped.Moving.{Moving}
+use Rattle.ir_gdb.specs.Stub.{Stub, spoken}
+use Rattle.ir_gdb.specs.Reads.{thread_of_id, current_of}
+use Rattle.ir_gdb.specs.Together.{Halt, MovesAlone, MovesAmong}
+
+-- a stop, with the registers that spare gdb a `g`
+abbrev pub stop_with : Told → Core → Stop
+stop_with told core = record {
+  interrupted = told.interrupted;
+  thread = told.thread + 1;
+  reason = told.reason;
+  pc = core.pc;
+  sp = register core 2;
+  fp = register core 8;
+  ra = register core 1;
+}
+
+-- the last stop: `?`, and the reply to a move
+abbrev pub told_text : List Step → Stub → List ℕ
+told_text run s = stop_text (stop_with s.told (current_of run s s.told.thread).core)
+
+-- a thread has stopped: it is general and current then
+abbrev pub after_told : Stub → Told → Stub
+after_told s told = record s { told = told; general = told.thread; current = told.thread; interrupted = false }
+
+abbrev pub told_of : Halt → Told
+told_of h = record { interrupted = false; thread = h.thread; reason = h.reason }
+
+-- all threads have gone to the cut of a stop
+abbrev pub settled : Stub → Halt → Stub
+settled s h = after_told (record s { desk = moved s.desk h.cut }) (told_of h)
+
+-- a thread is interrupted where it is
+abbrev pub interrupted_at : ℕ → Told
+interrupted_at t = record { interrupted = true; thread = t; reason = reason.Step }
+
+abbrev pub moving : Bool → ℕ → Moving
+moving among t = record { thread = t; among = among }
+
+abbrev pub chosen_moving : ℕ → Option ℕ → Moving
+chosen_moving current None = moving true current
+chosen_moving current (Some t) = moving false t
+
+-- the thread that moves, and whether the others may be stopped at their hits; none where there is no such thread
+abbrev pub moving_of : Stub → Mover → Option Moving
+moving_of s mover.Chosen = Some (chosen_moving s.current s.chosen)
+moving_of s mover.Any = Some (moving true s.current)
+moving_of s (mover.Alone id) = option_map (moving false) (thread_of_id s.desk.fitted id)
+moving_of s (mover.Among id) = option_map (moving true) (thread_of_id s.desk.fitted id)
+
+-- the stop to which a motion of a thread leads
+abbrev pub Leads : List Step → Stub → Bool → ℕ → Motion → Halt → Type 0
+Leads run s true t m h = MovesAmong run s t m h
+Leads run s false t m h = MovesAlone run s t m h
+
+-- a move, by whether gdb has interrupted it
+abbrev pub MovesBy : Bool → List Step → Stub → Moving → Motion → Stub → Type 0
+MovesBy true run s who m next = next ≡ after_told (spoken s) (interrupted_at who.thread)
+MovesBy false run s who m next = (h : Halt) × Leads run s who.among who.thread m h × (next ≡ settled s h)
+
+abbrev pub Moves : List Step → Stub → Moving → Motion → Stub → Type 0
+Moves run s who m next = MovesBy s.interrupted run s who m next

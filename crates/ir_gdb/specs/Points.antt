@@ -1,0 +1,40 @@
+-- Points of gdb and of a session as the points of one search: the number says which it is.
+use Rattle.std.specs.Prelude.{ℕ, zero, suc, ◌+◌, ◌-◌, ◌*◌, ◌/◌, List, [], ◌∷◌, ◌++◌, length}
+use Rattle.ir_command.specs.declared.command.Point.TheVariants.{Break, Watch}
+use Rattle.ir_hits.specs.Hits.{Numbered}
+use Rattle.ir_gdb.specs.declared.point.Breakpoint.{Breakpoint}
+use Rattle.ir_gdb.specs.declared.point.Watched.{Watched}
+
+-- n words from an address on, for thread t, under one number
+unfoldable pub word_points : ℕ → ℕ → ℕ → ℕ → List Numbered
+word_points t number zero address = []
+word_points t number (suc n) address = record { number = number; point = Watch t address } ∷ word_points t number n (address + 4)
+
+-- how many words the bytes of a watch lie in
+abbrev pub words_in : Watched → ℕ
+words_in w = (w.address + w.size + 3) / 4 - w.address / 4
+
+-- the watched words of thread t, the first watch by this number, the others by the next
+unfoldable pub watch_points : ℕ → ℕ → List Watched → List Numbered
+watch_points t number [] = []
+watch_points t number (w ∷ ws) = word_points t number (words_in w) (w.address / 4 * 4) ++ watch_points t (number + 1) ws
+
+-- the breakpoints of thread t, the first by this number, the others by the next
+unfoldable pub break_points : ℕ → ℕ → List Breakpoint → List Numbered
+break_points t number [] = []
+break_points t number (b ∷ bs) = record { number = number; point = Break t b.address } ∷ break_points t (number + 1) bs
+
+-- points of a session, under one number
+unfoldable pub own_points : ℕ → List Numbered → List Numbered
+own_points number [] = []
+own_points number (p ∷ ps) = record { number = number; point = p.point } ∷ own_points number ps
+
+-- upwards watches have lower numbers than breakpoints, and so are told first
+abbrev pub points_upwards : ℕ → List Watched → List Breakpoint → List Numbered → List Numbered
+points_upwards t watches breaks own = watch_points t 0 watches ++ break_points t (length watches) breaks ++ own_points
+    (length watches + length breaks) own
+
+-- downwards breakpoints have
+abbrev pub points_downwards : ℕ → List Watched → List Breakpoint → List Numbered → List Numbered
+points_downwards t watches breaks own = break_points t 0 breaks ++ watch_points t (length breaks) watches ++ own_points
+    (length breaks + length watches) own

@@ -1,0 +1,81 @@
+-- What is held for gdb beside the run.
+use Rattle.std.specs.Prelude.{◌<◌, ◌≤◌, ◌+◌, ⊤, None, Some, false, Bool, ℕ, List, [], length, Option}
+use Rattle.std.specs.List.{AllByRecursion}
+use Rattle.ir_mach.specs.Core.{memory_start, memory_size}
+use Rattle.ir_fit.specs.Fit.{FittedTrace}
+use Rattle.ir_timeline.specs.Positions.{threads_of}
+use Rattle.ir_debug.specs.Machine.Desk as desk
+use Rattle.ir_debug.specs.Machine.Desk.{Desk}
+use Rattle.ir_packet.specs.declared.reply.Reason.TheVariants.{Step}
+use Rattle.ir_gdb.specs.declared.point.Breakpoint.{Breakpoint}
+use Rattle.ir_gdb.specs.declared.point.Watched.{Watched}
+use Rattle.ir_gdb.specs.declared.stopped.Told.{Told}
+
+pub record Stub : Type 0 where
+  -- the small machine of a session: the guest, its trace, and the position of each thread
+  pub desk : Desk
+  -- the thread of `g`, `p` and `m`
+  pub general : ℕ
+  -- the thread of `s`, `c`, `bs` and `bc`, if `Hc` named one
+  pub chosen : Option ℕ
+  -- the thread of the last stop, or of a later `T`
+  pub current : ℕ
+  pub breaks : List Breakpoint
+  pub watches : List Watched
+  -- the last stop
+  pub told : Told
+  -- whether the next move is answered as interrupted, and not made
+  pub interrupted : Bool
+  -- whether gdb may run the program again: after `!`
+  pub extended : Bool
+
+-- before the first stop
+abbrev pub first_told : Told
+first_told = record { interrupted = false; thread = 0; reason = Step }
+
+-- thread 0 current, no points
+abbrev pub stub_of : Desk → Stub
+stub_of d = record {
+  desk = d;
+  general = 0;
+  chosen = None;
+  current = 0;
+  breaks = [];
+  watches = [];
+  told = first_told;
+  interrupted = false;
+  extended = false;
+}
+
+-- after an answer of the small machine that is no move's
+abbrev pub spoken : Stub → Stub
+spoken s = record s { desk = desk.spoken s.desk }
+
+-- the most bytes of a watch
+abbrev pub most_watched : ℕ
+most_watched = 256
+
+-- a thread that `Hc` may have named
+abbrev pub IsChoice : FittedTrace → Option ℕ → Type 0
+IsChoice f None = ⊤
+IsChoice f (Some t) = t < threads_of f
+
+-- the most breakpoints and watches together
+abbrev pub most_points : ℕ
+most_points = 64
+
+-- a watch is of a few bytes, all of private memory
+pub record IsWatched (w : Watched) : Type 0 where
+  pub some : 0 < w.size
+  pub few : w.size ≤ most_watched
+  pub low : memory_start ≤ w.address
+  pub high : w.address + w.size ≤ memory_start + memory_size
+
+-- what is always so
+pub record IsStub (s : Stub) : Type 0 where
+  pub general : s.general < threads_of s.desk.fitted
+  pub chosen : IsChoice s.desk.fitted s.chosen
+  pub current : s.current < threads_of s.desk.fitted
+  pub told : s.told.thread < threads_of s.desk.fitted
+  pub watches : AllByRecursion IsWatched s.watches
+  pub few : length s.breaks + length s.watches ≤ most_points

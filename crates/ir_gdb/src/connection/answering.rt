@@ -1,0 +1,235 @@
+//! What is written for an item of the stream.
+
+ghost use Rattle.std.specs.Prelude.{◌≡◌, ◌≤◌, ◌<◌, ◌&&◌, ℕ, [], length, codes, true, IfOk, IfErr, OnOk, OnErr};
+ghost use Rattle.ir_stream.specs.Endings.{flow_after};
+ghost use Rattle.ir_packet.specs.Reading.{item_found};
+ghost use Rattle.ir_packet.specs.Requests.{request_of, console_line};
+ghost use Rattle.ir_packet.specs.Stream.{TooLong};
+ghost use Rattle.ir_packet.specs.declared.request.Request.TheVariants.{Register};
+ghost use Rattle.ir_debug.specs.Machine.Answers.{quits};
+ghost use Rattle.ir_gdb.specs.Replies.{has_reply};
+ghost use Rattle.ir_gdb.specs.Connection.{sign, before_reply, is_copy, is_packet, Consults, AnswersLine, AnswersBy, AnswersRequest, AnswersPacket, AnswersNew, AnswersItem, ends_request, ends_by, ends, Sent, SentInPart};
+
+use crate::connection::Connection;
+use crate::console::Answered;
+use ir_command::{Command, parse_line};
+use ir_object::Hands;
+use ir_packet::{Found, Reply, Request, put_line, request_of};
+use ir_stream::{Fault, Flow, Sink};
+use std::alloc::AllocError;
+
+// Whether gdb sends what was found again where it has waited for the reply.
+fn is_packet(found: Found) -> bool
+    ensures { (payload : _) → result ≡ is_packet (item_found found payload) }
+{
+    matches!(found, Found::Packet | Found::BadSum | Found::TooLong)
+}
+
+// Whether a line ends a session.
+#[tactic(auto, unfolding(ir_debug::specs::Machine::Answers::quits))]
+fn quits(line: &[u8]) -> bool
+    ensures { result ≡ quits line.now }
+{
+    matches!(parse_line(line), Ok(Some(Command::Quit)))
+}
+
+impl Connection {
+    // What a session answers to the line of the packet that was read last; none if it would end the session.
+    fn answer_of<H: Hands>(&mut self, hands: &H) -> Result<Option<Answered>, AllocError>
+        requires { length self.old.reading.payload ≤ 4096 }
+        ensures answer { Consults self.old.link (console_line self.old.reading.payload) result self.new.link }
+        ensures reading { self.new.reading ≡ self.old.reading }
+    {
+        self.line.clear();
+        put_line(&mut self.line, self.reader.payload());
+        if quits(self.line.as_slice()) {
+            return Ok(None);
+        }
+        let Ok(answered) = Answered::new(hands.alloc()) else {
+            return Err(AllocError);
+        };
+        let mut answered = answered;
+        let line = self.line.as_slice();
+        let Ok(()) = self.remote.respond(hands, line, &mut answered) else {
+            return Err(AllocError);
+        };
+        Ok(Some(answered))
+    }
+
+    // `qRcmd`: what a session answers, and then `OK`.
+    fn answer_line<H: Hands, W: Sink>(&mut self, hands: &H, writer: &mut W) -> Result<(), Fault>
+        requires { length self.old.reading.payload ≤ 4096 }
+        ensures reading { self.new.reading ≡ self.old.reading }
+        ensures ok { OnOk result (Sent (AnswersLine (quits (console_line self.old.reading.payload)) self.old.link (console_line self.old.reading.payload)) self.new.link (W.written writer.old) (W.written writer.new)) }
+        ensures stays { OnOk result (W.broken writer.new ≡ W.broken writer.old) }
+        ensures fault { IfErr result (λ f. f ≡ Fault.Write) }
+        ensures prefix { OnErr result (SentInPart (AnswersLine (quits (console_line self.old.reading.payload)) self.old.link (console_line self.old.reading.payload)) [] (W.written writer.old) (W.written writer.new)) }
+        ensures err { OnErr result (W.broken writer.new ≡ true) }
+    {
+        match self.answer_of(hands) {
+            Ok(Some(answered)) => {
+                self.send_answer(answered.as_slice(), writer)?;
+                self.send_reply(Reply::Done, writer)
+            }
+            Ok(None) => self.send_reply(Reply::NotPermitted, writer),
+            Err(AllocError) => self.send_reply(Reply::NoMemory, writer),
+        }
+    }
+
+    // Writes the reply to a request.
+    fn answer<H: Hands, W: Sink>(
+        &mut self,
+        hands: &H,
+        request: Request,
+        writer: &mut W,
+    ) -> Result<(), Fault>
+        requires register { (n : ℕ) → request ≡ Register n → n < 33 }
+        requires replies { has_reply request ≡ true }
+        ensures reading { self.new.reading ≡ self.old.reading }
+        ensures ok { OnOk result (Sent (AnswersBy self.old.link request) self.new.link (W.written writer.old) (W.written writer.new)) }
+        ensures stays { OnOk result (W.broken writer.new ≡ W.broken writer.old) }
+        ensures fault { IfErr result (λ f. f ≡ Fault.Write) }
+        ensures prefix { OnErr result (SentInPart (AnswersBy self.old.link request) [] (W.written writer.old) (W.written writer.new)) }
+        ensures err { OnErr result (W.broken writer.new ≡ true) }
+    {
+        self.payload.clear();
+        match self.remote.reply(hands, request, &mut self.payload) {
+            Ok(()) => self.send(writer),
+            Err(AllocError) => self.send_reply(Reply::NoMemory, writer),
+        }
+    }
+
+    // Answers a request, which came with the payload that was read last.
+    fn answer_request<H: Hands, W: Sink>(
+        &mut self,
+        hands: &H,
+        request: Request,
+        writer: &mut W,
+    ) -> Result<Flow, Fault>
+        requires len { length self.old.reading.payload ≤ 4096 }
+        requires register { (n : ℕ) → request ≡ Register n → n < 33 }
+        ensures reading { self.new.reading ≡ self.old.reading }
+        ensures ok { OnOk result (Sent (AnswersRequest self.old.link self.old.reading.payload request) self.new.link (W.written writer.old) (W.written writer.new)) }
+        ensures flow { IfOk result (λ f. f ≡ flow_after (ends_request request)) }
+        ensures stays { OnOk result (W.broken writer.new ≡ W.broken writer.old) }
+        ensures fault { IfErr result (λ f. f ≡ Fault.Write) }
+        ensures prefix { OnErr result (SentInPart (AnswersRequest self.old.link self.old.reading.payload request) [] (W.written writer.old) (W.written writer.new)) }
+        ensures err { OnErr result (W.broken writer.new ≡ true) }
+    {
+        match request {
+            Request::Kill => Ok(Flow::Quits),
+            Request::Console => {
+                self.answer_line(hands, writer)?;
+                Ok(Flow::Goes)
+            }
+            Request::NoAcknowledgements => {
+                self.send_reply(Reply::Done, writer)?;
+                self.acknowledges = false;
+                Ok(Flow::Goes)
+            }
+            Request::Detach => {
+                self.answer(hands, request, writer)?;
+                Ok(Flow::Quits)
+            }
+            _ => {
+                self.answer(hands, request, writer)?;
+                Ok(Flow::Goes)
+            }
+        }
+    }
+
+    // Answers the packet that was read last.
+    fn take_packet<H: Hands, W: Sink>(&mut self, hands: &H, writer: &mut W) -> Result<Flow, Fault>
+        requires { length self.old.reading.payload ≤ 4096 }
+        ensures reading { self.new.reading ≡ self.old.reading }
+        ensures ok { OnOk result (Sent (AnswersPacket self.old.link self.old.reading.payload) self.new.link (W.written writer.old) (W.written writer.new)) }
+        ensures flow { IfOk result (λ f. f ≡ flow_after (ends_request (request_of self.old.reading.payload))) }
+        ensures stays { OnOk result (W.broken writer.new ≡ W.broken writer.old) }
+        ensures fault { IfErr result (λ f. f ≡ Fault.Write) }
+        ensures prefix { OnErr result (SentInPart (AnswersPacket self.old.link self.old.reading.payload) (sign self.old.link (codes "+")) (W.written writer.old) (W.written writer.new)) }
+        ensures err { OnErr result (W.broken writer.new ≡ true) }
+    {
+        let request = request_of(self.reader.payload());
+        self.acknowledge(b"+", writer)?;
+        self.answer_request(hands, request, writer)
+    }
+
+    // Answers a packet of too many bytes, which isn't known.
+    fn take_long<W: Sink>(&mut self, writer: &mut W) -> Result<Flow, Fault>
+        ensures reading { self.new.reading ≡ self.old.reading }
+        ensures ok { OnOk result (Sent (AnswersNew self.old.link TooLong) self.new.link (W.written writer.old) (W.written writer.new)) }
+        ensures flow { IfOk result (λ f. f ≡ Flow.Goes) }
+        ensures stays { OnOk result (W.broken writer.new ≡ W.broken writer.old) }
+        ensures fault { IfErr result (λ f. f ≡ Fault.Write) }
+        ensures prefix { OnErr result (SentInPart (AnswersNew self.old.link TooLong) [] (W.written writer.old) (W.written writer.new)) }
+        ensures err { OnErr result (W.broken writer.new ≡ true) }
+    {
+        self.acknowledge(b"+", writer)?;
+        self.send_reply(Reply::Nothing, writer)?;
+        Ok(Flow::Goes)
+    }
+
+    // Answers what was found and is no copy.
+    fn take_new<H: Hands, W: Sink>(
+        &mut self,
+        hands: &H,
+        found: Found,
+        writer: &mut W,
+    ) -> Result<Flow, Fault>
+        requires { found ≡ Found.Packet → length self.old.reading.payload ≤ 4096 }
+        ensures reading { self.new.reading ≡ self.old.reading }
+        ensures ok { OnOk result (Sent (AnswersNew self.old.link (item_found found self.old.reading.payload)) self.new.link (W.written writer.old) (W.written writer.new)) }
+        ensures flow { IfOk result (λ f. f ≡ flow_after (ends_by (item_found found self.old.reading.payload))) }
+        ensures stays { OnOk result (W.broken writer.new ≡ W.broken writer.old) }
+        ensures fault { IfErr result (λ f. f ≡ Fault.Write) }
+        ensures prefix { OnErr result (SentInPart (AnswersNew self.old.link (item_found found self.old.reading.payload)) (before_reply self.old.link (item_found found self.old.reading.payload)) (W.written writer.old) (W.written writer.new)) }
+        ensures err { OnErr result (W.broken writer.new ≡ true) }
+    {
+        match found {
+            Found::Packet => self.take_packet(hands, writer),
+            Found::TooLong => self.take_long(writer),
+            Found::BadSum => {
+                self.acknowledge(b"-", writer)?;
+                Ok(Flow::Goes)
+            }
+            Found::Interrupt => {
+                self.remote.interrupt();
+                Ok(Flow::Goes)
+            }
+            Found::Acknowledged => {
+                self.is_owed = false;
+                Ok(Flow::Goes)
+            }
+            Found::Refused => Ok(Flow::Goes),
+        }
+    }
+
+    // Whether what was found is a copy: gdb sends a packet again where it has waited for the reply.
+    fn is_copy(&self, found: Found) -> bool
+        ensures { (payload : _) → result ≡ (is_copy self.now.link && is_packet (item_found found payload)) }
+    {
+        self.acknowledges && self.is_owed && is_packet(found)
+    }
+
+    // Answers what was found.
+    pub fn take<H: Hands, W: Sink>(
+        &mut self,
+        hands: &H,
+        found: Found,
+        writer: &mut W,
+    ) -> Result<Flow, Fault>
+        requires { found ≡ Found.Packet → length self.old.reading.payload ≤ 4096 }
+        ensures reading { self.new.reading ≡ self.old.reading }
+        ensures ok { OnOk result (Sent (AnswersItem self.old.link (item_found found self.old.reading.payload)) self.new.link (W.written writer.old) (W.written writer.new)) }
+        ensures flow { IfOk result (λ f. f ≡ flow_after (ends self.old.link (item_found found self.old.reading.payload))) }
+        ensures stays { OnOk result (W.broken writer.new ≡ W.broken writer.old) }
+        ensures fault { IfErr result (λ f. f ≡ Fault.Write) }
+        ensures prefix { OnErr result (SentInPart (AnswersItem self.old.link (item_found found self.old.reading.payload)) (before_reply self.old.link (item_found found self.old.reading.payload)) (W.written writer.old) (W.written writer.new)) }
+        ensures err { OnErr result (W.broken writer.new ≡ true) }
+    {
+        if self.is_copy(found) {
+            return Ok(Flow::Goes);
+        }
+        self.take_new(hands, found, writer)
+    }
+}

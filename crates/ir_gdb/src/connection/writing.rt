@@ -1,0 +1,111 @@
+//! Acknowledgements and packets as they are written.
+
+ghost use Rattle.std.specs.Prelude.{◌≡◌, ◌≤◌, length, codes, true, OnOk, OnErr, IfErr};
+ghost use Rattle.std.specs.Io.KnownBytes.{Appends};
+ghost use Rattle.ir_stream.specs.Devices.{AppendsPrefix};
+ghost use Rattle.ir_packet.specs.Packets.{packet_of};
+ghost use Rattle.ir_packet.specs.Replies.{reply_text, output_text};
+ghost use Rattle.ir_gdb.specs.Connection.{sent, sign, answer_text};
+
+use crate::connection::Connection;
+use ir_packet::{Reply, put_output, put_packet, put_text, reply_text};
+use ir_stream::{Fault, Sink, write_all};
+
+// The most bytes of a session's answer in one packet.
+const PIECE: usize = 500;
+
+// Writes bytes.
+fn write<W: Sink>(writer: &mut W, bytes: &[u8]) -> Result<(), Fault>
+    ensures ok { OnOk result (Appends (W.written writer.old) (W.written writer.new) bytes.now) }
+    ensures stays { OnOk result (W.broken writer.new ≡ W.broken writer.old) }
+    ensures fault { IfErr result (λ f. f ≡ Fault.Write) }
+    ensures prefix { OnErr result (AppendsPrefix (W.written writer.old) (W.written writer.new) bytes.now) }
+    ensures err { OnErr result (W.broken writer.new ≡ true) }
+{
+    match write_all(writer, bytes) {
+        Ok(()) => Ok(()),
+        Err(_) => Err(Fault::Write),
+    }
+}
+
+impl Connection {
+    // Writes an acknowledgement, if packets are acknowledged.
+    pub fn acknowledge<W: Sink>(&self, text: &[u8], writer: &mut W) -> Result<(), Fault>
+        ensures ok { OnOk result (Appends (W.written writer.old) (W.written writer.new) (sign self.now.link text.now)) }
+        ensures stays { OnOk result (W.broken writer.new ≡ W.broken writer.old) }
+        ensures fault { IfErr result (λ f. f ≡ Fault.Write) }
+        ensures prefix { OnErr result (AppendsPrefix (W.written writer.old) (W.written writer.new) (sign self.now.link text.now)) }
+        ensures err { OnErr result (W.broken writer.new ≡ true) }
+    {
+        if !self.acknowledges {
+            return Ok(());
+        }
+        write(writer, text)
+    }
+
+    // Writes the payload as a packet.
+    pub fn send<W: Sink>(&mut self, writer: &mut W) -> Result<(), Fault>
+        ensures link { self.new.link ≡ sent self.old.link self.old.link.stub }
+        ensures reading { self.new.reading ≡ self.old.reading }
+        ensures ok { OnOk result (Appends (W.written writer.old) (W.written writer.new) (packet_of self.old.payload)) }
+        ensures stays { OnOk result (W.broken writer.new ≡ W.broken writer.old) }
+        ensures fault { IfErr result (λ f. f ≡ Fault.Write) }
+        ensures prefix { OnErr result (AppendsPrefix (W.written writer.old) (W.written writer.new) (packet_of self.old.payload)) }
+        ensures err { OnErr result (W.broken writer.new ≡ true) }
+    {
+        self.packet.clear();
+        put_packet(&mut self.packet, self.payload.as_slice());
+        self.is_owed = true;
+        write(writer, self.packet.as_slice())
+    }
+
+    // Writes a reply that is always the same.
+    pub fn send_reply<W: Sink>(&mut self, reply: Reply, writer: &mut W) -> Result<(), Fault>
+        ensures link { self.new.link ≡ sent self.old.link self.old.link.stub }
+        ensures reading { self.new.reading ≡ self.old.reading }
+        ensures ok { OnOk result (Appends (W.written writer.old) (W.written writer.new) (packet_of (reply_text reply))) }
+        ensures stays { OnOk result (W.broken writer.new ≡ W.broken writer.old) }
+        ensures fault { IfErr result (λ f. f ≡ Fault.Write) }
+        ensures prefix { OnErr result (AppendsPrefix (W.written writer.old) (W.written writer.new) (packet_of (reply_text reply))) }
+        ensures err { OnErr result (W.broken writer.new ≡ true) }
+    {
+        self.payload.clear();
+        put_text(&mut self.payload, reply_text(reply));
+        self.send(writer)
+    }
+
+    // Writes a piece of a session's answer.
+    fn send_piece<W: Sink>(&mut self, piece: &[u8], writer: &mut W) -> Result<(), Fault>
+        requires { length piece.now ≤ 500 }
+        ensures link { self.new.link ≡ sent self.old.link self.old.link.stub }
+        ensures reading { self.new.reading ≡ self.old.reading }
+        ensures ok { OnOk result (Appends (W.written writer.old) (W.written writer.new) (packet_of (output_text piece.now))) }
+        ensures stays { OnOk result (W.broken writer.new ≡ W.broken writer.old) }
+        ensures fault { IfErr result (λ f. f ≡ Fault.Write) }
+        ensures prefix { OnErr result (AppendsPrefix (W.written writer.old) (W.written writer.new) (packet_of (output_text piece.now))) }
+        ensures err { OnErr result (W.broken writer.new ≡ true) }
+    {
+        self.payload.clear();
+        put_output(&mut self.payload, piece);
+        self.send(writer)
+    }
+
+    // Writes what a session answered, a packet for each piece. The link is as if it had been sent.
+    pub fn send_answer<W: Sink>(&mut self, answer: &[u8], writer: &mut W) -> Result<(), Fault>
+        ensures link { sent self.new.link self.new.link.stub ≡ sent self.old.link self.old.link.stub }
+        ensures reading { self.new.reading ≡ self.old.reading }
+        ensures ok { OnOk result (Appends (W.written writer.old) (W.written writer.new) (answer_text answer.now)) }
+        ensures stays { OnOk result (W.broken writer.new ≡ W.broken writer.old) }
+        ensures fault { IfErr result (λ f. f ≡ Fault.Write) }
+        ensures prefix { OnErr result (AppendsPrefix (W.written writer.old) (W.written writer.new) (answer_text answer.now)) }
+        ensures err { OnErr result (W.broken writer.new ≡ true) }
+    {
+        let mut rest = answer;
+        'pieces: while !rest.is_empty() {
+            let (piece, more) = rest.split_at(PIECE.min(rest.len()));
+            self.send_piece(piece, writer)?;
+            rest = more;
+        }
+        Ok(())
+    }
+}

@@ -1,0 +1,158 @@
+//! The breakpoints and the watches that gdb has set.
+
+ghost use Rattle.std.specs.Prelude.{◌≡◌};
+ghost use Rattle.ir_gdb.specs.Setting.{is_same_break, is_same_watch, has_break, has_watch, breaks_without, watches_without};
+ghost use Rattle.ir_gdb.specs.Stub.{most_points};
+
+use crate::point::{Breakpoint, Watched};
+use std::alloc::{AllocError, Global};
+use std::marker::Model;
+
+/// The most breakpoints and watches together.
+pub const MOST_POINTS: usize = 64;
+
+// Whether two breakpoints are the same.
+pub fn is_same_break(a: Breakpoint, b: Breakpoint) -> bool
+    ensures { result ≡ is_same_break a b }
+{
+    a.address == b.address && a.hardware == b.hardware
+}
+
+// Whether two watches are the same.
+pub fn is_same_watch(a: Watched, b: Watched) -> bool
+    ensures { result ≡ is_same_watch a b }
+{
+    a.address == b.address && a.size == b.size
+}
+
+// Whether there is such a breakpoint.
+pub fn has_break(breaks: &[Breakpoint], point: Breakpoint) -> bool
+    ensures { result ≡ has_break breaks.now point }
+{
+    match breaks {
+        [] => false,
+        [first, rest @ ..] => is_same_break(*first, point) || has_break(rest, point),
+    }
+}
+
+// Whether there is such a watch.
+pub fn has_watch(watches: &[Watched], watched: Watched) -> bool
+    ensures { result ≡ has_watch watches.now watched }
+{
+    match watches {
+        [] => false,
+        [first, rest @ ..] => is_same_watch(*first, watched) || has_watch(rest, watched),
+    }
+}
+
+/// The breakpoints that are set, the last at the end, with room for all that may be.
+#[derive(Drop)]
+pub struct Breaks {
+    each: Vec<Breakpoint>,
+}
+
+impl Model for Breaks {
+    ghost use Rattle.std.specs.Prelude.{◌≤◌, List};
+    ghost use Rattle.std.specs.Vec.{vec_capacity};
+    ghost use Rattle.ir_gdb.specs.declared.point.Breakpoint.{Breakpoint};
+    ghost use Rattle.ir_gdb.specs.Stub.{most_points};
+
+    ghost Value = { List Breakpoint };
+
+    ghost view = { λ p. p.each.items };
+
+    ghost invariant = { λ p. most_points ≤ vec_capacity p.each };
+}
+
+impl Breaks {
+    ghost use Rattle.std.specs.Prelude.{◌<◌, ◌++◌, [], ◌∷◌, length, IfOk};
+
+    /// None, with room for 64.
+    ///
+    /// # Errors
+    /// Out of memory.
+    pub fn new(alloc: Global) -> Result<Breaks, AllocError>
+        ensures { IfOk result (λ points. points ≡ []) }
+    {
+        let each = Vec::with_capacity(alloc, MOST_POINTS)?;
+        Ok(Breaks { each })
+    }
+
+    /// The breakpoints.
+    pub fn as_slice(&self) -> &[Breakpoint]
+        ensures { result.now ≡ self.now }
+    {
+        self.each.as_slice()
+    }
+
+    /// Sets one more, for which there is room. Takes no memory.
+    pub fn set(&mut self, point: Breakpoint)
+        requires { length self.old < most_points }
+        ensures { self.new ≡ self.old ++ point ∷ [] }
+    {
+        self.each.push_reserved(point);
+    }
+
+    /// Takes one away.
+    pub fn clear(&mut self, point: Breakpoint)
+        ensures { self.new ≡ breaks_without self.old point }
+    {
+        self.each.retain(|each| !is_same_break(*each, point));
+    }
+}
+
+/// The watches that are set, the last at the end, with room for all that may be.
+#[derive(Drop)]
+pub struct Watches {
+    each: Vec<Watched>,
+}
+
+impl Model for Watches {
+    ghost use Rattle.std.specs.Prelude.{◌≤◌, List};
+    ghost use Rattle.std.specs.Vec.{vec_capacity};
+    ghost use Rattle.ir_gdb.specs.declared.point.Watched.{Watched};
+    ghost use Rattle.ir_gdb.specs.Stub.{most_points};
+
+    ghost Value = { List Watched };
+
+    ghost view = { λ p. p.each.items };
+
+    ghost invariant = { λ p. most_points ≤ vec_capacity p.each };
+}
+
+impl Watches {
+    ghost use Rattle.std.specs.Prelude.{◌<◌, ◌++◌, [], ◌∷◌, length, IfOk};
+
+    /// None, with room for 64.
+    ///
+    /// # Errors
+    /// Out of memory.
+    pub fn new(alloc: Global) -> Result<Watches, AllocError>
+        ensures { IfOk result (λ points. points ≡ []) }
+    {
+        let each = Vec::with_capacity(alloc, MOST_POINTS)?;
+        Ok(Watches { each })
+    }
+
+    /// The watches.
+    pub fn as_slice(&self) -> &[Watched]
+        ensures { result.now ≡ self.now }
+    {
+        self.each.as_slice()
+    }
+
+    /// Sets one more, for which there is room. Takes no memory.
+    pub fn set(&mut self, point: Watched)
+        requires { length self.old < most_points }
+        ensures { self.new ≡ self.old ++ point ∷ [] }
+    {
+        self.each.push_reserved(point);
+    }
+
+    /// Takes one away.
+    pub fn clear(&mut self, point: Watched)
+        ensures { self.new ≡ watches_without self.old point }
+    {
+        self.each.retain(|each| !is_same_watch(*each, point));
+    }
+}

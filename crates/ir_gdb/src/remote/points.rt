@@ -1,0 +1,131 @@
+//! `Z` and `z`: breakpoints and watches.
+
+ghost use Rattle.std.specs.Prelude.{◌≡◌};
+ghost use Rattle.ir_gdb.specs.Setting.{is_code_word, can_watch, room_setting, break_setting, watch_setting, setting_reply, with_break, with_watch, clear_break_reply, clear_watch_reply, without_break, without_watch};
+
+use crate::holders::{MOST_POINTS, has_break, has_watch};
+use crate::point::{Breakpoint, Setting, Watched};
+use crate::remote::Remote;
+use ir_image::{CODE_START, Image, MEMORY_SIZE, MEMORY_START};
+use ir_packet::Reply;
+
+// The most bytes of a watch.
+const MOST_WATCHED: u32 = 256;
+
+// Whether an address is that of a word of the code.
+fn is_code_word(image: &Image, address: u32) -> bool
+    ensures { result ≡ is_code_word image.now address }
+{
+    let code_end = u64::from(CODE_START) + 4 * image.code().words().len() as u64;
+    address % 4 == 0 && CODE_START <= address && u64::from(address) + 4 <= code_end
+}
+
+// Whether bytes from an address on can be watched: they are a few, and all of private memory.
+fn can_watch(watched: Watched) -> bool
+    ensures { result ≡ can_watch watched }
+{
+    let Watched { address, size } = watched;
+    let memory_end = u64::from(MEMORY_START) + u64::from(MEMORY_SIZE);
+    0 < size
+        && size <= MOST_WATCHED
+        && MEMORY_START <= address
+        && u64::from(address) + u64::from(size) <= memory_end
+}
+
+// The reply to a point that is set, or isn't.
+fn setting_reply(setting: Setting) -> Reply
+    ensures { result ≡ setting_reply setting }
+{
+    match setting {
+        Setting::BadAddress => Reply::BadAddress,
+        Setting::Full => Reply::NoSpace,
+        Setting::There | Setting::New => Reply::Done,
+    }
+}
+
+impl Remote {
+    // What becomes of a point that is there, or isn't.
+    fn setting(&self, is_there: bool) -> Setting
+        ensures { result ≡ room_setting self.now.stub is_there }
+    {
+        if is_there {
+            return Setting::There;
+        }
+        if self.breaks.as_slice().len() + self.watches.as_slice().len() >= MOST_POINTS {
+            return Setting::Full;
+        }
+        Setting::New
+    }
+
+    // What becomes of a breakpoint.
+    fn break_setting(&self, point: Breakpoint) -> Setting
+        ensures { result ≡ break_setting self.now.stub point }
+    {
+        if !is_code_word(self.debugger.fitted().image(), point.address) {
+            return Setting::BadAddress;
+        }
+        self.setting(has_break(self.breaks.as_slice(), point))
+    }
+
+    // What becomes of a watch.
+    fn watch_setting(&self, watched: Watched) -> Setting
+        ensures { result ≡ watch_setting self.now.stub watched }
+    {
+        if !can_watch(watched) {
+            return Setting::BadAddress;
+        }
+        self.setting(has_watch(self.watches.as_slice(), watched))
+    }
+
+    #[tactic(auto, using(crate::proofs::Setting::stub_with_break))]
+    /// `Z0`, `Z1`: sets a breakpoint of all threads.
+    pub fn set_break(&mut self, point: Breakpoint) -> Reply
+        ensures reply { result ≡ setting_reply (break_setting self.old.stub point) }
+        ensures stub { self.new.stub ≡ with_break self.old.stub point }
+    {
+        let setting = self.break_setting(point);
+        if let Setting::New = setting {
+            self.breaks.set(point);
+        }
+        setting_reply(setting)
+    }
+
+    #[tactic(auto, using(crate::proofs::Setting::stub_without_break))]
+    /// `z0`, `z1`: takes a breakpoint away.
+    pub fn clear_break(&mut self, point: Breakpoint) -> Reply
+        ensures reply { result ≡ clear_break_reply self.old.stub point }
+        ensures stub { self.new.stub ≡ without_break self.old.stub point }
+    {
+        if !is_code_word(self.debugger.fitted().image(), point.address) {
+            return Reply::BadAddress;
+        }
+        self.breaks.clear(point);
+        Reply::Done
+    }
+
+    #[tactic(auto, using(crate::proofs::Setting::stub_with_watch))]
+    /// `Z2`: sets a watch of the words in which bytes lie.
+    pub fn set_watch(&mut self, watched: Watched) -> Reply
+        ensures reply { result ≡ setting_reply (watch_setting self.old.stub watched) }
+        ensures stub { self.new.stub ≡ with_watch self.old.stub watched }
+    {
+        let setting = self.watch_setting(watched);
+        if let Setting::New = setting {
+            self.watches.set(watched);
+        }
+        setting_reply(setting)
+    }
+
+    #[tactic(auto, using(crate::proofs::Setting::stub_without_watch))]
+    /// `z2`: takes a watch away.
+    pub fn clear_watch(&mut self, watched: Watched) -> Reply
+        ensures reply { result ≡ clear_watch_reply watched }
+        ensures stub { self.new.stub ≡ without_watch self.old.stub watched }
+    {
+        if !can_watch(watched) {
+            return Reply::BadAddress;
+        }
+        self.watches.clear(watched);
+        Reply::Done
+    }
+}

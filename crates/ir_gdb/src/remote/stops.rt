@@ -1,0 +1,345 @@
+//! Where a thread stops that moves alone.
+
+ghost use Rattle.std.specs.Prelude.{◌≡◌, ◌<◌, ◌≤◌, ◌+◌, ◌-◌, length, IfOk};
+ghost use Rattle.std.specs.List.{AllByRecursion};
+ghost use Rattle.ir_cut.specs.Positions.{EachRun, cut_of};
+ghost use Rattle.ir_hits.specs.Hits.{AreWatchable, thread_at};
+ghost use Rattle.ir_timeline.specs.Positions.{Cuts, threads_of, last_of};
+ghost use Rattle.ir_gdb.specs.Stub.{IsWatched, most_points, spoken};
+ghost use Rattle.ir_gdb.specs.Stops.{watches_if, Leaves, WatchNext, position_of, StepsTo, RangesTo, ContinuesTo, StepsBackTo, StopsBelow, ContinuesBackTo, GoesTo, MovesTo, upwards_of};
+
+use crate::numbered::{Halts, points_downwards, points_upwards, watch_points};
+use crate::point::Watched;
+use crate::remote::Remote;
+use crate::stopped::{Stopped, after_range, end_above, end_below, reason_of_hit, stop_above};
+use ir_command::Direction;
+use ir_cut::Cut;
+use ir_hits::NumberedPoint;
+use ir_object::Hands;
+use ir_packet::{Motion, Reason};
+use std::alloc::{AllocError, Global};
+
+impl Remote {
+    // The watches, if they count.
+    fn watches_if(&self, watched: bool) -> &[Watched]
+        ensures value { result.now ≡ watches_if self.now.stub watched }
+        ensures watched { AllByRecursion IsWatched result.now }
+        ensures few { length self.now.stub.breaks + length result.now ≤ most_points }
+    {
+        if watched {
+            return self.watches.as_slice();
+        }
+        &[]
+    }
+
+    // What may stop a thread.
+    fn halts(&self, watched: bool) -> Halts<'_>
+        ensures watches { result.watches.now ≡ watches_if self.now.stub watched }
+        ensures breaks { result.breaks.now ≡ self.now.stub.breaks }
+        ensures own { result.own.now ≡ self.now.stub.desk.points }
+        ensures watched { AllByRecursion IsWatched result.watches.now }
+        ensures few { length result.breaks.now + length result.watches.now ≤ most_points }
+        ensures watchable { AreWatchable result.own.now }
+    {
+        self.debugger.fitted().known();
+        Halts {
+            watches: self.watches_if(watched),
+            breaks: self.breaks.as_slice(),
+            own: self.debugger.points(),
+        }
+    }
+
+    // The points of a thread for a search upwards.
+    fn upwards(
+        &self,
+        alloc: Global,
+        thread: u32,
+        watched: bool,
+    ) -> Result<Vec<NumberedPoint>, AllocError>
+        ensures points { IfOk result (λ v. v.items ≡ upwards_of self.now.stub thread watched) }
+        ensures watchable { IfOk result (λ v. AreWatchable v.items) }
+    {
+        points_upwards(alloc, thread, self.halts(watched))
+    }
+
+    // Why a thread stops before the step after its position in a cut, if a watch hits it at the step's end.
+    fn watch_next<H: Hands>(
+        &mut self,
+        hands: &H,
+        from: &Cut,
+        thread: u32,
+        watched: bool,
+    ) -> Result<Option<Reason>, AllocError>
+        requires cut { Cuts self.old.stub.desk.fitted from.now }
+        requires thread { thread < threads_of self.old.stub.desk.fitted }
+        requires within { cut_of from.now thread < last_of self.old.stub.desk.fitted thread }
+        ensures stub { self.new.stub ≡ spoken self.old.stub }
+        ensures watch { IfOk result (λ reason. EachRun self.old.stub.desk.fitted (λ run. WatchNext run self.old.stub thread watched (cut_of from.now thread) reason)) }
+    {
+        self.speak();
+        self.last(thread);
+        let points = watch_points(hands.alloc(), thread, self.watches_if(watched))?;
+        if points.is_empty() {
+            return Ok(None);
+        }
+        let to = from.position(thread as usize) + 1;
+        let points = points.as_slice();
+        let hit = self.debugger.search_up_to(hands, from, thread, to, points)?;
+        Ok(reason_of_hit(self.watches_if(watched), hit))
+    }
+
+    // One step.
+    fn step<H: Hands>(
+        &mut self,
+        hands: &H,
+        thread: u32,
+        watched: bool,
+    ) -> Result<Stopped, AllocError>
+        requires { thread < threads_of self.old.stub.desk.fitted }
+        ensures stub { self.new.stub ≡ spoken self.old.stub }
+        ensures stops { IfOk result (λ to. EachRun self.old.stub.desk.fitted (λ run. StepsTo run self.old.stub thread watched to)) }
+        ensures within { IfOk result (λ to. to.position ≤ last_of self.old.stub.desk.fitted thread) }
+    {
+        self.speak();
+        let position = self.position(thread);
+        if position == self.last(thread) {
+            let reason = Reason::End;
+            return Ok(Stopped { position, reason });
+        }
+        let here = self.here()?;
+        if let Some(reason) = self.watch_next(hands, &here, thread, watched)? {
+            return Ok(Stopped { position, reason });
+        }
+        Ok(Stopped {
+            position: position + 1,
+            reason: Reason::Step,
+        })
+    }
+
+    // The pc of a thread at a position that isn't below its own.
+    fn pc_at<H: Hands>(&mut self, hands: &H, thread: u32, position: u64) -> Result<u32, AllocError>
+        requires thread { thread < threads_of self.old.stub.desk.fitted }
+        requires within { (position_of self.old.stub thread ≤ position) × (position ≤ last_of self.old.stub.desk.fitted thread) }
+        ensures stub { self.new.stub ≡ spoken self.old.stub }
+        ensures pc { IfOk result (λ pc. EachRun self.old.stub.desk.fitted (λ run. pc ≡ (thread_at self.old.stub.desk.fitted run thread position).core.pc)) }
+    {
+        self.speak();
+        let cut = self.cut_ahead(hands.alloc(), thread, position)?;
+        self.debugger.visit(hands, &cut)?;
+        let pc = self.visited(&cut, thread).mach().pc();
+        Ok(pc)
+    }
+
+    // The first position above a thread's own at which its pc isn't in a range, if there is one.
+    fn leaves<H: Hands>(
+        &mut self,
+        hands: &H,
+        thread: u32,
+        low: u32,
+        high: u32,
+    ) -> Result<Option<u64>, AllocError>
+        requires { thread < threads_of self.old.stub.desk.fitted }
+        ensures stub { self.new.stub ≡ spoken self.old.stub }
+        ensures leaves { IfOk result (λ left. EachRun self.old.stub.desk.fitted (λ run. Leaves run self.old.stub thread low high left)) }
+    {
+        self.speak();
+        let last = self.last(thread);
+        let mut position = self.position(thread);
+        'steps: while position < last {
+            position += 1;
+            let pc = self.pc_at(hands, thread, position)?;
+            if pc < low || high <= pc {
+                return Ok(Some(position));
+            }
+        }
+        Ok(None)
+    }
+
+    // Steps until pc isn't in a range, or a stop; at least one.
+    fn range<H: Hands>(
+        &mut self,
+        hands: &H,
+        thread: u32,
+        low: u32,
+        high: u32,
+        watched: bool,
+    ) -> Result<Stopped, AllocError>
+        requires { thread < threads_of self.old.stub.desk.fitted }
+        ensures stub { self.new.stub ≡ spoken self.old.stub }
+        ensures stops { IfOk result (λ to. EachRun self.old.stub.desk.fitted (λ run. RangesTo run self.old.stub thread low high watched to)) }
+        ensures within { IfOk result (λ to. to.position ≤ last_of self.old.stub.desk.fitted thread) }
+    {
+        let left = self.leaves(hands, thread, low, high)?;
+        self.debugger.fitted().known();
+        self.position(thread);
+        let last = self.last(thread);
+        let end = after_range(last, left);
+        let here = self.here()?;
+        let points = self.upwards(hands.alloc(), thread, watched)?;
+        let points = points.as_slice();
+        let to = end.position;
+        let hit = self
+            .debugger
+            .search_up_to(hands, &here, thread, to, points)?;
+        if let Some(hit) = hit {
+            return Ok(stop_above(self.watches_if(watched), self.breaks.as_slice(), hit));
+        }
+        Ok(end)
+    }
+
+    // To the next stop.
+    fn above<H: Hands>(
+        &mut self,
+        hands: &H,
+        thread: u32,
+        watched: bool,
+    ) -> Result<Stopped, AllocError>
+        requires { thread < threads_of self.old.stub.desk.fitted }
+        ensures stub { self.new.stub ≡ spoken self.old.stub }
+        ensures stops { IfOk result (λ to. EachRun self.old.stub.desk.fitted (λ run. ContinuesTo run self.old.stub thread watched to)) }
+        ensures within { IfOk result (λ to. to.position ≤ last_of self.old.stub.desk.fitted thread) }
+    {
+        self.speak();
+        self.debugger.fitted().known();
+        let points = self.upwards(hands.alloc(), thread, watched)?;
+        let forwards = Direction::Forwards;
+        let points = points.as_slice();
+        let hit = self.debugger.search(hands, thread, forwards, points)?;
+        let last = self.last(thread);
+        Ok(end_above(self.watches_if(watched), self.breaks.as_slice(), last, hit))
+    }
+
+    // Why a thread that isn't at 0 stays where it is when it moves back: a watch hits it there.
+    fn watch_here<H: Hands>(
+        &mut self,
+        hands: &H,
+        thread: u32,
+        watched: bool,
+    ) -> Result<Option<Reason>, AllocError>
+        requires thread { thread < threads_of self.old.stub.desk.fitted }
+        requires above { 0 < position_of self.old.stub thread }
+        ensures stub { self.new.stub ≡ spoken self.old.stub }
+        ensures watch { IfOk result (λ reason. EachRun self.old.stub.desk.fitted (λ run. WatchNext run self.old.stub thread watched (position_of self.old.stub thread - 1) reason)) }
+    {
+        self.speak();
+        if self.watches_if(watched).is_empty() {
+            return Ok(None);
+        }
+        let before = self.position(thread) - 1;
+        let cut = self.cut_behind(hands.alloc(), thread, before)?;
+        self.watch_next(hands, &cut, thread, watched)
+    }
+
+    // One step back.
+    fn back<H: Hands>(
+        &mut self,
+        hands: &H,
+        thread: u32,
+        watched: bool,
+    ) -> Result<Stopped, AllocError>
+        requires { thread < threads_of self.old.stub.desk.fitted }
+        ensures stub { self.new.stub ≡ spoken self.old.stub }
+        ensures stops { IfOk result (λ to. EachRun self.old.stub.desk.fitted (λ run. StepsBackTo run self.old.stub thread watched to)) }
+        ensures within { IfOk result (λ to. to.position ≤ last_of self.old.stub.desk.fitted thread) }
+    {
+        let position = self.position(thread);
+        if position == 0 {
+            self.speak();
+            let reason = Reason::Begin;
+            return Ok(Stopped { position, reason });
+        }
+        if let Some(reason) = self.watch_here(hands, thread, watched)? {
+            return Ok(Stopped { position, reason });
+        }
+        Ok(Stopped {
+            position: position - 1,
+            reason: Reason::Step,
+        })
+    }
+
+    // The stop that is found downwards.
+    #[tactic(auto, using(crate::proofs::Bounds::below_within))]
+    fn found_below<H: Hands>(
+        &mut self,
+        hands: &H,
+        thread: u32,
+        watched: bool,
+    ) -> Result<Stopped, AllocError>
+        requires { thread < threads_of self.old.stub.desk.fitted }
+        ensures stub { self.new.stub ≡ spoken self.old.stub }
+        ensures stops { IfOk result (λ to. EachRun self.old.stub.desk.fitted (λ run. StopsBelow run self.old.stub thread watched to)) }
+        ensures within { IfOk result (λ to. to.position ≤ last_of self.old.stub.desk.fitted thread) }
+    {
+        self.speak();
+        self.debugger.fitted().known();
+        let points = points_downwards(hands.alloc(), thread, self.halts(watched))?;
+        let backwards = Direction::Backwards;
+        let points = points.as_slice();
+        let hit = self.debugger.search(hands, thread, backwards, points)?;
+        Ok(end_below(self.watches_if(watched), self.breaks.as_slice(), hit))
+    }
+
+    // Back to the stop before.
+    fn below<H: Hands>(
+        &mut self,
+        hands: &H,
+        thread: u32,
+        watched: bool,
+    ) -> Result<Stopped, AllocError>
+        requires { thread < threads_of self.old.stub.desk.fitted }
+        ensures stub { self.new.stub ≡ spoken self.old.stub }
+        ensures stops { IfOk result (λ to. EachRun self.old.stub.desk.fitted (λ run. ContinuesBackTo run self.old.stub thread watched to)) }
+        ensures within { IfOk result (λ to. to.position ≤ last_of self.old.stub.desk.fitted thread) }
+    {
+        let position = self.position(thread);
+        if position == 0 {
+            self.speak();
+            let reason = Reason::Begin;
+            return Ok(Stopped { position, reason });
+        }
+        if let Some(reason) = self.watch_here(hands, thread, watched)? {
+            return Ok(Stopped { position, reason });
+        }
+        self.found_below(hands, thread, watched)
+    }
+
+    // Where a thread stops that continues in a direction.
+    pub fn continued<H: Hands>(
+        &mut self,
+        hands: &H,
+        thread: u32,
+        direction: Direction,
+        watched: bool,
+    ) -> Result<Stopped, AllocError>
+        requires { thread < threads_of self.old.stub.desk.fitted }
+        ensures stub { self.new.stub ≡ spoken self.old.stub }
+        ensures stops { IfOk result (λ to. EachRun self.old.stub.desk.fitted (λ run. GoesTo direction run self.old.stub thread watched to)) }
+        ensures within { IfOk result (λ to. to.position ≤ last_of self.old.stub.desk.fitted thread) }
+    {
+        match direction {
+            Direction::Forwards => self.above(hands, thread, watched),
+            Direction::Backwards => self.below(hands, thread, watched),
+        }
+    }
+
+    // Where a thread stops that moves alone.
+    pub fn stop_of<H: Hands>(
+        &mut self,
+        hands: &H,
+        thread: u32,
+        motion: Motion,
+    ) -> Result<Stopped, AllocError>
+        requires { thread < threads_of self.old.stub.desk.fitted }
+        ensures stub { self.new.stub ≡ spoken self.old.stub }
+        ensures stops { IfOk result (λ to. EachRun self.old.stub.desk.fitted (λ run. MovesTo run self.old.stub thread motion to)) }
+        ensures within { IfOk result (λ to. to.position ≤ last_of self.old.stub.desk.fitted thread) }
+    {
+        match motion {
+            Motion::Step => self.step(hands, thread, true),
+            Motion::Range(low, high) => self.range(hands, thread, low, high, true),
+            Motion::Continue => self.above(hands, thread, true),
+            Motion::StepBack => self.back(hands, thread, true),
+            Motion::ContinueBack => self.below(hands, thread, true),
+        }
+    }
+}

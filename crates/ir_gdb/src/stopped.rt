@@ -1,0 +1,141 @@
+//! Where threads stop.
+
+ghost use Rattle.std.specs.Prelude.{◌≡◌, true, IsTrue, ◌↔◌, None, option_map};
+ghost use Rattle.ir_gdb.specs.Stops.{stop_above, stop_below, after_range, end_above, end_below, watch_reason, break_reason, is_hit};
+
+use crate::point::{Breakpoint, Watched};
+use ir_command::Hit;
+use ir_packet::Reason;
+
+/// A position, and why a thread stops there.
+#[derive(Clone, Copy, Debug, PartialEq, Eq)]
+pub struct Stopped {
+    pub position: u64,
+    pub reason: Reason,
+}
+
+/// The stop that gdb was told last.
+#[derive(Clone, Copy, Debug, PartialEq, Eq)]
+pub struct Told {
+    /// Whether gdb interrupted it.
+    pub interrupted: bool,
+    pub thread: u32,
+    pub reason: Reason,
+}
+
+/// The thread that moves, and whether the others may be stopped at their hits.
+#[derive(Clone, Copy, Debug, PartialEq, Eq)]
+pub struct Moving {
+    pub thread: u32,
+    pub among: bool,
+}
+
+/// Whether a thread stops there at a hit, and not because its run has no step more in this direction.
+pub fn is_hit(reason: Reason) -> bool
+    ensures { result ≡ is_hit reason }
+{
+    !matches!(reason, Reason::End | Reason::Begin)
+}
+
+/// Why a thread stops at the watch of a number; without one at a point of the session.
+pub fn watch_reason(watches: &[Watched], number: usize) -> Reason
+    ensures { result ≡ watch_reason watches.now number }
+{
+    if number < watches.len() {
+        return Reason::Watch(watches[number].address);
+    }
+    Reason::Step
+}
+
+/// Why a thread stops at the watch that a search finds; none if it finds none.
+pub fn reason_of_hit(watches: &[Watched], hit: Option<Hit>) -> Option<Reason>
+    ensures { result ≡ option_map (λ hit. watch_reason watches.now hit.number) hit }
+{
+    Some(watch_reason(watches, hit?.number as usize))
+}
+
+/// Why a thread stops at the breakpoint of a number; without one at a point of the session.
+pub fn break_reason(breaks: &[Breakpoint], number: usize) -> Reason
+    ensures { result ≡ break_reason breaks.now number }
+{
+    if number >= breaks.len() {
+        return Reason::Step;
+    }
+    if breaks[number].hardware {
+        Reason::HardwareBreak
+    } else {
+        Reason::SoftwareBreak
+    }
+}
+
+/// Where a search upwards stops: a watch before the step that changes its word.
+pub fn stop_above(watches: &[Watched], breaks: &[Breakpoint], hit: Hit) -> Stopped
+    ensures { result ≡ stop_above watches.now breaks.now hit }
+{
+    let number = hit.number as usize;
+    let position = hit.position;
+    if number < watches.len() {
+        return Stopped {
+            position: position.saturating_sub(1),
+            reason: watch_reason(watches, number),
+        };
+    }
+    let reason = break_reason(breaks, number - watches.len());
+    Stopped { position, reason }
+}
+
+/// Where a search downwards stops: a watch after that step.
+pub fn stop_below(watches: &[Watched], breaks: &[Breakpoint], hit: Hit) -> Stopped
+    ensures { result ≡ stop_below watches.now breaks.now hit }
+{
+    let number = hit.number as usize;
+    let position = hit.position;
+    if number < breaks.len() {
+        let reason = break_reason(breaks, number);
+        return Stopped { position, reason };
+    }
+    let reason = watch_reason(watches, number - breaks.len());
+    Stopped { position, reason }
+}
+
+/// Where a search upwards ends, by the hit that it finds.
+pub fn end_above(watches: &[Watched], breaks: &[Breakpoint], last: u64, hit: Option<Hit>) -> Stopped
+    ensures { result ≡ end_above watches.now breaks.now last hit }
+{
+    match hit {
+        Some(hit) => stop_above(watches, breaks, hit),
+        None => Stopped {
+            position: last,
+            reason: Reason::End,
+        },
+    }
+}
+
+/// Where a thread stops that no point stops in a range of addresses, by the position at which it leaves the range.
+pub fn after_range(last: u64, left: Option<u64>) -> Stopped
+    ensures { result ≡ after_range last left }
+{
+    match left {
+        Some(position) => Stopped {
+            position,
+            reason: Reason::Step,
+        },
+        None => Stopped {
+            position: last,
+            reason: Reason::End,
+        },
+    }
+}
+
+/// Where a search downwards ends.
+pub fn end_below(watches: &[Watched], breaks: &[Breakpoint], hit: Option<Hit>) -> Stopped
+    ensures { result ≡ end_below watches.now breaks.now hit }
+{
+    match hit {
+        Some(hit) => stop_below(watches, breaks, hit),
+        None => Stopped {
+            position: 0,
+            reason: Reason::Begin,
+        },
+    }
+}

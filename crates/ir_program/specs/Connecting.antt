@@ -1,0 +1,40 @@
+-- What a connection of gdb leaves of its reader and its writer, and of where faults are reported.
+use Rattle.std.specs.Prelude.{◌≡◌, ℕ, true, false, List, IfSome, Result, Ok, Err}
+use Rattle.std.specs.Io.KnownBytes.{Appends}
+use Rattle.ir_stream.specs.Devices.{Reads, AppendsPrefix}
+use Rattle.ir_debug.specs.Session.{most_input, IfRefused}
+use Rattle.ir_debug.specs.declared.ended.Ended.{Ended}
+use Rattle.ir_debug.specs.declared.ended.SessionErr.{SessionErr}
+use Rattle.ir_debug.specs.declared.ended.SessionErr.TheVariants as session
+use Rattle.ir_gdb.specs.Session.{Connected, Announced, AnsweredWhole, AnsweredInPart, IfNotRefused}
+use Rattle.ir_program.specs.Taking.{Reader}
+use Rattle.ir_files.specs.Writers.{Writer}
+
+-- neither the reader nor the writer has failed, and the bytes that were read led to this result and to what was written
+pub record Led (image trace : List ℕ) (result : Result Ended SessionErr) (reader : Reader) (writer : Writer) : Type 0 where
+  pub reads : reader.failed ≡ false
+  pub writes : writer.failed ≡ false
+  pub known : IfSome reader.before (Connected image trace result writer.before writer.after)
+  pub served : Reads most_input reader.before reader.after (Connected image trace result writer.before writer.after)
+
+-- these lines were announced, or a part of them where that has failed
+abbrev pub TookOrFailed : Writer → List ℕ → Type 0
+TookOrFailed faults text = AppendsPrefix faults.before faults.after text
+    × (faults.failed ≡ false → Appends faults.before faults.after text)
+
+-- A connection that ended so; `untouched` says that the reader and the writer are as they were, and `unreported` that no fault was reported. If
+-- nothing was opened, why is announced.
+pub record Closed (image trace : List ℕ) (ended : Ended) (reader : Reader) (writer faults : Writer) (untouched unreported : Type 0) : Type 0 where
+  pub led : Led image trace (Ok ended) reader writer
+  pub unread : IfRefused (Ok ended) untouched
+  pub announced : IfRefused (Ok ended) (Announced image trace (Ok ended) (TookOrFailed faults))
+  pub quiet : IfNotRefused (Ok ended) unreported
+
+-- what a fault of a connection leaves
+abbrev pub Stopped : List ℕ → List ℕ → SessionErr → Reader → Writer → Type 0 → Type 0
+Stopped image trace session.NoMem reader writer untouched = untouched
+Stopped image trace session.Read reader writer untouched = (reader.failed ≡ true) × (writer.failed ≡ false)
+    × Reads most_input reader.before reader.after (AnsweredWhole image trace writer.before writer.after)
+Stopped image trace session.Write reader writer untouched = (reader.failed ≡ false) × (writer.failed ≡ true)
+    × Reads most_input reader.before reader.after (AnsweredInPart image trace writer.before writer.after)
+Stopped image trace session.TooLong reader writer untouched = Led image trace (Err session.TooLong) reader writer

@@ -1,0 +1,52 @@
+//! gdb's protocol over an image and a trace.
+
+ghost use Rattle.std.specs.Prelude.{◌≡◌, ◌≢◌, false};
+ghost use Rattle.ir_program.specs.Bundle.{status_of, fault_words};
+ghost use Rattle.ir_program.specs.Connecting.{Closed, Stopped};
+ghost use Rattle.ir_program.specs.Leaving.{fault_of};
+ghost use Rattle.ir_program.specs.Taking.{reader_of};
+ghost use Rattle.ir_files.specs.Writers.{writer_of, Reports, fault_text};
+ghost use Rattle.ir_files.specs.declared.exit_status.ExitStatus.TheVariants.{Failed};
+ghost use Rattle.ir_debug.specs.declared.ended.Ended.{Ended};
+ghost use Rattle.ir_debug.specs.declared.ended.SessionErr.{SessionErr};
+
+use crate::bundles::status;
+use crate::fault::BundleErr;
+use ir_debug::{Sink, Source};
+use ir_files::{ExitStatus, tell};
+use ir_gdb::connect;
+use ir_object::Hands;
+
+/// Answers the packets of the reader about the run of an image and a trace, and gives the exit status: that of the connection if it ended,
+/// and `Failed` for a fault, which is reported in one line.
+pub fn gdb_run<H: Hands, R: Source, W: Sink, E: Sink>(
+    hands: &H,
+    image: &[u8],
+    trace: &[u8],
+    reader: &mut R,
+    writer: &mut W,
+    faults: &mut E,
+) -> ExitStatus
+    requires reads { R.broken reader.old ≡ false }
+    requires writes { W.broken writer.old ≡ false }
+    requires reports { E.broken faults.old ≡ false }
+    // The status of a connection that ended, with the replies to the packets that were read.
+    ensures ended { result ≢ Failed → (e : Ended) × (result ≡ status_of e) × Closed image.now trace.now e
+        (reader_of (R.left reader.old) (R.left reader.new) (R.broken reader.new))
+        (writer_of (W.written writer.old) (W.written writer.new) (W.broken writer.new))
+        (writer_of (E.written faults.old) (E.written faults.new) (E.broken faults.new))
+        ((reader.new ≡ reader.old) × (writer.new ≡ writer.old)) (faults.new ≡ faults.old) }
+    // Else what stopped it, what that leaves, and that it is reported.
+    ensures stopped { result ≡ Failed → (e : SessionErr) × Stopped image.now trace.now e
+        (reader_of (R.left reader.old) (R.left reader.new) (R.broken reader.new))
+        (writer_of (W.written writer.old) (W.written writer.new) (W.broken writer.new)) ((reader.new ≡ reader.old) × (writer.new ≡ writer.old))
+        × Reports (writer_of (E.written faults.old) (E.written faults.new) (E.broken faults.new)) (fault_text (fault_words (fault_of e))) }
+{
+    match connect(hands, image, trace, reader, writer, faults) {
+        Ok(ended) => status(ended),
+        Err(error) => {
+            tell(faults, BundleErr::from(error).words());
+            ExitStatus::Failed
+        }
+    }
+}

@@ -1,0 +1,385 @@
+#!/usr/bin/env python3
+"""`ir explore` against a judge that takes each step of each thread, and against counts that are known on paper.
+
+python3 tests/exploring.py IR [--guests N] [--seed S]
+
+The judge is written anew here, for guests of a few operations: from each state it takes the next operation of each thread, and merges nothing
+but equal states. It says which outcomes there are, and by how many switches at least. Each order that `ir explore` prints is recorded, and a
+session says what that run comes to. The last line is `N passed, M failed`.
+"""
+import random
+import re
+import subprocess
+import sys
+import tempfile
+from collections import deque
+from pathlib import Path
+from typing import NamedTuple
+
+from lib import Wrong, assembled, examples, finish, parser_of, recorded, run, said, use, wants
+
+WORDS = 8
+REGISTERS = ("s0", "s1", "s2")
+CALLS = {"enter_read": 7, "enter_write": 8, "leave": 9, "get": 10, "put": 11, "print": 2, "end": 1}
+
+
+class Thread(NamedTuple):
+    """A thread of the judge: its next operation, its registers, what it holds, what it printed, and its end and code."""
+
+    at: int
+    registers: tuple
+    held: tuple
+    printed: bytes
+    ended: tuple
+
+
+START = Thread(0, (0,) * len(REGISTERS), (), b"", ())
+
+
+def ecall(call, *arguments):
+    """The lines of a call."""
+    return [f"        addi a{place}, {value}" for place, value in enumerate(arguments)] + [f"        addi a7, zero, {CALLS[call]}", "        ecall"]
+
+
+def lines_of(operation, label):
+    """An operation in assembly; a jump goes to the label of the operation that it names."""
+    match operation:
+        case ("set", register, value):
+            return [f"        addi {REGISTERS[register]}, zero, {value}"]
+        case ("add", register, value):
+            return [f"        addi {REGISTERS[register]}, {REGISTERS[register]}, {value}"]
+        case ("skip", register, value, to):
+            return [f"        addi t0, zero, {value}", f"        beq {REGISTERS[register]}, t0, {label}{to}"]
+        case ("get", thing, index, register):
+            return ecall("get", f"zero, {thing}", f"zero, {index}") + [f"        addi {REGISTERS[register]}, a0, 0"]
+        case ("put", thing, index, register):
+            return ecall("put", f"zero, {thing}", f"zero, {index}", f"{REGISTERS[register]}, 0")
+        case ("print" | "end" as call, register):
+            return ecall(call, f"{REGISTERS[register]}, 0")
+        case (call, thing):
+            return ecall(call, f"zero, {thing}")
+    raise ValueError(operation)
+
+
+def source_of(threads, objects):
+    """The guest in assembly. A thread that comes to the end of its operations ends with code 0."""
+    lines = [f"        .objects {objects}"] + [f"        .thread t{thread}x0" for thread in range(len(threads))]
+    for thread, operations in enumerate(threads):
+        for at, operation in enumerate(operations):
+            lines += [f"t{thread}x{at}:", *lines_of(operation, f"t{thread}x")]
+        lines += [f"t{thread}x{len(operations)}:", *ecall("end", "zero, 0")]
+    return "\n".join(lines) + "\n"
+
+
+# The judge.
+
+
+def may_enter(threads, thing, access):
+    """Whether nobody is in the object who keeps such an entry out."""
+    return all(held != thing or (access == "enter_read" and how == "enter_read") for thread in threads for held, how in thread.held)
+
+
+def fault(thread, end):
+    """The thread with an end that isn't asked for."""
+    return thread._replace(ended=(end, 0))
+
+
+def put_word(words, place, value):
+    """The words with one that is another."""
+    return words[:place] + (value,) + words[place + 1:]
+
+
+def entered(threads, t, thing, access):
+    """The thread behind its entry, or none while it waits."""
+    thread = threads[t]
+    if any(held >= thing for held, _ in thread.held):
+        return fault(thread, 10)
+    if not may_enter(threads, thing, access):
+        return None
+    return thread._replace(at=thread.at + 1, held=thread.held + ((thing, access),))
+
+
+def own(thread, operation):
+    """The thread behind an operation of its own."""
+    registers, on = thread.registers, thread._replace(at=thread.at + 1)
+    match operation:
+        case ("set", register, value):
+            return on._replace(registers=put_word(registers, register, value % 2**32))
+        case ("add", register, value):
+            return on._replace(registers=put_word(registers, register, (registers[register] + value) % 2**32))
+        case ("skip", register, value, to):
+            return thread._replace(at=to) if registers[register] == value % 2**32 else on
+        case ("print", register):
+            return on._replace(printed=thread.printed + bytes([registers[register] % 256]))
+        case ("end", register):
+            return thread._replace(ended=(1, registers[register]))
+    raise ValueError(operation)
+
+
+def shared(thread, words, operation):
+    """The thread and the words behind an operation on an object that it may hold."""
+    thing, on = operation[1], thread._replace(at=thread.at + 1)
+    held = dict(thread.held)
+    if thing not in held or (operation[0] == "put" and held[thing] == "enter_read"):
+        return fault(thread, 11), words
+    match operation:
+        case ("leave", _):
+            return on._replace(held=tuple(row for row in thread.held if row[0] != thing)), words
+        case ("get", _, index, register):
+            return on._replace(registers=put_word(thread.registers, register, words[thing * WORDS + index])), words
+        case ("put", _, index, register):
+            return on, put_word(words, thing * WORDS + index, thread.registers[register])
+    raise ValueError(operation)
+
+
+def after(guest, state, t):
+    """The state behind the next operation of a thread and whether it was an entry, or none where it has none or waits."""
+    threads, words = state
+    thread = threads[t]
+    if thread.ended:
+        if not thread.held:
+            return None
+        thread, is_entry = thread._replace(held=tuple(sorted(thread.held)[:-1])), False
+    else:
+        operation = guest[t][thread.at] if thread.at < len(guest[t]) else None
+        is_entry = operation is not None and operation[0].startswith("enter")
+        if operation is None:
+            thread = thread._replace(ended=(1, 0))
+        elif is_entry:
+            thread = entered(threads, t, operation[1], operation[0])
+            if thread is None:
+                return None
+            is_entry = not thread.ended
+        elif operation[0] in ("leave", "get", "put"):
+            thread, words = shared(thread, words, operation)
+        else:
+            thread = own(thread, operation)
+    return (threads[:t] + (thread,) + threads[t + 1:], words), is_entry
+
+
+def outcome_of(state):
+    """What is left of a state in which all are done."""
+    threads, words = state
+    return tuple((*thread.ended, thread.printed) for thread in threads), words
+
+
+def hang_of(least, before, done):
+    """The fewest switches to a state from which no run comes to an end, or none if there is no such state."""
+    ways, queue = set(done), deque(done)
+    while queue:
+        for state in before.get(queue.popleft(), ()):
+            if state not in ways:
+                ways.add(state)
+                queue.append(state)
+    return min((switches for (state, _), switches in least.items() if state not in ways), default=None)
+
+
+def judged(guest, objects):
+    """Each outcome, with the fewest switches that lead to it; and the fewest switches to a hang, or none."""
+    start = ((START,) * len(guest), (0,) * (WORDS * objects))
+    least, found, queue = {(start, None): 0}, {}, deque([(start, None)])
+    before, done = {}, set()
+    while queue:
+        state, last = queue.popleft()
+        switches, is_done = least[state, last], True
+        for t in range(len(guest)):
+            step = after(guest, state, t)
+            if step is None:
+                continue
+            is_done = False
+            on, is_entry = step
+            before.setdefault(on, set()).add(state)
+            node = (on, t if is_entry else last)
+            more = is_entry and last not in (None, t)
+            if node not in least or switches + more < least[node]:
+                least[node] = switches + more
+                (queue.append if more else queue.appendleft)(node)
+        if is_done:
+            done.add(state)
+            outcome = outcome_of(state)
+            found[outcome] = min(found.get(outcome, switches), switches)
+    return found, hang_of(least, before, done)
+
+
+# What the program says.
+
+
+class Listed(NamedTuple):
+    """An outcome that is listed: its switches, its order, what the threads and the objects come to."""
+
+    switches: int
+    order: str
+    threads: tuple
+    words: tuple
+
+
+def listed(lines, objects):
+    """The outcomes that `ir explore` printed, and its last line."""
+    found, threads, words, at = [], [], {}, None
+    for line in [*lines, "outcome 0 switches 0 order -"]:
+        if head := re.fullmatch(r"outcome (\d+) switches (\d+) order (\S+)", line):
+            if at:
+                every = tuple(word for thing in range(objects) for word in words.get(thing, (0,) * WORDS))
+                found.append(Listed(int(at[2]), at[3], tuple(map(tuple, threads)), every))
+            at, threads, words = head, [], {}
+        elif thread := re.fullmatch(r"thread (\d+) end (\d+) code (\d+) out (\d+)", line):
+            threads.append([int(thread[2]), int(thread[3]), b""])
+        elif thing := re.fullmatch(r"object (\d+) words ([0-9a-f ]+)", line):
+            words[int(thing[1])] = tuple(int(word, 16) for word in thing[2].split())
+        elif re.fullmatch(r"[0-9a-f]+", line):
+            threads[-1][2] += bytes.fromhex(line)
+    return found, lines[-1]
+
+
+def explored(folder, name, more=()):
+    """What `ir explore` prints of an image, and its status."""
+    ended = run(["explore", f"{name}.img", *more], folder)
+    return ended.stdout.decode().splitlines(), ended
+
+
+def check_order(folder, name, row, threads, objects):
+    """The order of an outcome, recorded: a session says what that run comes to."""
+    recorded(folder, name, row.order)
+    lines = said(folder, name, ["end", *(f"out {t}" for t in range(threads)), *(f"obj {o}" for o in range(objects))]).decode().splitlines()
+    wants(f"{name} in order {row.order}", lines[0], "ready")
+    printed = re.findall(r"^out (\d+)((?:\n[0-9a-f]+)*)", "\n".join(lines), re.M)
+    wants(f"output in order {row.order}", [bytes.fromhex(text.replace("\n", "")) for _, text in printed], [out for _, _, out in row.threads])
+    words = tuple(int(word, 16) for line in lines if line.startswith("words ") for word in line.split()[1:])
+    wants(f"words in order {row.order}", words, row.words)
+
+
+def check_guest(folder, guest, objects):
+    """A guest by the judge, by the program, and each order of the program in a session."""
+    assembled(folder, "guest", source_of(guest, objects))
+    lines, ended = explored(folder, "guest")
+    if ended.returncode:
+        raise Wrong(f"{guest}: {ended!r}")
+    found, last = listed(lines, objects)
+    wanted, hang = judged(guest, objects)
+    told = {(row.threads, row.words): row.switches for row in found}
+    if told != wanted or len(told) != len(found):
+        raise Wrong(f"{guest}: the program lists {told}, the judge {wanted}")
+    if [row.switches for row in found] != sorted(row.switches for row in found):
+        raise Wrong(f"{guest}: switches don't rise")
+    hangs = [int(line.split()[2]) for line in lines if line.startswith("hang ")]
+    many = "0" if hang is None else r"[1-9]\d*"
+    if hangs != ([] if hang is None else [hang]) or not re.fullmatch(rf"finished outcomes {len(found)} states \d+ hangs {many}", last):
+        raise Wrong(f"{guest}: hangs after {hangs} switches, wanted {hang}, and the last line is {last!r}")
+    for row in found:
+        check_order(folder, "guest", row, len(guest), objects)
+
+
+def section(chance, objects):
+    """An entry with what is done in it: words that are got and put, another entry, a leave that may be missing."""
+    thing, access = chance.randrange(objects), chance.choice(("enter_read", "enter_write", "enter_write"))
+    operations = [(access, thing)]
+    for _ in range(chance.randint(1, 3)):
+        register, index = chance.randrange(len(REGISTERS)), chance.randrange(2)
+        may_put = access == "enter_write" or chance.random() < 0.03
+        operations.append(("put", thing, index, register) if may_put and chance.random() < 0.6 else ("get", thing, index, register))
+    if thing + 1 < objects and chance.random() < 0.3:
+        operations += [("enter_write", thing + 1), ("put", thing + 1, 0, chance.randrange(len(REGISTERS))), ("leave", thing + 1)]
+    if chance.random() < 0.95:
+        operations.append(("leave", thing))
+    return operations
+
+
+def random_thread(chance, objects):
+    """A thread of a few sections, with operations of its own in between."""
+    operations = [("set", 0, chance.randint(0, 3))]
+    for _ in range(chance.randint(1, 3)):
+        operations += section(chance, objects)
+        kind, register = chance.random(), chance.randrange(len(REGISTERS))
+        if kind < 0.4:
+            operations.append(("add", register, chance.randint(-2, 2)))
+        elif kind < 0.6:
+            operations.append(("print", register))
+    if chance.random() < 0.5:
+        operations.append(("end", chance.randrange(len(REGISTERS))))
+    if chance.random() < 0.5:
+        at = chance.randrange(1, len(operations))
+        operations.insert(at, ("skip", chance.randrange(len(REGISTERS)), chance.randint(0, 2), chance.randint(at + 1, len(operations) + 1)))
+    return operations
+
+
+def random_guest(chance):
+    """Two or three threads over one or two objects."""
+    objects = chance.randint(1, 2)
+    return [random_thread(chance, objects) for _ in range(chance.randint(2, 3))], objects
+
+
+# Counts that are known on paper.
+
+
+def entries(access, thing, count, inside=()):
+    """A thread that enters an object so often, and does this inside."""
+    return [operation for _ in range(count) for operation in ((access, thing), *inside, ("leave", thing))]
+
+
+ROUND = [("enter_read", 0), ("get", 0, 0, 0), ("leave", 0), ("add", 0, 1), ("enter_write", 0), ("put", 0, 0, 0), ("leave", 0)]
+# Name, threads, objects, outcomes, states.
+ON_PAPER = [
+    *((f"{n} threads of {k} entries of own objects", [entries("enter_write", t, k) for t in range(n)], n, 1, (k + 1) ** n)
+      for n, k in ((1, 3), (2, 2), (3, 2), (3, 3))),
+    *((f"{n} threads of {k} entries for writing of one object", [entries("enter_write", 0, k)] * n, 1, 1, (k + 1) ** n)
+      for n, k in ((2, 2), (3, 2), (4, 2))),
+    *((f"{n} threads of {k} entries for reading of one object", [entries("enter_read", 0, k)] * n, 1, 1, (k + 1) ** n) for n, k in ((2, 3), (3, 2))),
+    *((f"a writer and {r} readers that tell what they saw",
+       [[("set", 0, 1), *entries("enter_write", 0, 1, [("put", 0, 0, 0)])], *[[*entries("enter_read", 0, 1, [("get", 0, 0, 0)]), ("print", 0)]] * r],
+       1, 2**r, None) for r in (1, 2, 3)),
+    *((f"a lost update of {n} threads, {k} rounds each", [ROUND * k] * n, 1, n if k == 1 else n * k - 1, None)
+      for n, k in ((2, 1), (3, 1), (2, 2), (2, 3))),
+]
+
+
+# A thread sleeps until word 2 is 1, unless word 0 is 1 already. The other sets word 0, and word 2 only if it sees in word 1 that one sleeps. The
+# wake-up is lost if it comes between.
+LOST_WAKE_UP = [
+    [*entries("enter_read", 0, 1, [("get", 0, 0, 0)]), ("skip", 0, 1, 12), ("set", 1, 1), *entries("enter_write", 0, 1, [("put", 0, 1, 1)]),
+     *entries("enter_read", 0, 1, [("get", 0, 2, 2)]), ("skip", 2, 0, 8)],
+    [("set", 0, 1), ("enter_write", 0), ("put", 0, 0, 0), ("get", 0, 1, 1), ("skip", 1, 0, 6), ("put", 0, 2, 0), ("leave", 0)],
+]
+
+
+def check_on_paper(folder, row):
+    """A guest whose counts are known."""
+    name, guest, objects, outcomes, states = row
+    assembled(folder, "paper", source_of(guest, objects))
+    lines, ended = explored(folder, "paper")
+    wanted = rf"finished outcomes {outcomes} states {states or '[0-9]+'} hangs 0"
+    if ended.returncode or not re.fullmatch(wanted, lines[-1]):
+        raise Wrong(f"{name}: {ended!r}, wanted {wanted}")
+
+
+def check_examples(folder):
+    """The examples of the documentation."""
+    for name, outcomes, states in (("lost_update", 2, 12), ("two_locks", 1, 8), ("counter", 1, 16)):
+        assembled(folder, name, examples()[name])
+        lines, _ = explored(folder, name)
+        wants(name, lines[-1], f"finished outcomes {outcomes} states {states} hangs 0")
+
+
+def main():
+    parser = parser_of(__doc__)
+    parser.add_argument("--guests", type=int, default=500, help="how many random guests")
+    parser.add_argument("--seed", type=int, default=1, help="the seed of the guests")
+    asked = parser.parse_args()
+    use(asked.program)
+    chance, passed, failed = random.Random(asked.seed), 0, 0
+    with tempfile.TemporaryDirectory() as place:
+        folder = Path(place)
+        checks = [lambda: check_examples(folder), lambda: check_guest(folder, LOST_WAKE_UP, 1),
+                  *(lambda row=row: check_on_paper(folder, row) for row in ON_PAPER),
+                  *(lambda: check_guest(folder, *random_guest(chance)) for _ in range(asked.guests))]
+        for check in checks:
+            try:
+                check()
+                passed += 1
+            except (Wrong, subprocess.TimeoutExpired) as wrong:
+                failed += 1
+                print(wrong, flush=True)
+    sys.exit(finish(passed, failed))
+
+
+if __name__ == "__main__":
+    main()

@@ -1,0 +1,461 @@
+#!/usr/bin/env python3
+"""Sessions of a real gdb over `ir gdb`: guests from C are compiled, recorded and debugged, forwards and backwards.
+
+python3 tests/gdb_sessions.py IR [SESSION ..]
+
+Needs gdb-multiarch and riscv64-unknown-elf-gcc. If one isn't installed nothing is tested, and the status is 0. Runs each session in turn,
+or only those that are named. The last line is `N passed, M failed`.
+"""
+import os
+import pty
+import re
+import select
+import shutil
+import subprocess
+import sys
+import tempfile
+import time
+from dataclasses import dataclass
+from pathlib import Path
+
+from lib import TOP, Wrong, finish, program, run, use
+
+GDB = "gdb-multiarch"
+GCC = "riscv64-unknown-elf-gcc"
+GUESTS = TOP / "tests" / "gdb_guests"
+
+# Each guest, and how it is recorded.
+RECORDED = {
+    "over": (),
+    "lost": ("--order", "0x41,1x400,2x34"),
+    "objs": ("--order", "0x9,1x200"),
+    "busy": ("--budget", "10000000"),
+}
+
+
+@dataclass
+class Session:
+    """Lines for gdb, and what has to be in its output, in this order (regular expressions)."""
+
+    guest: str
+    lines: list
+    wanted: list
+    # Whether a move is of one thread alone.
+    locked: bool = True
+    target: str = "remote"
+
+
+SESSIONS = {
+    "01-break": Session(
+        "over",
+        ["break fill", "continue", "bt", "info locals", "print table", "print label", "print/x wide", "x/2i $pc"],
+        [r"hit Breakpoint 1, fill \(last=4\) at .*over.c:16", r"#0 .*fill \(last=4\)", r"#1 .*in filler_body \(\) at .*over.c:34", "i = ",
+         r"\{scores = \{0, 0, 0, 0\}, limit = 100\}", '"abcdefg"', "0x1$", r"=> 0x\w+ <fill\+\d+>:\s+sw\s+zero,-20\((fp|s0)\)"],
+    ),
+    "02-step": Session(
+        "over",
+        ["tbreak filler_body", "continue", "next", "until", "advance square", "finish", "next", "step", "up"],
+        [r"filler_body \(\) at .*over.c:31", "^32\t", "^33\t", r"square \(x=0\) at .*over.c:10", r"Run till exit|Value returned is \$1 = 0", "18\t",
+         r"fill \(last=4\) at .*over.c:16|^16\t", r"filler_body \(\) at .*over.c:34"],
+    ),
+    "03-reverse-step": Session(
+        "over",
+        ["tbreak over.c:37", "continue", "reverse-next", "tbreak over.c:11", "reverse-continue", "reverse-finish", "reverse-next", "reverse-stepi",
+         "stepi", "tbreak sum", "reverse-continue", "bt"],
+        [r"filler_body \(\) at .*over.c:37", "^36\t", r"square \(x=4\) at .*over.c:11", r"fill \(last=4\) at .*over.c:17|17\t", r"^1\d\t", r"^0x|^1\d\t",
+         r"sum \(n=0\)", r"#4 .*filler_body"],
+    ),
+    "04-who-wrote": Session(
+        "over",
+        ["continue", "print table.limit", "watch table.limit", "reverse-continue", "bt", "print i", "print last", "continue", "reverse-continue",
+         "reverse-continue"],
+        ["No more reverse-execution history", "= 16", "Hardware watchpoint 1: table.limit", "Old value = 16", "New value = 100",
+         r"0x\w+ in fill \(last=4\) at .*over.c:17", r"#1 .*filler_body \(\)", "= 4", "= 4", "Old value = 100", "New value = 16", "over.c:18",
+         "Old value = 16", "New value = 100", "No more reverse-execution history"],
+    ),
+    "05-local": Session(
+        "over",
+        ["tbreak over.c:37", "continue", "watch local", "reverse-continue", "reverse-continue", "continue", "continue"],
+        [r"filler_body \(\) at .*over.c:37", "Old value = 26", "New value = 13", "Old value = 13", "New value = 7", "Old value = 7", "New value = 13",
+         "Old value = 13", "New value = 26"],
+    ),
+    "06-conditions": Session(
+        "over",
+        ["break sum if n == 1", "continue", "bt", "delete", "break over.c:17", "ignore 2 3", "continue", "print i", "tbreak square if x == 2",
+         "reverse-continue", "print x"],
+        [r"hit Breakpoint 1, sum \(n=1\)", r"#3 .*filler_body", "hit Breakpoint 2, fill", "= 3", r"square \(x=2\)", "= 2"],
+    ),
+    "07-watch-sizes": Session(
+        "over",
+        ["thread 2", "print &label[2]", "watch label[2]", "watch wide", "watch *(short *)&label[3]", "continue", "continue", "continue",
+         "reverse-continue", "reverse-continue", "reverse-continue"],
+        ["Switching to thread 2", "wide", "Old value = 1", "New value = 4294967297", r"label\[2\]", "New value = 67 'C'", "Old value = 67 'C'",
+         "Old value = 4294967297", "New value = 1$"],
+    ),
+    "08-alone": Session(
+        "lost",
+        ["info threads", "break write_count", "thread 2", "continue", "thread 3", "continue", "info threads", "reverse-continue", "info threads",
+         "monitor pos"],
+        [r'\* 1 +Thread 1 "thread 0" \(at 0 of \d+\)', r'Thread 2 "thread 1" hit Breakpoint 1, write_count \(count=1\)',
+         r'Thread 3 "thread 2" hit Breakpoint 1, write_count \(count=3\)', r'1 +Thread 1 "thread 0" \(at [1-9]\d* of \d+\)',
+         r'2 +Thread 2 "thread 1" \(at [1-9]\d* of \d+\)', r'\* 3 +Thread 3 "thread 2" \(at [1-9]\d* of \d+\)', "No more reverse-execution history",
+         r"\* 3 .*\(at 0 of \d+\)", r"at [1-9]\d* [1-9]\d* 0"],
+    ),
+    "09-moved-along": Session(
+        "lost",
+        ["tbreak lost.c:24", "continue", "next", "next", "info threads"],
+        [r"adder_body \(\) at .*lost.c:24", r"2 +Thread 2 .*\(at [1-9]\d* of \d+\)", r"3 +Thread 3 .*\(at [1-9]\d* of \d+\)"],
+    ),
+    "10-together": Session(
+        "lost",
+        ["break write_count", *["continue"] * 7, *["reverse-continue"] * 7],
+        [*[r"write_count \(count=\d\)"] * 6, "No more reverse-execution history", *["hit Breakpoint"] * 6, "No more reverse-execution history"],
+        locked=False,
+    ),
+    "11-own-memory": Session(
+        "lost",
+        ["break lost.c:25 thread 2", "thread 2", "continue", "continue", "thread apply all print rounds", "thread 1", "print rounds", "thread 2",
+         "print rounds"],
+        ["Thread 2 .*lost.c:25", "Thread 2 .*lost.c:25", r"Thread 3.*\n\$1 = 0", r"Thread 2.*\n\$2 = 2", r"Thread 1.*\n\$3 = ", r"\$4 = ", r"\$5 = 2"],
+    ),
+    "12-objects": Session(
+        "objs",
+        ["thread 1", "print account[0].object", "monitor obj 0", "set can-use-hw-watchpoints 0", "watch account[0].object.balance", "continue",
+         "continue", "reverse-continue", "reverse-continue", "monitor owatch 0", "delete", "continue", "monitor log 0",
+         "set var account[0].object.balance = 5"],
+        [r"\{owner = 0, balance = 0", "version 0 left 0 readers - writer -", "Old value = 0", "New value = 10", "Old value = 10", "New value = 20",
+         "Old value = 20", "New value = 10", "No more reverse-execution history|Old value = 10", "point 1", "SIGTRAP", "log 1 of 1",
+         "Cannot access memory at address 0x80000004"],
+    ),
+    "13-read-only": Session(
+        "over",
+        ["tbreak fill", "continue", "set var table.limit = 3", "print table.limit = 4", "set var $a0 = 5", "set var $pc = 0x10000", "call square(3)",
+         "jump 37", "print table.limit", "print $pc", "continue"],
+        ["Cannot access memory at address 0x", "Cannot access memory", "Could not write register", "Could not write register",
+         "Cannot access memory|Could not write", "Could not write", "= 100", r"0x\w+ <fill\+\d+>", "No more reverse-execution history"],
+    ),
+    "14-nowhere": Session(
+        "over",
+        ["x/4xw 0x20000", "x/8xb 0x10fffc", "x/xw 0", "break *0x20000", "continue", "delete", "watch *(int *)0x10fffe", "continue", "delete",
+         "break *0x10002", "continue", "delete", "rwatch table.limit", "continue", "delete", "continue"],
+        ["Cannot access memory at address 0x20000", r"0x00\s+0x00\s+0x00\s+0x00\s+Cannot access memory at address 0x110000|0x10fffc.*\n?.*Cannot access memory at address 0x110000",
+         "Cannot access memory at address 0x0", "Cannot insert breakpoint", "Could not insert hardware watchpoint", "Cannot insert breakpoint",
+         "Could not insert hardware (read )?watchpoint|does not support", "No more reverse-execution history"],
+    ),
+    "15-run": Session(
+        "lost",
+        ["tbreak write_count", "continue", "monitor keep", "continue", "tbreak lost.c:25", "run 1", "info threads", "tbreak adder_body", "set args", "run",
+         "info threads"],
+        [r"write_count \(count=1\)", "kept 1", "No more reverse-execution history", "lost.c:25", r"\* \d .*\(at [1-9]\d* of \d+\)",
+         r"adder_body \(\) at .*lost.c:22", r"\* \d .*\(at \d+ of \d+\)"],
+        locked=False,
+        target="extended-remote",
+    ),
+    "16-monitor": Session(
+        "lost",
+        ["ir-goto 1 30", "info threads", "monitor keep", "ir-goto 0 60", "ir-load 1", "info threads"],
+        ["at 0 30 0|at [0-9]+ 30 ", r"2 .*\(at 30 of \d+\)", "kept 1", "at 60 ", r"\(at 30 of \d+\)"],
+    ),
+}
+
+
+# Packets by hand.
+
+
+def packet(payload):
+    """A payload as a packet."""
+    return b"$" + payload + b"#%02x" % (sum(payload) % 256)
+
+
+def line(text):
+    """The packet of a session's line."""
+    return packet(b"qRcmd," + text.encode().hex().encode())
+
+
+def written(folder, guest, pieces):
+    """What is written where these bytes are read."""
+    return run(["gdb", f"{guest}.img", f"{guest}.trc"], folder, input=b"".join(pieces)).stdout
+
+
+# After the first: no acknowledgements. Each row: what is read, and the payloads that are written.
+BY_HAND = [
+    (b"junk\x03", []),
+    (packet(b""), [b""]),
+    (packet(b"nonsense"), [b""]),
+    (b"$g#00", []),
+    (packet(b"m"), [b"E01"]),
+    (packet(b"mzz,4"), [b"E01"]),
+    (packet(b"m100000"), [b"E01"]),
+    (packet(b"m20000,4"), [b"E0E"]),
+    (packet(b"m10fffc,8"), [b"00000000"]),
+    (packet(b"Hg9"), [b"E01"]),
+    (packet(b"Hgp1.1"), [b"E01"]),
+    (packet(b"T5"), [b"E01"]),
+    (packet(b"T2"), [b"OK"]),
+    (packet(b"T1"), [b"OK"]),
+    (packet(b"Z0,10001,4"), [b"E0E"]),
+    (packet(b"Z0,20000,4"), [b"E0E"]),
+    (packet(b"Z2,10ffff,4"), [b"E0E"]),
+    (packet(b"Z2,100000,101"), [b"E0E"]),
+    (packet(b"Z3,100000,4"), [b""]),
+    (packet(b"p21"), [b"E01"]),
+    (packet(b"G00"), [b"E1E"]),
+    (packet(b"M100000,1:00"), [b"E1E"]),
+    (packet(b"vCont;s:9"), [b"E01"]),
+    (packet(b"vCont;t:1"), [b"E01"]),
+    (packet(b"c10000"), [b"E01"]),
+    (packet(b"qRcmd,zz"), [b"E01"]),
+    (line("quit"), [b"E01"]),
+    (line("pos"), [b"O" + b"at 0 0\n".hex().encode(), b"OK"]),
+    (b"$" + b"m" * 5000 + b"#00", [b""]),
+    (packet(b"m100000,4}\x03"), [b"E01"]),
+    (b"$m10$" + packet(b"T1")[1:], [b"OK"]),
+    (b"$m100000,4", []),
+]
+
+
+def check_by_hand(folder):
+    """Bad packets, copies and the end of the input."""
+    opening = [b"+", packet(b"qAttached"), packet(b"qAttached"), b"+", packet(b"QStartNoAckMode"), b"+"]
+    found = written(folder, "over", opening + [read for read, _ in BY_HAND])
+    wanted = b"+" + packet(b"1") + b"+" + packet(b"OK") + b"".join(packet(payload) for _, payloads in BY_HAND for payload in payloads)
+    if found != wanted:
+        raise Wrong(f"packets by hand: found {found!r}, wanted {wanted!r}")
+    found = written(folder, "over", [b"$g#00", packet(b"D"), packet(b"g")])
+    if found != b"-+" + packet(b"OK"):
+        raise Wrong(f"a wrong sum, and packets after the end: found {found!r}")
+
+
+def check_full(folder):
+    """64 points, and one more; the same again takes no room."""
+    points = [packet(b"Z0,%x,4" % (0x10000 + 4 * i)) for i in range(65)]
+    found = written(folder, "over", [packet(b"QStartNoAckMode"), *points, packet(b"Z2,100000,4"), points[0], packet(b"z0,10000,4"), points[64]])
+    replies = [b"OK"] * 64 + [b"E1C", b"E1C", b"OK", b"OK", b"OK"]
+    wanted = b"+" + packet(b"OK") + b"".join(map(packet, replies))
+    if found != wanted:
+        raise Wrong(f"65 points: found {found!r}, wanted {wanted!r}")
+
+
+def check_interrupt(folder):
+    """The byte 03 ends the next move before it is made."""
+    found = written(folder, "over", [packet(b"QStartNoAckMode"), packet(b"vCont;c:1"), b"\x03", packet(b"bs"), packet(b"vCont;s:2"), line("pos")])
+    if b"$T02thread:00000001;" not in found or b"$T05thread:00000002;" not in found:
+        raise Wrong(f"an interrupt: found {found!r}")
+
+
+def check_slow_opening(folder):
+    """A recording that takes longer to open than gdb waits for an answer."""
+    (folder / "spin.s").write_text("        .thread spin\nspin:   jal zero, spin\n")
+    for words in ("asm spin.s spin.img", "record spin.img spin.trc --budget 3000000000"):
+        ended = run(words, folder)
+        if ended.returncode:
+            raise Wrong(f"{words}: {ended!r}")
+    wanted = [r"\(at 0 of 3000000001\)", r"\(at 1 of 3000000001\)"]
+    check_session(Session("spin", ["info threads", "stepi", "info threads"], wanted), folder)
+
+
+def machine_interface(folder, lines):
+    """What gdb answers to these lines of its machine interface, each waited for."""
+    words = [GDB, "-nx", "-q", "--interpreter=mi3", "over.elf"]
+    gdb = subprocess.Popen(words, cwd=folder, stdin=subprocess.PIPE, stdout=subprocess.PIPE, stderr=subprocess.DEVNULL, text=True, errors="replace")
+    said = []
+    with gdb:
+        for number, text in enumerate(lines):
+            gdb.stdin.write(f"{number}{text}\n")
+            gdb.stdin.flush()
+            # a move is answered at once, and ends later
+            waits = [f"{number}^"] + ["*stopped"] * ("-exec-" in text)
+            for start in waits:
+                for line in gdb.stdout:
+                    said.append(line)
+                    if line.startswith(start):
+                        break
+        gdb.stdin.write("-gdb-exit\n")
+        gdb.stdin.flush()
+        said += gdb.stdout.readlines()
+    return "".join(said)
+
+
+def check_machine_interface(folder):
+    """What an editor does: a breakpoint, a stack, variables, a step, the same backwards, and threads."""
+    said = machine_interface(folder, [
+        "-gdb-set confirm off", "-gdb-set mi-async off", f"-target-select remote | {program()} gdb over.img over.trc", "-break-insert fill", "-exec-continue",
+        "-stack-list-frames", "-stack-list-variables --simple-values", "-data-evaluate-expression last", "-exec-next", "-exec-next --reverse",
+        "-exec-continue --reverse", "-thread-info", "-data-list-register-values x 32"])
+    at = 0
+    for wanted in (r'2\^connected', r'3\^done,bkpt=\{number="1",type="breakpoint"', r'\*stopped,reason="breakpoint-hit",.*bkptno="1".*func="fill"',
+                   r'5\^done,stack=\[frame=\{level="0",.*func="fill".*level="1",.*func="filler_body"', r'6\^done,variables=\[.*name="last",.*value="4"',
+                   r'7\^done,value="4"', r'\*stopped,reason="end-stepping-range",.*func="fill"', r'\*stopped,.*func="fill"',
+                   r'No more reverse-execution history[\s\S]*\*stopped,', r'11\^done,threads=\[.*target-id="Thread 1".*name="thread 0"',
+                   r'12\^done,register-values=\[\{number="32",value="0x[0-9a-f]+"'):
+        found = re.compile(wanted, re.M).search(said, at)
+        if not found:
+            raise Wrong(f"not found: {wanted!r}\n{said}")
+        at = found.end()
+
+
+def check_forged(folder):
+    """What can't be opened is named on standard error, and nothing is read."""
+    (folder / "none.trc").write_bytes(b"nothing")
+    ended = run("gdb over.img none.trc", folder, input=packet(b"g"))
+    if ended.returncode != 3 or ended.stdout or not ended.stderr.startswith(b"trace refused "):
+        raise Wrong(f"a trace that is refused: {ended!r}")
+    ended = run("gdb over.img lost.trc", folder, input=packet(b"g"))
+    if ended.returncode != 4 or ended.stdout or not ended.stderr:
+        raise Wrong(f"a trace of another image: {ended!r}")
+
+
+# Sessions of gdb.
+
+
+def words_of(session, folder):
+    """How gdb is started."""
+    server = f"{program()} gdb {session.guest}.img {session.guest}.trc"
+    words = [GDB, "-nx", "-batch", "-ex", "set architecture riscv:rv32"]
+    if (folder / f"{session.guest}.elf").exists():
+        words.append(f"{session.guest}.elf")
+    lines = ["set pagination off", "set confirm off", "set width 0", f"source {TOP / 'examples' / 'ir.gdb'}", f"target {session.target} | {server}"]
+    if session.locked:
+        lines.append("set scheduler-locking on")
+    for text in lines:
+        words += ["-ex", text]
+    for text in session.lines:
+        words += ["-ex", "echo (gdb) " + text.replace('"', '\\"') + "\\n", "-ex", text]
+    return words
+
+
+def check_session(session, folder):
+    """What a session prints, against what is wanted."""
+    ended = subprocess.run(words_of(session, folder), cwd=folder, stdin=subprocess.DEVNULL, stdout=subprocess.PIPE, stderr=subprocess.STDOUT, text=True,
+                           errors="replace", timeout=300, check=False)
+    at = 0
+    for wanted in session.wanted:
+        found = re.compile(wanted, re.M).search(ended.stdout, at)
+        if not found:
+            raise Wrong(f"not found: {wanted!r}\n{ended.stdout}")
+        at = found.end()
+    if os.environ.get("SHOW"):
+        print(ended.stdout)
+
+
+class Terminal:
+    """gdb at a terminal."""
+
+    def __init__(self, folder, *words):
+        self.said = b""
+        self.child, self.device = pty.fork()
+        if self.child == 0:
+            os.chdir(folder)
+            os.environ["TERM"] = "dumb"
+            os.execvp(GDB, [GDB, "-nx", "-q", *words])
+
+    def type(self, text, until, seconds=60):
+        """Types a text, and waits until this is printed."""
+        os.write(self.device, text)
+        start, end = len(self.said), time.time() + seconds
+        while not re.search(until, self.said[start:]):
+            if time.time() > end:
+                raise Wrong(f"after {text!r} no {until!r} came: {self.said[start:]!r}")
+            if select.select([self.device], [], [], 0.2)[0]:
+                self.said += os.read(self.device, 65536)
+        return self.said[start:]
+
+
+def check_ctrl_c(folder):
+    """Ctrl-C ends a continue that gdb goes on with itself."""
+    gdb = Terminal(folder, "-ex", "set pagination off", "-ex", "set confirm off", "-ex", "set remotetimeout unlimited", "busy.elf")
+    prompt = rb"\(gdb\) $"
+    gdb.type(b"", prompt)
+    gdb.type(f"target remote | {program()} gdb busy.img busy.trc\n".encode(), prompt)
+    for text in (b"set scheduler-locking on\n", b"set can-use-hw-watchpoints 0\n", b"watch made[63] if made[63] == 1\n"):
+        gdb.type(text, prompt)
+    os.write(gdb.device, b"continue\n")
+    time.sleep(1.5)
+    gdb.type(b"\x03", rb"SIGINT[\s\S]*\(gdb\) $")
+    gdb.type(b"info threads\n", rb"thread 1[\s\S]*\(gdb\) $")
+    os.write(gdb.device, b"quit\n")
+
+
+def guide_of(text):
+    """The commands of a page for the shell, each with what is typed in gdb, and what they write."""
+    commands, is_written = [], False
+    for line in text.splitlines():
+        if line.startswith("    $ "):
+            commands.append((line[6:], [], []))
+        elif line.startswith("    (gdb) "):
+            commands[-1][1].append(line[10:])
+            is_written = True
+        elif line.startswith("    ") and is_written:
+            commands[-1][2].append(line[4:].rstrip())
+        elif line:
+            is_written = False
+    return commands
+
+
+def check_guide(folder):
+    """The commands of the guide's page, and each line that gdb writes there, in turn."""
+    (folder / "ir").symlink_to(program())
+    (folder / "examples").symlink_to(TOP / "examples")
+    for command, typed, wanted in guide_of((TOP / "docs" / "guide" / "gdb.md").read_text()):
+        words = ["bash", "-c", command]
+        if typed:
+            words = [GDB, "-nx", "-q", "-batch", "-ex", "set width 0", command.split()[-1]]
+            for text in typed:
+                words += ["-ex", text]
+        ended = subprocess.run(words, cwd=folder, stdin=subprocess.DEVNULL, stdout=subprocess.PIPE, stderr=subprocess.STDOUT, text=True, timeout=100,
+                               check=False)
+        written = iter(ended.stdout.splitlines())
+        missing = [line for line in wanted if line and not any(line == found.rstrip() for found in written)]
+        if missing or (ended.returncode and not typed):
+            raise Wrong(f"{command}: not written: {missing}\n{ended.stdout}")
+
+
+CHECKS = {
+    "17-ctrl-c": check_ctrl_c,
+    "18-forged": check_forged,
+    "18-slow-opening": check_slow_opening,
+    "19-machine-interface": check_machine_interface,
+    "20-by-hand": check_by_hand,
+    "21-full": check_full,
+    "22-interrupt": check_interrupt,
+    "23-guide": check_guide,
+}
+
+
+def made(folder):
+    """Compiles, converts and records the guests."""
+    (folder / "guest").symlink_to(TOP / "guest")
+    for name, options in RECORDED.items():
+        command = [GCC, str(GUESTS / f"{name}.c"), "@guest/ir.opts", "-O0", "-o", f"{name}.elf"]
+        subprocess.run(command, cwd=folder, check=True)
+        for words in (["elf", f"{name}.elf", f"{name}.img"], ["record", f"{name}.img", f"{name}.trc", *options]):
+            ended = run(words, folder)
+            if ended.returncode:
+                raise Wrong(f"{words}: {ended!r}")
+
+
+def main():
+    use(sys.argv[1])
+    if not (shutil.which(GDB) and shutil.which(GCC)):
+        print(f"{GDB} and {GCC} aren't both installed, so nothing is tested")
+        sys.exit(0)
+    names = sys.argv[2:] or sorted([*SESSIONS, *CHECKS])
+    failed = 0
+    with tempfile.TemporaryDirectory() as place:
+        folder = Path(place)
+        made(folder)
+        for name in names:
+            try:
+                if name in SESSIONS:
+                    check_session(SESSIONS[name], folder)
+                else:
+                    CHECKS[name](folder)
+                print(f"{name}: passed", flush=True)
+            except (Wrong, subprocess.TimeoutExpired) as wrong:
+                failed += 1
+                print(f"{name}: {wrong}", flush=True)
+    sys.exit(finish(len(names) - failed, failed))
+
+
+if __name__ == "__main__":
+    main()
