@@ -5,8 +5,7 @@ ghost use Rattle.ir_explore.specs.declared.search.Ended.TheVariants.{Finished};
 ghost use Rattle.ir_files.specs.Writers.{writer_of, Reports, fault_text};
 ghost use Rattle.ir_files.specs.declared.exit_status.ExitStatus.TheVariants as status;
 ghost use Rattle.ir_graph.specs.Reached.{AllReached};
-ghost use Rattle.ir_outcomes.specs.Explored.{AreExplored, AreAll};
-ghost use Rattle.ir_outcomes.specs.Hangs.{AreHangs};
+ghost use Rattle.ir_outcomes.specs.Explored.{AreExplored, AreAll, AreHangs};
 ghost use Rattle.ir_image.specs.Guest.{Guest};
 ghost use Rattle.ir_thread.specs.Allowed.{IsAllowed};
 ghost use Rattle.ir_thread.specs.declared.profile.Profile.TheVariants.{One};
@@ -17,7 +16,7 @@ ghost use Rattle.ir_explore_run.specs.declared.fault.ExploreFault.{ExploreFault}
 use crate::fault::ExploreFault;
 use crate::outcome::Started;
 use crate::plan::ExplorePlan;
-use crate::texts::{Ending, end_line, hang_text, hangs_in, outcomes_text};
+use crate::texts::{Ending, end_line, hang_text, outcomes_text};
 use ir_explore::{Ended, Stop};
 use ir_files::{ExitStatus, tell};
 use ir_flat::Flat;
@@ -47,7 +46,8 @@ fn found_text(
     requires explored { AreExplored image.now explored.now.states.graph.flats.items explored.now.states.found.levels explored.now.outcomes.items }
     requires all { explored.now.states.found.ended ≡ Finished → AreAll image.now explored.now.states.graph.flats.items explored.now.outcomes.items }
     requires states { AllReached image.now explored.now.states.graph.flats.items }
-    requires hangs { explored.now.states.found.ended ≡ Finished → AreHangs image.now explored.now.states.graph.flats.items explored.now.ways.items explored.now.hang }
+    requires hangs { explored.now.states.found.ended ≡ Finished → AreHangs image.now explored.now.states.graph.flats.items explored.now.hangs explored.now.hang }
+    requires unknown { (explored.now.states.found.ended ≡ Finished → ⊥) → explored.now.hang ≡ None }
     ensures { IfOk result (λ answer. IsAnswerAbout image.now answer.1 answer.0.items) }
 {
     let start = Flat::start(alloc, image, 0, Profile::One)?;
@@ -66,7 +66,7 @@ fn found_text(
         levels: found.levels,
         outcomes: outcomes.len(),
         states: flats.len(),
-        hangs: hangs_in(explored.ways.as_slice()),
+        hangs: explored.hangs,
     };
     let line = end_line(alloc, ending)?;
     text.extend_from_slice(line.as_bytes())?;

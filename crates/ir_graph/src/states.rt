@@ -63,6 +63,7 @@ pub fn search_states<'a>(
     ensures marked { IfOk result (λ states. states.found.ended ≡ Finished → AreMarked states.graph.flats.items states.marks.items) }
     ensures stand { IfOk result (λ states. states.found.ended ≡ Finished → AllStand image.now states.graph.flats.items states.found.nodes.items) }
     ensures few { IfOk result (λ states. length states.marks.items ≤ length states.found.nodes.items) }
+    ensures unknown { IfOk result (λ states. (states.found.ended ≡ Finished → ⊥) → length states.marks.items ≤ 0) }
     // However it ends, each listed one is an outcome of the guest, and those of runs of fewer switches than levels are listed.
     ensures shown { IfOk result (λ states. AllShown image.now states.graph.flats.items) }
     ensures searched { IfOk result (λ states. AreSearched image.now states.graph.flats.items states.found.nodes.items states.found.levels) }

@@ -92,6 +92,13 @@ shut_nothing = refl
 never_open : (marks : List Bool) (v : ℕ) → slice_get marks v ≡ Some false → IsOpen marks v → ⊥
 never_open marks v unmarked is = true≢false (same_Some true false (sym is ∙ unmarked))
 
+-- without marks there is no first that isn't marked
+pub none_first : (marks : List Bool) (hang : Option Shown) → length marks ≤ 0
+    → ((x : Shown) → hang ≡ Some x → IsFirst marks x.node) → hang ≡ None
+none_first marks None few first = refl
+none_first marks (Some x) few first =
+    let l = slice_get_within marks x.node false (first x refl).0 in absurd (omega (arith, l, few))
+
 module _ (guest : Guest) (flats : List Flat) (origins : List Origin) (marks : List Bool) (marked : AreMarked flats marks)
     (stand : AllStand guest flats origins) where
   -- a run that hangs stands at a state that isn't marked

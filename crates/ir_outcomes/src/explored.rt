@@ -1,6 +1,6 @@
 //! All outcomes of a guest.
 
-ghost use Rattle.std.specs.Prelude.{◌≡◌, ◌⊎◌, ℕ, suc, ◌≤◌, ◌<◌, length, Some, slice_get, IfOk, IfErr};
+ghost use Rattle.std.specs.Prelude.{◌≡◌, ◌⊎◌, ℕ, suc, ◌≤◌, ◌<◌, length, Some, None, slice_get, IfOk, IfErr};
 ghost use Rattle.ir_explore.specs.declared.search.Ended.TheVariants.{Finished, Covered, Stopped};
 ghost use Rattle.ir_explore.specs.declared.origin.Origin.{Origin};
 ghost use Rattle.ir_explore.specs.declared.stop.Stop.{Stop};
@@ -74,6 +74,7 @@ pub fn explore<'a>(
     ensures all { IfOk result (λ found. found.states.found.ended ≡ Finished → AreAll image.now found.states.graph.flats.items found.outcomes.items) }
     // So are its hangs: one is shown exactly where some run of the guest can't be brought to an end.
     ensures hangs { IfOk result (λ found. found.states.found.ended ≡ Finished → AreHangs image.now found.states.graph.flats.items found.hangs found.hang) }
+    ensures unknown { IfOk result (λ found. (found.states.found.ended ≡ Finished → ⊥) → found.hang ≡ None) }
     // However it ends, what is listed is right, and complete up to a number of switches.
     ensures explored { IfOk result (λ found. AreExplored image.now found.states.graph.flats.items found.states.found.levels found.outcomes.items) }
     ensures states { IfOk result (λ found. AllReached image.now found.states.graph.flats.items) }

@@ -83,3 +83,6 @@ returns-clause-stand c = λ done.
 
 pub returns-clause-few : goal.returns-clause-few
 returns-clause-few c = c.in_ok-marks.ensures.few (length c.in_ok-found.found.nodes.items) (λ done. c.in_ok-found.ensures.all done)
+
+pub returns-clause-unknown : goal.returns-clause-unknown
+returns-clause-unknown c = λ other. c.in_ok-marks.ensures.few 0 (λ done. absurd (other done))

@@ -8,7 +8,7 @@ use Rattle.ir_record.specs.Turns.{order_of_turns}
 use Rattle.ir_outcomes.specs.Hang.{IsFirst}
 use Rattle.ir_outcomes.specs.Shown.{IsShownAt}
 use Rattle.ir_outcomes.specs.declared.shown.Shown.{Shown}
-use Rattle.ir_outcomes.proofs.Lost.{are_hangs}
+use Rattle.ir_outcomes.proofs.Lost.{are_hangs, none_first}
 use Rattle.ir_graph.specs.Listing.{AreOutcomes}
 use Rattle.ir_graph.specs.Reached.{AllReached}
 use Rattle.ir_outcomes.specs.Explored.{AreHangs, AreShown}
@@ -74,3 +74,8 @@ returns-clause-hangs c = λ done.
     subst (λ z. AreHangs guest flats z hang) (sym (c.count_lost-hangs.ensures ∙ ap shut c.as_slice-marks.ensures.value))
     (are_hangs guest flats origins marks (c.in_ok-states.ensures.marked done) (c.in_ok-states.ensures.stand done)
     c.in_ok-states.ensures.searched.rising (omega (arith, nodes)) hang none first level shown)
+
+pub returns-clause-unknown : goal.returns-clause-unknown
+returns-clause-unknown c = λ other.
+    none_first c.in_ok-states.states.marks.items c.in_ok-hang.hang (c.in_ok-states.ensures.unknown other)
+    (subst (λ z. (x : Shown) → c.in_ok-hang.hang ≡ Some x → IsFirst z x.node) c.as_slice-marks.ensures.value c.in_ok-hang.ensures.first)
