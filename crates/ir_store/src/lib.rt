@@ -4,7 +4,9 @@
 mod copies;
 mod hash;
 mod node;
+mod put;
 mod row;
+mod rows;
 mod store;
 mod table;
 mod twin;

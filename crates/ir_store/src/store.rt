@@ -7,6 +7,7 @@ ghost use Rattle.ir_store.specs.Table.{HaveForm};
 
 use crate::copies::copies;
 use crate::node::Node;
+use crate::put::put;
 use crate::table::Table;
 use ir_flat::Flat;
 use ir_image::ImageForm;
@@ -79,11 +80,11 @@ impl<'a> Store<'a> {
     {
         let objects = copies(self.alloc, flat.objects())?;
         let threads = self.table.add_all(flat.threads())?;
-        self.nodes.push(Node {
+        let node = Node {
             code: flat.code(),
             threads,
             objects,
-        })?;
-        Ok(())
+        };
+        put(&mut self.nodes, node)
     }
 }

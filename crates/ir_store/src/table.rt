@@ -1,15 +1,12 @@
 //! Threads by their numbers, each of which is kept once.
 
-ghost use Rattle.std.specs.Prelude.{◌≡◌, ◌<◌, [], length, map, Some, slice_get, IfOk, IfSome};
+ghost use Rattle.std.specs.Prelude.{◌≡◌, ◌<◌, [], length, Some, slice_get, IfOk, IfSome};
 ghost use Rattle.ir_mach.specs.Core.{memory_size};
-ghost use Rattle.ir_store.specs.Rows.{thread_in};
 ghost use Rattle.ir_store.specs.Table.{HaveForm, threads_at, AreIn, Keeps};
 ghost use Rattle.ir_store.specs.Table as table;
 
-use crate::hash::{after_bytes, empty_hash};
-use crate::row::Row;
+use crate::rows::Rows;
 use crate::twin::same_thread;
-use ir_freeze::freeze;
 use ir_image::ImageForm;
 use ir_thread::Thread;
 use std::alloc::{AllocError, Global};
@@ -20,28 +17,20 @@ use std::marker::Model;
 #[derive(Drop)]
 pub struct Table {
     alloc: Global,
-    start: Vec<u8>,
-    form: ImageForm,
-    rows: Vec<Row>,
+    rows: Rows,
     hints: HashMap<u64, usize>,
 }
 
 impl Model for Table {
     ghost Value = { table.Table };
 
-    ghost view = { λ t. record { items = map (thread_in t.start.items) t.rows.items; form = t.form } };
-
-    ghost invariant = { λ t. (length t.start.items ≡ memory_size) × HaveForm t.form (map (thread_in t.start.items) t.rows.items) };
+    ghost view = { λ t. t.rows };
 }
 
-// A hash of a thread.
-fn hash_of(alloc: Global, start: &[u8], thread: &Thread) -> Result<u64, AllocError>
-    requires { length start.now ≡ memory_size }
-{
-    let bytes = freeze(alloc, start, thread, &[])?;
-    let hash = after_bytes(empty_hash(), bytes.as_slice());
-    let hash = after_bytes(hash, &thread.steps().to_le_bytes());
-    Ok(after_bytes(hash, &thread.events().to_le_bytes()))
+// Notes the number of a thread with this hash.
+fn note(hints: &mut HashMap<u64, usize>, hash: u64, n: usize) -> Result<(), AllocError> {
+    hints.insert(hash, n)?;
+    Ok(())
 }
 
 impl Table {
@@ -55,9 +44,7 @@ impl Table {
     {
         Ok(Table {
             alloc,
-            start: Vec::from_slice(alloc, start)?,
-            form,
-            rows: Vec::new(alloc),
+            rows: Rows::new(alloc, form, start)?,
             hints: HashMap::new(alloc),
         })
     }
@@ -71,7 +58,7 @@ impl Table {
             Some(n) if *n < self.rows.len() => *n,
             _ => return Ok(None),
         };
-        let kept = self.thread(n)?;
+        let kept = self.rows.thread(n)?;
         if same_thread(&kept, thread) {
             Ok(Some(n))
         } else {
@@ -79,38 +66,20 @@ impl Table {
         }
     }
 
-    /// The thread of a number.
-    ///
-    /// # Errors
-    /// Out of memory.
-    pub fn thread(&self, n: usize) -> Result<Thread, AllocError>
-        requires { n < length self.now.items }
-        ensures found { IfOk result (λ thread. slice_get self.now.items n ≡ Some thread) }
-        ensures form { IfOk result (λ thread. thread.form ≡ self.now.form) }
-    {
-        let row = &self.rows[n];
-        let thread = row.thread(self.alloc, self.start.as_slice())?;
-        Ok(thread)
-    }
-
-    /// The number of a thread, which is added if it is new.
-    ///
-    /// # Errors
-    /// Out of memory.
-    pub fn add(&mut self, thread: &Thread) -> Result<usize, AllocError>
+    // The number of a thread, which is added if it is new.
+    fn add(&mut self, thread: &Thread) -> Result<usize, AllocError>
         requires { thread.now.form ≡ self.old.form }
         ensures keeps { Keeps self.old.items self.new.items }
         ensures form { self.new.form ≡ self.old.form }
         ensures found { IfOk result (λ n. slice_get self.new.items n ≡ Some thread.now) }
     {
-        let hash = hash_of(self.alloc, self.start.as_slice(), thread)?;
+        let hash = self.rows.hash(thread)?;
         if let Some(n) = self.find(hash, thread)? {
             return Ok(n);
         }
-        let row = Row::of(self.alloc, self.start.as_slice(), thread)?;
         let n = self.rows.len();
-        self.hints.insert(hash, n)?;
-        self.rows.push(row)?;
+        note(&mut self.hints, hash, n)?;
+        self.rows.push(thread)?;
         Ok(n)
     }
 
@@ -139,20 +108,14 @@ impl Table {
     /// Out of memory.
     pub fn threads(&self, numbers: &[usize]) -> Result<Vec<Thread>, AllocError>
         requires { AreIn self.now.items numbers.now }
-        ensures { IfOk result (λ threads. threads.items ≡ threads_at self.now.items numbers.now) }
+        ensures value { IfOk result (λ threads. threads.items ≡ threads_at self.now.items numbers.now) }
+        ensures form { IfOk result (λ threads. HaveForm self.now.form threads.items) }
     {
         let mut threads = Vec::with_capacity(self.alloc, numbers.len())?;
         for n in numbers {
-            let thread = self.thread(*n)?;
+            let thread = self.rows.thread(*n)?;
             threads.push(thread)?;
         }
         Ok(threads)
-    }
-
-    /// The form of the image.
-    pub fn form(&self) -> ImageForm
-        ensures { result ≡ self.now.form }
-    {
-        self.form
     }
 }
