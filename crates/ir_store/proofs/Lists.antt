@@ -1,13 +1,12 @@
 -- Lists that are compared, and numbers in a table.
-use Rattle.std.proofs.Common.{◌≡◌, ◌<◌, ◌≤◌, ◌+◌, ℕ, zero, suc, List, [], ◌∷◌, ◌++◌, length, take, get_or, map, refl, sym, ap, ◌∙◌, subst, arith, Some}
-use Rattle.std.specs.Prelude.{slice_get}
+use Rattle.std.proofs.Common.{◌≡◌, ◌⊎◌, inl, inr, ◌<◌, ◌≤◌, ◌+◌, ℕ, zero, suc, List, [], ◌∷◌, ◌++◌, length, take, get_or, map, refl, sym, ap, ◌∙◌, subst, arith, Some}
+use Rattle.std.specs.Prelude.{slice_get, Result, Ok, Err, OnErr}
 use Rattle.std.specs.List.{AllByRecursion}
 use Rattle.std.proofs.lemmas.List.{take_more, take_all, map_push}
 use Rattle.std.proofs.lemmas.Option.{slice_get-get_or, get_or_from_slice_get, slice_get_within}
-use Rattle.ir_image.specs.declared.form.ImageForm.{ImageForm}
 use Rattle.ir_thread.specs.State.{State}
 use Rattle.ir_flat.specs.Flat.{Flat, IsFlat, idle}
-use Rattle.ir_store.specs.Table.{HaveForm, threads_at, AreIn, Keeps}
+use Rattle.ir_store.specs.Table.{threads_at, AreIn, Keeps}
 use Rattle.ir_store.specs.Nodes.{Node, IsNode, flat_in, AreKept}
 
 -- what is equal so far, and one element more
@@ -85,8 +84,36 @@ flats_kept old new keeps (node ∷ nodes) are =
 
 pub nodes_kept : (old new : List State) → Keeps old new → (nodes : List Node) → AreKept old nodes → AreKept new nodes
 nodes_kept old new keeps [] are = tt
-nodes_kept old new keeps (node ∷ nodes) are =
-    (record {
-      within = numbers_kept old new keeps node.threads are.0.within;
-      flat = subst IsFlat (sym (node_kept old new keeps node are.0)) are.0.flat;
-    }, nodes_kept old new keeps nodes are.1)
+nodes_kept old new keeps (node ∷ nodes) are = (
+  record {
+    within = numbers_kept old new keeps node.threads are.0.within;
+    flat = subst IsFlat (sym (node_kept old new keeps node are.0)) are.0.flat;
+  },
+  nodes_kept old new keeps nodes are.1,
+)
+
+pub kept_put : (table : List State) (nodes new : List Node) (node : Node) → AreKept table nodes → IsNode table node
+    → (new ≡ nodes) ⊎ (new ≡ nodes ++ node ∷ []) → AreKept table new
+kept_put table nodes new node are is either = elim either [
+  | inl e ↦ subst (AreKept table) (sym e) are
+  | inr e ↦ subst (AreKept table) (sym e) (all_push (IsNode table) nodes node are is)
+]
+
+pub node_of : (table : List State) (node : Node) (f : Flat) → AreIn table node.threads → flat_in table node ≡ f → IsFlat f → IsNode table node
+node_of table node f within made flat = record { within = within; flat = subst IsFlat (sym made) flat }
+
+pub flats_put : (old table : List State) → Keeps old table → (nodes new : List Node) (node : Node) (flats : List Flat) (f : Flat)
+    → AreKept old nodes → map (flat_in old) nodes ≡ flats → flat_in table node ≡ f → new ≡ nodes ++ node ∷ []
+    → map (flat_in table) new ≡ flats ++ f ∷ []
+flats_put old table keeps nodes new node flats f are is made e =
+    ap (map (flat_in table)) e ∙ map_push (flat_in table) nodes node
+    ∙ (λ j. (flats_kept old table keeps nodes are ∙ is) j ++ made j ∷ [])
+
+pub flats_same : (old table : List State) → Keeps old table → (nodes new : List Node) (flats : List Flat) → AreKept old nodes
+    → map (flat_in old) nodes ≡ flats → new ≡ nodes → map (flat_in table) new ≡ flats
+flats_same old table keeps nodes new flats are is e = ap (map (flat_in table)) e ∙ flats_kept old table keeps nodes are ∙ is
+
+-- what holds, holds at an error
+pub on_err : {A E P : Type 0} (result : Result A E) → P → OnErr result P
+on_err (Ok x) h = tt
+on_err (Err e) h = h

@@ -1,5 +1,5 @@
 -- Threads of rows.
-use Rattle.std.proofs.Common.{◌≡◌, ◌⊎◌, ◌<◌, ◌++◌, [], ◌∷◌, ℕ, zero, suc, List, length, get_or, map, refl, sym, ap, ◌∙◌, subst, arith, Option, Some, inl, inr}
+use Rattle.std.proofs.Common.{◌≡◌, ◌⊎◌, ◌<◌, ◌++◌, [], ◌∷◌, ℕ, zero, suc, List, length, get_or, map, refl, sym, ap, ◌∙◌, subst, Some, inl, inr}
 use Rattle.std.specs.Prelude.{slice_get}
 use Rattle.std.specs.Option.{option_map}
 use Rattle.std.specs.List.{AllByRecursion}
@@ -7,7 +7,7 @@ use Rattle.std.proofs.lemmas.List.{map_push}
 use Rattle.std.proofs.lemmas.Option.{slice_get-map, slice_get_read}
 use Rattle.ir_image.specs.declared.form.ImageForm.{ImageForm}
 use Rattle.ir_thread.specs.State.{State}
-use Rattle.ir_store.specs.Rows.{Row, thread_in}
+use Rattle.ir_store.specs.Rows.{Row}
 use Rattle.ir_store.specs.Table.{HaveForm}
 use Rattle.ir_store.proofs.Lists.{all_push}
 
@@ -32,5 +32,5 @@ pub form_put : (f : Row → State) (form : ImageForm) (rows new : List Row) (row
 form_put f form rows new row all is either = elim either [
   | inl e ↦ subst (λ l. HaveForm form (map f l)) (sym e) all
   | inr e ↦ subst (λ l. HaveForm form (map f l)) (sym e)
-        (subst (HaveForm form) (sym (map_push f rows row)) (all_push (λ s. s.form ≡ form) (map f rows) (f row) all is))
+      (subst (HaveForm form) (sym (map_push f rows row)) (all_push (λ s. s.form ≡ form) (map f rows) (f row) all is))
 ]

@@ -1,4 +1,4 @@
-use Rattle.std.proofs.Common.{◌≡◌, ◌∙◌}
+use Rattle.std.proofs.Common.{◌∙◌}
 use Rattle.ir_freeze.proofs.CallerLemmas.{changes_come_back}
 use Rattle.ir_freeze.specs.Thawed.{thawed}
 use Rattle.ir_store.proofs.row.Row.of.Goals as goal

@@ -1,4 +1,4 @@
-use Rattle.std.proofs.Common.{◌≡◌, ◌++◌, [], ◌∷◌, ap, ◌∙◌, sym, map, List}
+use Rattle.std.proofs.Common.{◌++◌, [], ◌∷◌, ap, ◌∙◌, sym, map, List}
 use Rattle.std.proofs.lemmas.List.{map_push}
 use Rattle.std.proofs.lemmas.Result.{on_ok_weaker, on_err_weaker}
 use Rattle.ir_thread.specs.State.{State}
@@ -10,11 +10,12 @@ use Rattle.ir_store.proofs.rows.Rows.push.Goals as goal
 pub invariant_of-self : goal.invariant_of-self
 invariant_of-self c =
     let start = c.self.inside.start.items in
-    let made = c.in_ok-row.ensures in
-    (c.self.invariant.0,
-    form_put (thread_in start) c.self.inside.form c.self.inside.rows.items c.put.new.items.items c.in_ok-row.row c.self.invariant.1
-    (ap (λ (s : State). s.form) (ap (λ l. thread_in l c.in_ok-row.row) (sym c.as_slice.ensures.value) ∙ made) ∙ c.requires
-    ∙ ap (λ (z : table.Table). z.form) (sym c.self.view_is)) c.put.ensures.either)
+    let made = c.in_ok-row.ensures in (
+      c.self.invariant.0,
+      form_put (thread_in start) c.self.inside.form c.self.inside.rows.items c.put.new.items.items c.in_ok-row.row c.self.invariant.1
+          (ap (λ (s : State). s.form) (ap (λ l. thread_in l c.in_ok-row.row) (sym c.as_slice.ensures.value) ∙ made) ∙ c.requires
+          ∙ ap (λ (z : table.Table). z.form) (sym c.self.view_is)) c.put.ensures.either,
+    )
 
 pub returns-clause-ok : goal.returns-clause-ok
 returns-clause-ok c =

@@ -1,4 +1,4 @@
-use Rattle.std.proofs.Common.{◌≡◌, ap, ◌∙◌, sym, subst, map, List, length, ◌<◌}
+use Rattle.std.proofs.Common.{◌≡◌, ap, ◌∙◌, sym, subst, map, length, ◌<◌}
 use Rattle.std.specs.Prelude.{slice_get, Some}
 use Rattle.ir_thread.specs.State.{State}
 use Rattle.ir_store.specs.Rows.{thread_in}

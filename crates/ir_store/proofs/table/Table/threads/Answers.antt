@@ -1,4 +1,4 @@
-use Rattle.std.proofs.Common.{◌≡◌, ◌<◌, ◌∙◌, ℕ, sym, ap, subst, refl, length, get_or}
+use Rattle.std.proofs.Common.{◌≡◌, ◌∙◌, sym, ap, subst, refl, get_or}
 use Rattle.std.specs.Prelude.{slice_get, Some}
 use Rattle.ir_thread.specs.State.{State}
 use Rattle.ir_store.specs.Table.{HaveForm}
