@@ -18,3 +18,12 @@ pub fn after_bytes(hash: u64, bytes: &[u8]) -> u64 {
     }
     hash
 }
+
+/// The hash, after these words too.
+pub fn after_words(hash: u64, words: &[u32]) -> u64 {
+    let mut hash = hash;
+    for word in words {
+        hash = after_bytes(hash, &word.to_le_bytes());
+    }
+    hash
+}

@@ -61,10 +61,18 @@ impl Rows {
     /// # Errors
     /// Out of memory.
     pub fn hash(&self, thread: &Thread) -> Result<u64, AllocError> {
-        let bytes = freeze(self.alloc, self.start.as_slice(), thread, &[])?;
-        let hash = after_bytes(empty_hash(), bytes.as_slice());
+        let hash = self.after_seen(empty_hash(), thread)?;
         let hash = after_bytes(hash, &thread.steps().to_le_bytes());
         Ok(after_bytes(hash, &thread.events().to_le_bytes()))
+    }
+
+    /// A hash, after what a thread can see of itself too.
+    ///
+    /// # Errors
+    /// Out of memory.
+    pub fn after_seen(&self, hash: u64, thread: &Thread) -> Result<u64, AllocError> {
+        let bytes = freeze(self.alloc, self.start.as_slice(), thread, &[])?;
+        Ok(after_bytes(hash, bytes.as_slice()))
     }
 
     /// The thread of a number.

@@ -6,6 +6,7 @@ ghost use Rattle.ir_store.specs.Nodes.{flat_in, AreKept, Stored};
 ghost use Rattle.ir_store.specs.Table.{HaveForm};
 
 use crate::copies::copies;
+use crate::hash::{after_words, empty_hash};
 use crate::node::Node;
 use crate::put::put;
 use crate::table::Table;
@@ -66,6 +67,21 @@ impl<'a> Store<'a> {
         let threads = self.table.threads(node.threads.as_slice())?;
         let objects = copies(self.alloc, node.objects.as_slice())?;
         Ok(Flat::new(node.code, threads, objects))
+    }
+
+    /// A hash of what the threads can see of a state.
+    ///
+    /// # Errors
+    /// Out of memory.
+    pub fn hash(&self, flat: &Flat<'_>) -> Result<u64, AllocError> {
+        let mut hash = empty_hash();
+        for object in flat.objects() {
+            hash = after_words(hash, object.contents());
+        }
+        for thread in flat.threads() {
+            hash = self.table.after_seen(hash, thread)?;
+        }
+        Ok(hash)
     }
 
     /// Adds a state.

@@ -102,6 +102,14 @@ impl Table {
         Ok(numbers)
     }
 
+    /// A hash, after what a thread can see of itself too.
+    ///
+    /// # Errors
+    /// Out of memory.
+    pub fn after_seen(&self, hash: u64, thread: &Thread) -> Result<u64, AllocError> {
+        self.rows.after_seen(hash, thread)
+    }
+
     /// The threads of these numbers.
     ///
     /// # Errors
