@@ -12,3 +12,4 @@ mod Listing
 mod Marked
 mod Hanging
 pub mod CallerLemmas
+mod Forms

@@ -9,8 +9,8 @@ use crate::hints::Hints;
 use crate::nodes::{Bounds, successor};
 use crate::notes::{Row, known, note};
 use ir_explore::{Stop, Successors};
-use ir_flat::Flat;
 use ir_image::Image;
+use ir_store::Store;
 use std::alloc::Global;
 
 /// The graph of a guest whose threads call no environment: its states at rest, as the threads can tell them apart.
@@ -18,7 +18,7 @@ use std::alloc::Global;
 pub struct Graph<'a> {
     pub alloc: Global,
     pub image: &'a Image,
-    pub flats: Vec<Flat<'a>>,
+    pub flats: Store<'a>,
     pub hints: Hints,
     pub rows: Vec<Row>,
     pub bounds: Bounds,

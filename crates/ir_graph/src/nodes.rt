@@ -8,12 +8,14 @@ ghost use Rattle.ir_graph.specs.Nodes.{LookAlike, AllRest, AreNodes, Stay, Leads
 ghost use Rattle.ir_graph.specs.Plain.{IsLike};
 ghost use Rattle.ir_graph.specs.Reached.{IsReached, AllReached};
 ghost use Rattle.ir_image.specs.Guest.{Guest};
+ghost use Rattle.ir_store.specs.Table.{HaveForm};
 
-use crate::hints::{Hints, hash_of};
+use crate::hints::Hints;
 use crate::likeness::same_state;
 use crate::rest::run_to_rest;
 use ir_explore::Stop;
 use ir_flat::Flat;
+use ir_store::Store;
 use std::alloc::{AllocError, Global};
 
 /// How far a search may go.
@@ -28,19 +30,20 @@ pub struct Bounds {
 // A node that looks the same as this state, if the hint for its hash leads to one.
 fn find(
     alloc: Global,
-    flats: &[Flat<'_>],
+    flats: &Store<'_>,
     hints: &Hints,
     hash: u64,
     flat: &Flat<'_>,
 ) -> Result<Option<usize>, AllocError>
-    requires { (v : ℕ) (f : Flat) → slice_get flats.now v ≡ Some f → IsLike flat.now f }
-    ensures within { IfOk result (λ found. (v : ℕ) → found ≡ Some v → v < length flats.now) }
-    ensures alike { IfOk result (λ found. (v : ℕ) → found ≡ Some v → (f : Flat) → slice_get flats.now v ≡ Some f → LookAlike flat.now f) }
+    requires { (v : ℕ) (f : Flat) → slice_get flats.now.items v ≡ Some f → IsLike flat.now f }
+    ensures within { IfOk result (λ found. (v : ℕ) → found ≡ Some v → v < length flats.now.items) }
+    ensures alike { IfOk result (λ found. (v : ℕ) → found ≡ Some v → (f : Flat) → slice_get flats.now.items v ≡ Some f → LookAlike flat.now f) }
 {
     let Some(v) = hints.node(hash, flats.len()) else {
         return Ok(None);
     };
-    if same_state(alloc, flat, &flats[v])? {
+    let kept = flats.get(v)?;
+    if same_state(alloc, flat, &kept)? {
         Ok(Some(v))
     } else {
         Ok(None)
@@ -50,7 +53,7 @@ fn find(
 // The node that looks the same as this state, a new one where none was found.
 fn node_of<'a>(
     alloc: Global,
-    flats: &mut Vec<Flat<'a>>,
+    flats: &mut Store<'a>,
     hints: &mut Hints,
     flat: Flat<'a>,
     most: usize,
@@ -58,6 +61,7 @@ fn node_of<'a>(
     requires nodes { AreNodes flats.old.items }
     requires like { (v : ℕ) (f : Flat) → slice_get flats.old.items v ≡ Some f → IsLike flat f }
     requires rest { AllRest flat }
+    requires form { HaveForm flats.old.form flat.threads }
     requires room { length flats.old.items ≤ most }
     ensures nodes { AreNodes flats.new.items }
     ensures stay { Stay flats.old.items flats.new.items }
@@ -69,9 +73,8 @@ fn node_of<'a>(
     ensures room { length flats.new.items ≤ most }
     ensures full { IsErrOf result Nodes → length flats.new.items ≡ most }
 {
-    let first = flats.as_slice().first().unwrap_or(&flat);
-    let hash = hash_of(alloc, first, &flat)?;
-    if let Some(v) = find(alloc, flats.as_slice(), hints, hash, &flat)? {
+    let hash = flats.hash(&flat)?;
+    if let Some(v) = find(alloc, flats, hints, hash, &flat)? {
         return Ok(v);
     }
     let node = flats.len();
@@ -79,7 +82,7 @@ fn node_of<'a>(
         return Err(Stop::Nodes);
     }
     hints.note(hash, node)?;
-    flats.push(flat)?;
+    flats.push(&flat)?;
     Ok(node)
 }
 
@@ -89,7 +92,7 @@ fn node_of<'a>(
 /// `Nodes` if the new one would be one too many, what `run_to_rest` gives, or out of memory.
 pub fn successor<'a>(
     alloc: Global,
-    flats: &mut Vec<Flat<'a>>,
+    flats: &mut Store<'a>,
     hints: &mut Hints,
     thread: usize,
     node: usize,
@@ -109,7 +112,7 @@ pub fn successor<'a>(
     ensures room { length flats.new.items ≤ bounds.nodes }
     ensures full { IsErrOf result Nodes → length flats.new.items ≡ bounds.nodes }
 {
-    let mut flat = flats[node].copy()?;
+    let mut flat = flats.get(node)?;
     if let Err(_) = flat.step(thread, 0) {
         return Ok(None);
     }

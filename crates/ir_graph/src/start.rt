@@ -7,22 +7,27 @@ ghost use Rattle.ir_graph.specs.Graph.{IsGraph};
 ghost use Rattle.ir_graph.specs.Nodes.{AllRest};
 ghost use Rattle.ir_graph.specs.Notes.{noted_in};
 ghost use Rattle.ir_graph.specs.Plain.{GoesPlain};
+ghost use Rattle.ir_mach.specs.Core.{memory_size};
 ghost use Rattle.ir_thread.specs.Allowed.{IsAllowed};
 ghost use Rattle.ir_thread.specs.declared.profile.Profile.TheVariants.{One};
 
 use crate::graph::Graph;
-use crate::hints::{Hints, hash_of};
+use crate::hints::Hints;
 use crate::nodes::Bounds;
 use crate::notes::Row;
 use crate::rest::run_to_rest;
 use ir_explore::Stop;
 use ir_flat::Flat;
 use ir_image::Image;
+use ir_store::Store;
 use ir_thread::Profile;
 use std::alloc::{AllocError, Global};
 
 // As many steps as a thread may take.
 const MOST_BUDGET: u64 = 1_000_000_000_000;
+
+// The bytes of private memory.
+const MEMORY_SIZE: usize = 65_536;
 
 // Each thread runs on alone to its first entry.
 fn rest_all(flat: &mut Flat<'_>, limit: u64) -> Result<(), Stop>
@@ -47,6 +52,15 @@ fn no_notes(alloc: Global, threads: usize) -> Result<Vec<Row>, AllocError>
     Ok(rows)
 }
 
+// The private memory of each thread at first.
+fn first_memory(alloc: Global, image: &Image) -> Result<Vec<u8>, AllocError>
+    ensures { IfOk result (λ memory. length memory.items ≡ memory_size) }
+{
+    let mut memory = Vec::from_slice(alloc, image.bytes())?;
+    memory.resize(MEMORY_SIZE, 0)?;
+    Ok(memory)
+}
+
 /// The graph of a guest whose threads make the calls of the first profile: one node, where it comes to rest from its start.
 ///
 /// # Errors
@@ -62,10 +76,11 @@ pub fn start_graph<'a>(alloc: Global, image: &'a Image, bounds: Bounds) -> Resul
     let mut flat = Flat::start(alloc, image, MOST_BUDGET, Profile::One)?;
     rest_all(&mut flat, bounds.private)?;
     let rows = no_notes(alloc, flat.threads().len())?;
+    let start = first_memory(alloc, image)?;
+    let mut flats = Store::new(alloc, image.form(), start.as_slice())?;
     let mut hints = Hints::new(alloc);
-    hints.note(hash_of(alloc, &flat, &flat)?, 0)?;
-    let mut flats = Vec::with_capacity(alloc, 1)?;
-    flats.push(flat)?;
+    hints.note(flats.hash(&flat)?, 0)?;
+    flats.push(&flat)?;
     Ok(Graph {
         alloc,
         image,

@@ -9,18 +9,20 @@ ghost use Rattle.ir_runs.specs.Run.{IsDone};
 
 use crate::ends::is_done;
 use crate::notes::{Row, known};
-use ir_flat::Flat;
+use ir_store::Store;
 use std::alloc::{AllocError, Global};
 
 // The nodes where all threads are done.
-fn done_marks(alloc: Global, flats: &[Flat<'_>]) -> Result<Vec<bool>, AllocError>
-    ensures size { IfOk result (λ marks. length marks.items ≡ length flats.now) }
-    ensures done { IfOk result (λ marks. (v : ℕ) (f : Flat) → slice_get flats.now v ≡ Some f → IsDone (machine f) (tables f) → IsMarked marks.items v) }
-    ensures only { IfOk result (λ marks. (v : ℕ) (f : Flat) → slice_get flats.now v ≡ Some f → IsMarked marks.items v → IsDone (machine f) (tables f)) }
+fn done_marks(alloc: Global, flats: &Store<'_>) -> Result<Vec<bool>, AllocError>
+    ensures size { IfOk result (λ marks. length marks.items ≡ length flats.now.items) }
+    ensures done { IfOk result (λ marks. (v : ℕ) (f : Flat) → slice_get flats.now.items v ≡ Some f → IsDone (machine f) (tables f) → IsMarked marks.items v) }
+    ensures only { IfOk result (λ marks. (v : ℕ) (f : Flat) → slice_get flats.now.items v ≡ Some f → IsMarked marks.items v → IsDone (machine f) (tables f)) }
 {
-    let mut marks = Vec::with_capacity(alloc, flats.len())?;
-    for v in 0..flats.len() {
-        marks.push(is_done(&flats[v]))?;
+    let many = flats.len();
+    let mut marks = Vec::with_capacity(alloc, many)?;
+    for v in 0..many {
+        let flat = flats.get(v)?;
+        marks.push(is_done(&flat))?;
     }
     Ok(marks)
 }
@@ -91,8 +93,8 @@ fn sweep(rows: &[Row], marks: &mut Vec<bool>) -> bool
 ///
 /// # Errors
 /// Out of memory.
-pub fn mark_ways(alloc: Global, flats: &[Flat<'_>], rows: &[Row]) -> Result<Vec<bool>, AllocError>
-    ensures { IfOk result (λ marks. AreWays flats.now (noted_in rows.now) marks.items) }
+pub fn mark_ways(alloc: Global, flats: &Store<'_>, rows: &[Row]) -> Result<Vec<bool>, AllocError>
+    ensures { IfOk result (λ marks. AreWays flats.now.items (noted_in rows.now) marks.items) }
 {
     let mut marks = done_marks(alloc, flats)?;
     'sweeps: loop {

@@ -7,22 +7,19 @@ use Rattle.ir_graph.proofs.Found.{nodes_more, new_alike}
 use Rattle.ir_graph.proofs.Reached.{more_reached}
 use Rattle.ir_graph.proofs.nodes.node_of.Goals as goal
 
-pub find-requires : goal.find-requires
-find-requires c = λ v f is. c.requires.like v f (subst (λ z. slice_get z v ≡ Some f) c.as_slice-2.ensures.value is)
-
 pub returns-clause-nodes : goal.returns-clause-nodes
 returns-clause-nodes c =
-    subst AreNodes (sym c.in_ok-push.ensures.items) (nodes_more c.args.flats.now.items c.args.flat c.requires.nodes c.requires.like c.requires.rest)
+    subst AreNodes (sym c.in_ok-push.ensures.ok) (nodes_more c.args.flats.now.items c.args.flat c.requires.nodes c.requires.like c.requires.rest)
 
 pub returns-clause-stay : goal.returns-clause-stay
 returns-clause-stay c = λ v f is.
-    subst (λ z. slice_get z v ≡ Some f) (sym c.in_ok-push.ensures.items) (pushed_stays c.args.flats.now.items (c.args.flat ∷ []) v f is)
+    subst (λ z. slice_get z v ≡ Some f) (sym c.in_ok-push.ensures.ok) (pushed_stays c.args.flats.now.items (c.args.flat ∷ []) v f is)
 
 pub returns-clause-alike : goal.returns-clause-alike
 returns-clause-alike c = λ f is.
-    new_alike c.args.flats.now.items c.args.flat f c.len-node.result (c.len-node.ensures ∙ c.args.flats.now.ok.0)
-    (subst (λ z. slice_get z c.len-node.result ≡ Some f) c.in_ok-push.ensures.items is)
+    new_alike c.args.flats.now.items c.args.flat f c.len-node.result c.len-node.ensures
+    (subst (λ z. slice_get z c.len-node.result ≡ Some f) c.in_ok-push.ensures.ok is)
 
 pub returns-clause-reached : goal.returns-clause-reached
 returns-clause-reached c = λ guest all is.
-    subst (AllReached guest) (sym c.in_ok-push.ensures.items) (more_reached guest c.args.flats.now.items c.args.flat all is)
+    subst (AllReached guest) (sym c.in_ok-push.ensures.ok) (more_reached guest c.args.flats.now.items c.args.flat all is)

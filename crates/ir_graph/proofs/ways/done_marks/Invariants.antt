@@ -8,6 +8,6 @@ use Rattle.ir_graph.proofs.ways.done_marks.Given as goal
 abbrev pub invariant-loop-v : goal.invariant-loop-v
 invariant-loop-v l = record {
   size : length l.marks.items ≡ l.v;
-  done : (v : ℕ) (f : Flat) → v < l.v → slice_get l.flats v ≡ Some f → run.IsDone (machine f) (tables f) → IsMarked l.marks.items v;
-  only : (v : ℕ) (f : Flat) → slice_get l.flats v ≡ Some f → IsMarked l.marks.items v → run.IsDone (machine f) (tables f);
+  done : (v : ℕ) (f : Flat) → v < l.v → slice_get l.flats.items v ≡ Some f → run.IsDone (machine f) (tables f) → IsMarked l.marks.items v;
+  only : (v : ℕ) (f : Flat) → slice_get l.flats.items v ≡ Some f → IsMarked l.marks.items v → run.IsDone (machine f) (tables f);
 }
