@@ -51,7 +51,7 @@ fn found_text(
     ensures { IfOk result (λ answer. IsAnswerAbout image.now answer.1 answer.0.items) }
 {
     let start = Flat::start(alloc, image, 0, Profile::One)?;
-    let flats = explored.states.graph.flats.as_slice();
+    let flats = &explored.states.graph.flats;
     let outcomes = explored.outcomes.as_slice();
     let found = &explored.states.found;
     let started = Started {

@@ -14,9 +14,9 @@ ghost use Rattle.ir_thread.specs.declared.profile.Profile.TheVariants.{One};
 use crate::hang::show_hang;
 use crate::shown::{Shown, show};
 use ir_explore::{Ended, Origin, Stop};
-use ir_flat::Flat;
 use ir_graph::{Bounds, States, list_outcomes, mark_ways, search_states};
 use ir_image::Image;
+use ir_store::Store;
 use std::alloc::{AllocError, Global};
 
 /// What was found out about a guest.
@@ -36,16 +36,16 @@ pub struct Explored<'a> {
 fn show_all<'a>(
     alloc: Global,
     image: &'a Image,
-    flats: &[Flat<'a>],
+    flats: &Store<'a>,
     origins: &[Origin],
     listed: &[usize],
     limit: u64,
 ) -> Result<Vec<Shown>, Stop>
     requires allowed { IsAllowed One image.now }
-    requires reached { AllReached image.now flats.now }
-    requires few { length origins.now ≤ length flats.now }
+    requires reached { AllReached image.now flats.now.items }
+    requires few { length origins.now ≤ length flats.now.items }
     requires listed { (i v : ℕ) → slice_get listed.now i ≡ Some v → v < length origins.now }
-    ensures { IfOk result (λ outcomes. AreShown image.now flats.now origins.now listed.now (length listed.now) outcomes.items) }
+    ensures { IfOk result (λ outcomes. AreShown image.now flats.now.items origins.now listed.now (length listed.now) outcomes.items) }
 {
     let mut outcomes = Vec::new(alloc);
     for i in 0..listed.len() {
@@ -62,7 +62,7 @@ fn ways_of(alloc: Global, states: &States<'_>) -> Result<Vec<bool>, AllocError>
     match states.found.ended {
         Ended::Finished => mark_ways(
             alloc,
-            states.graph.flats.as_slice(),
+            &states.graph.flats,
             states.graph.rows.as_slice(),
         ),
         _ => Ok(Vec::new(alloc)),
@@ -88,7 +88,7 @@ fn hang_of<'a>(
         Ended::Finished => show_hang(
             alloc,
             image,
-            states.graph.flats.as_slice(),
+            &states.graph.flats,
             states.found.nodes.as_slice(),
             ways,
             limit,
@@ -120,7 +120,7 @@ pub fn explore<'a>(
     ensures covered { IfOk result (λ found. found.states.found.ended ≡ Covered → found.states.found.levels ≡ suc switches) }
 {
     let states = search_states(alloc, image, bounds, switches)?;
-    let flats = states.graph.flats.as_slice();
+    let flats = &states.graph.flats;
     let origins = states.found.nodes.as_slice();
     let listed = list_outcomes(alloc, flats, origins.len())?;
     let outcomes = show_all(

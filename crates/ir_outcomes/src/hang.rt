@@ -13,30 +13,31 @@ use crate::path::path_to;
 use crate::rerun::run_again;
 use crate::shown::Shown;
 use ir_explore::{Origin, Stop};
-use ir_flat::Flat;
 use ir_graph::same_state;
 use ir_image::Image;
+use ir_store::Store;
 use std::alloc::Global;
 
 // An order that leads to a node.
 fn lead_to<'a>(
     alloc: Global,
     image: &'a Image,
-    flats: &[Flat<'a>],
+    flats: &Store<'a>,
     origins: &[Origin],
     node: usize,
     limit: u64,
 ) -> Result<Shown, Stop>
     requires allowed { IsAllowed One image.now }
-    requires reached { AllReached image.now flats.now }
-    requires node { node < length flats.now }
+    requires reached { AllReached image.now flats.now.items }
+    requires node { node < length flats.now.items }
     requires origin { node < length origins.now }
     ensures node { IfOk result (λ shown. shown.node ≡ node) }
-    ensures leads { IfOk result (λ shown. (f : Flat) → slice_get flats.now node ≡ Some f → LeadsTo image.now shown f) }
+    ensures leads { IfOk result (λ shown. (f : Flat) → slice_get flats.now.items node ≡ Some f → LeadsTo image.now shown f) }
 {
     let path = path_to(alloc, origins, node)?;
     let (flat, turns) = run_again(alloc, image, path.as_slice(), limit)?;
-    if !same_state(alloc, &flat, &flats[node])? {
+    let kept = flats.get(node)?;
+    if !same_state(alloc, &flat, &kept)? {
         return Err(Stop::Order(node));
     }
     Ok(Shown {
@@ -66,17 +67,17 @@ fn first_unmarked(ways: &[bool]) -> Option<usize>
 pub fn show_hang<'a>(
     alloc: Global,
     image: &'a Image,
-    flats: &[Flat<'a>],
+    flats: &Store<'a>,
     origins: &[Origin],
     ways: &[bool],
     limit: u64,
 ) -> Result<Option<Shown>, Stop>
     requires allowed { IsAllowed One image.now }
-    requires reached { AllReached image.now flats.now }
-    requires size { length ways.now ≡ length flats.now }
-    requires origins { length origins.now ≡ length flats.now }
+    requires reached { AllReached image.now flats.now.items }
+    requires size { length ways.now ≡ length flats.now.items }
+    requires origins { length origins.now ≡ length flats.now.items }
     ensures none { IfOk result (λ hang. hang ≡ None → (v : ℕ) → v < length ways.now → IsMarked ways.now v) }
-    ensures found { IfOk result (λ hang. (x : Shown) → hang ≡ Some x → IsHangShown image.now flats.now ways.now x) }
+    ensures found { IfOk result (λ hang. (x : Shown) → hang ≡ Some x → IsHangShown image.now flats.now.items ways.now x) }
 {
     match first_unmarked(ways) {
         None => Ok(None),

@@ -7,7 +7,7 @@ use Rattle.ir_explore_run.proofs.run.found_text.Goals as goal
 
 pub outcomes_text-requires-clause-objects : goal.outcomes_text-requires-clause-objects
 outcomes_text-requires-clause-objects c = λ v f is.
-    (c.requires.states v f (subst (λ z. slice_get z v ≡ Some f) c.as_slice-flats.ensures.value is)).like.objects
+    (c.requires.states v f is).like.objects
     ∙ sym (ap length c.objects.ensures.value ∙ ap (λ z. length z.objects) c.in_ok-start.ensures)
 
 pub returns : goal.returns
@@ -27,9 +27,9 @@ returns c =
     let ways = c.args.explored.now.ways.items in
     let hangs : c.hangs_in.result ≡ hangs_in ways (length ways) =
     c.hangs_in.ensures.value ∙ ap (λ z. hangs_in z (length z)) c.as_slice.ensures.value in
-    let ending : end_line ended levels (length c.as_slice-outcomes.result.now) (length c.as_slice-flats.result.now) c.hangs_in.result
+    let ending : end_line ended levels (length c.as_slice-outcomes.result.now) c.len-2.result c.hangs_in.result
     ≡ end_line ended levels (length outcomes) (length flats) (hangs_in ways (length ways)) =
-    λ i. end_line ended levels (length (value i)) (length (c.as_slice-flats.ensures.value i)) (hangs i) in
+    λ i. end_line ended levels (length (value i)) (c.len-2.ensures i) (hangs i) in
     inl (record {
       flats = flats;
       outcomes = outcomes;
@@ -39,8 +39,7 @@ returns c =
       all = c.requires.all;
       lines = lines;
       texts = subst (λ z. AreTexts z flats outcomes (length outcomes) lines) first
-          (subst (λ z. AreTexts (record { words = c.object_words.result; first = c.objects.result.now }) z outcomes (length outcomes) lines) c.as_slice-flats.ensures.value
-          (subst (λ z. AreTexts (record { words = c.object_words.result; first = c.objects.result.now }) c.as_slice-flats.result.now z (length z) lines) value c.in_ok-text.ensures));
+          (subst (λ z. AreTexts (record { words = c.object_words.result; first = c.objects.result.now }) flats z (length z) lines) value c.in_ok-text.ensures);
       ways = c.args.explored.now.ways.items;
       hang = c.args.explored.now.hang;
       hangs = c.requires.hangs;

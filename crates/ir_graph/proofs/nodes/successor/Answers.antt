@@ -1,6 +1,5 @@
-use Rattle.std.proofs.Common.{◌≡◌, Some, sym, ap, ◌∙◌}
+use Rattle.std.proofs.Common.{◌≡◌, Some}
 use Rattle.std.specs.Prelude.{slice_get}
-use Rattle.std.proofs.lemmas.Option.{slice_get-get_or}
 use Rattle.ir_graph.proofs.Reached.{step_reached}
 use Rattle.ir_graph.proofs.Found.{leads_nowhere, reached_like, reached_rests, reached_leads}
 use Rattle.ir_graph.proofs.Forms.{forms_like}

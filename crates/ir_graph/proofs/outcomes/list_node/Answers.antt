@@ -1,5 +1,4 @@
-use Rattle.std.proofs.Common.{Some, sym, ap, ◌∙◌, subst, suc}
-use Rattle.std.proofs.lemmas.Option.{slice_get-get_or}
+use Rattle.std.proofs.Common.{sym, subst, suc}
 use Rattle.ir_graph.specs.Listing.{HasOutcome, AreOutcomes}
 use Rattle.ir_graph.proofs.Listing.{going_skipped, same_skipped, new_listed}
 use Rattle.ir_graph.proofs.outcomes.list_node.Goals as goal

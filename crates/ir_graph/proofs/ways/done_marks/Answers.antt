@@ -1,6 +1,5 @@
-use Rattle.std.proofs.Common.{◌≡◌, ◌<◌, Some, length, length-append, [], ◌∷◌, sym, ap, ◌∙◌, subst, arith}
+use Rattle.std.proofs.Common.{◌≡◌, Some, length, length-append, [], ◌∷◌, sym, ap, subst, arith}
 use Rattle.std.specs.Prelude.{slice_get}
-use Rattle.std.proofs.lemmas.Option.{slice_get-get_or}
 use Rattle.ir_explore.proofs.CallerLemmas.{slice_less}
 use Rattle.ir_graph.specs.Ways.{IsMarked}
 use Rattle.ir_graph.proofs.Marked.{done_more, only_more}

@@ -9,9 +9,9 @@ use Rattle.ir_graph.proofs.ways.mark_ways.Given as goal
 
 abbrev pub invariant-sweeps : goal.invariant-sweeps
 invariant-sweeps l = record {
-  size : length l.marks.items ≡ length l.flats;
-  sound : AreSound l.flats (noted_in l.rows) l.marks.items;
-  done : (v : ℕ) (f : Flat) → slice_get l.flats v ≡ Some f → run.IsDone (machine f) (tables f) → IsMarked l.marks.items v;
+  size : length l.marks.items ≡ length l.flats.items;
+  sound : AreSound l.flats.items (noted_in l.rows) l.marks.items;
+  done : (v : ℕ) (f : Flat) → slice_get l.flats.items v ≡ Some f → run.IsDone (machine f) (tables f) → IsMarked l.marks.items v;
 }
 
 abbrev pub decreases-sweeps : goal.decreases-sweeps

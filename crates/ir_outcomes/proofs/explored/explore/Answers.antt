@@ -10,8 +10,7 @@ use Rattle.ir_outcomes.proofs.Listed.{explored, all_outcomes}
 use Rattle.ir_outcomes.proofs.explored.explore.Goals as goal
 
 pub show_all-requires-clause-reached : goal.show_all-requires-clause-reached
-show_all-requires-clause-reached c =
-    subst (AllReached c.args.image.now) (sym c.as_slice-flats.ensures.value) c.in_ok-states.ensures.searched.reached
+show_all-requires-clause-reached c = c.in_ok-states.ensures.searched.reached
 
 pub returns-clause-all : goal.returns-clause-all
 returns-clause-all c = λ done.
@@ -21,11 +20,10 @@ returns-clause-all c = λ done.
     let listed = c.in_ok-listed.listed.items in
     let outcomes = c.in_ok-outcomes.outcomes.items in
     let different = subst (λ z. AreOutcomes flats (length z) listed) c.as_slice-origins.ensures.value
-    (subst (λ z. AreOutcomes z (length c.as_slice-origins.result.now) listed) c.as_slice-flats.ensures.value c.in_ok-listed.ensures) in
+    c.in_ok-listed.ensures in
     let shown = subst (λ z. AreShown guest flats origins z (length z) outcomes) c.as_slice.ensures.value
     (subst (λ z. AreShown guest flats z c.as_slice.result.now (length c.as_slice.result.now) outcomes) c.as_slice-origins.ensures.value
-    (subst (λ z. AreShown guest z c.as_slice-origins.result.now c.as_slice.result.now (length c.as_slice.result.now) outcomes)
-    c.as_slice-flats.ensures.value c.in_ok-outcomes.ensures)) in
+    c.in_ok-outcomes.ensures) in
     all_outcomes guest flats origins c.in_ok-states.states.found.levels listed outcomes c.in_ok-states.ensures.searched different shown
     (c.in_ok-states.ensures.all done) (c.in_ok-states.ensures.nodes done)
 
@@ -37,11 +35,10 @@ returns-clause-explored c =
     let listed = c.in_ok-listed.listed.items in
     let outcomes = c.in_ok-outcomes.outcomes.items in
     let different = subst (λ z. AreOutcomes flats (length z) listed) c.as_slice-origins.ensures.value
-    (subst (λ z. AreOutcomes z (length c.as_slice-origins.result.now) listed) c.as_slice-flats.ensures.value c.in_ok-listed.ensures) in
+    c.in_ok-listed.ensures in
     let shown = subst (λ z. AreShown guest flats origins z (length z) outcomes) c.as_slice.ensures.value
     (subst (λ z. AreShown guest flats z c.as_slice.result.now (length c.as_slice.result.now) outcomes) c.as_slice-origins.ensures.value
-    (subst (λ z. AreShown guest z c.as_slice-origins.result.now c.as_slice.result.now (length c.as_slice.result.now) outcomes)
-    c.as_slice-flats.ensures.value c.in_ok-outcomes.ensures)) in
+    c.in_ok-outcomes.ensures) in
     explored guest flats origins c.in_ok-states.states.found.levels listed outcomes c.in_ok-states.ensures.searched different shown
 
 pub returns-clause-states : goal.returns-clause-states

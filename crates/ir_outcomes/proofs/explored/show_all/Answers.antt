@@ -11,8 +11,8 @@ loop-i-preserved c =
     let node = c.in_ok-shown.ensures.node in
     let at : slice_get c.args.listed.now c.loop-i.i ≡ Some c.in_ok-shown.shown.node =
     slice_get-get_or c.args.listed.now c.loop-i.i 0 less ∙ ap Some (sym node) in
-    subst (AreShown c.args.image.now c.args.flats.now c.args.origins.now c.args.listed.now (c.loop-i.i + 1)) (sym c.in_ok-push.ensures.items)
-    (shown_more c.args.image.now c.args.flats.now c.args.origins.now c.args.listed.now c.loop-i.i c.loop-i.outcomes.items c.in_ok-shown.shown
+    subst (AreShown c.args.image.now c.args.flats.now.items c.args.origins.now c.args.listed.now (c.loop-i.i + 1)) (sym c.in_ok-push.ensures.items)
+    (shown_more c.args.image.now c.args.flats.now.items c.args.origins.now c.args.listed.now c.loop-i.i c.loop-i.outcomes.items c.in_ok-shown.shown
     c.loop-i.invariant at
     (λ n is. c.in_ok-shown.ensures.level n (subst (λ z. slice_get c.args.origins.now z ≡ Some n) node is))
-    (λ f is. c.in_ok-shown.ensures.shown f (subst (λ z. slice_get c.args.flats.now z ≡ Some f) node is)))
+    (λ f is. c.in_ok-shown.ensures.shown f (subst (λ z. slice_get c.args.flats.now.items z ≡ Some f) node is)))

@@ -15,18 +15,16 @@ use Rattle.ir_outcomes.proofs.hang.lead_to.Goals as goal
 
 pub same_state-requires : goal.same_state-requires
 same_state-requires c =
-    let f = c.index-flats-node.result in
-    let at : slice_get c.args.flats.now c.args.node ≡ Some f =
-    slice_get-get_or c.args.flats.now c.args.node f c.requires.node ∙ ap Some (sym c.index-flats-node.is) in
+    let f = c.in_ok-kept.kept in
+    let at : slice_get c.args.flats.now.items c.args.node ≡ Some f = c.in_ok-kept.ensures.found in
     like_more c.in_ok-flat.flat (start_flat c.args.image.now most_budget One) f
     (like_back (start_flat c.args.image.now most_budget One) c.in_ok-flat.flat c.in_ok-flat.ensures.again.like)
     (c.requires.reached c.args.node f at).like
 
 pub returns-clause-leads : goal.returns-clause-leads
 returns-clause-leads c = λ g here.
-    let f = c.index-flats-node.result in
-    let at : slice_get c.args.flats.now c.args.node ≡ Some f =
-    slice_get-get_or c.args.flats.now c.args.node f c.requires.node ∙ ap Some (sym c.index-flats-node.is) in
+    let f = c.in_ok-kept.kept in
+    let at : slice_get c.args.flats.now.items c.args.node ≡ Some f = c.in_ok-kept.ensures.found in
     let n : Origin = slice_index_or c.args.origins.now c.args.node first_origin in
     let few : length c.as_slice.result.now ≤ suc n.level =
     subst (λ z. length z ≤ suc n.level) (sym c.as_slice.ensures.value)
