@@ -57,7 +57,7 @@ fn states_arg<'a>(alloc: Global) -> Arg<'a> {
     Arg::new(alloc, STATES)
         .long(STATES)
         .value_name("N")
-        .default_value("10000")
+        .default_value("1000000")
         .allow_negative_numbers(true)
         .help("The most states, from 1 to 100000000")
 }

@@ -60,11 +60,7 @@ fn ways_of(alloc: Global, states: &States<'_>) -> Result<Vec<bool>, AllocError>
     ensures { IfOk result (λ ways. states.now.found.ended ≡ Finished → AreWays states.now.graph.flats.items (noted_in states.now.graph.rows.items) ways.items) }
 {
     match states.found.ended {
-        Ended::Finished => mark_ways(
-            alloc,
-            &states.graph.flats,
-            states.graph.rows.as_slice(),
-        ),
+        Ended::Finished => mark_ways(alloc, &states.graph.flats, states.graph.rows.as_slice()),
         _ => Ok(Vec::new(alloc)),
     }
 }

@@ -27,9 +27,9 @@ returns c =
     let ways = c.args.explored.now.ways.items in
     let hangs : c.hangs_in.result ≡ hangs_in ways (length ways) =
     c.hangs_in.ensures.value ∙ ap (λ z. hangs_in z (length z)) c.as_slice.ensures.value in
-    let ending : end_line ended levels (length c.as_slice-outcomes.result.now) c.len-2.result c.hangs_in.result
+    let ending : end_line ended levels (length c.as_slice-outcomes.result.now) c.len.result c.hangs_in.result
     ≡ end_line ended levels (length outcomes) (length flats) (hangs_in ways (length ways)) =
-    λ i. end_line ended levels (length (value i)) (c.len-2.ensures i) (hangs i) in
+    λ i. end_line ended levels (length (value i)) (c.len.ensures i) (hangs i) in
     inl (record {
       flats = flats;
       outcomes = outcomes;
