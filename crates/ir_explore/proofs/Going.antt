@@ -2,8 +2,9 @@
 use Rattle.std.proofs.Common.{◌≡◌, ℕ, suc, ◌+◌, ◌<◌, ◌≤◌, Bool, false, true, Some, List, [], ◌∷◌, ◌++◌, ◌⊎◌, inl, length, length-set, length-append, get_or, slice_set, sym, ◌∙◌, subst, arith}
 use Rattle.ir_explore.specs.declared.origin.Origin.{Origin}
 use Rattle.ir_explore.specs.Following.{Leading, Keeps, IsOpen, StaysOpen, IsFollowedTo}
+use Rattle.ir_explore.specs.Ways.{shut}
 use Rattle.ir_explore.specs.Origins.{Goes, BeginsAt, AreReached, Adds}
-use Rattle.ir_explore.proofs.Opens.{shut, shut_less, shut_wide, stays_more, opens_more, followed_to_wide, wide_stays, goes_on}
+use Rattle.ir_explore.proofs.Opens.{shut_less, shut_wide, stays_more, opens_more, followed_to_wide, wide_stays, goes_on}
 use Rattle.ir_explore.proofs.Reached.{goes_kept, goes_more, begins_kept, pushed_stays, reached_kept, reached_more, adds_one}
 
 -- The thread of `start` has come by these entries to this node: the rows and the nodes were these at first, and are those now.

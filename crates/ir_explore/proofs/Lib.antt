@@ -3,5 +3,6 @@ mod Reached
 mod Going
 mod Rows
 mod Gone
+mod Marked
 mod Meant
 pub mod CallerLemmas

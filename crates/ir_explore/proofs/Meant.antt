@@ -1,18 +1,19 @@
 -- What a search over numbers has gone over is gone over of the machine.
-use Rattle.std.proofs.Common.{◌≡◌, ℕ, suc, zero, ◌<◌, ◌≤◌, true, cond, eq-eqb, ne_eqb, Some, List, [], ◌∷◌, ◌++◌, ◌⊎◌, inl, inr, length, refl, sym, ap, ◌∙◌, subst, arith}
+use Rattle.std.proofs.Common.{◌≡◌, ℕ, suc, zero, ◌<◌, ◌≤◌, Bool, true, cond, eq-eqb, ne_eqb, Some, List, [], ◌∷◌, ◌++◌, ◌⊎◌, inl, inr, length, refl, sym, ap, ◌∙◌, subst, arith}
 use Rattle.std.specs.Prelude.{slice_get, replicate}
 use Rattle.std.proofs.lemmas.Bool.{cases_eq, cases_lt}
 use Rattle.ir_runs.specs.Machine.{Machine}
-use Rattle.ir_runs.specs.Run.{State}
+use Rattle.ir_runs.specs.Run.{State, IsDone}
 use Rattle.ir_states.specs.Counting.{Answers}
 use Rattle.ir_states.specs.Nodes.{Path}
-use Rattle.ir_states.specs.Outcomes.{changes, switches, IsFinished, Covers}
+use Rattle.ir_states.specs.Outcomes.{changes, switches, IsFinished, Covers, HasWay}
 use Rattle.ir_states.proofs.CallerLemmas.{path_append}
 use Rattle.ir_explore.specs.declared.origin.Origin.{Origin}
-use Rattle.ir_explore.specs.Following.{Leading}
+use Rattle.ir_explore.specs.Following.{Leading, IsOpen}
 use Rattle.ir_explore.specs.Levels.{AreAsked, Covered}
 use Rattle.ir_explore.specs.Meaning.{Means, Steps}
 use Rattle.ir_explore.specs.Origins.{Goes, BeginsAt, first_origin, AreReached, LeadsBy}
+use Rattle.ir_explore.specs.Ways.{Leads, HasMarked}
 use Rattle.ir_explore.proofs.Reached.{slice_less}
 use Rattle.ir_explore.proofs.Gone.{got}
 
@@ -113,6 +114,30 @@ module _ {T : Type 0} (m : Machine T) (answers : Answers T) (Alike : State T →
         let o = node_order nodes reached all some n.0.level v n.0 n.1 refl in
         (o.0, o.2);
   }
+
+  -- an order that leads to a marked node is a way, where the marked ones are done
+  pub marked_way : (marks : List Bool) → length marks ≡ size → ((w : ℕ) → IsOpen marks w → IsDone m (state_of w)) → (v : ℕ)
+      → HasMarked noted threads marks v → HasWay m state_of (Steps m state_of noted size) v
+  marked_way marks all done v (less, ts, w, path, is) = (ts, w, by ts v (omega (arith, less, all)) path, done w is)
+    where
+      by : (ts : List ℕ) (v : ℕ) → v < size → Leads noted threads (length marks) v ts w → Path (Steps m state_of noted size) v ts w
+      by [] v l path = path
+      by (t ∷ ts) v l (x, few, to, within, path) =
+          let next : x < size = omega (arith, within, all) in
+          let c = means.can t v x l to in (c.0, x, (to, l, next, c.1), by ts x next path)
+
+  -- a way is an order that leads to a marked node, where the done ones are marked
+  pub way_to_marked : (marks : List Bool) → length marks ≡ size → ((w : ℕ) → w < size → IsDone m (state_of w) → IsOpen marks w) → (v : ℕ)
+      → v < size → HasWay m state_of (Steps m state_of noted size) v → HasMarked noted threads marks v
+  way_to_marked marks all marked v l (ts, w, path, done) =
+      let p = by ts v l path in (omega (arith, l, all), ts, w, p.0, marked w p.1 done)
+    where
+      by : (ts : List ℕ) (v : ℕ) → v < size → Path (Steps m state_of noted size) v ts w → Leads noted threads (length marks) v ts w × (w < size)
+      by [] v l path = (path, subst (λ z. z < size) path l)
+      by (t ∷ ts) v l (r, x, (to, here, next, can), path) = elim (cases_lt t threads) [
+        | inl few ↦ let p = by ts x next path in ((x, few, to, omega (arith, next, all), p.0), p.1)
+        | inr many ↦ absurd (means.idle v l (t, r) many can)
+      ]
 
   -- which nodes are opened for which threads by the end of a level: for one that never has a step, what is opened for each that may
   abbrev pub Opened : (nodes : List Origin) (c : ℕ) → Covered noted threads nodes c → ℕ → ℕ → ℕ → Type 0

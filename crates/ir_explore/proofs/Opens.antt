@@ -5,12 +5,7 @@ use Rattle.std.proofs.lemmas.Bool.{cases_eq}
 use Rattle.std.specs.declared.option.Option.{Option}
 use Rattle.std.proofs.lemmas.Option.{slice_get-get_or, get_or_from_slice_get, same_Some}
 use Rattle.ir_explore.specs.Following.{Leading, Keeps, IsOpen, StaysOpen, GoesTo, IsFollowed, IsFollowedTo}
-
--- how many nodes aren't opened
-pub shut : List Bool → ℕ
-shut [] = 0
-shut (true ∷ xs) = shut xs
-shut (false ∷ xs) = suc (shut xs)
+use Rattle.ir_explore.specs.Ways.{shut}
 
 pub shut_less : (xs : List Bool) (x : ℕ) (d : Bool) → x < length xs → get_or xs x d ≡ false → shut (slice_set xs x true) < shut xs
 unfolding shut
@@ -39,7 +34,7 @@ opens_stays xs x l v o = elim (cases_eq v x) [
 ]
 
 -- what is opened now was so before, or is the one node
-opens_only : (xs : List Bool) (x v : ℕ) → IsOpen (slice_set xs x true) v → IsOpen xs v ⊎ (v ≡ x)
+pub opens_only : (xs : List Bool) (x v : ℕ) → IsOpen (slice_set xs x true) v → IsOpen xs v ⊎ (v ≡ x)
 opens_only xs x v o = elim (cases_eq v x) [
   | inl same ↦ inr same
   | inr ne ↦ inl (sym (opens_other xs x v ne) ∙ o)

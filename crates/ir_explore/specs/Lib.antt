@@ -2,3 +2,4 @@ pub mod Following
 pub mod Meaning
 pub mod Origins
 pub mod Levels
+pub mod Ways

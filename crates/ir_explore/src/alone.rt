@@ -1,7 +1,7 @@
 //! A thread that goes on alone.
 
-ghost use Rattle.std.specs.Prelude.{◌≡◌, ◌++◌, ℕ, false, [], ◌∷◌, ◌<◌, ◌≤◌, length, OnErr, IsErrOf, OnOk};
-ghost use Rattle.ir_explore.specs.declared.stop.Stop.TheVariants.{Nodes};
+ghost use Rattle.std.specs.Prelude.{◌≡◌, ◌⊎◌, ◌++◌, ℕ, false, [], ◌∷◌, ◌<◌, ◌≤◌, length, OnErr, IfErr, IsErrOf, OnOk};
+ghost use Rattle.ir_explore.specs.declared.stop.Stop.TheVariants.{Nodes, Memory};
 ghost use Rattle.ir_explore.specs.Following.{Keeps, IsOpen, StaysOpen, IsFollowed};
 ghost use Rattle.ir_explore.specs.Origins.{BeginsAt, AreReached, Adds};
 
@@ -20,7 +20,7 @@ fn join(
     ensures new { OnOk result (node ≡ length nodes.old.items → (opened.new.items ≡ opened.old.items ++ false ∷ []) × (nodes.new.items ≡ nodes.old.items ++ origin ∷ [])) }
     ensures stays { StaysOpen opened.old.items opened.new.items }
     ensures err { OnErr result (nodes.new.items ≡ nodes.old.items) }
-    ensures memory { IsErrOf result Nodes → ⊥ }
+    ensures memory { IfErr result (λ stop. stop ≡ Memory) }
 {
     if node == nodes.len() {
         opened.push(false)?;
@@ -65,6 +65,7 @@ pub fn go_alone<S: Successors>(
     ensures limit { S.most graph.new ≡ S.most graph.old }
     ensures origin { S.origin graph.new ≡ S.origin graph.old }
     ensures full { IsErrOf result Nodes → S.size graph.new ≡ S.most graph.new }
+    ensures stopped { IfErr result (λ stop. (stop ≡ Memory) ⊎ S.may_stop graph.new stop) }
     ensures sound { S.is_sound graph.new }
 {
     let mut node = start.from;

@@ -8,6 +8,7 @@ mod search;
 mod stop;
 mod successors;
 mod turn;
+mod ways;
 
 pub use alone::go_alone;
 pub use level::take_level;
@@ -16,3 +17,4 @@ pub use search::{Ended, Searched, run_search};
 pub use stop::Stop;
 pub use successors::Successors;
 pub use turn::take_turn;
+pub use ways::mark_ways;

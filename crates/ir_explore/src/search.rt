@@ -1,8 +1,9 @@
 //! The whole search.
 
-ghost use Rattle.std.specs.Prelude.{◌≡◌, ℕ, suc, [], ◌∷◌, ◌<◌, ◌≤◌, length, replicate, slice_get, Some, IfOk};
+ghost use Rattle.std.specs.Prelude.{◌≡◌, ◌⊎◌, ℕ, suc, [], ◌∷◌, ◌<◌, ◌≤◌, length, replicate, slice_get, Some, IfOk};
 ghost use Rattle.ir_explore.specs.declared.search.Ended.TheVariants.{Finished, Covered, Stopped};
-ghost use Rattle.ir_explore.specs.declared.stop.Stop.TheVariants.{Nodes};
+ghost use Rattle.ir_explore.specs.declared.stop.Stop.TheVariants.{Nodes, Memory};
+ghost use Rattle.ir_explore.specs.declared.stop.Stop.{Stop};
 ghost use Rattle.ir_explore.specs.declared.origin.Origin.{Origin};
 ghost use Rattle.ir_explore.specs.Following.{Keeps};
 ghost use Rattle.ir_explore.specs.Levels.{rows, AreAsked, AreGoneOver};
@@ -81,9 +82,14 @@ pub fn run_search<S: Successors>(
     ensures finished { IfOk result (λ found. found.ended ≡ Finished → AreAsked (S.noted graph.new) threads (S.size graph.new)) }
     ensures all { IfOk result (λ found. found.ended ≡ Finished → length found.nodes.items ≡ S.size graph.new) }
 
+    ensures within { IfOk result (λ found. found.ended ≡ Finished → found.levels ≤ suc most) }
+
+    // Once all levels that were wanted are gone over, and some node was found in the last
+    ensures covered { IfOk result (λ found. found.ended ≡ Covered → found.levels ≡ suc most) }
+    ensures left { IfOk result (λ found. found.ended ≡ Covered → (v : ℕ) × (n : Origin) × (slice_get found.nodes.items v ≡ Some n) × (n.level ≡ most)) }
+
     // However it ends
     ensures gone { IfOk result (λ found. AreGoneOver (S.noted graph.new) threads found.nodes.items found.levels) }
-    ensures covered { IfOk result (λ found. found.ended ≡ Covered → found.levels ≡ suc most) }
     ensures reached { IfOk result (λ found. AreReached (S.noted graph.new) found.nodes.items) }
     ensures rising { IfOk result (λ found. AreRising found.nodes.items) }
     ensures levels { IfOk result (λ found. (v : ℕ) (n : Origin) → slice_get found.nodes.items v ≡ Some n → n.level ≤ found.levels) }
@@ -94,6 +100,7 @@ pub fn run_search<S: Successors>(
     ensures limit { S.most graph.new ≡ S.most graph.old }
     ensures origin { S.origin graph.new ≡ S.origin graph.old }
     ensures full { IfOk result (λ found. found.ended ≡ Stopped Nodes → S.size graph.new ≡ S.most graph.new) }
+    ensures stopped { IfOk result (λ found. (stop : Stop) → found.ended ≡ Stopped stop → (stop ≡ Memory) ⊎ S.may_stop graph.new stop) }
     ensures sound { S.is_sound graph.new }
 {
     let mut opened = no_rows(alloc, threads)?;

@@ -1,8 +1,9 @@
 //! What gives the nodes that come next.
 
-ghost use Rattle.std.specs.Prelude.{◌≡◌, ◌⊎◌, ℕ, suc, ◌<◌, ◌≤◌, Some, IfOk, IsErrOf};
+ghost use Rattle.std.specs.Prelude.{◌≡◌, ◌⊎◌, ℕ, suc, ◌<◌, ◌≤◌, Some, IfOk, IfErr, IsErrOf};
 ghost use Rattle.std.specs.declared.option.Option.{Option};
 ghost use Rattle.ir_explore.specs.Following.{Keeps};
+ghost use Rattle.ir_explore.specs.declared.stop.Stop.{Stop};
 ghost use Rattle.ir_explore.specs.declared.stop.Stop.TheVariants.{Nodes};
 
 use crate::stop::Stop;
@@ -27,6 +28,13 @@ pub trait Successors {
     /// What is so of the graph however far it has grown.
     ghost is_sound: { Self → Type 0 };
 
+    /// Why the graph may stop, as far as it has grown.
+    ghost may_stop: { Self → Stop → Type 0 };
+
+    /// What was noted of a thread and a node: nothing, that the thread can't go on there, or the node to which it leads.
+    fn known(&self, thread: usize, node: usize) -> Option<Option<usize>>
+        ensures { result ≡ noted self.now thread node };
+
     /// The node to which a thread leads from a node, if it can go on there: an old one, or a new one after the others.
     ///
     /// # Errors
@@ -44,5 +52,6 @@ pub trait Successors {
         ensures limit { most self.new ≡ most self.old }
         ensures origin { origin self.new ≡ origin self.old }
         ensures full { IsErrOf result Nodes → size self.new ≡ most self.new }
+        ensures stopped { IfErr result (λ stop. may_stop self.new stop) }
         ensures sound { is_sound self.new };
 }

@@ -1,7 +1,7 @@
 //! A thread's turn in a level.
 
-ghost use Rattle.std.specs.Prelude.{◌≡◌, ℕ, ◌<◌, ◌≤◌, length, IsErrOf, OnOk};
-ghost use Rattle.ir_explore.specs.declared.stop.Stop.TheVariants.{Nodes};
+ghost use Rattle.std.specs.Prelude.{◌≡◌, ◌⊎◌, ℕ, ◌<◌, ◌≤◌, length, IfErr, IsErrOf, OnOk};
+ghost use Rattle.ir_explore.specs.declared.stop.Stop.TheVariants.{Nodes, Memory};
 ghost use Rattle.ir_explore.specs.Following.{Keeps, AreOpen, StaysOpen, IsFollowed};
 ghost use Rattle.ir_explore.specs.Origins.{AreReached, IsLevel, Adds};
 
@@ -46,6 +46,7 @@ pub fn take_turn<S: Successors>(
     ensures limit { S.most graph.new ≡ S.most graph.old }
     ensures origin { S.origin graph.new ≡ S.origin graph.old }
     ensures full { IsErrOf result Nodes → S.size graph.new ≡ S.most graph.new }
+    ensures stopped { IfErr result (λ stop. (stop ≡ Memory) ⊎ S.may_stop graph.new stop) }
     ensures sound { S.is_sound graph.new }
 {
     opened.resize(nodes.len(), false)?;

@@ -11,6 +11,7 @@ use Rattle.ir_record_run.specs.Faults.{image_words}
 use Rattle.ir_thread.specs.Allowed.{IsAllowed}
 use Rattle.ir_thread.specs.declared.profile.Profile.TheVariants.{One}
 use Rattle.ir_explore_run.specs.Texts.{IsAnswerAbout}
+use Rattle.ir_explore_run.specs.declared.plan.ExplorePlan.{ExplorePlan}
 use Rattle.ir_explore_run.specs.declared.fault.ExploreFault.{ExploreFault}
 use Rattle.ir_explore_run.specs.declared.fault.ExploreFault.TheVariants.{Image, TooLarge, NoMem, Write}
 
@@ -38,27 +39,27 @@ fault_words NoMem = codes "memory ran out"
 fault_words Write = codes "standard output can't be written"
 
 -- the answer about the guest that these bytes encode, which the first profile allows, was written whole
-pub record Answers (bytes : List ℕ) (answered : ExitStatus) (w : Writer) : Type 0 where
+pub record Answers (bytes : List ℕ) (plan : ExplorePlan) (answered : ExitStatus) (w : Writer) : Type 0 where
   pub guest : Guest
   pub is : guest_at bytes ≡ Ok guest
   pub allowed : IsAllowed One guest
   pub text : List ℕ
-  pub answer : IsAnswerAbout guest answered text
+  pub answer : IsAnswerAbout guest plan answered text
   pub took : Took w text
 
 -- such an answer was stopped by the writer
-pub record BreaksOff (bytes : List ℕ) (w : Writer) : Type 0 where
+pub record BreaksOff (bytes : List ℕ) (plan : ExplorePlan) (w : Writer) : Type 0 where
   pub guest : Guest
   pub is : guest_at bytes ≡ Ok guest
   pub answered : ExitStatus
   pub text : List ℕ
-  pub answer : IsAnswerAbout guest answered text
+  pub answer : IsAnswerAbout guest plan answered text
   pub failed : Failed w text
 
 -- Why there is no answer. The image is refused for its first fault, or its guest is too large, or memory ran out: then nothing is written.
 -- Or the writer failed.
-abbrev pub HasNone : ExploreFault → List ℕ → Writer → Type 0
-HasNone (Image e) bytes w = (guest_at bytes ≡ Err e) × Took w []
-HasNone TooLarge bytes w = ((guest : Guest) × (guest_at bytes ≡ Ok guest) × (IsAllowed One guest → ⊥)) × Took w []
-HasNone NoMem bytes w = Took w []
-HasNone Write bytes w = BreaksOff bytes w
+abbrev pub HasNone : ExploreFault → List ℕ → ExplorePlan → Writer → Type 0
+HasNone (Image e) bytes plan w = (guest_at bytes ≡ Err e) × Took w []
+HasNone TooLarge bytes plan w = ((guest : Guest) × (guest_at bytes ≡ Ok guest) × (IsAllowed One guest → ⊥)) × Took w []
+HasNone NoMem bytes plan w = Took w []
+HasNone Write bytes plan w = BreaksOff bytes plan w

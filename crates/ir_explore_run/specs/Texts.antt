@@ -1,21 +1,24 @@
 -- What `ir explore` writes.
-use Rattle.std.specs.Prelude.{◌≡◌, ◌≢◌, ◌⊎◌, ℕ, zero, suc, ◌+◌, Bool, true, Option, None, List, [], ◌++◌, length, take, flat_map, if◌then◌else◌, nat_eq, Some, slice_get}
+use Rattle.std.specs.Prelude.{◌≡◌, ◌≢◌, ◌⊎◌, ℕ, zero, suc, Option, Some, None, List, [], ◌++◌, length, take, flat_map, if◌then◌else◌, nat_eq, slice_get}
 use Rattle.std.specs.List.{slice_index_or}
 use Rattle.std.specs.Cmp.Lexicographic.{pointwise}
 use Rattle.ir_explore.specs.declared.search.Ended.{Ended}
 use Rattle.ir_explore.specs.declared.search.Ended.TheVariants.{Finished, Covered, Stopped}
 use Rattle.ir_explore.specs.declared.stop.Stop.{Stop}
+use Rattle.ir_explore.specs.declared.stop.Stop.TheVariants.{Memory}
 use Rattle.ir_files.specs.declared.exit_status.ExitStatus.{ExitStatus}
 use Rattle.ir_files.specs.declared.exit_status.ExitStatus.TheVariants as status
 use Rattle.ir_flat.specs.Flat.{Flat, idle, start_cells, empty}
+use Rattle.ir_graph.specs.Stops.{IsStop, MayStop}
 use Rattle.ir_image.specs.Guest.{Guest, object_count, object_words}
 use Rattle.ir_object.specs.Cell.{Cell}
 use Rattle.ir_order.specs.Spelling.{Spells}
-use Rattle.ir_outcomes.specs.Explored.{IsAt, AreExplored, AreAll}
+use Rattle.ir_outcomes.specs.Explored.{IsAt, AreExplored, AreAll, AreHangs}
+use Rattle.ir_outcomes.specs.Hang.{IsOrder}
 use Rattle.ir_outcomes.specs.declared.shown.Shown.{Shown}
 use Rattle.ir_record.specs.Turns.{order_of_turns}
 use Rattle.ir_thread.specs.State.{State}
-use Rattle.ir_outcomes.specs.Hangs.{AreHangs}
+use Rattle.ir_explore_run.specs.declared.plan.ExplorePlan.{ExplorePlan}
 use Rattle.ir_explore_run.specs.Lines.{outcome_line, thread_text, object_line, hang_line, ended_text, counts_text, hangs_text, last_line}
 
 -- the lines of the first n threads
@@ -66,11 +69,6 @@ status_of Finished = status.Done
 status_of Covered = status.Done
 status_of (Stopped why) = status.NotSo
 
--- how many of the first n states have no way to an end
-abbrev pub hangs_in : List Bool → ℕ → ℕ
-hangs_in ways zero = 0
-hangs_in ways (suc n) = hangs_in ways n + (if slice_index_or ways n true then 0 else 1)
-
 -- the line of a hang, if one is known
 abbrev pub IsHangText : Option Shown → List ℕ → Type 0
 IsHangText None text = text ≡ []
@@ -81,9 +79,13 @@ abbrev pub end_line : Ended → ℕ → ℕ → ℕ → ℕ → List ℕ
 end_line ended levels outcomes states hangs =
     last_line (ended_text ended levels) (counts_text outcomes states) (hangs_text ended hangs)
 
--- the outcomes of the guest are printed, and how the search for them ended: once it is finished, they are all, and a run hangs exactly where
--- a state has no way to an end, to one of which an order leads
-pub record IsFound (guest : Guest) (answered : ExitStatus) (text : List ℕ) : Type 0 where
+-- why there is nothing to print of a search: it didn't begin, or no order was found
+abbrev pub IsReason : Guest → ExplorePlan → Stop → Type 0
+IsReason guest plan why = (why ≡ Memory) ⊎ IsStop guest plan.bounds.private why ⊎ IsOrder why
+
+-- the outcomes of the guest are printed, and how the search for them ended: once it is finished, they are all, and so many states can't be
+-- brought to an end: where there are any, a run that hangs is printed too, and only there. It stopped early only for what the plan says.
+pub record IsFound (guest : Guest) (plan : ExplorePlan) (answered : ExitStatus) (text : List ℕ) : Type 0 where
   pub flats : List Flat
   pub outcomes : List Shown
   pub levels : ℕ
@@ -92,20 +94,24 @@ pub record IsFound (guest : Guest) (answered : ExitStatus) (text : List ℕ) : T
   pub all : ended ≡ Finished → AreAll guest flats outcomes
   pub lines : List ℕ
   pub texts : AreTexts (objects_of guest) flats outcomes (length outcomes) lines
-  pub ways : List Bool
+  pub hangs : ℕ
   pub hang : Option Shown
-  pub hangs : ended ≡ Finished → AreHangs guest flats ways hang
+  pub hanging : ended ≡ Finished → AreHangs guest flats hangs hang
+  pub unknown : (ended ≡ Finished → ⊥) → hang ≡ None
+  pub covered : ended ≡ Covered → levels ≡ suc plan.switches
+  pub stopped : (why : Stop) → ended ≡ Stopped why → MayStop guest flats plan.bounds.nodes plan.bounds.private why
   pub hang_lines : List ℕ
   pub hang_text : IsHangText hang hang_lines
-  pub whole : text ≡ lines ++ (hang_lines ++ end_line ended levels (length outcomes) (length flats) (hangs_in ways (length ways)))
+  pub whole : text ≡ lines ++ (hang_lines ++ end_line ended levels (length outcomes) (length flats) hangs)
   pub status : answered ≡ status_of ended
 
 -- no outcome is printed, and why
-pub record IsStopped (answered : ExitStatus) (text : List ℕ) : Type 0 where
+pub record IsStopped (guest : Guest) (plan : ExplorePlan) (answered : ExitStatus) (text : List ℕ) : Type 0 where
   pub why : Stop
+  pub reason : IsReason guest plan why
   pub whole : text ≡ end_line (Stopped why) 0 0 0 0
   pub status : answered ≡ status.NotSo
 
 -- the answer about a guest
-abbrev pub IsAnswerAbout : Guest → ExitStatus → List ℕ → Type 0
-IsAnswerAbout guest answered text = IsFound guest answered text ⊎ IsStopped answered text
+abbrev pub IsAnswerAbout : Guest → ExplorePlan → ExitStatus → List ℕ → Type 0
+IsAnswerAbout guest plan answered text = IsFound guest plan answered text ⊎ IsStopped guest plan answered text

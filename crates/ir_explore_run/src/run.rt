@@ -1,23 +1,25 @@
 //! `ir explore`: the bytes of an image in, the outcomes of its guest out.
 
-ghost use Rattle.std.specs.Prelude.{◌≡◌, ◌⊎◌, IfOk, IfErr, false};
-ghost use Rattle.ir_explore.specs.declared.search.Ended.TheVariants.{Finished};
+ghost use Rattle.std.specs.Prelude.{◌≡◌, ◌⊎◌, suc, None, IfOk, IfErr, false};
+ghost use Rattle.ir_explore.specs.declared.search.Ended.TheVariants.{Finished, Covered, Stopped};
+ghost use Rattle.ir_explore.specs.declared.stop.Stop.{Stop};
 ghost use Rattle.ir_files.specs.Writers.{writer_of, Reports, fault_text};
 ghost use Rattle.ir_files.specs.declared.exit_status.ExitStatus.TheVariants as status;
 ghost use Rattle.ir_graph.specs.Reached.{AllReached};
-ghost use Rattle.ir_outcomes.specs.Explored.{AreExplored, AreAll};
-ghost use Rattle.ir_outcomes.specs.Hangs.{AreHangs};
+ghost use Rattle.ir_graph.specs.Stops.{MayStop};
+ghost use Rattle.ir_outcomes.specs.Explored.{AreExplored, AreAll, AreHangs};
 ghost use Rattle.ir_image.specs.Guest.{Guest};
 ghost use Rattle.ir_thread.specs.Allowed.{IsAllowed};
 ghost use Rattle.ir_thread.specs.declared.profile.Profile.TheVariants.{One};
 ghost use Rattle.ir_explore_run.specs.Faults.{Answers, HasNone, fault_status, fault_words};
-ghost use Rattle.ir_explore_run.specs.Texts.{IsAnswerAbout, status_of};
+ghost use Rattle.ir_explore_run.specs.Texts.{IsReason, IsAnswerAbout, status_of};
+ghost use Rattle.ir_explore_run.specs.declared.plan.ExplorePlan.{ExplorePlan};
 ghost use Rattle.ir_explore_run.specs.declared.fault.ExploreFault.{ExploreFault};
 
 use crate::fault::ExploreFault;
 use crate::outcome::Started;
 use crate::plan::ExplorePlan;
-use crate::texts::{Ending, end_line, hang_text, hangs_in, outcomes_text};
+use crate::texts::{Ending, end_line, hang_text, outcomes_text};
 use ir_explore::{Ended, Stop};
 use ir_files::{ExitStatus, tell};
 use ir_flat::Flat;
@@ -41,14 +43,18 @@ fn status_of(ended: Ended) -> ExitStatus
 fn found_text(
     alloc: Global,
     image: &Image,
+    plan: ExplorePlan,
     explored: &Explored<'_>,
 ) -> Result<(Vec<u8>, ExitStatus), AllocError>
     requires allowed { IsAllowed One image.now }
     requires explored { AreExplored image.now explored.now.states.graph.flats.items explored.now.states.found.levels explored.now.outcomes.items }
     requires all { explored.now.states.found.ended ≡ Finished → AreAll image.now explored.now.states.graph.flats.items explored.now.outcomes.items }
     requires states { AllReached image.now explored.now.states.graph.flats.items }
-    requires hangs { explored.now.states.found.ended ≡ Finished → AreHangs image.now explored.now.states.graph.flats.items explored.now.ways.items explored.now.hang }
-    ensures { IfOk result (λ answer. IsAnswerAbout image.now answer.1 answer.0.items) }
+    requires hangs { explored.now.states.found.ended ≡ Finished → AreHangs image.now explored.now.states.graph.flats.items explored.now.hangs explored.now.hang }
+    requires unknown { (explored.now.states.found.ended ≡ Finished → ⊥) → explored.now.hang ≡ None }
+    requires covered { explored.now.states.found.ended ≡ Covered → explored.now.states.found.levels ≡ suc plan.switches }
+    requires stopped { (stop : Stop) → explored.now.states.found.ended ≡ Stopped stop → MayStop image.now explored.now.states.graph.flats.items plan.bounds.nodes plan.bounds.private stop }
+    ensures { IfOk result (λ answer. IsAnswerAbout image.now plan answer.1 answer.0.items) }
 {
     let start = Flat::start(alloc, image, 0, Profile::One)?;
     let flats = explored.states.graph.flats.as_slice();
@@ -66,7 +72,7 @@ fn found_text(
         levels: found.levels,
         outcomes: outcomes.len(),
         states: flats.len(),
-        hangs: hangs_in(explored.ways.as_slice()),
+        hangs: explored.hangs,
     };
     let line = end_line(alloc, ending)?;
     text.extend_from_slice(line.as_bytes())?;
@@ -75,7 +81,7 @@ fn found_text(
 
 // The line of a search that stopped before it began, and the exit status.
 fn stopped_text(alloc: Global, why: Stop) -> Result<(Vec<u8>, ExitStatus), AllocError>
-    ensures { IfOk result (λ answer. (guest : Guest) → IsAnswerAbout guest answer.1 answer.0.items) }
+    ensures { IfOk result (λ answer. (guest : Guest) (plan : ExplorePlan) → IsReason guest plan why → IsAnswerAbout guest plan answer.1 answer.0.items) }
 {
     let ending = Ending {
         ended: Ended::Stopped(why),
@@ -96,10 +102,10 @@ fn answer(
     plan: ExplorePlan,
 ) -> Result<(Vec<u8>, ExitStatus), AllocError>
     requires { IsAllowed One image.now }
-    ensures { IfOk result (λ answer. IsAnswerAbout image.now answer.1 answer.0.items) }
+    ensures { IfOk result (λ answer. IsAnswerAbout image.now plan answer.1 answer.0.items) }
 {
     match explore(alloc, image, plan.bounds, plan.switches) {
-        Ok(explored) => found_text(alloc, image, &explored),
+        Ok(explored) => found_text(alloc, image, plan, &explored),
         Err(why) => stopped_text(alloc, why),
     }
 }
@@ -112,8 +118,8 @@ fn show<O: Sink>(
     out: &mut O,
 ) -> Result<ExitStatus, ExploreFault>
     requires { O.broken out.old ≡ false }
-    ensures ok { IfOk result (λ answered. Answers bytes.now answered (writer_of (O.written out.old) (O.written out.new) (O.broken out.new))) }
-    ensures fails { IfErr result (λ e. HasNone e bytes.now (writer_of (O.written out.old) (O.written out.new) (O.broken out.new))) }
+    ensures ok { IfOk result (λ answered. Answers bytes.now plan answered (writer_of (O.written out.old) (O.written out.new) (O.broken out.new))) }
+    ensures fails { IfErr result (λ e. HasNone e bytes.now plan (writer_of (O.written out.old) (O.written out.new) (O.broken out.new))) }
 {
     let image = match read_image(alloc, bytes) {
         Ok(image) => image,
@@ -140,8 +146,8 @@ pub fn explore_run<O: Sink, E: Sink>(
 ) -> ExitStatus
     requires writes { O.broken out.old ≡ false }
     requires reports { E.broken faults.old ≡ false }
-    ensures done { (Answers bytes.now result (writer_of (O.written out.old) (O.written out.new) (O.broken out.new)) × (faults.new ≡ faults.old))
-        ⊎ ((e : ExploreFault) × (result ≡ fault_status e) × HasNone e bytes.now (writer_of (O.written out.old) (O.written out.new) (O.broken out.new))
+    ensures done { (Answers bytes.now plan result (writer_of (O.written out.old) (O.written out.new) (O.broken out.new)) × (faults.new ≡ faults.old))
+        ⊎ ((e : ExploreFault) × (result ≡ fault_status e) × HasNone e bytes.now plan (writer_of (O.written out.old) (O.written out.new) (O.broken out.new))
         × Reports (writer_of (E.written faults.old) (E.written faults.new) (E.broken faults.new)) (fault_text (fault_words e))) }
 {
     match show(alloc, bytes, plan, out) {

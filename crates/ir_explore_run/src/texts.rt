@@ -6,7 +6,7 @@ ghost use Rattle.ir_flat.specs.Flat.{Flat, start_cells};
 ghost use Rattle.ir_graph.specs.Reached.{AllReached};
 ghost use Rattle.ir_image.specs.Guest.{object_count};
 ghost use Rattle.ir_outcomes.specs.declared.shown.Shown.{Shown};
-ghost use Rattle.ir_explore_run.specs.Texts.{AreTexts, IsHangText, hangs_in, end_line};
+ghost use Rattle.ir_explore_run.specs.Texts.{AreTexts, IsHangText, end_line};
 
 use crate::lines::{counts_text, ended_text, hang_line, hangs_text, last_line};
 use crate::outcome::{Started, outcome_text};
@@ -49,20 +49,6 @@ pub fn hang_text(alloc: Global, hang: &Option<Shown>) -> Result<String, AllocErr
     }
 }
 
-/// How many states have no way to an end.
-pub fn hangs_in(ways: &[bool]) -> usize
-    ensures value { result ≡ hangs_in ways.now (length ways.now) }
-    ensures few { result ≤ length ways.now }
-{
-    let mut hangs = 0;
-    for n in 0..ways.len() {
-        if !ways[n] {
-            hangs += 1;
-        }
-    }
-    hangs
-}
-
 /// How a search ended.
 #[derive(Clone, Copy)]
 pub struct Ending {
@@ -74,7 +60,7 @@ pub struct Ending {
     pub outcomes: usize,
     /// How many states.
     pub states: usize,
-    /// How many of them have no way to an end.
+    /// How many of them can't be brought to an end.
     pub hangs: usize,
 }
 

@@ -153,3 +153,9 @@ comes_back start size s bounded mark goes =
     ∙ ap (λ l. thread_of (frame_of s) (pages_of l))
     (made_again [] start s.core.memory (bounded.core.memory_length ∙ sym size) (omega (arith, size)))
     ∙ ap (λ c. record s { core = c }) (same_again s.core bounded.core.memory_length)
+
+pub changes_come_back : (start : List ℕ) → length start ≡ memory_size → (s : State) → length s.core.memory ≡ memory_size
+    → thawed start (frame_of s) 0 (changes 0 start s.core.memory) ≡ s
+changes_come_back start size s same =
+    ap (λ l. thread_of (frame_of s) (pages_of l)) (made_again [] start s.core.memory (same ∙ sym size) (omega (arith, size)))
+    ∙ ap (λ c. record s { core = c }) (same_again s.core same)

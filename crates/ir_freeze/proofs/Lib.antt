@@ -2,3 +2,4 @@ mod Written
 mod Apart
 mod Back
 mod Alike
+pub mod CallerLemmas

@@ -7,7 +7,7 @@ use Rattle.ir_thread.specs.Ends.{end_code}
 use Rattle.ir_thread.specs.Frames.{frame_of}
 use Rattle.ir_thread.specs.State.{State}
 use Rattle.ir_seen.specs.Seen.{Same, view}
-use Rattle.ir_freeze.specs.Frozen.{frozen, is_over}
+use Rattle.ir_freeze.specs.Frozen.{changes, frozen, is_over}
 use Rattle.ir_freeze.specs.Thawed.{before_changes, thawed}
 
 -- two moments of the thread of one number in one guest
@@ -33,3 +33,8 @@ TellsApart = (code start : List ℕ) → length start ≡ memory_size → (x y :
 abbrev pub ComesBack : Type 0
 ComesBack = (start : List ℕ) → length start ≡ memory_size → (s : State) → IsBounded s → (mark : List ℕ) → is_over s ≡ false
     → thawed start (frame_of s) (before_changes s (length mark)) (frozen start s mark) ≡ s
+
+-- a thread comes back from its frame and what is changed in its private memory, whether it is over or not
+abbrev pub ChangesComeBack : Type 0
+ChangesComeBack = (start : List ℕ) → length start ≡ memory_size → (s : State) → length s.core.memory ≡ memory_size
+    → thawed start (frame_of s) 0 (changes 0 start s.core.memory) ≡ s

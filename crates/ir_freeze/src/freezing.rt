@@ -106,6 +106,19 @@ fn put_changes(out: &mut Vec<u8>, start: &[u8], thread: &Thread) -> Result<(), A
     Ok(())
 }
 
+/// What a thread's private memory has that it hadn't at first, when it was `start`.
+///
+/// # Errors
+/// Out of memory.
+pub fn changes_of(alloc: Global, start: &[u8], thread: &Thread) -> Result<Vec<u8>, AllocError>
+    requires { length start.now ≡ memory_size }
+    ensures { IfOk result (λ bytes. bytes.items ≡ changes 0 start.now thread.now.core.memory) }
+{
+    let mut out = Vec::new(alloc);
+    put_changes(&mut out, start, thread)?;
+    Ok(out)
+}
+
 fn holds_none(held: &[Option<Access>]) -> bool
     ensures { result ≡ is_none (highest held.now) }
 {

@@ -7,5 +7,5 @@ pub use Rattle.ir_graph.proofs.Leads.{seen_at_rest, seen_stays, done_stays, step
 pub use Rattle.ir_graph.proofs.Turn.{alone_none, alone_more, entry_alone, alone_like}
 -- runs of a guest from its start
 pub use Rattle.ir_graph.proofs.Reached.{quiet_append, quiet_runs, quiet_counted}
--- hangs of a guest whose graph is whole
-pub use Rattle.ir_graph.proofs.Hanging.{hangs_marked}
+-- hangs
+pub use Rattle.ir_graph.proofs.Hangs.{quiet_counting, hang_never, quiet_can_end}

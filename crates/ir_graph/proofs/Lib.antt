@@ -3,12 +3,14 @@ mod Alike
 mod Leads
 mod Reached
 mod Turn
+mod Stops
 mod OneOutcome
 mod Found
+mod Ended
 mod Entries
 mod Grown
 mod Listed
+mod Levels
+mod Hangs
 mod Listing
-mod Marked
-mod Hanging
 pub mod CallerLemmas

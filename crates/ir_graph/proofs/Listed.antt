@@ -102,6 +102,12 @@ module _ (guest : Guest) (flats : List Flat) (noted : ℕ → ℕ → Option (Op
       subst (λ z. run.asked (seen_by z) (state_of v) t ≡ machines.Done → run.asked (machine (flat_of v)) (tables (flat_of v)) t ≡ machines.Done)
       (code_at v l) ((seen_view (flat_of v).code).done (thread_of (flat_of v) t)).1 (done t)
 
+  -- and the other way round
+  pub seen_done : (v : ℕ) → v < length flats → run.IsDone (machine (flat_of v)) (tables (flat_of v)) → run.IsDone (seen_by guest.code) (state_of v)
+  seen_done v l done t =
+      subst (λ z. run.asked (machine (flat_of v)) (tables (flat_of v)) t ≡ machines.Done → run.asked (seen_by z) (state_of v) t ≡ machines.Done)
+      (code_at v l) ((seen_view (flat_of v).code).done (thread_of (flat_of v) t)).0 (done t)
+
 pub all_listed : (guest : Guest) (flats : List Flat) (noted : ℕ → ℕ → Option (Option ℕ)) (threads : ℕ) → IsGraph guest flats noted threads
     → ((t v : ℕ) → threads ≤ t → noted t v ≡ Some None) → (origins : List Origin) → AreReached noted origins
     → length origins ≡ length flats → AreAsked noted threads (length flats) → AllListed guest flats

@@ -7,4 +7,5 @@ pub mod Graph
 pub mod Outcomes
 pub mod Listing
 pub mod Searched
-pub mod Ways
+pub mod Hangs
+pub mod Stops

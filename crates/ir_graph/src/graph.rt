@@ -1,9 +1,10 @@
 //! The graph of a guest, as it grows.
 
-ghost use Rattle.std.specs.Prelude.{length};
+ghost use Rattle.std.specs.Prelude.{ℕ, length};
 ghost use Rattle.ir_image.specs.Guest.{Guest};
 ghost use Rattle.ir_graph.specs.Graph.{IsGraph};
 ghost use Rattle.ir_graph.specs.Notes.{noted_in};
+ghost use Rattle.ir_graph.specs.Stops.{MayStop};
 
 use crate::hints::Hints;
 use crate::nodes::{Bounds, successor};
@@ -25,17 +26,27 @@ pub struct Graph<'a> {
 }
 
 impl<'a> Successors for Graph<'a> {
-    ghost Origin = { Guest };
+    ghost Origin = { Guest × ℕ };
 
-    ghost origin = { λ g. g.image.now };
+    ghost origin = { λ g. (g.image.now, g.bounds.private) };
 
     ghost size = { λ g. length g.flats.items };
 
     ghost most = { λ g. g.bounds.nodes };
 
+    ghost may_stop = { λ g. MayStop g.image.now g.flats.items g.bounds.nodes g.bounds.private };
+
     ghost noted = { λ g. noted_in g.rows.items };
 
     ghost is_sound = { λ g. IsGraph g.image.now g.flats.items (noted_in g.rows.items) (length g.rows.items) };
+
+    fn known(&self, thread: usize, node: usize) -> Option<Option<usize>> {
+        if thread < self.rows.len() {
+            known(&self.rows, thread, node)
+        } else {
+            Some(None)
+        }
+    }
 
     fn next(&mut self, thread: usize, node: usize) -> Result<Option<usize>, Stop> {
         if thread >= self.rows.len() {

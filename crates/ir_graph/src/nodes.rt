@@ -1,12 +1,13 @@
 //! The nodes that were found, and where threads lead from them.
 
-ghost use Rattle.std.specs.Prelude.{◌≡◌, ◌⊎◌, ℕ, suc, ◌<◌, ◌≤◌, Some, None, length, slice_get, IfOk, OnOk, OnErr, IsErrOf};
+ghost use Rattle.std.specs.Prelude.{◌≡◌, ◌⊎◌, ℕ, suc, ◌<◌, ◌≤◌, Some, None, length, slice_get, IfOk, IfErr, OnOk, OnErr, IsErrOf};
 ghost use Rattle.std.specs.List.{slice_index_or};
-ghost use Rattle.ir_explore.specs.declared.stop.Stop.TheVariants.{Nodes};
+ghost use Rattle.ir_explore.specs.declared.stop.Stop.TheVariants.{Nodes, Memory};
 ghost use Rattle.ir_flat.specs.Flat.{Flat};
 ghost use Rattle.ir_graph.specs.Nodes.{LookAlike, AllRest, AreNodes, Stay, LeadsFrom};
 ghost use Rattle.ir_graph.specs.Plain.{IsLike};
 ghost use Rattle.ir_graph.specs.Reached.{IsReached, AllReached};
+ghost use Rattle.ir_graph.specs.Stops.{MayStop};
 ghost use Rattle.ir_image.specs.Guest.{Guest};
 
 use crate::hints::{Hints, hash_of};
@@ -68,6 +69,7 @@ fn node_of<'a>(
     ensures grown { length flats.old.items ≤ length flats.new.items }
     ensures room { length flats.new.items ≤ most }
     ensures full { IsErrOf result Nodes → length flats.new.items ≡ most }
+    ensures stopped { IfErr result (λ stop. (stop ≡ Memory) ⊎ ((stop ≡ Nodes) × (length flats.new.items ≡ most))) }
 {
     let first = flats.as_slice().first().unwrap_or(&flat);
     let hash = hash_of(alloc, first, &flat)?;
@@ -108,12 +110,17 @@ pub fn successor<'a>(
     ensures grown { length flats.old.items ≤ length flats.new.items }
     ensures room { length flats.new.items ≤ bounds.nodes }
     ensures full { IsErrOf result Nodes → length flats.new.items ≡ bounds.nodes }
+    ensures stopped { IfErr result (λ stop. (guest : Guest) → AllReached guest flats.old.items → MayStop guest flats.new.items bounds.nodes bounds.private stop) }
 {
     let mut flat = flats[node].copy()?;
     if let Err(_) = flat.step(thread, 0) {
         return Ok(None);
     }
-    run_to_rest(&mut flat, thread, bounds.private)?;
-    let next = node_of(alloc, flats, hints, flat, bounds.nodes)?;
-    Ok(Some(next))
+    if let Err(stop) = run_to_rest(&mut flat, thread, bounds.private) {
+        return Err(stop);
+    }
+    match node_of(alloc, flats, hints, flat, bounds.nodes) {
+        Ok(next) => Ok(Some(next)),
+        Err(stop) => Err(stop),
+    }
 }

@@ -1,9 +1,9 @@
 //! A thread that runs on alone to its next entry.
 
-ghost use Rattle.std.specs.Prelude.{◌≡◌, ◌<◌, ◌≤◌, true, false, length, IfOk, OnOk, IsErrOf};
-ghost use Rattle.ir_explore.specs.declared.stop.Stop.TheVariants.{Nodes};
+ghost use Rattle.std.specs.Prelude.{◌≡◌, ◌<◌, ◌≤◌, true, false, length, IfOk, IfErr, OnOk};
 ghost use Rattle.ir_flat.specs.Flat.{thread_of};
 ghost use Rattle.ir_graph.specs.Plain.{IsFair, GoesPlain, OthersStay, Rests};
+ghost use Rattle.ir_graph.specs.Stops.{IsRefused, StopsAt};
 ghost use Rattle.ir_graph.specs.Turn.{GoesAlone};
 ghost use Rattle.ir_seen.specs.Seen.{view};
 ghost use Rattle.ir_thread.specs.Calls.{ask_of};
@@ -17,7 +17,7 @@ use ir_thread::{Ask, End};
 fn rests(thread: usize, asked: Ask) -> Result<bool, Stop>
     ensures rests { IfOk result (λ rests. rests ≡ true → Rests asked) }
     ensures plain { IfOk result (λ rests. rests ≡ false → IsFair asked) }
-    ensures err { IsErrOf result Nodes → ⊥ }
+    ensures stopped { IfErr result (λ stop. IsRefused thread asked stop) }
 {
     match asked {
         Ask::Enter(_, _) | Ask::Done => Ok(true),
@@ -39,13 +39,17 @@ pub fn run_to_rest(flat: &mut Flat<'_>, thread: usize, limit: u64) -> Result<u64
     ensures within { IfOk result (λ steps. steps ≤ limit) }
     ensures others { OthersStay flat.old flat.new thread }
     ensures rests { OnOk result (Rests (ask_of flat.new.code (thread_of flat.new thread))) }
-    ensures err { IsErrOf result Nodes → ⊥ }
+    ensures stopped { IfErr result (λ stop. StopsAt flat.old flat.new thread limit stop) }
 {
     let mut taken = 0;
     'private: loop {
         let (steps, asked) = flat.run_to_ask(thread, limit - taken);
         taken += steps;
-        if rests(thread, asked)? {
+        let rests = match rests(thread, asked) {
+            Ok(rests) => rests,
+            Err(stop) => return Err(stop),
+        };
+        if rests {
             return Ok(taken);
         }
         if taken == limit {

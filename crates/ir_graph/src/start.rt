@@ -1,13 +1,16 @@
 //! The graph at first: the node where a guest comes to rest.
 
-ghost use Rattle.std.specs.Prelude.{◌≡◌, ℕ, ◌<◌, ◌≤◌, [], ◌∷◌, None, length, IfOk, OnOk};
-ghost use Rattle.ir_explore.specs.declared.stop.Stop.TheVariants.{Nodes};
+ghost use Rattle.std.specs.Prelude.{◌≡◌, ◌⊎◌, ℕ, ◌<◌, ◌≤◌, [], ◌∷◌, None, length, IfOk, IfErr, OnOk};
+ghost use Rattle.ir_explore.specs.declared.stop.Stop.TheVariants.{Memory};
 ghost use Rattle.ir_flat.specs.Flat.{start_flat};
 ghost use Rattle.ir_graph.specs.Graph.{IsGraph};
 ghost use Rattle.ir_graph.specs.Nodes.{AllRest};
 ghost use Rattle.ir_graph.specs.Notes.{noted_in};
 ghost use Rattle.ir_graph.specs.Plain.{GoesPlain};
+ghost use Rattle.ir_graph.specs.Stops.{IsStop};
+ghost use Rattle.ir_image.specs.Guest.{Guest};
 ghost use Rattle.ir_thread.specs.Allowed.{IsAllowed};
+ghost use Rattle.ir_thread.specs.Calls.{most_budget};
 ghost use Rattle.ir_thread.specs.declared.profile.Profile.TheVariants.{One};
 
 use crate::graph::Graph;
@@ -28,9 +31,12 @@ const MOST_BUDGET: u64 = 1_000_000_000_000;
 fn rest_all(flat: &mut Flat<'_>, limit: u64) -> Result<(), Stop>
     ensures goes { GoesPlain flat.old flat.new }
     ensures rest { OnOk result (AllRest flat.new) }
+    ensures stopped { IfErr result (λ stop. (guest : Guest) → flat.old ≡ start_flat guest most_budget One → IsStop guest limit stop) }
 {
     for thread in 0..flat.threads().len() {
-        run_to_rest(flat, thread, limit)?;
+        if let Err(stop) = run_to_rest(flat, thread, limit) {
+            return Err(stop);
+        }
     }
     Ok(())
 }
@@ -53,6 +59,7 @@ fn no_notes(alloc: Global, threads: usize) -> Result<Vec<Row>, AllocError>
 /// What `run_to_rest` gives, or out of memory.
 pub fn start_graph<'a>(alloc: Global, image: &'a Image, bounds: Bounds) -> Result<Graph<'a>, Stop>
     requires allowed { IsAllowed One image.now }
+    ensures stopped { IfErr result (λ stop. (stop ≡ Memory) ⊎ IsStop image.now bounds.private stop) }
     ensures image { IfOk result (λ graph. graph.image.now ≡ image.now) }
     ensures one { IfOk result (λ graph. length graph.flats.items ≡ 1) }
     ensures bounds { IfOk result (λ graph. graph.bounds ≡ bounds) }

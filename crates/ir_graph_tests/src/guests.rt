@@ -68,6 +68,81 @@ main:   addi a7, zero, 12
         ecall
 ";
 
+// A lost wake-up. The first thread looks whether word 0 of object 0 is set, and ends with code 0 if it is. If not, it clears word 1, waits until
+// that is set, and ends with code 1. The second thread sets word 0, then word 1. Where it does both between the look and the clearing, the first
+// waits for ever.
+pub const LOST_WAKE_UP: &str = "
+        .objects 1
+        .thread sleeper
+        .thread waker
+sleeper: addi a0, zero, 0
+        addi a7, zero, 7
+        ecall
+        addi a0, zero, 0
+        addi a1, zero, 0
+        addi a7, zero, 10
+        ecall
+        addi s0, a0, 0
+        addi a0, zero, 0
+        addi a7, zero, 9
+        ecall
+        bne s0, zero, seen
+        addi a0, zero, 0
+        addi a7, zero, 8
+        ecall
+        addi a0, zero, 0
+        addi a1, zero, 1
+        addi a2, zero, 0
+        addi a7, zero, 11
+        ecall
+        addi a0, zero, 0
+        addi a7, zero, 9
+        ecall
+wait:   addi a0, zero, 0
+        addi a7, zero, 7
+        ecall
+        addi a0, zero, 0
+        addi a1, zero, 1
+        addi a7, zero, 10
+        ecall
+        addi s0, a0, 0
+        addi a0, zero, 0
+        addi a7, zero, 9
+        ecall
+        beq s0, zero, wait
+        addi a0, zero, 1
+        addi a7, zero, 1
+        ecall
+seen:   addi a0, zero, 0
+        addi a7, zero, 1
+        ecall
+waker:  addi a0, zero, 0
+        addi a7, zero, 8
+        ecall
+        addi a0, zero, 0
+        addi a1, zero, 0
+        addi a2, zero, 1
+        addi a7, zero, 11
+        ecall
+        addi a0, zero, 0
+        addi a7, zero, 9
+        ecall
+        addi a0, zero, 0
+        addi a7, zero, 8
+        ecall
+        addi a0, zero, 0
+        addi a1, zero, 1
+        addi a2, zero, 1
+        addi a7, zero, 11
+        ecall
+        addi a0, zero, 0
+        addi a7, zero, 9
+        ecall
+        addi a0, zero, 0
+        addi a7, zero, 1
+        ecall
+";
+
 // A thread without an end.
 pub const ENDLESS_LOOP: &str = "
         .thread main

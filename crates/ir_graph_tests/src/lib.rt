@@ -6,6 +6,8 @@ mod explore_tests;
 #[cfg(test)]
 mod guests;
 #[cfg(test)]
+mod hang_tests;
+#[cfg(test)]
 mod page;
 #[cfg(test)]
 mod states_tests;

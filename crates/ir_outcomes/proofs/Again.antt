@@ -102,12 +102,3 @@ within_next guest order order' f g t e k w none more = (
         subst (λ z. IsAgainWithin guest order' z g) one
         (within_first guest order' g t e (more [] (subst (λ z. IsAgain guest order z f) (none first) w.again)))
     by (inr later) = within_more guest order order' f g t e k (omega (arith, later)) w (more w.entries w.again)
-
--- fewer switches than so many are fewer than more
-pub within_wide : (guest : Guest) (order : List ℕ) (most more : ℕ) (f : Flat) → most ≤ more → IsAgainWithin guest order most f
-    → IsAgainWithin guest order more f
-within_wide guest order most more f l w = record {
-  entries = w.entries;
-  again = w.again;
-  few = let k = w.few in omega (arith, k, l);
-}

@@ -1,3 +1,4 @@
 mod Again
 mod Showing
 mod Listed
+mod Lost

@@ -15,7 +15,7 @@ use Rattle.ir_outcomes.specs.Again.{steps_of, IsAgainWithin}
 use Rattle.ir_outcomes.specs.Shown.{IsShown}
 
 -- each of the steps is taken in turn
-quiet_turns : (code : List ℕ) (s : State thread.State) (order : List ℕ) → IsQuietRun code s (steps_of order)
+pub quiet_turns : (code : List ℕ) (s : State thread.State) (order : List ℕ) → IsQuietRun code s (steps_of order)
     → InTurn (thread_machine code) s order (steps_of order)
 quiet_turns code s [] quiet = refl
 quiet_turns code s (t ∷ order) (can, live, sure, rest) =

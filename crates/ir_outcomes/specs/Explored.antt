@@ -1,7 +1,8 @@
 -- The outcomes of a guest, listed.
-use Rattle.std.specs.Prelude.{◌≡◌, ◌↔◌, ℕ, ◌<◌, ◌≤◌, List, Some, length, slice_get}
+use Rattle.std.specs.Prelude.{◌≡◌, ◌↔◌, ℕ, ◌<◌, ◌≤◌, Bool, List, Option, Some, length, slice_get}
 use Rattle.ir_image.specs.Guest.{Guest}
 use Rattle.ir_explore.specs.declared.origin.Origin.{Origin}
+use Rattle.ir_explore.specs.Ways.{shut}
 use Rattle.ir_record.specs.Turns.{order_of_turns}
 use Rattle.ir_runs.specs.Run.{Step, end}
 use Rattle.ir_states.specs.Counting.{entering}
@@ -10,9 +11,10 @@ use Rattle.ir_thread.specs.Instance.{thread_machine}
 use Rattle.ir_thread.specs.declared.profile.Profile.TheVariants.{One}
 use Rattle.ir_flat.specs.Flat.{Flat, tables, start_flat}
 use Rattle.ir_seen.specs.Seen.{IsCounted}
+use Rattle.ir_graph.specs.Hangs.{IsHangOf, AreMarked}
 use Rattle.ir_graph.specs.Nodes.{told}
 use Rattle.ir_graph.specs.Outcomes.{Outcome, outcome_of}
-use Rattle.ir_outcomes.specs.Shown.{IsShown}
+use Rattle.ir_outcomes.specs.Shown.{IsShown, IsHangShown}
 use Rattle.ir_outcomes.specs.declared.shown.Shown.{Shown}
 
 -- what a run of a guest comes to
@@ -27,6 +29,10 @@ switches_by guest budget steps = switches (entering (thread_machine guest.code) 
 abbrev pub IsOutcomeOf : Guest → Outcome → Type 0
 IsOutcomeOf guest x = (answers : ℕ → List ℕ) × (budget : ℕ) × (steps : List Step) × IsCounted guest budget One told answers steps
     × (outcome_by guest budget steps ≡ x)
+
+-- some run of the guest hangs: it counts, and no run that counts brings it to an end, even if no budget and no log came to its end
+abbrev pub HasHang : Guest → Type 0
+HasHang guest = (answers : ℕ → List ℕ) × (budget : ℕ) × (steps : List Step) × IsHangOf guest budget answers steps
 
 -- the i-th of the listed is at this state
 abbrev pub IsAt : List Flat → List Shown → ℕ → Shown → Flat → Type 0
@@ -60,3 +66,15 @@ pub record AreShown (guest : Guest) (flats : List Flat) (origins : List Origin) 
   pub node : (i : ℕ) (x : Shown) → slice_get outcomes i ≡ Some x → slice_get listed i ≡ Some x.node
   pub level : (i : ℕ) (x : Shown) (n : Origin) → slice_get outcomes i ≡ Some x → slice_get origins x.node ≡ Some n → x.level ≡ n.level
   pub shown : (i : ℕ) (x : Shown) (f : Flat) → IsAt flats outcomes i x f → IsShown guest f x.level (order_of_turns x.turns.items)
+
+-- So many states can't be brought to an end, each of which some run leads to. Where there is one, a run is shown that hangs, with fewest
+-- switches of those that do.
+pub record AreHangs (guest : Guest) (flats : List Flat) (hangs : ℕ) (hang : Option Shown) : Type 0 where
+  pub marks : List Bool
+  pub marked : AreMarked flats marks
+  pub count : hangs ≡ shut marks
+  pub exact : HasHang guest ↔ (0 < hangs)
+  pub some : 0 < hangs → (x : Shown) × (hang ≡ Some x)
+  pub shown : (x : Shown) → hang ≡ Some x → IsHangShown guest x.level (order_of_turns x.turns.items)
+  pub fewest : (x : Shown) → hang ≡ Some x → (answers : ℕ → List ℕ) (budget : ℕ) (steps : List Step)
+      → IsHangOf guest budget answers steps → x.level ≤ switches_by guest budget steps

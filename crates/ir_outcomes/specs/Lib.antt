@@ -1,4 +1,4 @@
 pub mod Again
 pub mod Shown
 pub mod Explored
-pub mod Hangs
+pub mod Hang

@@ -1,23 +1,24 @@
 //! All outcomes of a guest.
 
-ghost use Rattle.std.specs.Prelude.{◌≡◌, ℕ, suc, ◌≤◌, ◌<◌, length, Some, None, slice_get, IfOk};
-ghost use Rattle.ir_explore.specs.declared.search.Ended.TheVariants.{Finished, Covered};
+ghost use Rattle.std.specs.Prelude.{◌≡◌, ◌⊎◌, ℕ, suc, ◌≤◌, ◌<◌, length, Some, None, slice_get, IfOk, IfErr};
+ghost use Rattle.ir_explore.specs.declared.search.Ended.TheVariants.{Finished, Covered, Stopped};
+ghost use Rattle.ir_explore.specs.declared.origin.Origin.{Origin};
+ghost use Rattle.ir_explore.specs.declared.stop.Stop.{Stop};
+ghost use Rattle.ir_explore.specs.declared.stop.Stop.TheVariants.{Memory};
+ghost use Rattle.ir_graph.specs.Stops.{IsStop, MayStop};
 ghost use Rattle.ir_graph.specs.Reached.{AllReached};
-ghost use Rattle.ir_graph.specs.Notes.{noted_in};
-ghost use Rattle.ir_graph.specs.Ways.{IsMarked, AreWays};
-ghost use Rattle.ir_outcomes.specs.Hangs.{IsHangShown, AreHangs};
-ghost use Rattle.ir_outcomes.specs.declared.shown.Shown.{Shown};
-ghost use Rattle.ir_outcomes.specs.Explored.{AreExplored, AreAll, AreShown};
+ghost use Rattle.ir_outcomes.specs.Hang.{IsOrder};
+ghost use Rattle.ir_outcomes.specs.Explored.{AreExplored, AreAll, AreHangs, AreShown};
 ghost use Rattle.ir_thread.specs.Allowed.{IsAllowed};
 ghost use Rattle.ir_thread.specs.declared.profile.Profile.TheVariants.{One};
 
-use crate::hang::show_hang;
+use crate::hang::{count_lost, find_hang};
 use crate::shown::{Shown, show};
-use ir_explore::{Ended, Origin, Stop};
+use ir_explore::{Origin, Stop};
 use ir_flat::Flat;
-use ir_graph::{Bounds, States, list_outcomes, mark_ways, search_states};
+use ir_graph::{Bounds, States, list_outcomes, search_states};
 use ir_image::Image;
-use std::alloc::{AllocError, Global};
+use std::alloc::Global;
 
 /// What was found out about a guest.
 #[derive(Drop)]
@@ -26,9 +27,9 @@ pub struct Explored<'a> {
     pub states: States<'a>,
     /// Its different outcomes.
     pub outcomes: Vec<Shown>,
-    /// From which nodes all threads come to their ends. It is empty if the search isn't finished.
-    pub ways: Vec<bool>,
-    /// The first of the other nodes, if there is one.
+    /// Of a finished search: how many of the states can't be brought to an end.
+    pub hangs: usize,
+    /// A run that leads to the first of them.
     pub hang: Option<Shown>,
 }
 
@@ -45,7 +46,8 @@ fn show_all<'a>(
     requires reached { AllReached image.now flats.now }
     requires few { length origins.now ≤ length flats.now }
     requires listed { (i v : ℕ) → slice_get listed.now i ≡ Some v → v < length origins.now }
-    ensures { IfOk result (λ outcomes. AreShown image.now flats.now origins.now listed.now (length listed.now) outcomes.items) }
+    ensures refused { IfErr result (λ stop. (stop ≡ Memory) ⊎ IsOrder stop) }
+    ensures shown { IfOk result (λ outcomes. AreShown image.now flats.now origins.now listed.now (length listed.now) outcomes.items) }
 {
     let mut outcomes = Vec::new(alloc);
     for i in 0..listed.len() {
@@ -53,48 +55,6 @@ fn show_all<'a>(
         outcomes.push(shown)?;
     }
     Ok(outcomes)
-}
-
-// From which nodes all threads come to their ends, if the search is finished.
-fn ways_of(alloc: Global, states: &States<'_>) -> Result<Vec<bool>, AllocError>
-    ensures { IfOk result (λ ways. states.now.found.ended ≡ Finished → AreWays states.now.graph.flats.items (noted_in states.now.graph.rows.items) ways.items) }
-{
-    match states.found.ended {
-        Ended::Finished => mark_ways(
-            alloc,
-            states.graph.flats.as_slice(),
-            states.graph.rows.as_slice(),
-        ),
-        _ => Ok(Vec::new(alloc)),
-    }
-}
-
-// An order that leads to the first of the other nodes, if the search is finished and there is one.
-fn hang_of<'a>(
-    alloc: Global,
-    image: &'a Image,
-    states: &States<'a>,
-    ways: &[bool],
-    limit: u64,
-) -> Result<Option<Shown>, Stop>
-    requires allowed { IsAllowed One image.now }
-    requires reached { AllReached image.now states.now.graph.flats.items }
-    requires size { states.now.found.ended ≡ Finished → length ways.now ≡ length states.now.graph.flats.items }
-    requires origins { states.now.found.ended ≡ Finished → length states.now.found.nodes.items ≡ length states.now.graph.flats.items }
-    ensures none { IfOk result (λ hang. states.now.found.ended ≡ Finished → hang ≡ None → (v : ℕ) → v < length ways.now → IsMarked ways.now v) }
-    ensures found { IfOk result (λ hang. (x : Shown) → hang ≡ Some x → IsHangShown image.now states.now.graph.flats.items ways.now x) }
-{
-    match states.found.ended {
-        Ended::Finished => show_hang(
-            alloc,
-            image,
-            states.graph.flats.as_slice(),
-            states.found.nodes.as_slice(),
-            ways,
-            limit,
-        ),
-        _ => Ok(None),
-    }
 }
 
 /// The different outcomes of a guest whose threads call no environment, each with an order that leads to it, by rising number of switches
@@ -112,12 +72,18 @@ pub fn explore<'a>(
     requires some { 1 ≤ bounds.nodes }
     // Once it is finished, an outcome is listed exactly where some complete run of the guest has it.
     ensures all { IfOk result (λ found. found.states.found.ended ≡ Finished → AreAll image.now found.states.graph.flats.items found.outcomes.items) }
+    // So are its hangs: one is shown exactly where some run of the guest can't be brought to an end.
+    ensures hangs { IfOk result (λ found. found.states.found.ended ≡ Finished → AreHangs image.now found.states.graph.flats.items found.hangs found.hang) }
+    ensures unknown { IfOk result (λ found. (found.states.found.ended ≡ Finished → ⊥) → found.hang ≡ None) }
     // However it ends, what is listed is right, and complete up to a number of switches.
     ensures explored { IfOk result (λ found. AreExplored image.now found.states.graph.flats.items found.states.found.levels found.outcomes.items) }
-    // A run hangs exactly where a node isn't marked, once it is finished.
-    ensures hangs { IfOk result (λ found. found.states.found.ended ≡ Finished → AreHangs image.now found.states.graph.flats.items found.ways.items found.hang) }
     ensures states { IfOk result (λ found. AllReached image.now found.states.graph.flats.items) }
+    // It ends so only where all levels that are wanted are gone over, and some state was found in the last of them.
     ensures covered { IfOk result (λ found. found.states.found.ended ≡ Covered → found.states.found.levels ≡ suc switches) }
+    ensures left { IfOk result (λ found. found.states.found.ended ≡ Covered → (v : ℕ) × (n : Origin) × (slice_get found.states.found.nodes.items v ≡ Some n) × (n.level ≡ switches)) }
+    // It stops only where the states are as many as may be, memory ends, or a run leads to a thread that is not followed.
+    ensures stopped { IfOk result (λ found. (stop : Stop) → found.states.found.ended ≡ Stopped stop → MayStop image.now found.states.graph.flats.items bounds.nodes bounds.private stop) }
+    ensures refused { IfErr result (λ stop. (stop ≡ Memory) ⊎ IsStop image.now bounds.private stop ⊎ IsOrder stop) }
 {
     let states = search_states(alloc, image, bounds, switches)?;
     let flats = states.graph.flats.as_slice();
@@ -131,12 +97,13 @@ pub fn explore<'a>(
         listed.as_slice(),
         bounds.private,
     )?;
-    let ways = ways_of(alloc, &states)?;
-    let hang = hang_of(alloc, image, &states, ways.as_slice(), bounds.private)?;
+    let marks = states.marks.as_slice();
+    let hang = find_hang(alloc, image, flats, origins, marks, bounds.private)?;
+    let hangs = count_lost(marks);
     Ok(Explored {
         states,
         outcomes,
-        ways,
+        hangs,
         hang,
     })
 }

@@ -1,16 +1,21 @@
-//! A run that hangs.
+//! A state that can't be brought to an end, with an order that leads to it.
 
-ghost use Rattle.std.specs.Prelude.{◌≡◌, ℕ, ◌<◌, Some, None, length, slice_get, IfOk, IfSome};
+ghost use Rattle.std.specs.Prelude.{◌≡◌, ◌⊎◌, ℕ, ◌<◌, ◌≤◌, false, Some, None, length, slice_get, IfOk, IfErr};
+ghost use Rattle.ir_explore.specs.declared.stop.Stop.TheVariants.{Memory, Order};
+ghost use Rattle.ir_explore.specs.declared.origin.Origin.{Origin};
+ghost use Rattle.ir_explore.specs.Following.{IsOpen};
+ghost use Rattle.ir_explore.specs.Ways.{shut};
 ghost use Rattle.ir_flat.specs.Flat.{Flat};
 ghost use Rattle.ir_graph.specs.Reached.{AllReached};
-ghost use Rattle.ir_graph.specs.Ways.{IsMarked};
+ghost use Rattle.ir_record.specs.Turns.{order_of_turns};
 ghost use Rattle.ir_thread.specs.Allowed.{IsAllowed};
 ghost use Rattle.ir_thread.specs.declared.profile.Profile.TheVariants.{One};
-ghost use Rattle.ir_outcomes.specs.Hangs.{LeadsTo, IsHangShown};
+ghost use Rattle.ir_outcomes.specs.Hang.{IsFirst, IsOrder};
+ghost use Rattle.ir_outcomes.specs.Shown.{IsShownAt};
 ghost use Rattle.ir_outcomes.specs.declared.shown.Shown.{Shown};
 
 use crate::path::path_to;
-use crate::rerun::run_again;
+use crate::rerun::run_to_node;
 use crate::shown::Shown;
 use ir_explore::{Origin, Stop};
 use ir_flat::Flat;
@@ -18,8 +23,34 @@ use ir_graph::same_state;
 use ir_image::Image;
 use std::alloc::Global;
 
+/// How many of the states aren't marked.
+pub fn count_lost(marks: &[bool]) -> usize
+    ensures { result ≡ shut marks.now }
+{
+    let mut lost = 0;
+    for v in 0..marks.len() {
+        if !marks[v] {
+            lost += 1;
+        }
+    }
+    lost
+}
+
+// The first that isn't.
+fn first_lost(marks: &[bool]) -> Option<usize>
+    ensures some { (v : ℕ) → result ≡ Some v → IsFirst marks.now v }
+    ensures none { result ≡ None → (v : ℕ) → v < length marks.now → IsOpen marks.now v }
+{
+    for v in 0..marks.len() {
+        if !marks[v] {
+            return Some(v);
+        }
+    }
+    None
+}
+
 // An order that leads to a node.
-fn lead_to<'a>(
+fn lead<'a>(
     alloc: Global,
     image: &'a Image,
     flats: &[Flat<'a>],
@@ -31,11 +62,13 @@ fn lead_to<'a>(
     requires reached { AllReached image.now flats.now }
     requires node { node < length flats.now }
     requires origin { node < length origins.now }
+    ensures refused { IfErr result (λ stop. (stop ≡ Memory) ⊎ (stop ≡ Order node)) }
     ensures node { IfOk result (λ shown. shown.node ≡ node) }
-    ensures leads { IfOk result (λ shown. (f : Flat) → slice_get flats.now node ≡ Some f → LeadsTo image.now shown f) }
+    ensures level { IfOk result (λ shown. (n : Origin) → slice_get origins.now node ≡ Some n → shown.level ≡ n.level) }
+    ensures shown { IfOk result (λ shown. (f : Flat) → slice_get flats.now node ≡ Some f → IsShownAt image.now f shown.level (order_of_turns shown.turns.items)) }
 {
     let path = path_to(alloc, origins, node)?;
-    let (flat, turns) = run_again(alloc, image, path.as_slice(), limit)?;
+    let (flat, turns) = run_to_node(alloc, image, path.as_slice(), node, limit)?;
     if !same_state(alloc, &flat, &flats[node])? {
         return Err(Stop::Order(node));
     }
@@ -46,43 +79,31 @@ fn lead_to<'a>(
     })
 }
 
-// The first node that isn't marked.
-fn first_unmarked(ways: &[bool]) -> Option<usize>
-    ensures none { result ≡ None → (v : ℕ) → v < length ways.now → IsMarked ways.now v }
-    ensures found { IfSome result (λ node. (node < length ways.now) × (IsMarked ways.now node → ⊥)) }
-{
-    for node in 0..ways.len() {
-        if !ways[node] {
-            return Some(node);
-        }
-    }
-    None
-}
-
-/// An order that leads to the first node that isn't marked; none if all are.
+/// The first state that isn't marked, with an order that leads to it.
 ///
 /// # Errors
 /// Out of memory. No order was found.
-pub fn show_hang<'a>(
+pub fn find_hang<'a>(
     alloc: Global,
     image: &'a Image,
     flats: &[Flat<'a>],
     origins: &[Origin],
-    ways: &[bool],
+    marks: &[bool],
     limit: u64,
 ) -> Result<Option<Shown>, Stop>
     requires allowed { IsAllowed One image.now }
     requires reached { AllReached image.now flats.now }
-    requires size { length ways.now ≡ length flats.now }
-    requires origins { length origins.now ≡ length flats.now }
-    ensures none { IfOk result (λ hang. hang ≡ None → (v : ℕ) → v < length ways.now → IsMarked ways.now v) }
-    ensures found { IfOk result (λ hang. (x : Shown) → hang ≡ Some x → IsHangShown image.now flats.now ways.now x) }
+    requires few { length origins.now ≤ length flats.now }
+    requires marks { length marks.now ≤ length origins.now }
+    ensures refused { IfErr result (λ stop. (stop ≡ Memory) ⊎ IsOrder stop) }
+    ensures none { IfOk result (λ hang. hang ≡ None → (v : ℕ) → v < length marks.now → IsOpen marks.now v) }
+    ensures first { IfOk result (λ hang. (x : Shown) → hang ≡ Some x → IsFirst marks.now x.node) }
+    ensures level { IfOk result (λ hang. (x : Shown) → hang ≡ Some x → (n : Origin) → slice_get origins.now x.node ≡ Some n → x.level ≡ n.level) }
+    ensures shown { IfOk result (λ hang. (x : Shown) → hang ≡ Some x → (f : Flat) → slice_get flats.now x.node ≡ Some f → IsShownAt image.now f x.level (order_of_turns x.turns.items)) }
 {
-    match first_unmarked(ways) {
-        None => Ok(None),
-        Some(node) => {
-            let shown = lead_to(alloc, image, flats, origins, node, limit)?;
-            Ok(Some(shown))
-        }
-    }
+    let Some(node) = first_lost(marks) else {
+        return Ok(None);
+    };
+    let shown = lead(alloc, image, flats, origins, node, limit)?;
+    Ok(Some(shown))
 }

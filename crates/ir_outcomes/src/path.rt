@@ -1,6 +1,7 @@
 //! How a search came to a node.
 
-ghost use Rattle.std.specs.Prelude.{◌≡◌, ℕ, suc, ◌<◌, ◌≤◌, Some, length, slice_get, IfOk};
+ghost use Rattle.std.specs.Prelude.{◌≡◌, ◌⊎◌, ℕ, suc, ◌<◌, ◌≤◌, Some, length, slice_get, IfOk, IfErr};
+ghost use Rattle.ir_explore.specs.declared.stop.Stop.TheVariants.{Memory, Order};
 ghost use Rattle.ir_explore.specs.declared.origin.Origin.{Origin};
 
 use ir_explore::{Origin, Stop};
@@ -12,7 +13,8 @@ use std::alloc::Global;
 /// Out of memory. `Order` where they lead to no first node.
 pub fn path_to(alloc: Global, origins: &[Origin], node: usize) -> Result<Vec<Origin>, Stop>
     requires { node < length origins.now }
-    ensures { IfOk result (λ path. (n : Origin) → slice_get origins.now node ≡ Some n → length path.items ≤ suc n.level) }
+    ensures few { IfOk result (λ path. (n : Origin) → slice_get origins.now node ≡ Some n → length path.items ≤ suc n.level) }
+    ensures refused { IfErr result (λ stop. (stop ≡ Memory) ⊎ (stop ≡ Order node)) }
 {
     let mut path = Vec::new(alloc);
     let mut at = node;

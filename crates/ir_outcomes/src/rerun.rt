@@ -1,7 +1,8 @@
 //! A guest that is run once more, turn by turn.
 
-ghost use Rattle.std.specs.Prelude.{◌≡◌, ℕ, ◌<◌, ◌+◌, ◌++◌, List, [], length, replicate, IfOk, OnOk};
+ghost use Rattle.std.specs.Prelude.{◌≡◌, ◌⊎◌, ℕ, ◌<◌, ◌+◌, ◌++◌, List, [], length, replicate, IfOk, IfErr, OnOk};
 ghost use Rattle.ir_image.specs.Guest.{Guest};
+ghost use Rattle.ir_explore.specs.declared.stop.Stop.TheVariants.{Memory, Order};
 ghost use Rattle.ir_flat.specs.Flat.{thread_of, start_flat};
 ghost use Rattle.ir_graph.specs.Plain.{Rests};
 ghost use Rattle.ir_graph.specs.Turn.{GoesAlone};
@@ -107,11 +108,8 @@ fn add_rests(flat: &mut Flat<'_>, turns: &mut Vec<Turns>, limit: u64) -> Result<
     Ok(())
 }
 
-/// The guest after the turns of a path, the last of which comes first, and the steps that its threads took.
-///
-/// # Errors
-/// Out of memory, or the turns can't be taken.
-pub fn run_again<'a>(
+// The guest after the turns of a path, the last of which comes first, and the steps that its threads took.
+fn run_again<'a>(
     alloc: Global,
     image: &'a Image,
     path: &[Origin],
@@ -125,4 +123,26 @@ pub fn run_again<'a>(
     add_path(&mut flat, &mut turns, path, limit)?;
     add_rests(&mut flat, &mut turns, limit)?;
     Ok((flat, turns))
+}
+
+/// The guest after the turns of a path that led to a node, the last of which comes first, and the steps that its threads took.
+///
+/// # Errors
+/// Out of memory, or `Order` of the node.
+pub fn run_to_node<'a>(
+    alloc: Global,
+    image: &'a Image,
+    path: &[Origin],
+    node: usize,
+    limit: u64,
+) -> Result<(Flat<'a>, Vec<Turns>), Stop>
+    requires { IsAllowed One image.now }
+    ensures again { IfOk result (λ run. IsAgainWithin image.now (order_of_turns run.1.items) (length path.now) run.0) }
+    ensures refused { IfErr result (λ stop. (stop ≡ Memory) ⊎ (stop ≡ Order node)) }
+{
+    match run_again(alloc, image, path, limit) {
+        Ok(run) => Ok(run),
+        Err(Stop::Memory) => Err(Stop::Memory),
+        Err(_) => Err(Stop::Order(node)),
+    }
 }

@@ -1,6 +1,7 @@
 //! An outcome with an order that leads to it.
 
-ghost use Rattle.std.specs.Prelude.{◌≡◌, ℕ, ◌<◌, Some, length, slice_get, IfOk};
+ghost use Rattle.std.specs.Prelude.{◌≡◌, ◌⊎◌, ℕ, ◌<◌, Some, length, slice_get, IfOk, IfErr};
+ghost use Rattle.ir_explore.specs.declared.stop.Stop.TheVariants.{Memory, Order};
 ghost use Rattle.ir_explore.specs.declared.origin.Origin.{Origin};
 ghost use Rattle.ir_flat.specs.Flat.{Flat};
 ghost use Rattle.ir_graph.specs.Reached.{AllReached};
@@ -10,7 +11,7 @@ ghost use Rattle.ir_thread.specs.declared.profile.Profile.TheVariants.{One};
 ghost use Rattle.ir_outcomes.specs.Shown.{IsShown};
 
 use crate::path::path_to;
-use crate::rerun::run_again;
+use crate::rerun::run_to_node;
 use ir_explore::{Origin, Stop};
 use ir_flat::Flat;
 use ir_graph::{is_done, same_outcome};
@@ -45,12 +46,13 @@ pub fn show<'a>(
     requires reached { AllReached image.now flats.now }
     requires node { node < length flats.now }
     requires origin { node < length origins.now }
+    ensures refused { IfErr result (λ stop. (stop ≡ Memory) ⊎ (stop ≡ Order node)) }
     ensures node { IfOk result (λ shown. shown.node ≡ node) }
     ensures level { IfOk result (λ shown. (n : Origin) → slice_get origins.now node ≡ Some n → shown.level ≡ n.level) }
     ensures shown { IfOk result (λ shown. (f : Flat) → slice_get flats.now node ≡ Some f → IsShown image.now f shown.level (order_of_turns shown.turns.items)) }
 {
     let path = path_to(alloc, origins, node)?;
-    let (flat, turns) = run_again(alloc, image, path.as_slice(), limit)?;
+    let (flat, turns) = run_to_node(alloc, image, path.as_slice(), node, limit)?;
     if !is_done(&flat) || !same_outcome(&flat, &flats[node]) {
         return Err(Stop::Order(node));
     }

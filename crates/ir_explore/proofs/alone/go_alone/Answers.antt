@@ -2,8 +2,9 @@ use Rattle.std.proofs.Common.{◌≡◌, suc, false, true, [], ◌∷◌, ◌++�
 use Rattle.std.proofs.lemmas.Bool.{cases_eq}
 use Rattle.ir_explore.specs.declared.origin.Origin.{Origin}
 use Rattle.ir_explore.specs.Following.{IsOpen}
+use Rattle.ir_explore.specs.Ways.{shut}
 use Rattle.ir_explore.specs.Origins.{AreReached}
-use Rattle.ir_explore.proofs.Opens.{shut, shut_less, shut_most, shut_wide, stays_more, opens_more, followed_to, is_open, all_followed, ends_there, new_node, old_node}
+use Rattle.ir_explore.proofs.Opens.{shut_less, shut_most, shut_wide, stays_more, opens_more, followed_to, is_open, all_followed, ends_there, new_node, old_node}
 use Rattle.ir_explore.proofs.Reached.{reached_kept, adds_none}
 use Rattle.ir_explore.proofs.Going.{Going, going_on, going_new}
 use Rattle.ir_explore.proofs.alone.go_alone.Goals as goal

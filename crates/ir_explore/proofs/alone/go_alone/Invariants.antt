@@ -1,6 +1,6 @@
 use Rattle.std.proofs.Common.{◌≡◌, ℕ, ◌+◌, ◌-◌, ◌<◌, ◌≤◌, length}
 use Rattle.ir_explore.specs.Following.{Keeps}
-use Rattle.ir_explore.proofs.Opens.{shut}
+use Rattle.ir_explore.specs.Ways.{shut}
 use Rattle.ir_explore.proofs.Going.{Going}
 use Rattle.ir_explore.proofs.alone.go_alone.Given as goal
 

@@ -1,8 +1,7 @@
 use Rattle.std.proofs.Common.{◌≡◌, ◌++◌, Some, inl, length, sym, ap, ◌∙◌, subst, append_assoc}
 use Rattle.std.specs.Prelude.{slice_get}
 use Rattle.std.specs.String.{string_bytes}
-use Rattle.ir_explore_run.specs.Texts.{hangs_in, end_line}
-use Rattle.ir_explore_run.specs.Texts.{Objects, objects_of, AreTexts}
+use Rattle.ir_explore_run.specs.Texts.{Objects, objects_of, AreTexts, end_line}
 use Rattle.ir_explore_run.proofs.run.found_text.Goals as goal
 
 pub outcomes_text-requires-clause-objects : goal.outcomes_text-requires-clause-objects
@@ -24,12 +23,10 @@ returns c =
     } in
     let ended = c.args.explored.now.states.found.ended in
     let levels = c.args.explored.now.states.found.levels in
-    let ways = c.args.explored.now.ways.items in
-    let hangs : c.hangs_in.result ≡ hangs_in ways (length ways) =
-    c.hangs_in.ensures.value ∙ ap (λ z. hangs_in z (length z)) c.as_slice.ensures.value in
-    let ending : end_line ended levels (length c.as_slice-outcomes.result.now) (length c.as_slice-flats.result.now) c.hangs_in.result
-    ≡ end_line ended levels (length outcomes) (length flats) (hangs_in ways (length ways)) =
-    λ i. end_line ended levels (length (value i)) (length (c.as_slice-flats.ensures.value i)) (hangs i) in
+    let hangs = c.args.explored.now.hangs in
+    let ending : end_line ended levels (length c.as_slice-outcomes.result.now) (length c.as_slice-flats.result.now) hangs
+    ≡ end_line ended levels (length outcomes) (length flats) hangs =
+    λ i. end_line ended levels (length (value i)) (length (c.as_slice-flats.ensures.value i)) hangs in
     inl (record {
       flats = flats;
       outcomes = outcomes;
@@ -41,14 +38,17 @@ returns c =
       texts = subst (λ z. AreTexts z flats outcomes (length outcomes) lines) first
           (subst (λ z. AreTexts (record { words = c.object_words.result; first = c.objects.result.now }) z outcomes (length outcomes) lines) c.as_slice-flats.ensures.value
           (subst (λ z. AreTexts (record { words = c.object_words.result; first = c.objects.result.now }) c.as_slice-flats.result.now z (length z) lines) value c.in_ok-text.ensures));
-      ways = c.args.explored.now.ways.items;
+      hangs = hangs;
       hang = c.args.explored.now.hang;
-      hangs = c.requires.hangs;
+      hanging = c.requires.hangs;
+      unknown = c.requires.unknown;
+      covered = c.requires.covered;
+      stopped = c.requires.stopped;
       hang_lines = string_bytes c.in_ok-hang.hang;
       hang_text = c.in_ok-hang.ensures;
       whole = c.in_ok-extend_from_slice-2.ensures.items
           ∙ (λ i. (c.in_ok-extend_from_slice.ensures.items ∙ ap (λ z. lines ++ z) c.as_bytes.ensures.value) i
           ++ (c.as_bytes-2.ensures.value ∙ c.in_ok-line.ensures ∙ ending) i)
-          ∙ append_assoc lines (string_bytes c.in_ok-hang.hang) (end_line ended levels (length outcomes) (length flats) (hangs_in ways (length ways)));
+          ∙ append_assoc lines (string_bytes c.in_ok-hang.hang) (end_line ended levels (length outcomes) (length flats) hangs);
       status = c.status_of.ensures;
     })

@@ -2,8 +2,9 @@ use Rattle.std.proofs.Common.{inr, refl, ◌∙◌}
 use Rattle.ir_explore_run.proofs.run.stopped_text.Goals as goal
 
 pub returns : goal.returns
-returns c = λ guest. inr (record {
+returns c = λ guest plan reason. inr (record {
   why = c.args.why;
+  reason = reason;
   whole = c.in_ok-text.ensures.items ∙ c.as_bytes.ensures.value ∙ c.in_ok-line.ensures;
   status = refl;
 })

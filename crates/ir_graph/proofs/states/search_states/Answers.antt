@@ -1,11 +1,12 @@
 use Rattle.std.proofs.Common.{length, sym, ap, ◌∙◌, subst}
-use Rattle.ir_explore.specs.Levels.{AreAsked, Covered}
+use Rattle.ir_explore.specs.Levels.{AreAsked, AreGoneOver, Covered}
 use Rattle.ir_graph.specs.Notes.{noted_in}
+use Rattle.ir_graph.specs.Hangs.{AllStand}
 use Rattle.ir_graph.specs.Outcomes.{AllListed, AllShown}
 use Rattle.ir_graph.specs.Searched.{AreSearched}
 use Rattle.ir_explore.proofs.CallerLemmas.{gone_less}
-use Rattle.ir_graph.specs.Ways.{IsWhole}
 use Rattle.ir_graph.proofs.Grown.{noted_past}
+use Rattle.ir_graph.proofs.Hangs.{are_marked, all_stand}
 use Rattle.ir_graph.proofs.Listed.{all_listed, within_listed, all_shown}
 use Rattle.ir_graph.proofs.states.search_states.Goals as goal
 
@@ -15,7 +16,7 @@ returns-clause-all c = λ done.
     let rows = graph.rows.items in
     let flats = graph.flats.items in
     let sound = c.run_search.ensures.sound in
-    let image = c.run_search.ensures.origin ∙ c.in_ok-graph.ensures.image in
+    let image = ap (λ z. z.0) c.run_search.ensures.origin ∙ c.in_ok-graph.ensures.image in
     let threads = ap length c.entries-threads.ensures.value ∙ ap (λ z. length z.entries) (sym image) ∙ sym sound.number in
     subst (λ z. AllListed z flats) image
     (all_listed graph.image.now flats (noted_in rows) (length rows) sound (λ t v l. noted_past rows t v l) c.in_ok-found.found.nodes.items
@@ -29,7 +30,7 @@ returns-clause-searched c =
     let flats = graph.flats.items in
     let nodes = c.in_ok-found.found.nodes.items in
     let sound = c.run_search.ensures.sound in
-    let image = c.run_search.ensures.origin ∙ c.in_ok-graph.ensures.image in
+    let image = ap (λ z. z.0) c.run_search.ensures.origin ∙ c.in_ok-graph.ensures.image in
     let threads = ap length c.entries-threads.ensures.value ∙ ap (λ z. length z.entries) (sym image) ∙ sym sound.number in
     subst (λ z. AreSearched z flats nodes c.in_ok-found.found.levels) image (record {
       states = sound.nodes;
@@ -48,23 +49,40 @@ pub returns-clause-shown : goal.returns-clause-shown
 returns-clause-shown c =
     let graph = c.run_search.new.graph in
     let rows = graph.rows.items in
-    let image = c.run_search.ensures.origin ∙ c.in_ok-graph.ensures.image in
+    let image = ap (λ z. z.0) c.run_search.ensures.origin ∙ c.in_ok-graph.ensures.image in
     subst (λ z. AllShown z graph.flats.items) image
     (all_shown graph.image.now graph.flats.items (noted_in rows) (length rows) c.run_search.ensures.sound)
 
-pub returns-clause-whole : goal.returns-clause-whole
-returns-clause-whole c = λ done.
+pub returns-clause-marked : goal.returns-clause-marked
+returns-clause-marked c = λ done.
     let graph = c.run_search.new.graph in
     let rows = graph.rows.items in
     let flats = graph.flats.items in
-    let nodes = c.in_ok-found.found.nodes.items in
     let sound = c.run_search.ensures.sound in
-    let image = c.run_search.ensures.origin ∙ c.in_ok-graph.ensures.image in
+    let image = ap (λ z. z.0) c.run_search.ensures.origin ∙ c.in_ok-graph.ensures.image in
     let threads = ap length c.entries-threads.ensures.value ∙ ap (λ z. length z.entries) (sym image) ∙ sym sound.number in
-    subst (λ z. IsWhole z flats (noted_in rows) (length rows) nodes) image (record {
-      graph = sound;
-      past = λ t v l. noted_past rows t v l;
-      reached = c.in_ok-found.ensures.reached;
-      nodes = c.in_ok-found.ensures.all done;
-      asked = subst (λ z. AreAsked (noted_in rows) z (length flats)) threads (c.in_ok-found.ensures.finished done);
-    })
+    are_marked graph.image.now flats (noted_in rows) (length rows) sound (λ t v l. noted_past rows t v l) c.in_ok-found.found.nodes.items
+    c.in_ok-found.ensures.reached (c.in_ok-found.ensures.all done)
+    (subst (λ z. AreAsked (noted_in rows) z (length flats)) threads (c.in_ok-found.ensures.finished done)) c.in_ok-marks.marks.items
+    (c.in_ok-marks.ensures.ways done)
+
+pub returns-clause-stand : goal.returns-clause-stand
+returns-clause-stand c = λ done.
+    let graph = c.run_search.new.graph in
+    let rows = graph.rows.items in
+    let flats = graph.flats.items in
+    let sound = c.run_search.ensures.sound in
+    let image = ap (λ z. z.0) c.run_search.ensures.origin ∙ c.in_ok-graph.ensures.image in
+    let threads = ap length c.entries-threads.ensures.value ∙ ap (λ z. length z.entries) (sym image) ∙ sym sound.number in
+    subst (λ z. AllStand z flats c.in_ok-found.found.nodes.items) image
+    (all_stand graph.image.now flats (noted_in rows) (length rows) sound (λ t v l. noted_past rows t v l) c.in_ok-found.found.nodes.items
+    c.in_ok-found.ensures.reached (c.in_ok-found.ensures.all done)
+    (subst (λ z. AreAsked (noted_in rows) z (length flats)) threads (c.in_ok-found.ensures.finished done)) c.in_ok-found.found.levels
+    (subst (λ z. AreGoneOver (noted_in rows) z c.in_ok-found.found.nodes.items c.in_ok-found.found.levels) threads c.in_ok-found.ensures.gone)
+    c.in_ok-found.ensures.levels c.in_ok-found.ensures.first)
+
+pub returns-clause-few : goal.returns-clause-few
+returns-clause-few c = c.in_ok-marks.ensures.few (length c.in_ok-found.found.nodes.items) (λ done. c.in_ok-found.ensures.all done)
+
+pub returns-clause-unknown : goal.returns-clause-unknown
+returns-clause-unknown c = λ other. c.in_ok-marks.ensures.few 0 (λ done. absurd (other done))

@@ -19,7 +19,7 @@ same_outcome-requires c =
     let at : slice_get c.args.flats.now c.args.node ≡ Some f =
     slice_get-get_or c.args.flats.now c.args.node f c.requires.node ∙ ap Some (sym c.index-flats-node.is) in
     like_more c.in_ok-flat.flat (start_flat c.args.image.now most_budget One) f
-    (like_back (start_flat c.args.image.now most_budget One) c.in_ok-flat.flat c.in_ok-flat.ensures.again.like)
+    (like_back (start_flat c.args.image.now most_budget One) c.in_ok-flat.flat c.in_ok-flat.ensures.again.again.like)
     (c.requires.reached c.args.node f at).like
 
 pub returns-clause-level : goal.returns-clause-level
@@ -33,9 +33,9 @@ returns-clause-shown c = λ g here.
     slice_get-get_or c.args.flats.now c.args.node f c.requires.node ∙ ap Some (sym c.index-flats-node.is) in
     let n : Origin = slice_index_or c.args.origins.now c.args.node first_origin in
     again_shown c.args.image.now (order_of_turns c.in_ok-flat.turns.items) (length c.as_slice.result.now) n.level g c.in_ok-flat.flat
-    c.in_ok-flat.ensures
+    c.in_ok-flat.ensures.again
     (subst (λ z. length z ≤ suc n.level) (sym c.as_slice.ensures.value)
-    (c.in_ok-path.ensures n (slice_get-get_or c.args.origins.now c.args.node first_origin c.requires.origin)))
+    (c.in_ok-path.ensures.few n (slice_get-get_or c.args.origins.now c.args.node first_origin c.requires.origin)))
     (c.is_done.ensures.done c.if-not-is_done.false)
     (c.same_outcome.ensures.same c.if-not-same_outcome.false
     ∙ ap (λ z. outcome_of (tables z)) (same_Some f g (sym at ∙ here)))

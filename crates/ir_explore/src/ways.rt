@@ -1,0 +1,54 @@
+//! Nodes from which threads lead to marked ones.
+
+ghost use Rattle.std.specs.Prelude.{◌≡◌, ◌↔◌, ℕ, ◌<◌, true, false, length};
+ghost use Rattle.ir_explore.specs.Following.{IsOpen, StaysOpen};
+ghost use Rattle.ir_explore.specs.Ways.{shut, IsBefore, IsMarkedBack, HasMarked};
+
+use crate::successors::Successors;
+
+// Whether some of these threads leads from a node to a marked one.
+fn is_before<S: Successors>(graph: &S, threads: usize, marks: &[bool], node: usize) -> bool
+    ensures found { result ≡ true → IsBefore (S.noted graph.now) threads marks.now node }
+    ensures none { result ≡ false → IsBefore (S.noted graph.now) threads marks.now node → ⊥ }
+{
+    for thread in 0..threads {
+        if let Some(Some(next)) = graph.known(thread, node) {
+            if next < marks.len() && marks[next] {
+                return true;
+            }
+        }
+    }
+    false
+}
+
+// From the last node to the first, marks each from which some of these threads leads to a marked one; whether there was any.
+fn sweep<S: Successors>(graph: &S, threads: usize, marks: &mut [bool]) -> bool
+    ensures nodes { length marks.new ≡ length marks.old }
+    ensures stays { StaysOpen marks.old marks.new }
+    ensures ways { (v : ℕ) → IsOpen marks.new v → HasMarked (S.noted graph.now) threads marks.old v }
+    ensures less { result ≡ true → shut marks.new < shut marks.old }
+    ensures back { result ≡ false → IsMarkedBack (S.noted graph.now) threads marks.new }
+{
+    let mut changed = false;
+    for k in 0..marks.len() {
+        let node = marks.len() - 1 - k;
+        if !marks[node] && is_before(graph, threads, marks, node) {
+            marks[node] = true;
+            changed = true;
+        }
+    }
+    changed
+}
+
+/// Marks each node from which some order of these threads leads to a marked one, as far as it was noted. That takes as many sweeps over the
+/// nodes, at most, as there are nodes to mark, and one more; few where the nodes come by rising levels.
+pub fn mark_ways<S: Successors>(graph: &S, threads: usize, marks: &mut [bool])
+    ensures nodes { length marks.new ≡ length marks.old }
+    ensures exact { (v : ℕ) → IsOpen marks.new v ↔ HasMarked (S.noted graph.now) threads marks.old v }
+{
+    'sweeps: loop {
+        if !sweep(graph, threads, marks) {
+            return;
+        }
+    }
+}

@@ -1,0 +1,174 @@
+-- States that can't be brought to an end.
+use Rattle.std.proofs.Common.{◌≡◌, ℕ, zero, suc, ◌<◌, ◌≤◌, Bool, true, false, true≢false, Option, Some, None, List, [], ◌∷◌, inl, inr, length, get_or, take, refl, sym, ap, ◌∙◌, subst, arith}
+use Rattle.std.specs.Prelude.{slice_get}
+use Rattle.std.proofs.lemmas.Bool.{cases_lt}
+use Rattle.std.proofs.lemmas.Option.{same_Some, slice_get_within}
+use Rattle.ir_image.specs.Guest.{Guest}
+use Rattle.ir_explore.specs.declared.origin.Origin.{Origin}
+use Rattle.ir_explore.specs.Following.{IsOpen}
+use Rattle.ir_explore.specs.Origins.{AreRising}
+use Rattle.ir_explore.specs.Ways.{shut}
+use Rattle.ir_record.specs.Turns.{order_of_turns}
+use Rattle.ir_runs.specs.Run.{Step}
+use Rattle.ir_states.specs.Outcomes.{switches}
+use Rattle.ir_thread.specs.Calls.{most_budget}
+use Rattle.ir_flat.specs.Flat.{Flat}
+use Rattle.ir_graph.specs.Hangs.{CanEndFrom, IsHangOf, AreMarked, AllStand}
+use Rattle.ir_graph.specs.Nodes.{LookAlike}
+use Rattle.ir_graph.specs.Plain.{IsLike}
+use Rattle.ir_graph.specs.Reached.{beginning}
+use Rattle.ir_graph.proofs.CallerLemmas.{quiet_counting, hang_never, quiet_can_end}
+use Rattle.ir_outcomes.specs.Again.{steps_of, IsAgainWithin}
+use Rattle.ir_outcomes.specs.Explored.{switches_by, AreHangs}
+use Rattle.ir_outcomes.specs.Hang.{IsFirst}
+use Rattle.ir_outcomes.specs.Shown.{IsShownAt, IsHangShown}
+use Rattle.ir_outcomes.specs.declared.shown.Shown.{Shown}
+use Rattle.ir_outcomes.proofs.Showing.{quiet_turns}
+
+pub again_at : (guest : Guest) (order : List ℕ) (most level : ℕ) (f g : Flat) → IsAgainWithin guest order most g → most ≤ suc level
+    → IsLike g f → LookAlike g f → IsShownAt guest f level order
+again_at guest order most level f g w few like looks =
+    let a = w.again in record {
+      counting = λ answers. quiet_counting guest (steps_of order) answers a.quiet;
+      in_turn = quiet_turns guest.code (beginning guest) order a.quiet;
+      stands = λ answers can.
+          quiet_can_end guest (steps_of order) answers f g a.quiet a.ends a.like.code like.code looks can;
+      few = let l = w.few in let e = ap switches a.enters in omega (arith, l, e, few);
+    }
+
+hang_shown : (guest : Guest) (f : Flat) (level : ℕ) (order : List ℕ) → IsShownAt guest f level order
+    → ((answers : ℕ → List ℕ) → CanEndFrom f answers → ⊥) → IsHangShown guest level order
+hang_shown guest f level order s lost =
+    let hangs : (answers : ℕ → List ℕ) → IsHangOf guest most_budget answers (steps_of order) =
+    λ answers. (s.counting answers, λ can. lost answers (s.stands answers can)) in record {
+      hangs = hangs;
+      never = λ answers budget more c. hang_never guest most_budget answers (steps_of order) (hangs answers) budget more c;
+      in_turn = s.in_turn;
+      few = s.few;
+    }
+
+got : {A : Type 0} (xs : List A) (i : ℕ) → i < length xs → (x : A) × (slice_get xs i ≡ Some x)
+got [] i l = absurd (omega (arith, l))
+got (x ∷ xs) zero l = (x, refl)
+got (x ∷ xs) (suc i) l = got xs i (omega (arith, l))
+
+-- one more is counted
+pub shut_none : (marks : List Bool) → ((v : ℕ) → v < length marks → IsOpen marks v) → shut marks ≡ 0
+unfolding shut
+shut_none [] all = refl
+shut_none (true ∷ marks) all = shut_none marks (λ v l. all (suc v) (omega (arith, l)))
+shut_none (false ∷ marks) all = absurd (true≢false (sym (same_Some false true (all 0 (omega arith)))))
+
+pub shut_some : (marks : List Bool) (v : ℕ) → slice_get marks v ≡ Some false → 0 < shut marks
+unfolding shut
+shut_some [] v is = absurd (cc is)
+shut_some (true ∷ marks) zero is = absurd (true≢false (same_Some true false is))
+shut_some (true ∷ marks) (suc v) is = shut_some marks v is
+shut_some (false ∷ marks) v is = omega arith
+
+-- of the first nodes, with one more
+pub shut_marked : (marks : List Bool) (v : ℕ) (d : Bool) → v < length marks → get_or marks v d ≡ true
+    → shut (take (suc v) marks) ≡ shut (take v marks)
+unfolding shut
+shut_marked [] v d l is = absurd (omega (arith, l))
+shut_marked (true ∷ marks) zero d l is = refl
+shut_marked (false ∷ marks) zero d l is = absurd (true≢false (sym is))
+shut_marked (true ∷ marks) (suc v) d l is = shut_marked marks v d (omega (arith, l)) is
+shut_marked (false ∷ marks) (suc v) d l is = ap suc (shut_marked marks v d (omega (arith, l)) is)
+
+pub shut_unmarked : (marks : List Bool) (v : ℕ) (d : Bool) → v < length marks → get_or marks v d ≡ false
+    → shut (take (suc v) marks) ≡ suc (shut (take v marks))
+unfolding shut
+shut_unmarked [] v d l is = absurd (omega (arith, l))
+shut_unmarked (true ∷ marks) zero d l is = absurd (true≢false is)
+shut_unmarked (false ∷ marks) zero d l is = refl
+shut_unmarked (true ∷ marks) (suc v) d l is = shut_unmarked marks v d (omega (arith, l)) is
+shut_unmarked (false ∷ marks) (suc v) d l is = ap suc (shut_unmarked marks v d (omega (arith, l)) is)
+
+pub shut_nothing : 0 ≡ shut []
+unfolding shut
+shut_nothing = refl
+
+never_open : (marks : List Bool) (v : ℕ) → slice_get marks v ≡ Some false → IsOpen marks v → ⊥
+never_open marks v unmarked is = true≢false (same_Some true false (sym is ∙ unmarked))
+
+-- without marks there is no first that isn't marked
+pub none_first : (marks : List Bool) (hang : Option Shown) → length marks ≤ 0
+    → ((x : Shown) → hang ≡ Some x → IsFirst marks x.node) → hang ≡ None
+none_first marks None few first = refl
+none_first marks (Some x) few first =
+    let l = slice_get_within marks x.node false (first x refl).0 in absurd (omega (arith, l, few))
+
+module _ (guest : Guest) (flats : List Flat) (origins : List Origin) (marks : List Bool) (marked : AreMarked flats marks)
+    (stand : AllStand guest flats origins) where
+  -- a run that hangs stands at a state that isn't marked
+  lost_at : (answers : ℕ → List ℕ) (budget : ℕ) (steps : List Step) → IsHangOf guest budget answers steps
+      → (v : ℕ) × (n : Origin) × (v < length marks) × (slice_get origins v ≡ Some n) × (n.level ≤ switches_by guest budget steps)
+      × (IsOpen marks v → ⊥)
+  lost_at answers budget steps h =
+      let r = stand answers budget steps h.0 in (
+        r.0,
+        r.2,
+        let l = slice_get_within flats r.0 r.1 r.3 in let a = marked.all in omega (arith, l, a),
+        r.4,
+        r.5,
+        λ is. h.1 (r.6.1 (marked.marked r.0 r.1 r.3 is answers)),
+      )
+
+  no_hangs : ((v : ℕ) → v < length marks → IsOpen marks v) → AreHangs guest flats (shut marks) None
+  no_hangs all =
+      let zero_is = shut_none marks all in record {
+        marks = marks;
+        marked = marked;
+        count = refl;
+        exact = (
+          λ h. let r = lost_at h.0 h.1 h.2 h.3 in absurd (r.5 (all r.0 r.2)),
+          λ l. absurd (omega (arith, l, zero_is)),
+        );
+        some = λ l. absurd (omega (arith, l, zero_is));
+        shown = λ x is. absurd (cc is);
+        fewest = λ x is. absurd (cc is);
+      }
+
+  one_hang : AreRising origins → (x : Shown) → IsFirst marks x.node
+      → ((n : Origin) → slice_get origins x.node ≡ Some n → x.level ≡ n.level) → length flats ≤ length origins
+      → ((f : Flat) → slice_get flats x.node ≡ Some f → IsShownAt guest f x.level (order_of_turns x.turns.items))
+      → AreHangs guest flats (shut marks) (Some x)
+  one_hang rising x first level wide shown =
+      let some = shut_some marks x.node first.0 in
+      let l : x.node < length flats =
+      (let a = slice_get_within marks x.node false first.0 in let b = marked.all in omega (arith, a, b)) in
+      let f = got flats x.node l in
+      let n = got origins x.node (omega (arith, l, wide)) in
+      let here : IsHangShown guest x.level (order_of_turns x.turns.items) =
+      hang_shown guest f.0 x.level (order_of_turns x.turns.items) (shown f.0 f.1)
+      (λ answers can. never_open marks x.node first.0 (marked.other x.node f.0 f.1 answers can)) in record {
+        marks = marks;
+        marked = marked;
+        count = refl;
+        exact = (
+          λ h. some,
+          λ less. ((λ t. []), most_budget, steps_of (order_of_turns x.turns.items), here.hangs (λ t. [])),
+        );
+        some = λ less. (x, refl);
+        shown = λ y is.
+            subst (λ z. IsHangShown guest z.level (order_of_turns z.turns.items)) (same_Some x y is) here;
+        fewest = λ y is answers budget steps h.
+            let r = lost_at answers budget steps h in
+            let e = level n.0 n.1 in
+            let one = ap (λ z. z.level) (same_Some x y is) in
+            elim (cases_lt r.0 x.node) [
+              | inl before ↦ absurd (r.5 (first.1 r.0 before))
+              | inr late ↦ let rise = rising x.node r.0 n.0 r.1 n.1 r.3 late in let b = r.4 in omega (arith, rise, e, one, b)
+            ];
+      }
+
+  pub are_hangs : AreRising origins → length flats ≤ length origins → (hang : Option Shown)
+      → (hang ≡ None → (v : ℕ) → v < length marks → IsOpen marks v)
+      → ((x : Shown) → hang ≡ Some x → IsFirst marks x.node)
+      → ((x : Shown) → hang ≡ Some x → (n : Origin) → slice_get origins x.node ≡ Some n → x.level ≡ n.level)
+      → ((x : Shown) → hang ≡ Some x → (f : Flat) → slice_get flats x.node ≡ Some f
+      → IsShownAt guest f x.level (order_of_turns x.turns.items))
+      → AreHangs guest flats (shut marks) hang
+  are_hangs rising wide None none first level shown = no_hangs (none refl)
+  are_hangs rising wide (Some x) none first level shown = one_hang rising x (first x refl) (level x refl) wide (shown x refl)

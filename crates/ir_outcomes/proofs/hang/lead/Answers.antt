@@ -1,0 +1,43 @@
+use Rattle.std.proofs.Common.{◌≡◌, ◌≤◌, Some, suc, length, sym, ap, ◌∙◌, subst}
+use Rattle.std.specs.Prelude.{slice_get}
+use Rattle.std.specs.List.{slice_index_or}
+use Rattle.std.proofs.lemmas.Option.{same_Some, slice_get-get_or}
+use Rattle.ir_explore.specs.declared.origin.Origin.{Origin}
+use Rattle.ir_explore.specs.Origins.{first_origin}
+use Rattle.ir_flat.specs.Flat.{start_flat}
+use Rattle.ir_graph.specs.Nodes.{LookAlike}
+use Rattle.ir_graph.proofs.CallerLemmas.{like_back, like_more}
+use Rattle.ir_record.specs.Turns.{order_of_turns}
+use Rattle.ir_thread.specs.Calls.{most_budget}
+use Rattle.ir_thread.specs.declared.profile.Profile.TheVariants.{One}
+use Rattle.ir_outcomes.proofs.Lost.{again_at}
+use Rattle.ir_outcomes.proofs.hang.lead.Goals as goal
+
+pub same_state-requires : goal.same_state-requires
+same_state-requires c =
+    let f = c.index-flats-node.result in
+    let at : slice_get c.args.flats.now c.args.node ≡ Some f =
+    slice_get-get_or c.args.flats.now c.args.node f c.requires.node ∙ ap Some (sym c.index-flats-node.is) in
+    like_more c.in_ok-flat.flat (start_flat c.args.image.now most_budget One) f
+    (like_back (start_flat c.args.image.now most_budget One) c.in_ok-flat.flat c.in_ok-flat.ensures.again.again.like)
+    (c.requires.reached c.args.node f at).like
+
+pub returns-clause-level : goal.returns-clause-level
+returns-clause-level c = λ n is.
+    ap (λ z. z.level) (same_Some _ n (sym (slice_get-get_or c.args.origins.now c.args.node _ c.requires.origin) ∙ is))
+
+pub returns-clause-shown : goal.returns-clause-shown
+returns-clause-shown c = λ g here.
+    let f = c.index-flats-node.result in
+    let at : slice_get c.args.flats.now c.args.node ≡ Some f =
+    slice_get-get_or c.args.flats.now c.args.node f c.requires.node ∙ ap Some (sym c.index-flats-node.is) in
+    let one = same_Some f g (sym at ∙ here) in
+    let n : Origin = slice_index_or c.args.origins.now c.args.node first_origin in
+    again_at c.args.image.now (order_of_turns c.in_ok-flat.turns.items) (length c.as_slice.result.now) n.level g c.in_ok-flat.flat
+    c.in_ok-flat.ensures.again
+    (subst (λ z. length z ≤ suc n.level) (sym c.as_slice.ensures.value)
+    (c.in_ok-path.ensures.few n (slice_get-get_or c.args.origins.now c.args.node first_origin c.requires.origin)))
+    (like_more c.in_ok-flat.flat (start_flat c.args.image.now most_budget One) g
+    (like_back (start_flat c.args.image.now most_budget One) c.in_ok-flat.flat c.in_ok-flat.ensures.again.again.like)
+    (c.requires.reached c.args.node g here).like)
+    (subst (LookAlike c.in_ok-flat.flat) one (c.in_ok-same_state.ensures c.if-not-branch.false))
