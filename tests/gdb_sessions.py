@@ -254,6 +254,41 @@ def check_slow_opening(folder):
     check_session(Session("spin", ["info threads", "stepi", "info threads"], wanted), folder)
 
 
+def assembled(folder, guest):
+    """Assembles and records a guest of the repository."""
+    for words in (["asm", str(TOP / "examples" / f"{guest}.s"), f"{guest}.img"], ["record", f"{guest}.img", f"{guest}.trc"]):
+        ended = run(words, folder)
+        if ended.returncode:
+            raise Wrong(f"{words}: {ended!r}")
+
+
+OVER = "No more reverse-execution history"
+
+
+def check_at_a_call(folder):
+    """Breakpoints at entries: a step over one passes no hit of another thread, unless that thread is to move alone."""
+    assembled(folder, "lost_update")
+    breaks = ["break *0x10008", "break *0x10034"]
+    hits = [r'Thread 1 "thread 0" hit Breakpoint 1', r'Thread 2 "thread 1" hit Breakpoint 1', r'Thread 2 "thread 1" hit Breakpoint 2',
+            r'Thread 1 "thread 0" hit Breakpoint 2', OVER]
+    check_session(Session("lost_update", [*breaks, *["continue"] * 5, "monitor pos"], [*hits, "at 25 25"], locked=False), folder)
+    check_session(Session("lost_update", [*breaks, "continue", "stepi", "stepi", "monitor pos"], [*hits[:2], "0x0001000c", "at 2 3"], locked=False), folder)
+    check_session(Session("lost_update", [*breaks, *["continue"] * 3, "monitor pos"], [hits[0], hits[3], OVER, r"at 25 2\d"]), folder)
+    check_session(Session("lost_update", [*breaks, "set scheduler-locking off", "continue", "set scheduler-locking on", "stepi", "monitor pos"],
+                          [hits[0], "SIGTRAP", "0x0001000c", r"at 3 \d+"]), folder)
+
+
+def check_at_an_end(folder):
+    """A breakpoint where threads end is shown once for each, and gdb goes on."""
+    assembled(folder, "lost_update")
+    hits = [r'Thread \d "thread \d" hit Breakpoint 1'] * 2
+    lines = ["break *0x10060", *["continue"] * 3, "monitor pos", *["reverse-continue"] * 3, *["continue"] * 3, "monitor pos"]
+    wanted = [*hits, OVER, "at 25 25", *hits, OVER, *hits, OVER, "at 25 25"]
+    check_session(Session("lost_update", lines, wanted, locked=False), folder)
+    lines = ["break *0x10060", *["continue"] * 3, "thread 2", *["continue"] * 2, "reverse-continue", "continue"]
+    check_session(Session("lost_update", lines, ["thread 0.* hit", OVER, OVER, "thread 1.* hit", OVER, "thread 1.* hit", OVER]), folder)
+
+
 def machine_interface(folder, lines):
     """What gdb answers to these lines of its machine interface, each waited for."""
     words = [GDB, "-nx", "-q", "--interpreter=mi3", "over.elf"]
@@ -419,6 +454,8 @@ CHECKS = {
     "21-full": check_full,
     "22-interrupt": check_interrupt,
     "23-guide": check_guide,
+    "24-at-a-call": check_at_a_call,
+    "25-at-an-end": check_at_an_end,
 }
 
 

@@ -5,8 +5,7 @@ python3 tests/gdb_sweep.py IR [--rounds N] [--seed S]
 
 Needs gdb-multiarch. If it isn't installed nothing is tested, and the status is 0. Assembles and records guests of the repository. For each it
 sets up to three breakpoints at random words of the code, goes through all hits by `continue` and back by `reverse-continue`, and compares
-what gdb shows with each thread's hits by a session of `ir debug`. No breakpoint is at a call or where a thread ends, since gdb steps over it alone
-(docs/guide/gdb.md). The last line is `N passed, M failed`.
+what gdb shows with each thread's hits by a session of `ir debug`. The last line is `N passed, M failed`.
 """
 import random
 import re
@@ -20,7 +19,6 @@ from lib import TOP, Wrong, finish, parser_of, program, run, use
 
 GDB = "gdb-multiarch"
 CODE = 0x10000
-ECALL = b"\x73\x00\x00\x00"
 # Each guest, and how it is recorded.
 GUESTS = {
     "calls": ("--budget", "600"),
@@ -110,23 +108,19 @@ def check_stops(stops, hits, addresses, rises):
 
 
 def places_of(image):
-    """The addresses of an image's code at which there is no call."""
-    words = int.from_bytes(image[6:10], "little")
-    code = image[14 + 4 * image[4]:]
-    return [CODE + 4 * place for place in range(words) if code[4 * place:4 * place + 4] != ECALL]
+    """The addresses of the words of an image's code."""
+    return [CODE + 4 * place for place in range(int.from_bytes(image[6:10], "little"))]
 
 
 def ends_of(folder, guest):
-    """The last positions of the threads, and the addresses at which they end."""
-    ends = positions_of(answers(folder, guest, ["end"])[0])
-    said = answers(folder, guest, ["end", *(f"regs {thread}" for thread in range(len(ends)))])
-    return ends, {int(line[3:], 16) for line in said if line.startswith("pc ")}
+    """The last positions of the threads."""
+    return positions_of(answers(folder, guest, ["end"])[0])
 
 
 def check_round(folder, guest, chance):
     """One choice of breakpoints: how many hits there were."""
-    ends, last = ends_of(folder, guest)
-    places = [place for place in places_of((folder / f"{guest}.img").read_bytes()) if place not in last]
+    ends = ends_of(folder, guest)
+    places = places_of((folder / f"{guest}.img").read_bytes())
     addresses = sorted(chance.sample(places, min(len(places), chance.randint(1, 3))))
     by_threads = [hits_of(folder, guest, addresses, thread, len(ends), ends[thread]) for thread in range(len(ends))]
     forwards, backwards = stops_of(folder, guest, addresses)

@@ -19,5 +19,6 @@ mod Telling
 mod Arms
 mod Together
 mod Moving
+mod Over
 mod Replying
 mod Restarting

@@ -6,6 +6,7 @@ pub mod Points
 pub mod Setting
 pub mod Stops
 pub mod Together
+pub mod Over
 pub mod Moves
 pub mod Restarts
 pub mod Texts

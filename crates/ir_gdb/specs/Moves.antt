@@ -1,5 +1,5 @@
 -- Moves that packets ask for, and the stops that they are answered by.
-use Rattle.std.specs.Prelude.{◌≡◌, ℕ, ◌+◌, Bool, true, false, List, Option, Some, None, option_map}
+use Rattle.std.specs.Prelude.{◌≡◌, ℕ, ◌+◌, Bool, true, false, List, Option, Some, None, option_map, if◌then◌else◌}
 use Rattle.ir_mach.specs.Core.{Core, register}
 use Rattle.ir_runs.specs.Run.{Step}
 use Rattle.ir_debug.specs.Machine.Desk.{moved}
@@ -13,7 +13,8 @@ use Rattle.ir_gdb.specs.declared.stopped.Told.{Told}
 use Rattle.ir_gdb.specs.declared.stopped.Moving.{Moving}
 use Rattle.ir_gdb.specs.Stub.{Stub, spoken}
 use Rattle.ir_gdb.specs.Reads.{thread_of_id, current_of}
-use Rattle.ir_gdb.specs.Together.{Halt, MovesAlone, MovesAmong}
+use Rattle.ir_gdb.specs.Together.{Halt, MovesAmong}
+use Rattle.ir_gdb.specs.Over.{LeadsAlone, after_alone}
 
 -- a stop, with the registers that spare gdb a `g`
 abbrev pub stop_with : Told → Core → Stop
@@ -63,12 +64,19 @@ moving_of s (mover.Among id) = option_map (moving true) (thread_of_id s.desk.fit
 -- the stop to which a motion of a thread leads
 abbrev pub Leads : List Step → Stub → Bool → ℕ → Motion → Halt → Type 0
 Leads run s true t m h = MovesAmong run s t m h
-Leads run s false t m h = MovesAlone run s t m h
+Leads run s false t m h = LeadsAlone run s t m h
+
+-- whether gdb moves the threads together, as this move says
+abbrev pub together_after : Stub → Moving → Motion → Bool
+together_after s who m = if who.among then true else after_alone s who.thread m
+
+abbrev pub with_together : Stub → Bool → Stub
+with_together s together = record s { together = together }
 
 -- a move, by whether gdb has interrupted it
 abbrev pub MovesBy : Bool → List Step → Stub → Moving → Motion → Stub → Type 0
 MovesBy true run s who m next = next ≡ after_told (spoken s) (interrupted_at who.thread)
-MovesBy false run s who m next = (h : Halt) × Leads run s who.among who.thread m h × (next ≡ settled s h)
+MovesBy false run s who m next = (h : Halt) × Leads run s who.among who.thread m h × (next ≡ with_together (settled s h) (together_after s who m))
 
 abbrev pub Moves : List Step → Stub → Moving → Motion → Stub → Type 0
 Moves run s who m next = MovesBy s.interrupted run s who m next

@@ -38,3 +38,7 @@ points_upwards t watches breaks own = watch_points t 0 watches ++ break_points t
 abbrev pub points_downwards : ℕ → List Watched → List Breakpoint → List Numbered → List Numbered
 points_downwards t watches breaks own = break_points t 0 breaks ++ watch_points t (length breaks) watches ++ own_points
     (length breaks + length watches) own
+
+-- with one more breakpoint of thread t
+abbrev pub with_point : List Numbered → ℕ → ℕ → List Numbered
+with_point points t address = points ++ record { number = 0; point = Break t address } ∷ []

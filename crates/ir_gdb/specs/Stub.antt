@@ -1,5 +1,5 @@
 -- What is held for gdb beside the run.
-use Rattle.std.specs.Prelude.{◌<◌, ◌≤◌, ◌+◌, ⊤, None, Some, false, Bool, ℕ, List, [], length, Option}
+use Rattle.std.specs.Prelude.{◌<◌, ◌≤◌, ◌+◌, ⊤, None, Some, true, false, Bool, ℕ, List, [], length, Option}
 use Rattle.std.specs.List.{AllByRecursion}
 use Rattle.ir_mach.specs.Core.{memory_start, memory_size}
 use Rattle.ir_fit.specs.Fit.{FittedTrace}
@@ -20,6 +20,8 @@ pub record Stub : Type 0 where
   pub chosen : Option ℕ
   -- the thread of the last stop, or of a later `T`
   pub current : ℕ
+  -- whether gdb moves all threads together: it does at first, and each move says it again but one step of a thread alone
+  pub together : Bool
   pub breaks : List Breakpoint
   pub watches : List Watched
   -- the last stop
@@ -40,6 +42,7 @@ stub_of d = record {
   general = 0;
   chosen = None;
   current = 0;
+  together = true;
   breaks = [];
   watches = [];
   told = first_told;

@@ -4,7 +4,7 @@ ghost use Rattle.std.specs.Prelude.{◌≡◌, ◌≤◌, ◌+◌, ◌*◌, ◌^
 ghost use Rattle.std.specs.List.{AllByRecursion};
 ghost use Rattle.ir_gdb.specs.Stub.{IsWatched};
 ghost use Rattle.ir_hits.specs.Hits.{AreWatchable};
-ghost use Rattle.ir_gdb.specs.Points.{word_points, watch_points, break_points, own_points, words_in, points_upwards, points_downwards};
+ghost use Rattle.ir_gdb.specs.Points.{word_points, watch_points, break_points, own_points, words_in, points_upwards, points_downwards, with_point};
 
 use crate::point::{Breakpoint, Watched};
 use ir_command::Point;
@@ -174,5 +174,26 @@ pub fn points_downwards(
     put_breaks(&mut points, thread, 0, halts.breaks)?;
     put_watches(&mut points, thread, breaks, halts.watches)?;
     put_own(&mut points, all, halts.own)?;
+    Ok(points)
+}
+
+/// The points of a thread for a search upwards, and one more breakpoint.
+///
+/// # Errors
+/// Out of memory.
+pub fn points_with(
+    alloc: Global,
+    thread: u32,
+    halts: Halts<'_>,
+    address: u32,
+) -> Result<Vec<NumberedPoint>, AllocError>
+    requires few { length halts.breaks.now + length halts.watches.now ≤ 64 }
+    requires watched { AllByRecursion IsWatched halts.watches.now }
+    requires own { AreWatchable halts.own.now }
+    ensures points { IfOk result (λ v. v.items ≡ with_point (points_upwards thread halts.entry.watches.now halts.entry.breaks.now halts.entry.own.now) thread address) }
+    ensures watchable { IfOk result (λ v. AreWatchable v.items) }
+{
+    let mut points = points_upwards(alloc, thread, halts)?;
+    points.push(NumberedPoint::new(0, Point::Break { thread, address }))?;
     Ok(points)
 }

@@ -24,6 +24,7 @@ mod cuts;
 mod lines;
 mod memory;
 mod moves;
+mod over;
 mod points;
 mod reads;
 mod replies;
@@ -39,6 +40,7 @@ pub struct Remote {
     general: u32,
     chosen: Option<u32>,
     current: u32,
+    together: bool,
     breaks: Breaks,
     watches: Watches,
     told: Told,
@@ -55,6 +57,7 @@ impl Model for Remote {
         general = r.general;
         chosen = r.chosen;
         current = r.current;
+        together = r.together;
         breaks = r.breaks;
         watches = r.watches;
         told = r.told;
@@ -69,6 +72,7 @@ impl Model for Remote {
       general = r.general;
       chosen = r.chosen;
       current = r.current;
+      together = r.together;
       breaks = r.breaks;
       watches = r.watches;
       told = r.told;
@@ -129,6 +133,7 @@ impl Remote {
             general: 0,
             chosen: None,
             current: 0,
+            together: true,
             breaks,
             watches,
             told,

@@ -37,11 +37,22 @@ reason_text reason.HardwareBreak = codes "hwbreak:;"
 reason_text (reason.Watch address) = codes "watch:" ++ number_text address ++ codes ";"
 reason_text reason.End = codes "replaylog:end;"
 reason_text reason.Begin = codes "replaylog:begin;"
+reason_text reason.Waits = []
 
--- the signal of a stop: 2 at an interrupt, or else 5
-abbrev pub signal_text : Bool → List ℕ
-signal_text true = codes "T02"
-signal_text false = codes "T05"
+-- the signal of a stop: 24 in hexadecimal, that a process waits, is one that gdb neither shows nor stops at
+abbrev pub reason_signal : Reason → List ℕ
+reason_signal reason.Step = codes "T05"
+reason_signal reason.SoftwareBreak = codes "T05"
+reason_signal reason.HardwareBreak = codes "T05"
+reason_signal (reason.Watch address) = codes "T05"
+reason_signal reason.End = codes "T05"
+reason_signal reason.Begin = codes "T05"
+reason_signal reason.Waits = codes "T24"
+
+-- that of an interrupt is 2
+abbrev pub signal_text : Bool → Reason → List ℕ
+signal_text true why = codes "T02"
+signal_text false why = reason_signal why
 
 -- the registers that spare gdb a `g` at each stop
 unfoldable pub stop_registers : Stop → List ℕ
@@ -49,7 +60,7 @@ stop_registers s = codes "20:" ++ word_text s.pc ++ codes ";02:" ++ word_text s.
 
 -- a stop of a thread, whose id is its number and 1
 unfoldable pub stop_text : Stop → List ℕ
-stop_text s = signal_text s.interrupted ++ codes "thread:" ++ number_text s.thread ++ codes ";" ++ reason_text s.reason ++ stop_registers s
+stop_text s = signal_text s.interrupted s.reason ++ codes "thread:" ++ number_text s.thread ++ codes ";" ++ reason_text s.reason ++ stop_registers s
 
 -- registers, or bytes that are shown as words
 unfoldable pub words_text : List ℕ → List ℕ

@@ -38,6 +38,8 @@ pub enum Reason {
     End,
     /// The thread is at 0.
     Begin,
+    /// The thread waits where gdb steps it alone over a breakpoint. Gdb doesn't show this, and lets the thread go on as the user asked.
+    Waits,
 }
 
 /// A stop of a thread, by its id, and registers that spare gdb a `g`.

@@ -69,6 +69,19 @@ fn put_reason(out: &mut Vec<u8>, reason: Reason)
         }
         Reason::End => put_text(out, b"replaylog:end;"),
         Reason::Begin => put_text(out, b"replaylog:begin;"),
+        Reason::Waits => {}
+    }
+}
+
+// The signal of a stop.
+fn signal_text(interrupted: bool, reason: Reason) -> &'static [u8]
+    ensures value { result.now ≡ signal_text interrupted reason }
+    ensures len { length result.now ≡ 3 }
+{
+    match reason {
+        _ if interrupted => b"T02",
+        Reason::Waits => b"T24",
+        _ => b"T05",
     }
 }
 
@@ -99,7 +112,7 @@ pub fn put_stop(out: &mut Vec<u8>, stop: &Stop)
     ensures len { vec_len out.new ≤ vec_len out.old + 96 }
     ensures capacity { vec_capacity out.new ≡ vec_capacity out.old }
 {
-    put_text(out, if stop.interrupted { b"T02" } else { b"T05" });
+    put_text(out, signal_text(stop.interrupted, stop.reason));
     put_text(out, b"thread:");
     put_number(out, stop.thread);
     put_text(out, b";");

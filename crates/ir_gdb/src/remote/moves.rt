@@ -2,14 +2,13 @@
 
 ghost use Rattle.std.specs.Prelude.{◌≡◌, ◌<◌, ◌≤◌, ◌+◌, ◌++◌, true, false, OnOk, OnErr, IfSome, List, ℕ, option_map, vec_len, vec_capacity};
 ghost use Rattle.ir_cut.specs.Positions.{EachRun};
-ghost use Rattle.ir_fit.specs.Fit.{HasRun};
 ghost use Rattle.ir_timeline.specs.Positions.{Cuts, threads_of};
 ghost use Rattle.ir_gdb.specs.Reads.{thread_of_id};
 ghost use Rattle.ir_gdb.specs.Serving.{IsThere};
 ghost use Rattle.ir_gdb.specs.Stub.{Stub, spoken};
 ghost use Rattle.ir_gdb.specs.Stops.{direction_of};
 ghost use Rattle.ir_gdb.specs.Together.{Halt, halt, MovesAlone};
-ghost use Rattle.ir_gdb.specs.Moves.{stop_with, told_text, after_told, interrupted_at, settled, moving, moving_of, Leads, Moves};
+ghost use Rattle.ir_gdb.specs.Moves.{stop_with, told_text, after_told, interrupted_at, settled, moving, moving_of, Leads, Moves, together_after, with_together};
 ghost use Rattle.ir_gdb.specs.Replies.{RepliesToMove};
 
 use crate::remote::{Remote, thread_of_id};
@@ -126,7 +125,7 @@ impl Remote {
     }
 
     // A move of one thread, which no other stops.
-    fn move_alone<H: Hands>(
+    pub(crate) fn move_alone<H: Hands>(
         &mut self,
         hands: &H,
         thread: u32,
@@ -201,8 +200,15 @@ impl Remote {
         if who.among {
             self.move_among(hands, who.thread, motion)
         } else {
-            self.move_alone(hands, who.thread, motion)
+            self.lead_alone(hands, who.thread, motion)
         }
+    }
+
+    // Whether gdb moves the threads together, as this move says.
+    fn together_after(&self, who: Moving, motion: Motion) -> bool
+        ensures { result ≡ together_after self.now.stub who motion }
+    {
+        who.among || self.after_alone(who.thread, motion)
     }
 
     // A thread moves, or is interrupted before it does; and the stop is put at the end.
@@ -224,16 +230,11 @@ impl Remote {
             self.put_told(out);
             return Ok(());
         }
+        let together = self.together_after(who, motion);
         self.travel(hands, who, motion)?;
+        self.together = together;
         self.put_stop_here(hands, out);
         Ok(())
-    }
-
-    // There is a run of the guest with its trace.
-    fn known(&self)
-        ensures { HasRun self.now.stub.desk.fitted }
-    {
-        self.debugger.fitted().known();
     }
 
     /// A move: puts the stop that ends it at the end.
@@ -252,7 +253,7 @@ impl Remote {
         ensures err { OnErr result ((self.new.stub ≡ spoken self.old.stub) × (out.new.items ≡ out.old.items)) }
         ensures capacity { vec_capacity out.new ≡ vec_capacity out.old }
     {
-        self.known();
+        self.has_run();
         let Some(who) = self.moving_of(mover) else {
             put_text(out, reply_text(Reply::NotPermitted));
             return Ok(());

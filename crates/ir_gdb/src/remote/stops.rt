@@ -33,7 +33,7 @@ impl Remote {
     }
 
     // What may stop a thread.
-    fn halts(&self, watched: bool) -> Halts<'_>
+    pub(crate) fn halts(&self, watched: bool) -> Halts<'_>
         ensures watches { result.watches.now ≡ watches_if self.now.stub watched }
         ensures breaks { result.breaks.now ≡ self.now.stub.breaks }
         ensures own { result.own.now ≡ self.now.stub.desk.points }
@@ -117,7 +117,12 @@ impl Remote {
     }
 
     // The pc of a thread at a position that isn't below its own.
-    fn pc_at<H: Hands>(&mut self, hands: &H, thread: u32, position: u64) -> Result<u32, AllocError>
+    pub(crate) fn pc_at<H: Hands>(
+        &mut self,
+        hands: &H,
+        thread: u32,
+        position: u64,
+    ) -> Result<u32, AllocError>
         requires thread { thread < threads_of self.old.stub.desk.fitted }
         requires within { (position_of self.old.stub thread ≤ position) × (position ≤ last_of self.old.stub.desk.fitted thread) }
         ensures stub { self.new.stub ≡ spoken self.old.stub }

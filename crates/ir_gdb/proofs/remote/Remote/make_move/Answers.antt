@@ -16,5 +16,5 @@ pub returns-clause-ok : goal.returns-clause-ok
 returns-clause-ok g c =
     on_ok_weaker c.carry_out.result
     (replied_move c.args.self.now.stub c.carry_out.new.self.stub _ c.in-Some.who c.args.motion c.args.out.now.items c.carry_out.new.out.items
-    c.known.ensures (sym c.moving_of.ensures.value ∙ c.in-Some.is))
+    c.has_run.ensures (sym c.moving_of.ensures.value ∙ c.in-Some.is))
     c.carry_out.ensures.ok
