@@ -5,7 +5,7 @@ python3 tests/exploring.py IR [--guests N] [--seed S]
 
 The judge is written anew here, for guests of a few operations: from each state it takes the next operation of each thread, and merges nothing
 but equal states. It says which outcomes there are, and by how many switches at least. Each order that `ir explore` prints is recorded, and a
-session says what that run comes to. The last line is `N passed, M failed`.
+session says what that run comes to. With conditions the first outcome that fulfils them is recorded, or nothing. The last line is `N passed, M failed`.
 """
 import random
 import re
@@ -16,7 +16,7 @@ from collections import deque
 from pathlib import Path
 from typing import NamedTuple
 
-from lib import Wrong, assembled, examples, finish, parser_of, recorded, run, said, use, wants
+from lib import Wrong, assembled, examples, finish, parser_of, program, recorded, run, said, shell, use, wants
 
 WORDS = 8
 REGISTERS = ("s0", "s1", "s2")
@@ -359,6 +359,85 @@ def check_examples(folder):
         wants(name, lines[-1], f"finished outcomes {outcomes} states {states} hangs 0")
 
 
+# `ir explore` with conditions, in a folder with two images: what it is called with, its status, and the last lines that it prints. TRACE is
+# written only with status 0.
+UNTIL = (
+    ("lost.img", ["!word 0 0 2"], 0, ["found outcome 2 switches 2 order 0x13,1x25,0x12",
+                                      "thread 0 end 1 code 0 steps 25 events 2", "thread 1 end 1 code 0 steps 25 events 2"]),
+    ("lost.img", ["word 0 0 2"], 0, ["found outcome 1 switches 1 order 1x25,0x25",
+                                     "thread 0 end 1 code 0 steps 25 events 2", "thread 1 end 1 code 0 steps 25 events 2"]),
+    ("lost.img", ["word 0 0 1", "code 1 0", "end 0 1", "!out 0 A"], 0, ["thread 1 end 1 code 0 steps 25 events 2"]),
+    ("lost.img", ["word 0 0 3"], 5, ["finished outcomes 2 states 12 hangs 0"]),
+    ("lost.img", ["fault"], 5, ["finished outcomes 2 states 12 hangs 0"]),
+    ("lost.img", ["word 0 0 1", "word 0 0 2"], 5, ["finished outcomes 2 states 12 hangs 0"]),
+    ("lost.img --switches 1", ["!word 0 0 2"], 5, ["covered 1 outcomes 1 states 11"]),
+    ("lost.img --switches 2", ["!word 0 0 2"], 0, ["thread 1 end 1 code 0 steps 25 events 2"]),
+    ("lost.img --states 3", ["!word 0 0 2"], 5, []),
+    ("counter.img", ["!word 0 0 4"], 5, ["finished outcomes 1 states 16 hangs 0"]),
+)
+# What is refused, with its status and what standard error says.
+NO_UNTIL = (
+    ("lost.img x.trc", 2, "--until"),
+    ("lost.img --until fault", 2, "TRACE"),
+    ("lost.img --output x", 2, "--until"),
+    ("lost.img x.trc --until budget", 2, "no budget ends a run"),
+    ("lost.img x.trc --until '!budget'", 2, "no budget ends a run"),
+    ("lost.img x.trc --until stale", 2, "`ir hunt` looks for it"),
+    ("lost.img x.trc --until '!!stale' --until fault", 2, "`ir hunt` looks for it"),
+    ("lost.img x.trc --until 'end 0 15'", 2, "is no condition"),
+    ("lost.img x.trc --until 'end 2 1'", 3, "end 2 1: the image has no such thread, object or word"),
+    ("lost.img x.trc --until 'word 1 0 0'", 3, "the image has no such thread, object or word"),
+    ("lost.img x.trc --until 'word 0 8 0'", 3, "the image has no such thread, object or word"),
+    ("lost.img lost.img --until fault", 2, "lost.img: TRACE would be written over IMAGE"),
+    ("lost.img x.trc --until 'word 0 0 1' --output lost.img", 0, ""),
+    ("lost.s x.trc --until fault", 3, "the image is refused"),
+    ("no.img x.trc --until fault", 1, "no.img"),
+)
+
+
+def check_until(folder, row):
+    """An outcome that fulfils conditions is recorded; if there is none, nothing is written."""
+    words, conditions, status, last = row
+    (folder / "until.trc").unlink(missing_ok=True)
+    image, *more = words.split()
+    ended = run(["explore", image, "until.trc", *more, *(word for condition in conditions for word in ("--until", condition))], folder)
+    wants(f"status of {row}", ended.returncode, status)
+    lines = ended.stdout.decode().splitlines()
+    wants(f"lines of {row}", lines[len(lines) - len(last):], last)
+    wants(f"trace of {row}", (folder / "until.trc").exists(), status == 0)
+    if status == 0:
+        order = next(line.split()[-1] for line in lines if line.startswith("found "))
+        again = run(["record", image, "again.trc", "--order", order, "--budget", str(10**12)], folder)
+        wants(f"recording of {order}", again.stdout.decode().splitlines(), lines[-len(again.stdout.splitlines()):])
+        wants(f"trace by {order}", (folder / "until.trc").read_bytes(), (folder / "again.trc").read_bytes())
+
+
+def check_no_until(folder, row):
+    """What is refused before anything is searched."""
+    words, status, why = row
+    ended = run(f"explore {words}", folder)
+    wants(f"status of {words}", ended.returncode, status)
+    if why not in ended.stderr.decode():
+        raise Wrong(f"{words}: {ended.stderr!r}, wanted {why!r}")
+    if status and ((folder / "x.trc").exists() or ended.stdout):
+        raise Wrong(f"{words}: something is written")
+    (folder / "x.trc").unlink(missing_ok=True)
+
+
+def check_until_failures(folder):
+    """Writers that fail: standard output, TRACE, an output. And what the threads of the outcome print."""
+    ended = shell("./ir explore lost.img k.trc --until 'word 0 0 1' >/dev/full", folder)
+    wants("a full output", (ended.returncode, (folder / "k.trc").exists()), (1, False))
+    ended = shell("./ir explore lost.img k.trc --until 'word 0 0 3' >/dev/full", folder)
+    wants("a full output, none found", (ended.returncode, (folder / "k.trc").exists()), (1, False))
+    ended = shell("./ir explore lost.img none/k.trc --until 'word 0 0 1'", folder)
+    wants("no folder", (ended.returncode, ended.stdout.splitlines()[-1][:15]), (1, b"found outcome 2"))
+    ended = shell("./ir explore lost.img k.trc --until 'word 0 0 1' --output none/k", folder)
+    wants("no folder of outputs", ended.returncode, 1)
+    ended = shell("./ir explore lost.img k.trc --until 'word 0 0 1' --output k && cat k.0 k.1", folder)
+    wants("outputs", (ended.returncode, sorted(path.name for path in folder.glob("k.[0-9]"))), (0, ["k.0", "k.1"]))
+
+
 def main():
     parser = parser_of(__doc__)
     parser.add_argument("--guests", type=int, default=500, help="how many random guests")
@@ -368,7 +447,12 @@ def main():
     chance, passed, failed = random.Random(asked.seed), 0, 0
     with tempfile.TemporaryDirectory() as place:
         folder = Path(place)
+        for name, example in (("lost", "lost_update"), ("counter", "counter")):
+            assembled(folder, name, examples()[example])
+        (folder / "ir").symlink_to(program())
         checks = [lambda: check_examples(folder), lambda: check_guest(folder, LOST_WAKE_UP, 1),
+                  *(lambda row=row: check_until(folder, row) for row in UNTIL),
+                  *(lambda row=row: check_no_until(folder, row) for row in NO_UNTIL), lambda: check_until_failures(folder),
                   *(lambda row=row: check_on_paper(folder, row) for row in ON_PAPER),
                   *(lambda: check_guest(folder, *random_guest(chance)) for _ in range(asked.guests))]
         for check in checks:

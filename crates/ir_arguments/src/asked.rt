@@ -5,7 +5,7 @@ use crate::debug::DebugArguments;
 use crate::diff::DiffArguments;
 use crate::elf::ElfArguments;
 use crate::events::EventsArguments;
-use crate::explore::ExploreArguments;
+use crate::explore::{ExploreArguments, UntilArguments};
 use crate::hunt::HuntArguments;
 use crate::list::ListArguments;
 use crate::record::RecordArguments;
@@ -58,6 +58,8 @@ pub enum Asked {
     Record(RecordArguments),
     /// A hunt.
     Hunt(HuntArguments),
+    /// The recording of an outcome that fulfils conditions.
+    Until(UntilArguments),
     /// A session of an image and a trace in files.
     Debug(DebugArguments),
     /// gdb's protocol over an image and a trace in files.

@@ -3,8 +3,10 @@
 ghost use Rattle.std.specs.Prelude.{◌≤◌, IfOk};
 
 use crate::asked::{Asked, Print};
-use crate::values::{IMAGE, file_arg, text_of};
-use clap::{Arg, ArgMatches, Command};
+use crate::conditions::outcome_conditions_of;
+use crate::recording::{OUTPUT, output_arg};
+use crate::values::{IMAGE, TRACE, UNTIL, file_arg, given_text, text_of};
+use clap::{Arg, ArgAction, ArgMatches, Command};
 use ir_explore_run::ExplorePlan;
 use ir_record_run::number_within;
 use std::alloc::{AllocError, Global};
@@ -26,9 +28,17 @@ The last line says how the search ended, by K outcomes and N states in which eac
                                                  T`, thread T took as many steps without an entry as it may; `world T`, thread T
                                                  calls CLOCK, RANDOM or INPUT, or `try T`, TRY_WRITE, which can't be explored
                                                  yet; `log T`, a log is full; `order N`; or `memory`
-Runs in which a budget is spent or a log is full have no outcome. Each state takes 64 KiB of memory for each thread.
-Exit status: 0 finished or covered, 1 a file that can't be read, memory or standard output that can't be written, 2 bad
-arguments, 3 a refused image, or a guest with more than 8 threads or 16 objects, 5 stopped.
+Runs in which a budget is spent or a log is full have no outcome. What a thread has changed in its private memory is kept
+once for all states in which the thread is the same.
+With TRACE and COND the outcomes are printed up to the first that fulfils each COND, and the search ends there. Then come
+  found outcome K switches C order LIST          no complete run of fewer than C switches has an outcome that fulfils them
+and the lines of `ir record`. TRACE is written as `ir record IMAGE TRACE --order LIST --budget 1000000000000` writes it.
+If none fulfils them, the lines are those without COND, and TRACE isn't written. After `finished` no complete run of the guest
+has an outcome that does, and after `covered C` and `stopped WHY covered C` none of at most C switches. COND is one argument, as in
+`ir hunt`: `end T E`, `code T V`, `word O I V`, `out T TEXT`, `fault`, or one of them after `!`.
+Exit status: 0 finished or covered, 1 a file that can't be read or written, memory or standard output that can't be written,
+2 bad arguments, 3 a refused image, or a guest with more than 8 threads or 16 objects, or a COND about what the guest hasn't,
+5 stopped. With COND: 0 found, 5 none was found.
 ";
 
 const STATES: &str = "states";
@@ -53,11 +63,32 @@ pub struct ExploreArguments {
     pub plan: ExplorePlan,
 }
 
+/// Which outcome is looked for, and where a run that has it goes.
+#[derive(Drop)]
+pub struct UntilArguments {
+    /// Which guest is explored, and how far.
+    pub explore: ExploreArguments,
+    /// The file that the trace is written to.
+    pub trace: String,
+    /// The conditions, as they are written.
+    pub until: Vec<String>,
+    /// What the paths of the files of what threads print begin with, if they are asked for.
+    pub output: Option<String>,
+}
+
+fn until_arg<'a>(alloc: Global) -> Arg<'a> {
+    Arg::new(alloc, UNTIL)
+        .long(UNTIL)
+        .value_name("COND")
+        .action(ArgAction::Append)
+        .help("What has to hold of the outcome that is recorded; given more than once, all of it")
+}
+
 fn states_arg<'a>(alloc: Global) -> Arg<'a> {
     Arg::new(alloc, STATES)
         .long(STATES)
         .value_name("N")
-        .default_value("10000")
+        .default_value("1000000")
         .allow_negative_numbers(true)
         .help("The most states, from 1 to 100000000")
 }
@@ -83,9 +114,18 @@ fn private_arg<'a>(alloc: Global) -> Arg<'a> {
 pub fn with_arguments<'a>(alloc: Global, command: Command<'a>) -> Result<Command<'a>, AllocError> {
     command
         .arg(file_arg(alloc, IMAGE, "The file with the image"))?
+        .arg(trace_arg(alloc)?)?
+        .arg(until_arg(alloc).requires_arg(TRACE)?)?
         .arg(states_arg(alloc))?
         .arg(switches_arg(alloc))?
-        .arg(private_arg(alloc))
+        .arg(private_arg(alloc))?
+        .arg(output_arg(alloc).requires_arg(UNTIL)?)
+}
+
+fn trace_arg<'a>(alloc: Global) -> Result<Arg<'a>, AllocError> {
+    Arg::new(alloc, TRACE)
+        .help("The file that the trace of the outcome is written to, with --until")
+        .requires_arg(UNTIL)
 }
 
 // The number that the value of an option is, or else what is wrong with it.
@@ -121,22 +161,45 @@ fn switches_of(
     }
 }
 
-/// What its arguments ask for.
-pub fn asked(alloc: Global, matches: &ArgMatches<'_>) -> Result<Asked, AllocError> {
+// How far a guest is explored, or what is wrong with an option.
+fn plan_of(
+    alloc: Global,
+    matches: &ArgMatches<'_>,
+) -> Result<Result<ExplorePlan, String>, AllocError> {
     let states = match number_in_option(alloc, matches, STATES, 1, MOST_STATES)? {
         Ok(states) => states,
-        Err(why) => return Ok(Asked::Nothing(why)),
+        Err(why) => return Ok(Err(why)),
     };
     let private = match number_in_option(alloc, matches, PRIVATE, 1, MOST_PRIVATE)? {
         Ok(private) => private,
-        Err(why) => return Ok(Asked::Nothing(why)),
+        Err(why) => return Ok(Err(why)),
     };
     let switches = match switches_of(alloc, matches)? {
         Ok(switches) => switches,
+        Err(why) => return Ok(Err(why)),
+    };
+    Ok(Ok(ExplorePlan::new(states as usize, private, switches)))
+}
+
+/// What its arguments ask for.
+pub fn asked(alloc: Global, matches: &ArgMatches<'_>) -> Result<Asked, AllocError> {
+    let plan = match plan_of(alloc, matches)? {
+        Ok(plan) => plan,
         Err(why) => return Ok(Asked::Nothing(why)),
     };
-    Ok(Asked::Print(Print::Outcomes(ExploreArguments {
-        image: text_of(alloc, matches, IMAGE)?,
-        plan: ExplorePlan::new(states as usize, private, switches),
-    })))
+    let until = match outcome_conditions_of(alloc, matches)? {
+        Ok(until) => until,
+        Err(why) => return Ok(Asked::Nothing(why)),
+    };
+    let image = text_of(alloc, matches, IMAGE)?;
+    let explore = ExploreArguments { image, plan };
+    match given_text(alloc, matches, TRACE)? {
+        Some(trace) => Ok(Asked::Until(UntilArguments {
+            explore,
+            trace,
+            until,
+            output: given_text(alloc, matches, OUTPUT)?,
+        })),
+        None => Ok(Asked::Print(Print::Outcomes(explore))),
+    }
 }

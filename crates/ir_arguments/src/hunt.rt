@@ -1,17 +1,16 @@
 //! The arguments of `ir hunt`.
 
 use crate::asked::Asked;
+use crate::conditions::{conditions_of, stale_by};
 use crate::recording::{RecordingOptions, options_of, with_options};
 use crate::seeds::{by_arg, seeds_by, way_by};
-use crate::values::{IMAGE, TRACE, file_arg, text_of};
+use crate::values::{IMAGE, TRACE, UNTIL, file_arg, text_of};
 use clap::{Arg, ArgAction, ArgMatches, Command};
-use ir_chaos::{Way, condition_of};
+use ir_chaos::Way;
 use ir_hunt::Seeds;
 use std::alloc::{AllocError, Global};
 
 const SEEDS: &str = "seeds";
-
-const UNTIL: &str = "until";
 
 /// What follows the help of `ir hunt`.
 pub const HUNT_AFTER: &str =
@@ -82,50 +81,6 @@ pub fn with_arguments<'a>(alloc: Global, command: Command<'a>) -> Result<Command
         .arg(until_arg(alloc))?
         .arg(by_arg(alloc))?;
     with_options(alloc, command)
-}
-
-// Whether a condition asks for a stale write that rests on what was read, or for none; nothing, if it is another condition.
-fn stale_of(text: &str) -> Option<bool> {
-    let name = text.trim_start_matches('!');
-    (name == "stale").then_some((text.len() - name.len()) % 2 == 0)
-}
-
-// What is asked of stale writes, by the conditions that are about them, or that these exclude each other.
-fn stale_by(
-    alloc: Global,
-    matches: &ArgMatches<'_>,
-) -> Result<Result<Option<bool>, String>, AllocError> {
-    let mut asked = None;
-    for text in matches.get_strs(UNTIL).unwrap_or_default() {
-        let Some(stale) = stale_of(text) else {
-            continue;
-        };
-        if asked == Some(!stale) {
-            return Ok(Err(format!(in alloc;
-                "--{UNTIL}: 'stale' and '!stale' exclude each other"
-            )?));
-        }
-        asked = Some(stale);
-    }
-    Ok(Ok(asked))
-}
-
-// The other conditions as they are written, or the first that is none.
-fn conditions_of(
-    alloc: Global,
-    matches: &ArgMatches<'_>,
-) -> Result<Result<Vec<String>, String>, AllocError> {
-    let mut conditions = Vec::new(alloc);
-    for text in matches.get_strs(UNTIL).unwrap_or_default() {
-        if stale_of(text).is_some() {
-            continue;
-        }
-        if condition_of(text.as_bytes()).is_none() {
-            return Ok(Err(format!(in alloc; "--{UNTIL}: '{text}' is no condition")?));
-        }
-        conditions.push(String::from_str(alloc, text)?)?;
-    }
-    Ok(Ok(conditions))
 }
 
 /// What its arguments ask for.

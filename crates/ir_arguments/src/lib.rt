@@ -4,6 +4,7 @@
 mod arguments;
 mod asked;
 mod assemble;
+mod conditions;
 mod debug;
 mod diff;
 mod elf;
@@ -30,7 +31,7 @@ pub use debug::{DEBUG_AFTER, DebugArguments};
 pub use diff::DiffArguments;
 pub use elf::ElfArguments;
 pub use events::EventsArguments;
-pub use explore::ExploreArguments;
+pub use explore::{ExploreArguments, UntilArguments};
 pub use gdb::GDB_AFTER;
 pub use hunt::HuntArguments;
 pub use list::ListArguments;

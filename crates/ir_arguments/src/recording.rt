@@ -17,7 +17,8 @@ const PROFILE: &str = "profile";
 
 const INPUT: &str = "input";
 
-const OUTPUT: &str = "output";
+/// What the paths of the files of what threads print begin with.
+pub const OUTPUT: &str = "output";
 
 /// How a guest is recorded, by whatever order, and where what it prints goes.
 #[derive(Drop)]
@@ -84,7 +85,8 @@ fn input_arg<'a>(alloc: Global) -> Arg<'a> {
         .help("The file that guests read")
 }
 
-fn output_arg<'a>(alloc: Global) -> Arg<'a> {
+/// The option that asks for what threads print.
+pub fn output_arg<'a>(alloc: Global) -> Arg<'a> {
     Arg::new(alloc, OUTPUT)
         .long(OUTPUT)
         .value_name("PREFIX")

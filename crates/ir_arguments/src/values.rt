@@ -16,6 +16,9 @@ pub const MAP: &str = "map";
 /// The option that names the file of an image.
 pub const FROM_IMAGE: &str = "image";
 
+/// The option that gives a condition.
+pub const UNTIL: &str = "until";
+
 /// Whether a fault is explained.
 pub const EXPLAIN: &str = "explain";
 

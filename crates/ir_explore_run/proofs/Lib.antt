@@ -1,1 +1,4 @@
+mod Fulfilled
+mod Hits
 mod Joined
+mod Sought

@@ -1,3 +1,5 @@
 pub mod Lines
 pub mod Texts
 pub mod Faults
+pub mod Conditions
+pub mod Until

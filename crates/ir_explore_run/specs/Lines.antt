@@ -91,3 +91,7 @@ hangs_text (Stopped why) hangs = []
 -- the last line
 abbrev pub last_line : List ℕ → List ℕ → List ℕ → List ℕ
 last_line ended counts hangs = ended ++ (codes " " ++ (counts ++ (hangs ++ 10 ∷ [])))
+
+-- the line of the outcome that is recorded, by its number, with the list that spells its order
+abbrev pub found_line : ℕ → ℕ → List ℕ → List ℕ
+found_line number switches list = codes "found " ++ outcome_line number switches list

@@ -9,12 +9,14 @@ use Rattle.ir_explore.specs.declared.stop.Stop.TheVariants.{Memory}
 use Rattle.ir_files.specs.declared.exit_status.ExitStatus.{ExitStatus}
 use Rattle.ir_files.specs.declared.exit_status.ExitStatus.TheVariants as status
 use Rattle.ir_flat.specs.Flat.{Flat, idle, start_cells, empty}
+use Rattle.ir_graph.specs.Reached.{AllReached}
 use Rattle.ir_graph.specs.Stops.{IsStop, MayStop}
 use Rattle.ir_image.specs.Guest.{Guest, object_count, object_words}
 use Rattle.ir_object.specs.Cell.{Cell}
 use Rattle.ir_order.specs.Spelling.{Spells}
 use Rattle.ir_outcomes.specs.Explored.{IsAt, AreExplored, AreAll, AreHangs}
 use Rattle.ir_outcomes.specs.Hang.{IsOrder}
+use Rattle.ir_outcomes.specs.declared.explored.Explored.{Explored}
 use Rattle.ir_outcomes.specs.declared.shown.Shown.{Shown}
 use Rattle.ir_record.specs.Turns.{order_of_turns}
 use Rattle.ir_thread.specs.State.{State}
@@ -79,31 +81,59 @@ abbrev pub end_line : Ended → ℕ → ℕ → ℕ → ℕ → List ℕ
 end_line ended levels outcomes states hangs =
     last_line (ended_text ended levels) (counts_text outcomes states) (hangs_text ended hangs)
 
--- why there is nothing to print of a search: it didn't begin, or no order was found
+-- why there is nothing to print of a search: it didn't begin
 abbrev pub IsReason : Guest → ExplorePlan → Stop → Type 0
-IsReason guest plan why = (why ≡ Memory) ⊎ IsStop guest plan.bounds.private why ⊎ IsOrder why
+IsReason guest plan why = (why ≡ Memory) ⊎ IsStop guest plan.bounds.private why
 
--- the outcomes of the guest are printed, and how the search for them ended: once it is finished, they are all, and so many states can't be
--- brought to an end: where there are any, a run that hangs is printed too, and only there. It stopped early only for what the plan says.
-pub record IsFound (guest : Guest) (plan : ExplorePlan) (answered : ExitStatus) (text : List ℕ) : Type 0 where
+-- what was found out about a guest
+pub record Known : Type 0 where
+  -- its states
   pub flats : List Flat
+  -- its outcomes
   pub outcomes : List Shown
+  -- those of runs with fewer switches are all among them
   pub levels : ℕ
+  -- how the search for them ended
   pub ended : Ended
-  pub explored : AreExplored guest flats levels outcomes
-  pub all : ended ≡ Finished → AreAll guest flats outcomes
-  pub lines : List ℕ
-  pub texts : AreTexts (objects_of guest) flats outcomes (length outcomes) lines
+  -- how many states can't be brought to an end
   pub hangs : ℕ
+  -- a run that leads to one of them
   pub hang : Option Shown
-  pub hanging : ended ≡ Finished → AreHangs guest flats hangs hang
-  pub unknown : (ended ≡ Finished → ⊥) → hang ≡ None
-  pub covered : ended ≡ Covered → levels ≡ suc plan.switches
-  pub stopped : (why : Stop) → ended ≡ Stopped why → MayStop guest flats plan.bounds.nodes plan.bounds.private why
+
+abbrev pub known_of : Explored → Known
+known_of e = record {
+  flats = e.states.graph.flats.items;
+  outcomes = e.outcomes.items;
+  levels = e.levels;
+  ended = e.ended;
+  hangs = e.hangs;
+  hang = e.hang;
+}
+
+-- It is so. Once the search is finished, the outcomes are all, and so many states can't be brought to an end: where there are any, a run that
+-- hangs is known too, and only there. The search stopped early only for what the plan says, or where an order that was found led to its state no
+-- second time.
+pub record AreKnown (guest : Guest) (plan : ExplorePlan) (k : Known) : Type 0 where
+  pub explored : AreExplored guest k.flats k.levels k.outcomes
+  pub all : k.ended ≡ Finished → AreAll guest k.flats k.outcomes
+  pub reached : AllReached guest k.flats
+  pub hanging : k.ended ≡ Finished → AreHangs guest k.flats k.hangs k.hang
+  pub unknown : (k.ended ≡ Finished → ⊥) → k.hang ≡ None
+  pub covered : k.ended ≡ Covered → k.levels ≡ suc plan.switches
+  pub stopped : (why : Stop) → k.ended ≡ Stopped why → MayStop guest k.flats plan.bounds.nodes plan.bounds.private why ⊎ IsOrder why
+
+-- it is printed: the outcomes of the guest, a hang if one is known, and how the search for them ended
+pub record IsKnownText (guest : Guest) (k : Known) (answered : ExitStatus) (text : List ℕ) : Type 0 where
+  pub lines : List ℕ
+  pub texts : AreTexts (objects_of guest) k.flats k.outcomes (length k.outcomes) lines
   pub hang_lines : List ℕ
-  pub hang_text : IsHangText hang hang_lines
-  pub whole : text ≡ lines ++ (hang_lines ++ end_line ended levels (length outcomes) (length flats) hangs)
-  pub status : answered ≡ status_of ended
+  pub hang_text : IsHangText k.hang hang_lines
+  pub whole : text ≡ lines ++ (hang_lines ++ end_line k.ended k.levels (length k.outcomes) (length k.flats) k.hangs)
+  pub status : answered ≡ status_of k.ended
+
+-- what is known of the outcomes of the guest is printed
+abbrev pub IsFound : Guest → ExplorePlan → ExitStatus → List ℕ → Type 0
+IsFound guest plan answered text = (k : Known) × AreKnown guest plan k × IsKnownText guest k answered text
 
 -- no outcome is printed, and why
 pub record IsStopped (guest : Guest) (plan : ExplorePlan) (answered : ExitStatus) (text : List ℕ) : Type 0 where

@@ -1,14 +1,22 @@
-//! What `ir explore` does: the outcomes of a guest are found, and printed in lines.
+//! What `ir explore` does: the outcomes of a guest are found, and printed in lines, and one that fulfils conditions is recorded.
 #![tactic(auto)]
 
+mod answer;
 mod bytes;
+mod conditions;
 mod fault;
+mod known;
 mod lines;
 mod outcome;
 mod plan;
 mod run;
+mod seek;
+mod states;
 mod texts;
+mod until;
 
+pub use conditions::outcomes_decide;
 pub use fault::ExploreFault;
-pub use plan::ExplorePlan;
+pub use plan::{ExplorePlan, UntilPlan};
 pub use run::explore_run;
+pub use until::explore_until;

@@ -2,7 +2,7 @@
 
 ghost use Rattle.std.specs.Prelude.{◌≡◌, ◌++◌, IfOk, OnOk};
 ghost use Rattle.std.specs.String.{string_bytes};
-ghost use Rattle.ir_explore_run.specs.Lines.{outcome_line, thread_line, thread_text, object_line, number_of, code_of, why_text, covered_text, hang_line, counts_text, ended_text, hangs_text, last_line};
+ghost use Rattle.ir_explore_run.specs.Lines.{outcome_line, thread_line, thread_text, object_line, number_of, code_of, why_text, covered_text, hang_line, found_line, counts_text, ended_text, hangs_text, last_line};
 
 use crate::bytes::{put_bytes, put_words};
 use ir_explore::{Ended, Stop};
@@ -19,6 +19,18 @@ pub fn outcome_line(
     ensures { IfOk result (λ s. string_bytes s ≡ outcome_line number switches list.now) }
 {
     format!(in alloc; "outcome {number} switches {switches} order {list}\n")
+}
+
+/// The line of the outcome that is recorded, with the list that spells its order.
+pub fn found_line(
+    alloc: Global,
+    number: usize,
+    switches: usize,
+    list: &str,
+) -> Result<String, AllocError>
+    ensures { IfOk result (λ s. string_bytes s ≡ found_line number switches list.now) }
+{
+    format!(in alloc; "found outcome {number} switches {switches} order {list}\n")
 }
 
 // The line of a thread.

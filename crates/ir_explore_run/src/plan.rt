@@ -2,6 +2,7 @@
 
 ghost use Rattle.std.specs.Prelude.{◌≡◌, ◌≤◌};
 
+use ir_chaos::Condition;
 use ir_graph::Bounds;
 
 /// How far a guest is explored.
@@ -30,4 +31,13 @@ impl ExplorePlan {
             switches,
         }
     }
+}
+
+/// What is looked for among the outcomes of a guest, and how far.
+#[derive(Clone, Copy, Debug)]
+pub struct UntilPlan<'a> {
+    /// How far the guest is explored.
+    pub explore: ExplorePlan,
+    /// What has to hold of an outcome, all of it.
+    pub conditions: &'a [Condition<'a>],
 }

@@ -10,27 +10,31 @@ ghost use Rattle.ir_explore_run.specs.Texts.{AreTexts, IsHangText, end_line};
 
 use crate::lines::{counts_text, ended_text, hang_line, hangs_text, last_line};
 use crate::outcome::{Started, outcome_text};
+use crate::states::state_of;
 use ir_explore::Ended;
-use ir_flat::Flat;
 use ir_order::list_of;
 use ir_outcomes::Shown;
+use ir_store::Store;
 use std::alloc::{AllocError, Global};
 
-/// The lines of these outcomes.
+/// The lines of the first outcomes of these.
 pub fn outcomes_text(
     alloc: Global,
     started: Started<'_>,
-    flats: &[Flat<'_>],
+    flats: &Store<'_>,
     outcomes: &[Shown],
+    many: usize,
 ) -> Result<Vec<u8>, AllocError>
-    requires objects { (v : ℕ) (f : Flat) → slice_get flats.now v ≡ Some f → length f.objects ≡ length started.first.now }
-    requires nodes { (i : ℕ) (x : Shown) → slice_get outcomes.now i ≡ Some x → x.node < length flats.now }
-    ensures { IfOk result (λ text. AreTexts (record { words = started.entry.words; first = started.entry.first.now }) flats.now outcomes.now (length outcomes.now) text.items) }
+    requires many { many ≤ length outcomes.now }
+    requires objects { (v : ℕ) (f : Flat) → slice_get flats.now.items v ≡ Some f → length f.objects ≡ length started.first.now }
+    requires nodes { (i : ℕ) (x : Shown) → slice_get outcomes.now i ≡ Some x → x.node < length flats.now.items }
+    ensures { IfOk result (λ text. AreTexts (record { words = started.entry.words; first = started.entry.first.now }) flats.now.items outcomes.now many text.items) }
 {
     let mut text = Vec::new(alloc);
-    for i in 0..outcomes.len() {
+    for i in 0..many {
         let shown = &outcomes[i];
-        let own = outcome_text(alloc, started, &flats[shown.node], i + 1, shown)?;
+        let state = state_of(flats, shown)?;
+        let own = outcome_text(alloc, started, &state, i + 1, shown)?;
         text.extend_from_slice(own.as_slice())?;
     }
     Ok(text)

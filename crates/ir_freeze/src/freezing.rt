@@ -130,7 +130,8 @@ fn holds_none(held: &[Option<Access>]) -> bool
     true
 }
 
-fn over(thread: &Thread) -> bool
+/// Whether a thread has ended and holds nothing.
+pub fn over(thread: &Thread) -> bool
     ensures { result ≡ is_over thread.now }
 {
     thread.ended().is_some() && holds_none(thread.held())

@@ -6,6 +6,6 @@ mod laws;
 mod pages;
 mod thawing;
 
-pub use freezing::{changes_of, freeze};
+pub use freezing::{changes_of, freeze, over};
 pub use laws::{changes_come_back, comes_back, tells_apart};
 pub use thawing::{changes_at, thaw};

@@ -90,6 +90,13 @@ threads_at guest flats noted threads v f g is =
     let first = flat_at flats 0 g.some in
     (g.nodes.like 0 v first.0 f first.1 is).threads ∙ g.many first.0 first.1
 
+-- each node has the guest's code
+pub code_at : (guest : Guest) (flats : List Flat) (noted : ℕ → ℕ → Option (Option ℕ)) (threads v : ℕ) (f : Flat)
+    → IsGraph guest flats noted threads → slice_get flats v ≡ Some f → f.code ≡ guest.code
+code_at guest flats noted threads v f g is =
+    let first = flat_at flats 0 g.some in
+    (g.nodes.like 0 v first.0 f first.1 is).code ∙ g.code first.0 first.1
+
 -- a number that is no thread's leads nowhere, as far as it is noted
 pub noted_past : (rows : List (Vec (Option (Option ℕ)))) (t v : ℕ) → length rows ≤ t → noted_in rows t v ≡ Some None
 noted_past [] t v l = refl

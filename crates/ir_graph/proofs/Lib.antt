@@ -14,3 +14,7 @@ mod Levels
 mod Hangs
 mod Listing
 pub mod CallerLemmas
+mod Forms
+mod LoneSteps
+mod Over
+mod Both

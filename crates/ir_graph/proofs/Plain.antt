@@ -236,7 +236,7 @@ pub others_more : (f g h : Flat) (t : ℕ) → OthersStay f g t → OthersStay g
 others_more f g h t a b u ne = b u ne ∙ a u ne
 
 -- a step leaves what never changes of a thread
-twin_ask : (code : List ℕ) (s : thread.State) (q : Ask) (r : Reply) → AreTwins s (after_ask code s q r)
+pub twin_ask : (code : List ℕ) (s : thread.State) (q : Ask) (r : Reply) → AreTwins s (after_ask code s q r)
 twin_ask code s ask.Private r = record { number = refl; profile = refl; form = refl; objects = refl }
 twin_ask code s (ask.Env kind) r = record { number = refl; profile = refl; form = refl; objects = refl }
 twin_ask code s (ask.Enter object access) r =

@@ -2,16 +2,17 @@
 
 ghost use Rattle.std.specs.Prelude.{ℕ, length};
 ghost use Rattle.ir_image.specs.Guest.{Guest};
+ghost use Rattle.ir_graph.specs.Ahead.{AreTurns};
 ghost use Rattle.ir_graph.specs.Graph.{IsGraph};
 ghost use Rattle.ir_graph.specs.Notes.{noted_in};
 ghost use Rattle.ir_graph.specs.Stops.{MayStop};
 
-use crate::hints::Hints;
+use crate::ahead::Ahead;
 use crate::nodes::{Bounds, successor};
 use crate::notes::{Row, known, note};
 use ir_explore::{Stop, Successors};
-use ir_flat::Flat;
 use ir_image::Image;
+use ir_store::Store;
 use std::alloc::Global;
 
 /// The graph of a guest whose threads call no environment: its states at rest, as the threads can tell them apart.
@@ -19,8 +20,8 @@ use std::alloc::Global;
 pub struct Graph<'a> {
     pub alloc: Global,
     pub image: &'a Image,
-    pub flats: Vec<Flat<'a>>,
-    pub hints: Hints,
+    pub flats: Store<'a>,
+    pub ahead: Ahead,
     pub rows: Vec<Row>,
     pub bounds: Bounds,
 }
@@ -38,7 +39,7 @@ impl<'a> Successors for Graph<'a> {
 
     ghost noted = { λ g. noted_in g.rows.items };
 
-    ghost is_sound = { λ g. IsGraph g.image.now g.flats.items (noted_in g.rows.items) (length g.rows.items) };
+    ghost is_sound = { λ g. IsGraph g.image.now g.flats.items (noted_in g.rows.items) (length g.rows.items) × AreTurns g.image.now.code g.flats.shared g.ahead };
 
     fn known(&self, thread: usize, node: usize) -> Option<Option<usize>> {
         if thread < self.rows.len() {
@@ -56,9 +57,9 @@ impl<'a> Successors for Graph<'a> {
             return Ok(next);
         }
         let next = successor(
-            self.alloc,
             &mut self.flats,
-            &mut self.hints,
+            &mut self.ahead,
+            self.image.code(),
             thread,
             node,
             self.bounds,

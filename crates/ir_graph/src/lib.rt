@@ -1,10 +1,12 @@
 //! The graph of a guest: its states at rest, and where each thread leads from them.
 #![tactic(auto)]
 
+mod ahead;
 mod ends;
 mod graph;
-mod hints;
+mod known;
 mod likeness;
+mod lone;
 mod marks;
 mod nodes;
 mod notes;
@@ -12,13 +14,14 @@ mod outcomes;
 mod rest;
 mod start;
 mod states;
+mod turns;
 
+pub use ahead::Ahead;
 pub use ends::{is_done, same_outcome};
 pub use graph::Graph;
-pub use hints::Hints;
 pub use likeness::same_state;
 pub use marks::mark_states;
-pub use nodes::{Bounds, successor};
+pub use nodes::Bounds;
 pub use outcomes::list_outcomes;
 pub use rest::run_to_rest;
 pub use start::start_graph;

@@ -3,7 +3,7 @@
 ghost use Rattle.std.specs.Prelude.{◌≡◌, ℕ, ◌<◌, List, [], true, false, length, IfOk, IsTrue, MatchOption, slice_index};
 ghost use Rattle.std.specs.List.{slice_index_or};
 ghost use Rattle.ir_flat.specs.Flat.{empty};
-ghost use Rattle.ir_freeze.specs.Twins.{AreTwins, IsBounded};
+ghost use Rattle.ir_freeze.specs.Twins.{AreTwins};
 ghost use Rattle.ir_graph.specs.Plain.{IsLike};
 ghost use Rattle.ir_graph.specs.Nodes.{LookAlike};
 ghost use Rattle.ir_seen.specs.Seen.{Same, view};
@@ -11,19 +11,9 @@ ghost use Rattle.ir_seen.specs.Seen.{Same, view};
 use ir_flat::Flat;
 use ir_freeze::{freeze, tells_apart};
 use ir_object::Object;
+use ir_store::bounded;
 use ir_thread::Thread;
 use std::alloc::{AllocError, Global};
-
-// What each thread keeps.
-fn bounded(thread: &Thread)
-    ensures { IsBounded thread.now }
-{
-    thread.mach().pc();
-    thread.output();
-    if let Some(end) = thread.ended() {
-        end.code();
-    }
-}
 
 // Whether two moments of a thread look the same: as bytes, beside the private memory of the first.
 fn same_thread(alloc: Global, first: &Thread, second: &Thread) -> Result<bool, AllocError>

@@ -7,21 +7,20 @@ ghost use Rattle.ir_graph.specs.Hangs.{AreWays};
 ghost use Rattle.ir_graph.specs.Notes.{noted_in};
 ghost use Rattle.ir_runs.specs.Run.{IsDone};
 
-use crate::ends::is_done;
 use crate::graph::Graph;
 use ir_explore::mark_ways;
-use ir_flat::Flat;
+use ir_store::Store;
 use std::alloc::{AllocError, Global};
 
 // Which of these states have all threads done.
-fn done_states(alloc: Global, flats: &[Flat<'_>]) -> Result<Vec<bool>, AllocError>
-    ensures nodes { IfOk result (λ done. length done.items ≡ length flats.now) }
-    ensures done { IfOk result (λ done. (v : ℕ) (f : Flat) → slice_get flats.now v ≡ Some f → IsOpen done.items v → IsDone (machine f) (tables f)) }
-    ensures marked { IfOk result (λ done. (v : ℕ) (f : Flat) → slice_get flats.now v ≡ Some f → IsDone (machine f) (tables f) → IsOpen done.items v) }
+fn done_states(alloc: Global, flats: &Store<'_>) -> Result<Vec<bool>, AllocError>
+    ensures nodes { IfOk result (λ done. length done.items ≡ length flats.now.items) }
+    ensures done { IfOk result (λ done. (v : ℕ) (f : Flat) → slice_get flats.now.items v ≡ Some f → IsOpen done.items v → IsDone (machine f) (tables f)) }
+    ensures marked { IfOk result (λ done. (v : ℕ) (f : Flat) → slice_get flats.now.items v ≡ Some f → IsDone (machine f) (tables f) → IsOpen done.items v) }
 {
     let mut done = Vec::with_capacity(alloc, flats.len())?;
     for v in 0..flats.len() {
-        done.push(is_done(&flats[v]))?;
+        done.push(flats.is_over(v))?;
     }
     Ok(done)
 }
@@ -33,7 +32,7 @@ fn done_states(alloc: Global, flats: &[Flat<'_>]) -> Result<Vec<bool>, AllocErro
 pub fn mark_states(alloc: Global, graph: &Graph<'_>) -> Result<Vec<bool>, AllocError>
     ensures { IfOk result (λ marks. AreWays (noted_in graph.now.rows.items) (length graph.now.rows.items) graph.now.flats.items marks.items) }
 {
-    let mut marks = done_states(alloc, graph.flats.as_slice())?;
+    let mut marks = done_states(alloc, &graph.flats)?;
     mark_ways(graph, graph.rows.len(), &mut marks);
     Ok(marks)
 }

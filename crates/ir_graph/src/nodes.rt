@@ -1,21 +1,23 @@
 //! The nodes that were found, and where threads lead from them.
 
 ghost use Rattle.std.specs.Prelude.{◌≡◌, ◌⊎◌, ℕ, suc, ◌<◌, ◌≤◌, Some, None, length, slice_get, IfOk, IfErr, OnOk, OnErr, IsErrOf};
-ghost use Rattle.std.specs.List.{slice_index_or};
 ghost use Rattle.ir_explore.specs.declared.stop.Stop.TheVariants.{Nodes, Memory};
 ghost use Rattle.ir_flat.specs.Flat.{Flat};
+ghost use Rattle.ir_graph.specs.Ahead.{AreTurns, IsTurnOf};
 ghost use Rattle.ir_graph.specs.Nodes.{LookAlike, AllRest, AreNodes, Stay, LeadsFrom};
 ghost use Rattle.ir_graph.specs.Plain.{IsLike};
 ghost use Rattle.ir_graph.specs.Reached.{IsReached, AllReached};
 ghost use Rattle.ir_graph.specs.Stops.{MayStop};
 ghost use Rattle.ir_image.specs.Guest.{Guest};
+ghost use Rattle.ir_store.specs.Nodes.{Grows, IsNode, flat_in};
 
-use crate::hints::{Hints, hash_of};
-use crate::likeness::same_state;
+use crate::ahead::Ahead;
+use crate::known::Turn;
 use crate::rest::run_to_rest;
+use crate::turns::turn_of;
 use ir_explore::Stop;
-use ir_flat::Flat;
-use std::alloc::{AllocError, Global};
+use ir_image::Code;
+use ir_store::{Node, Store};
 
 /// How far a search may go.
 #[derive(Clone, Copy, Debug, PartialEq, Eq)]
@@ -26,73 +28,69 @@ pub struct Bounds {
     pub private: u64,
 }
 
-// A node that looks the same as this state, if the hint for its hash leads to one.
-fn find(
-    alloc: Global,
-    flats: &[Flat<'_>],
-    hints: &Hints,
-    hash: u64,
-    flat: &Flat<'_>,
-) -> Result<Option<usize>, AllocError>
-    requires { (v : ℕ) (f : Flat) → slice_get flats.now v ≡ Some f → IsLike flat.now f }
-    ensures within { IfOk result (λ found. (v : ℕ) → found ≡ Some v → v < length flats.now) }
-    ensures alike { IfOk result (λ found. (v : ℕ) → found ≡ Some v → (f : Flat) → slice_get flats.now v ≡ Some f → LookAlike flat.now f) }
-{
-    let Some(v) = hints.node(hash, flats.len()) else {
-        return Ok(None);
-    };
-    if same_state(alloc, flat, &flats[v])? {
-        Ok(Some(v))
-    } else {
-        Ok(None)
-    }
-}
-
 // The node that looks the same as this state, a new one where none was found.
-fn node_of<'a>(
-    alloc: Global,
-    flats: &mut Vec<Flat<'a>>,
-    hints: &mut Hints,
-    flat: Flat<'a>,
-    most: usize,
-) -> Result<usize, Stop>
+fn node_of<'a>(flats: &mut Store<'a>, new: Node<'a>, most: usize) -> Result<usize, Stop>
     requires nodes { AreNodes flats.old.items }
-    requires like { (v : ℕ) (f : Flat) → slice_get flats.old.items v ≡ Some f → IsLike flat f }
-    requires rest { AllRest flat }
+    requires is { IsNode flats.old.shared new }
+    requires like { (v : ℕ) (f : Flat) → slice_get flats.old.items v ≡ Some f → IsLike (flat_in flats.old.shared new) f }
+    requires rest { AllRest (flat_in flats.old.shared new) }
     requires room { length flats.old.items ≤ most }
     ensures nodes { AreNodes flats.new.items }
     ensures stay { Stay flats.old.items flats.new.items }
-    ensures reached { (guest : Guest) → AllReached guest flats.old.items → IsReached guest flat.entry → AllReached guest flats.new.items }
+    ensures shared { flats.new.shared ≡ flats.old.shared }
+    ensures reached { (guest : Guest) → AllReached guest flats.old.items → IsReached guest (flat_in flats.old.shared new.entry) → AllReached guest flats.new.items }
     ensures within { IfOk result (λ w. w < length flats.new.items) }
     ensures added { IfOk result (λ w. (length flats.new.items ≡ length flats.old.items) ⊎ ((w ≡ length flats.old.items) × (length flats.new.items ≡ suc (length flats.old.items)))) }
-    ensures alike { IfOk result (λ w. (f : Flat) → slice_get flats.new.items w ≡ Some f → LookAlike flat.entry f) }
+    ensures alike { IfOk result (λ w. (f : Flat) → slice_get flats.new.items w ≡ Some f → LookAlike (flat_in flats.old.shared new.entry) f) }
     ensures grown { length flats.old.items ≤ length flats.new.items }
     ensures room { length flats.new.items ≤ most }
     ensures full { IsErrOf result Nodes → length flats.new.items ≡ most }
     ensures stopped { IfErr result (λ stop. (stop ≡ Memory) ⊎ ((stop ≡ Nodes) × (length flats.new.items ≡ most))) }
 {
-    let first = flats.as_slice().first().unwrap_or(&flat);
-    let hash = hash_of(alloc, first, &flat)?;
-    if let Some(v) = find(alloc, flats.as_slice(), hints, hash, &flat)? {
+    if let Some(v) = flats.find(&new) {
         return Ok(v);
     }
     let node = flats.len();
     if node >= most {
         return Err(Stop::Nodes);
     }
-    hints.note(hash, node)?;
-    flats.push(flat)?;
+    flats.push(new)?;
     Ok(node)
 }
 
-/// Where a thread leads from a node: to no node, to one of these, or to a new one after them.
-///
-/// # Errors
-/// `Nodes` if the new one would be one too many, what `run_to_rest` gives, or out of memory.
-pub fn successor<'a>(
-    alloc: Global,
-    flats: &mut Vec<Flat<'a>>,
-    hints: &mut Hints,
+// The node where a turn of a thread leads.
+fn node_by<'a>(
+    flats: &mut Store<'a>,
+    thread: usize,
+    node: usize,
+    turn: Turn,
+    most: usize,
+) -> Result<usize, Stop>
+    requires nodes { AreNodes flats.old.items }
+    requires node { node < length flats.old.items }
+    requires thread { (f : Flat) → slice_get flats.old.items node ≡ Some f → thread < length f.threads }
+    requires turn { (f : Flat) → slice_get flats.old.items node ≡ Some f → IsTurnOf f.code flats.old.shared f thread turn }
+    requires room { length flats.old.items ≤ most }
+    ensures nodes { AreNodes flats.new.items }
+    ensures stay { Stay flats.old.items flats.new.items }
+    ensures shared { flats.new.shared ≡ flats.old.shared }
+    ensures reached { (guest : Guest) → AllReached guest flats.old.items → AllReached guest flats.new.items }
+    ensures within { IfOk result (λ w. w < length flats.new.items) }
+    ensures added { IfOk result (λ w. (length flats.new.items ≡ length flats.old.items) ⊎ ((w ≡ length flats.old.items) × (length flats.new.items ≡ suc (length flats.old.items)))) }
+    ensures leads { IfOk result (λ w. LeadsFrom flats.new.items thread node (Some w)) }
+    ensures grown { length flats.old.items ≤ length flats.new.items }
+    ensures room { length flats.new.items ≤ most }
+    ensures full { IsErrOf result Nodes → length flats.new.items ≡ most }
+    ensures stopped { IfErr result (λ stop. (stop ≡ Memory) ⊎ ((stop ≡ Nodes) × (length flats.new.items ≡ most))) }
+{
+    flats.thread_number(node, thread);
+    let new = flats.with_both(node, thread, turn.to, turn.object, turn.after)?;
+    node_of(flats, new, most)
+}
+
+// The node where a thread leads by its steps, one by one.
+fn node_by_steps<'a>(
+    flats: &mut Store<'a>,
     thread: usize,
     node: usize,
     bounds: Bounds,
@@ -103,6 +101,7 @@ pub fn successor<'a>(
     requires room { length flats.old.items ≤ bounds.nodes }
     ensures nodes { AreNodes flats.new.items }
     ensures stay { Stay flats.old.items flats.new.items }
+    ensures grows { Grows flats.old.shared flats.new.shared }
     ensures reached { (guest : Guest) → AllReached guest flats.old.items → AllReached guest flats.new.items }
     ensures within { IfOk result (λ next. (w : ℕ) → next ≡ Some w → w < length flats.new.items) }
     ensures added { IfOk result (λ next. (length flats.new.items ≡ length flats.old.items) ⊎ ((next ≡ Some (length flats.old.items)) × (length flats.new.items ≡ suc (length flats.old.items)))) }
@@ -112,15 +111,59 @@ pub fn successor<'a>(
     ensures full { IsErrOf result Nodes → length flats.new.items ≡ bounds.nodes }
     ensures stopped { IfErr result (λ stop. (guest : Guest) → AllReached guest flats.old.items → MayStop guest flats.new.items bounds.nodes bounds.private stop) }
 {
-    let mut flat = flats[node].copy()?;
+    let mut flat = flats.get(node)?;
     if let Err(_) = flat.step(thread, 0) {
         return Ok(None);
     }
     if let Err(stop) = run_to_rest(&mut flat, thread, bounds.private) {
         return Err(stop);
     }
-    match node_of(alloc, flats, hints, flat, bounds.nodes) {
+    let new = flats.by_numbers(&flat)?;
+    match node_of(flats, new, bounds.nodes) {
         Ok(next) => Ok(Some(next)),
         Err(stop) => Err(stop),
     }
+}
+
+/// Where a thread leads from a node: to no node, to one of these, or to a new one after them.
+///
+/// # Errors
+/// `Nodes` if the new one would be one too many, what `run_to_rest` gives, or out of memory.
+pub fn successor<'a>(
+    flats: &mut Store<'a>,
+    ahead: &mut Ahead,
+    code: &Code,
+    thread: usize,
+    node: usize,
+    bounds: Bounds,
+) -> Result<Option<usize>, Stop>
+    requires nodes { AreNodes flats.old.items }
+    requires node { node < length flats.old.items }
+    requires thread { (f : Flat) → slice_get flats.old.items node ≡ Some f → thread < length f.threads }
+    requires code { (f : Flat) → slice_get flats.old.items node ≡ Some f → f.code ≡ code.now }
+    requires turns { AreTurns code.now flats.old.shared ahead.old }
+    requires room { length flats.old.items ≤ bounds.nodes }
+    ensures nodes { AreNodes flats.new.items }
+    ensures stay { Stay flats.old.items flats.new.items }
+    ensures turns { AreTurns code.now flats.new.shared ahead.new }
+    ensures reached { (guest : Guest) → AllReached guest flats.old.items → AllReached guest flats.new.items }
+    ensures within { IfOk result (λ next. (w : ℕ) → next ≡ Some w → w < length flats.new.items) }
+    ensures added { IfOk result (λ next. (length flats.new.items ≡ length flats.old.items) ⊎ ((next ≡ Some (length flats.old.items)) × (length flats.new.items ≡ suc (length flats.old.items)))) }
+    ensures leads { IfOk result (λ next. LeadsFrom flats.new.items thread node next) }
+    ensures grown { length flats.old.items ≤ length flats.new.items }
+    ensures room { length flats.new.items ≤ bounds.nodes }
+    ensures full { IsErrOf result Nodes → length flats.new.items ≡ bounds.nodes }
+    ensures stopped { IfErr result (λ stop. (guest : Guest) → AllReached guest flats.old.items → MayStop guest flats.new.items bounds.nodes bounds.private stop) }
+{
+    let number = flats.thread_number(node, thread);
+    if flats.thread_over(number) {
+        return Ok(None);
+    }
+    if let Some(turn) = turn_of(flats, ahead, code, thread, node, bounds.private)? {
+        return match node_by(flats, thread, node, turn, bounds.nodes) {
+            Ok(next) => Ok(Some(next)),
+            Err(stop) => Err(stop),
+        };
+    }
+    node_by_steps(flats, thread, node, bounds)
 }

@@ -9,23 +9,28 @@ ghost use Rattle.ir_graph.specs.Notes.{noted_in};
 ghost use Rattle.ir_graph.specs.Plain.{GoesPlain};
 ghost use Rattle.ir_graph.specs.Stops.{IsStop};
 ghost use Rattle.ir_image.specs.Guest.{Guest};
+ghost use Rattle.ir_mach.specs.Core.{memory_size};
 ghost use Rattle.ir_thread.specs.Allowed.{IsAllowed};
 ghost use Rattle.ir_thread.specs.Calls.{most_budget};
 ghost use Rattle.ir_thread.specs.declared.profile.Profile.TheVariants.{One};
 
+use crate::ahead::Ahead;
 use crate::graph::Graph;
-use crate::hints::{Hints, hash_of};
 use crate::nodes::Bounds;
 use crate::notes::Row;
 use crate::rest::run_to_rest;
 use ir_explore::Stop;
 use ir_flat::Flat;
 use ir_image::Image;
+use ir_store::Store;
 use ir_thread::Profile;
 use std::alloc::{AllocError, Global};
 
 // As many steps as a thread may take.
 const MOST_BUDGET: u64 = 1_000_000_000_000;
+
+// The bytes of private memory.
+const MEMORY_SIZE: usize = 65_536;
 
 // Each thread runs on alone to its first entry.
 fn rest_all(flat: &mut Flat<'_>, limit: u64) -> Result<(), Stop>
@@ -53,6 +58,15 @@ fn no_notes(alloc: Global, threads: usize) -> Result<Vec<Row>, AllocError>
     Ok(rows)
 }
 
+// The private memory of each thread at first.
+fn first_memory(alloc: Global, image: &Image) -> Result<Vec<u8>, AllocError>
+    ensures { IfOk result (λ memory. length memory.items ≡ memory_size) }
+{
+    let mut memory = Vec::from_slice(alloc, image.bytes())?;
+    memory.resize(MEMORY_SIZE, 0)?;
+    Ok(memory)
+}
+
 /// The graph of a guest whose threads make the calls of the first profile: one node, where it comes to rest from its start.
 ///
 /// # Errors
@@ -65,19 +79,20 @@ pub fn start_graph<'a>(alloc: Global, image: &'a Image, bounds: Bounds) -> Resul
     ensures bounds { IfOk result (λ graph. graph.bounds ≡ bounds) }
     ensures threads { IfOk result (λ graph. length graph.rows.items ≡ length image.now.entries) }
     ensures sound { IfOk result (λ graph. IsGraph image.now graph.flats.items (noted_in graph.rows.items) (length graph.rows.items)) }
+    ensures none { IfOk result (λ graph. graph.ahead ≡ []) }
 {
     let mut flat = Flat::start(alloc, image, MOST_BUDGET, Profile::One)?;
     rest_all(&mut flat, bounds.private)?;
     let rows = no_notes(alloc, flat.threads().len())?;
-    let mut hints = Hints::new(alloc);
-    hints.note(hash_of(alloc, &flat, &flat)?, 0)?;
-    let mut flats = Vec::with_capacity(alloc, 1)?;
-    flats.push(flat)?;
+    let start = first_memory(alloc, image)?;
+    let mut flats = Store::new(alloc, image.form(), start.as_slice())?;
+    let first = flats.by_numbers(&flat)?;
+    flats.push(first)?;
     Ok(Graph {
         alloc,
         image,
         flats,
-        hints,
+        ahead: Ahead::new(alloc),
         rows,
         bounds,
     })

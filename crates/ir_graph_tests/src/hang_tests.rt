@@ -18,7 +18,7 @@ fn a_lost_wake_up_hangs_after_one_switch(rt: HostRuntime) -> Result<(), Fail> {
     let Ok(found) = explore(alloc, &image, BOUNDS, 100) else {
         return Err(Fail::from("no search"));
     };
-    assert!(rt; found.states.found.ended == Ended::Finished);
+    assert!(rt; found.ended == Ended::Finished);
     assert_eq!(rt; found.outcomes.len(), 2);
     assert_eq!(rt; found.hangs, 2);
     let Some(hang) = &found.hang else {
@@ -52,7 +52,7 @@ fn hangs_are_sought_only_once_it_is_finished(rt: HostRuntime) -> Result<(), Fail
     let Ok(found) = explore(alloc, &image, BOUNDS, 1) else {
         return Err(Fail::from("no search"));
     };
-    assert!(rt; found.states.found.ended == Ended::Covered);
+    assert!(rt; found.ended == Ended::Covered);
     assert_eq!(rt; found.hangs, 0);
     assert!(rt; found.hang.is_none());
     Ok(())

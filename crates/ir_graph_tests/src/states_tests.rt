@@ -3,6 +3,7 @@
 use crate::guests::{LOST_UPDATE, OWN_OBJECTS, guest, states};
 use ir_explore::Ended;
 use ir_flat::Flat;
+use ir_store::Store;
 use std::test::Fail;
 
 // Whether all threads are done.
@@ -16,11 +17,12 @@ fn is_done(flat: &Flat<'_>) -> bool {
 }
 
 // How many done states have 1 and 2 in word 0 of object 0.
-fn words(flats: &[Flat<'_>]) -> (u32, u32) {
+fn words(flats: &Store<'_>) -> Result<(u32, u32), Fail> {
     let mut ones = 0u32;
     let mut twos = 0u32;
-    for flat in flats {
-        if is_done(flat) && !flat.objects().is_empty() {
+    for v in 0..flats.len() {
+        let flat = flats.get(v)?;
+        if is_done(&flat) && !flat.objects().is_empty() {
             match flat.objects()[0].get(0) {
                 1 => ones = ones.saturating_add(1),
                 2 => twos = twos.saturating_add(1),
@@ -28,7 +30,7 @@ fn words(flats: &[Flat<'_>]) -> (u32, u32) {
             }
         }
     }
-    (ones, twos)
+    Ok((ones, twos))
 }
 
 #[test]
@@ -38,7 +40,7 @@ fn a_lost_update_has_two_outcomes(rt: HostRuntime) -> Result<(), Fail> {
     let all = states(alloc, &image, 100)?;
     assert!(rt; all.found.ended == Ended::Finished);
     assert_eq!(rt; all.graph.flats.len(), 12);
-    assert_eq!(rt; words(all.graph.flats.as_slice()), (1, 1));
+    assert_eq!(rt; words(&all.graph.flats)?, (1, 1));
     Ok(())
 }
 
@@ -48,7 +50,7 @@ fn with_one_switch_no_update_is_lost(rt: HostRuntime) -> Result<(), Fail> {
     let image = guest(alloc, LOST_UPDATE)?;
     let some = states(alloc, &image, 1)?;
     assert!(rt; some.found.ended == Ended::Covered);
-    assert_eq!(rt; words(some.graph.flats.as_slice()), (0, 1));
+    assert_eq!(rt; words(&some.graph.flats)?, (0, 1));
     Ok(())
 }
 

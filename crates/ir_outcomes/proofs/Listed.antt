@@ -1,12 +1,11 @@
 -- The outcomes of a guest, listed.
 use Rattle.std.proofs.Common.{◌≡◌, ℕ, zero, suc, ◌+◌, ◌<◌, ◌≤◌, List, [], ◌∷◌, ◌++◌, inl, inr, Some, length, length-append, refl, sym, ap, ◌∙◌, subst, arith}
-use Rattle.std.specs.Prelude.{slice_get}
-use Rattle.std.specs.List.{slice_index_or}
+use Rattle.std.specs.Prelude.{slice_get, Result, Ok, Err, false, if◌then◌else◌}
+use Rattle.std.specs.Result.{is_err, is_ok}
 use Rattle.std.proofs.lemmas.Bool.{cases_lt}
-use Rattle.std.proofs.lemmas.Option.{same_Some, slice_get-get_or}
+use Rattle.std.proofs.lemmas.Option.{same_Some}
 use Rattle.ir_image.specs.Guest.{Guest}
 use Rattle.ir_explore.specs.declared.origin.Origin.{Origin}
-use Rattle.ir_explore.specs.Origins.{first_origin}
 use Rattle.ir_explore.proofs.CallerLemmas.{pushed_cases, slice_less}
 use Rattle.ir_runs.specs.Run.{Step}
 use Rattle.ir_record.specs.Turns.{order_of_turns}
@@ -49,40 +48,58 @@ shown_more guest flats origins listed many outcomes x s node level shown = recor
   ];
 }
 
+-- what is so where there is a value, if there is no error
+pub if_no_error : {A E X : Type 0} (r : Result A E) (new more old : X) → new ≡ (if is_ok r then more else old) → is_err r ≡ false → new ≡ more
+if_no_error (Ok x) new more old e none = e
+if_no_error (Err x) new more old e none = absurd cc
+
+-- an element at each place
+at_place : {A : Type 0} (xs : List A) (i : ℕ) → i < length xs → (x : A) × (slice_get xs i ≡ Some x)
+at_place [] i l = absurd (omega (arith, l))
+at_place (x ∷ xs) zero l = (x, refl)
+at_place (x ∷ xs) (suc i) l = at_place xs i (omega (arith, l))
+
+-- nodes of few switches come before these many of the listed
+abbrev AreBefore : List Origin → List ℕ → ℕ → ℕ → Type 0
+AreBefore origins listed until many = (i v : ℕ) (n : Origin) → slice_get listed i ≡ Some v → slice_get origins v ≡ Some n → n.level < until → i < many
+
+-- these many of the listed need no more
+abbrev AreWithin : List Origin → List ℕ → ℕ → ℕ → Type 0
+AreWithin origins listed until many = (i v : ℕ) (n : Origin) → i < many → slice_get listed i ≡ Some v → slice_get origins v ≡ Some n → n.level ≤ until
+
 module _ (guest : Guest) (flats : List Flat) (origins : List Origin) (levels : ℕ) (listed : List ℕ) (outcomes : List Shown)
     (searched : AreSearched guest flats origins levels) (different : AreOutcomes flats (length origins) listed)
-    (shown : AreShown guest flats origins listed (length listed) outcomes) where
+    (shown : AreShown guest flats origins listed (length outcomes) outcomes) where
   -- a listed node is shown
-  in_list : (i v : ℕ) → slice_get listed i ≡ Some v → (x : Shown) × (slice_get outcomes i ≡ Some x) × (x.node ≡ v)
-  in_list i v is =
-      let less : i < length outcomes = (let a = slice_less listed i v is in let b = shown.count in omega (arith, a, b)) in
-      let x = at outcomes i less in
+  in_list : (i v : ℕ) → i < length outcomes → slice_get listed i ≡ Some v → (x : Shown) × (slice_get outcomes i ≡ Some x) × (x.node ≡ v)
+  in_list i v less is =
+      let x = at_place outcomes i less in
       (x.0, x.1, same_Some x.0.node v (sym (shown.node i x.0 x.1) ∙ is))
-    where
-      at : (xs : List Shown) (i : ℕ) → i < length xs → (x : Shown) × (slice_get xs i ≡ Some x)
-      at [] i l = absurd (omega (arith, l))
-      at (x ∷ xs) zero l = (x, refl)
-      at (x ∷ xs) (suc i) l = at xs i (omega (arith, l))
 
   -- where a listed node has the outcome of a state, it is in the list
-  has_in : (f : Flat) → HasOutcome flats listed f → IsIn flats outcomes (outcome_of (tables f))
-  has_in f h =
-      let x = in_list h.place h.node h.stands in
+  has_in : (f : Flat) (h : HasOutcome flats listed f) → h.place < length outcomes → IsIn flats outcomes (outcome_of (tables f))
+  has_in f h less =
+      let x = in_list h.place h.node less h.stands in
       (h.place, x.0, h.state, (x.1, subst (λ z. slice_get flats z ≡ Some h.state) (sym x.2) h.at), h.same)
 
+  origin_of : (i v : ℕ) → slice_get listed i ≡ Some v → (n : Origin) × (slice_get origins v ≡ Some n)
+  origin_of i v is = at_place origins v (different.done i v is).0
+
   origin_at : (i : ℕ) (x : Shown) → slice_get outcomes i ≡ Some x → (n : Origin) × (slice_get origins x.node ≡ Some n)
-  origin_at i x is =
-      let l = (different.done i x.node (shown.node i x is)).0 in
-      (slice_index_or origins x.node first_origin, slice_get-get_or origins x.node first_origin l)
+  origin_at i x is = origin_of i x.node (shown.node i x is)
 
   -- what a run of few switches comes to is in the list
-  in_covered : (c : ℕ) → c < levels → (answers : ℕ → List ℕ) (budget : ℕ) (steps : List Step)
-      → IsCounted guest budget One told answers steps → switches_by guest budget steps ≤ c
+  in_covered : (until : ℕ) → until ≤ levels → AreBefore origins listed until (length outcomes) → (c : ℕ) → c < until → (answers : ℕ → List ℕ) (budget : ℕ)
+      (steps : List Step) → IsCounted guest budget One told answers steps → switches_by guest budget steps ≤ c
       → IsIn flats outcomes (outcome_by guest budget steps)
-  in_covered c less answers budget steps counted few =
-      let r = searched.within c less answers budget steps counted few in
+  in_covered until within before c less answers budget steps counted few =
+      let r = searched.within c (omega (arith, less, within)) answers budget steps counted few in
       let h = different.all r.0 r.1 (slice_less origins r.0 r.2 r.4) r.3.0 r.3.1 in
-      subst (IsIn flats outcomes) r.3.2 (has_in r.1 h.0)
+      let n = origin_of h.0.place h.0.node h.0.stands in
+      let rise = searched.rising h.0.node r.0 n.0 r.2 n.1 r.4 h.1 in
+      let late = r.5 in
+      let early : h.0.place < length outcomes = before h.0.place h.0.node n.0 h.0.stands n.1 (omega (arith, rise, late, less)) in
+      subst (IsIn flats outcomes) r.3.2 (has_in r.1 h.0 early)
 
   level_least : (i : ℕ) (x : Shown) (f : Flat) → IsAt flats outcomes i x f → (answers : ℕ → List ℕ) (budget : ℕ) (steps : List Step)
       → IsCounted guest budget One told answers steps → outcome_by guest budget steps ≡ outcome_of (tables f)
@@ -105,8 +122,9 @@ module _ (guest : Guest) (flats : List Flat) (origins : List Origin) (levels : �
     | inr most ↦ most
   ]
 
-  pub explored : AreExplored guest flats levels outcomes
-  explored = record {
+  explored_to : (until : ℕ) → until ≤ levels → AreBefore origins listed until (length outcomes) → AreWithin origins listed until (length outcomes)
+      → AreExplored guest flats until outcomes
+  explored_to until within before most = record {
     shown = shown.shown;
     fewest = level_least;
     different = λ i j x y f g at there same.
@@ -123,19 +141,65 @@ module _ (guest : Guest) (flats : List Flat) (origins : List Origin) (levels : �
         let l = (different.done i x.node (shown.node i x is)).0 in
         let few = searched.few in
         omega (arith, l, few);
-    covered = in_covered;
+    most = λ i x is.
+        let n = origin_at i x is in
+        let a = shown.level i x n.0 is n.1 in
+        let b = most i x.node n.0 (slice_less outcomes i x is) (shown.node i x is) n.1 in
+        omega (arith, a, b);
+    covered = in_covered until within before;
   }
 
+  -- if each listed node is shown
+  explored_whole : length outcomes ≡ length listed → AreExplored guest flats levels outcomes
+  explored_whole whole = explored_to levels (omega arith)
+      (λ i v n is at less. let a = slice_less listed i v is in omega (arith, a, whole))
+      (λ i v n less is at. searched.most v n at)
+
+  -- if only those before some node are, up to the level of that
+  explored_cut : (v : ℕ) (n : Origin) → slice_get listed (length outcomes) ≡ Some v → slice_get origins v ≡ Some n → AreExplored guest flats n.level outcomes
+  explored_cut v n is at = explored_to n.level (searched.most v n at)
+      (λ i w m there here less. elim (cases_lt i (length outcomes)) [
+        | inl early ↦ early
+        | inr late ↦
+            let rise = searched.rising v w n m at here (early_node i w late there) in
+            absurd (omega (arith, rise, less))
+      ])
+      (λ i w m early there here.
+      let less = different.rising i (length outcomes) w v there is early in
+      searched.rising w v m n here at (omega (arith, less)))
+    where
+      early_node : (i w : ℕ) → length outcomes ≤ i → slice_get listed i ≡ Some w → v ≤ w
+      early_node i w late there = elim (cases_lt (length outcomes) i) [
+        | inl less ↦ let l = different.rising (length outcomes) i v w is there less in omega (arith, l)
+        | inr least ↦
+            let same : i ≡ length outcomes = omega (arith, late, least) in
+            let one : w ≡ v = same_Some w v (sym (subst (λ z. slice_get listed z ≡ Some w) same there) ∙ is) in
+            omega (arith, one)
+      ]
+
   -- once the search is finished, the list is that of all outcomes
-  pub all_outcomes : AllListed guest flats → length origins ≡ length flats → AreAll guest flats outcomes
-  all_outcomes all nodes x = (
+  pub all_outcomes : length outcomes ≡ length listed → AllListed guest flats → length origins ≡ length flats → AreAll guest flats outcomes
+  all_outcomes whole all nodes x = (
     λ h.
         let r = all h.0 h.1 h.2 h.3 in
         let less : r.0 < length origins = (let a = slice_less flats r.0 r.1 r.2.0 in omega (arith, a, nodes)) in
         let k = different.all r.0 r.1 less r.2.0 r.2.1 in
-        subst (IsIn flats outcomes) (r.2.2 ∙ h.4) (has_in r.1 k.0),
+        let place = slice_less listed k.0.place k.0.node k.0.stands in
+        subst (IsIn flats outcomes) (r.2.2 ∙ h.4) (has_in r.1 k.0 (omega (arith, place, whole))),
     λ h.
         let s = shown.shown h.0 h.1 h.2 h.3 in
         let order = order_of_turns h.1.turns.items in
         ((λ t. []), most_budget, steps_of order, s.counted (λ t. []), s.same ∙ h.4),
   )
+
+  -- up to the level that is given
+  pub explored_shown : (until : ℕ) → length outcomes ≤ length listed → (length listed ≤ length outcomes → until ≡ levels)
+      → ((v : ℕ) (n : Origin) → slice_get listed (length outcomes) ≡ Some v → slice_get origins v ≡ Some n → until ≡ n.level)
+      → AreExplored guest flats until outcomes
+  explored_shown until few whole cut = elim (cases_lt (length outcomes) (length listed)) [
+    | inl less ↦
+        let v = at_place listed (length outcomes) less in
+        let n = origin_of (length outcomes) v.0 v.1 in
+        subst (λ z. AreExplored guest flats z outcomes) (sym (cut v.0 n.0 v.1 n.1)) (explored_cut v.0 n.0 v.1 n.1)
+    | inr all ↦ subst (λ z. AreExplored guest flats z outcomes) (sym (whole all)) (explored_whole (omega (arith, few, all)))
+  ]

@@ -43,7 +43,7 @@ abbrev pub IsIn : List Flat → List Shown → Outcome → Type 0
 IsIn flats outcomes y = (i : ℕ) × (x : Shown) × (f : Flat) × IsAt flats outcomes i x f × (outcome_of (tables f) ≡ y)
 
 -- Different outcomes of the guest, each with an order that leads to it with fewest switches, by rising numbers of them. Those of runs with
--- fewer switches than levels are all among them.
+-- fewer switches than levels are all among them, and none needs more.
 pub record AreExplored (guest : Guest) (flats : List Flat) (levels : ℕ) (outcomes : List Shown) : Type 0 where
   pub shown : (i : ℕ) (x : Shown) (f : Flat) → IsAt flats outcomes i x f → IsShown guest f x.level (order_of_turns x.turns.items)
   pub fewest : (i : ℕ) (x : Shown) (f : Flat) → IsAt flats outcomes i x f → (answers : ℕ → List ℕ) (budget : ℕ) (steps : List Step)
@@ -53,6 +53,7 @@ pub record AreExplored (guest : Guest) (flats : List Flat) (levels : ℕ) (outco
       → outcome_of (tables f) ≡ outcome_of (tables g) → i ≡ j
   pub rising : (i j : ℕ) (x y : Shown) → slice_get outcomes i ≡ Some x → slice_get outcomes j ≡ Some y → i < j → x.level ≤ y.level
   pub nodes : (i : ℕ) (x : Shown) → slice_get outcomes i ≡ Some x → x.node < length flats
+  pub most : (i : ℕ) (x : Shown) → slice_get outcomes i ≡ Some x → x.level ≤ levels
   pub covered : (c : ℕ) → c < levels → (answers : ℕ → List ℕ) (budget : ℕ) (steps : List Step)
       → IsCounted guest budget One told answers steps → switches_by guest budget steps ≤ c → IsIn flats outcomes (outcome_by guest budget steps)
 

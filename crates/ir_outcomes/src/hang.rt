@@ -18,9 +18,9 @@ use crate::path::path_to;
 use crate::rerun::run_to_node;
 use crate::shown::Shown;
 use ir_explore::{Origin, Stop};
-use ir_flat::Flat;
 use ir_graph::same_state;
 use ir_image::Image;
+use ir_store::Store;
 use std::alloc::Global;
 
 /// How many of the states aren't marked.
@@ -53,23 +53,24 @@ fn first_lost(marks: &[bool]) -> Option<usize>
 fn lead<'a>(
     alloc: Global,
     image: &'a Image,
-    flats: &[Flat<'a>],
+    flats: &Store<'a>,
     origins: &[Origin],
     node: usize,
     limit: u64,
 ) -> Result<Shown, Stop>
     requires allowed { IsAllowed One image.now }
-    requires reached { AllReached image.now flats.now }
-    requires node { node < length flats.now }
+    requires reached { AllReached image.now flats.now.items }
+    requires node { node < length flats.now.items }
     requires origin { node < length origins.now }
     ensures refused { IfErr result (λ stop. (stop ≡ Memory) ⊎ (stop ≡ Order node)) }
     ensures node { IfOk result (λ shown. shown.node ≡ node) }
     ensures level { IfOk result (λ shown. (n : Origin) → slice_get origins.now node ≡ Some n → shown.level ≡ n.level) }
-    ensures shown { IfOk result (λ shown. (f : Flat) → slice_get flats.now node ≡ Some f → IsShownAt image.now f shown.level (order_of_turns shown.turns.items)) }
+    ensures shown { IfOk result (λ shown. (f : Flat) → slice_get flats.now.items node ≡ Some f → IsShownAt image.now f shown.level (order_of_turns shown.turns.items)) }
 {
     let path = path_to(alloc, origins, node)?;
     let (flat, turns) = run_to_node(alloc, image, path.as_slice(), node, limit)?;
-    if !same_state(alloc, &flat, &flats[node])? {
+    let kept = flats.get(node)?;
+    if !same_state(alloc, &flat, &kept)? {
         return Err(Stop::Order(node));
     }
     Ok(Shown {
@@ -86,20 +87,20 @@ fn lead<'a>(
 pub fn find_hang<'a>(
     alloc: Global,
     image: &'a Image,
-    flats: &[Flat<'a>],
+    flats: &Store<'a>,
     origins: &[Origin],
     marks: &[bool],
     limit: u64,
 ) -> Result<Option<Shown>, Stop>
     requires allowed { IsAllowed One image.now }
-    requires reached { AllReached image.now flats.now }
-    requires few { length origins.now ≤ length flats.now }
+    requires reached { AllReached image.now flats.now.items }
+    requires few { length origins.now ≤ length flats.now.items }
     requires marks { length marks.now ≤ length origins.now }
     ensures refused { IfErr result (λ stop. (stop ≡ Memory) ⊎ IsOrder stop) }
     ensures none { IfOk result (λ hang. hang ≡ None → (v : ℕ) → v < length marks.now → IsOpen marks.now v) }
     ensures first { IfOk result (λ hang. (x : Shown) → hang ≡ Some x → IsFirst marks.now x.node) }
     ensures level { IfOk result (λ hang. (x : Shown) → hang ≡ Some x → (n : Origin) → slice_get origins.now x.node ≡ Some n → x.level ≡ n.level) }
-    ensures shown { IfOk result (λ hang. (x : Shown) → hang ≡ Some x → (f : Flat) → slice_get flats.now x.node ≡ Some f → IsShownAt image.now f x.level (order_of_turns x.turns.items)) }
+    ensures shown { IfOk result (λ hang. (x : Shown) → hang ≡ Some x → (f : Flat) → slice_get flats.now.items x.node ≡ Some f → IsShownAt image.now f x.level (order_of_turns x.turns.items)) }
 {
     let Some(node) = first_lost(marks) else {
         return Ok(None);

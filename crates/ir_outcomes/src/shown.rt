@@ -13,10 +13,10 @@ ghost use Rattle.ir_outcomes.specs.Shown.{IsShown};
 use crate::path::path_to;
 use crate::rerun::run_to_node;
 use ir_explore::{Origin, Stop};
-use ir_flat::Flat;
 use ir_graph::{is_done, same_outcome};
 use ir_image::Image;
 use ir_record::Turns;
+use ir_store::Store;
 use std::alloc::Global;
 
 /// An outcome: a node that has it first, and an order that leads to it.
@@ -37,23 +37,24 @@ pub struct Shown {
 pub fn show<'a>(
     alloc: Global,
     image: &'a Image,
-    flats: &[Flat<'a>],
+    flats: &Store<'a>,
     origins: &[Origin],
     node: usize,
     limit: u64,
 ) -> Result<Shown, Stop>
     requires allowed { IsAllowed One image.now }
-    requires reached { AllReached image.now flats.now }
-    requires node { node < length flats.now }
+    requires reached { AllReached image.now flats.now.items }
+    requires node { node < length flats.now.items }
     requires origin { node < length origins.now }
     ensures refused { IfErr result (λ stop. (stop ≡ Memory) ⊎ (stop ≡ Order node)) }
     ensures node { IfOk result (λ shown. shown.node ≡ node) }
     ensures level { IfOk result (λ shown. (n : Origin) → slice_get origins.now node ≡ Some n → shown.level ≡ n.level) }
-    ensures shown { IfOk result (λ shown. (f : Flat) → slice_get flats.now node ≡ Some f → IsShown image.now f shown.level (order_of_turns shown.turns.items)) }
+    ensures shown { IfOk result (λ shown. (f : Flat) → slice_get flats.now.items node ≡ Some f → IsShown image.now f shown.level (order_of_turns shown.turns.items)) }
 {
     let path = path_to(alloc, origins, node)?;
     let (flat, turns) = run_to_node(alloc, image, path.as_slice(), node, limit)?;
-    if !is_done(&flat) || !same_outcome(&flat, &flats[node]) {
+    let kept = flats.get(node)?;
+    if !is_done(&flat) || !same_outcome(&flat, &kept) {
         return Err(Stop::Order(node));
     }
     Ok(Shown {

@@ -3,11 +3,11 @@
 ghost use Rattle.std.specs.Prelude.{◌≡◌, OnSome, false};
 
 pub mod assemble;
+pub mod conditions;
 pub mod debug;
 pub mod elf;
 pub mod events;
 pub mod explore;
-pub mod gdb;
 pub mod hunt;
 pub mod list;
 pub mod maps;
@@ -15,6 +15,7 @@ pub mod past;
 pub mod record;
 pub mod recording;
 pub mod trace;
+pub mod until;
 
 use ir_files::{ExitStatus, Folder, WholeSink, loses, read_file, tell_of};
 use ir_stream::Sink;

@@ -4,17 +4,17 @@ ghost use Rattle.std.specs.Prelude.{◌≡◌, false};
 
 use crate::bundles::bundle;
 use crate::commands::assemble::assemble_file;
-use crate::commands::debug::debug_files;
+use crate::commands::debug::{Opening, Speech, debug_files};
 use crate::commands::elf::convert_file;
 use crate::commands::events::events_file;
 use crate::commands::explore::explore_file;
-use crate::commands::gdb::gdb_files;
 use crate::commands::hunt::hunt_file;
 use crate::commands::list::list_file;
 use crate::commands::past::{diff_files, stale_file, view_file, who_file, why_file};
 use crate::commands::record::record_file;
 use crate::commands::say;
 use crate::commands::trace::trace_file;
+use crate::commands::until::until_file;
 use crate::prompting::Prompting;
 use ir_arguments::{Asked, Make, Print, parsed};
 use ir_debug::{Sink, Source};
@@ -169,27 +169,26 @@ where
             record_file(&around, &arguments, terminals.faults, out, faults)
         }
         Asked::Hunt(arguments) => hunt_file(rt, folder, &arguments, terminals.faults, out, faults),
+        Asked::Until(arguments) => {
+            until_file(rt, folder, &arguments, terminals.faults, out, faults)
+        }
         Asked::Debug(arguments) => {
             let mut input = Prompting::new(input, rt, terminals.input);
-            debug_files(
-                &around,
-                &arguments,
-                terminals.faults,
-                &mut input,
-                out,
-                faults,
-            )
+            let opening = Opening {
+                arguments: &arguments,
+                speech: Speech::Lines,
+                explains: terminals.faults,
+            };
+            debug_files(&around, opening, &mut input, out, faults)
         }
         Asked::Gdb(arguments) => {
             let mut input = input;
-            gdb_files(
-                &around,
-                &arguments,
-                terminals.faults,
-                &mut input,
-                out,
-                faults,
-            )
+            let opening = Opening {
+                arguments: &arguments,
+                speech: Speech::Packets,
+                explains: terminals.faults,
+            };
+            debug_files(&around, opening, &mut input, out, faults)
         }
         Asked::Print(mut what) => print(alloc, folder, &mut what, terminals.faults, out, faults),
         Asked::Help(text) => help(text.as_str(), out, faults),

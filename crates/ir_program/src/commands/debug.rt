@@ -1,10 +1,11 @@
-//! `ir debug`: a session over an image and a trace in files.
+//! `ir debug` and `ir gdb`: a session over an image and a trace in files.
 
 ghost use Rattle.std.specs.Prelude.{◌≡◌, false};
 
 use crate::commands::{bytes_of, say};
 use crate::debugging::debug_run;
 use crate::dispatch::Surroundings;
+use crate::gdb::gdb_run;
 use ir_arguments::DebugArguments;
 use ir_debug::{Sink, Source};
 use ir_files::{ExitStatus, Folder, MOST_BYTES};
@@ -73,11 +74,30 @@ pub fn explain_files<E: Sink>(
     explain(alloc, Files { image, trace }, status, faults);
 }
 
-// The session of an image and a trace in files. If a person looks on, it is said in words why nothing was opened.
+/// What a session speaks.
+#[derive(Clone, Copy, Debug, PartialEq, Eq)]
+pub enum Speech {
+    /// Lines of commands.
+    Lines,
+    /// gdb's packets.
+    Packets,
+}
+
+/// A session that was asked for.
+#[derive(Clone, Copy)]
+pub struct Opening<'a> {
+    /// Its files.
+    pub arguments: &'a DebugArguments,
+    /// What it speaks.
+    pub speech: Speech,
+    /// Whether a person looks on: then it is said in words why nothing was opened.
+    pub explains: bool,
+}
+
+// A session of an image and a trace in files.
 pub fn debug_files<R, D, G, I, O, E>(
     around: &Surroundings<'_, R, D, G>,
-    arguments: &DebugArguments,
-    explains: bool,
+    opening: Opening<'_>,
     reader: &mut I,
     out: &mut O,
     faults: &mut E,
@@ -95,6 +115,7 @@ where
 {
     let alloc = around.rt.alloc();
     let folder = around.folder;
+    let arguments = opening.arguments;
     let Some(image) = bytes_of(alloc, folder, faults, arguments.image.as_str(), MOST_BYTES) else {
         return ExitStatus::Failed;
     };
@@ -103,8 +124,11 @@ where
     };
     let (image, trace) = (image.as_slice(), trace.as_slice());
     let hands = Given::new(around.rt, alloc, around.gate);
-    let status = debug_run(&hands, image, trace, reader, out, faults);
-    if explains {
+    let status = match opening.speech {
+        Speech::Lines => debug_run(&hands, image, trace, reader, out, faults),
+        Speech::Packets => gdb_run(&hands, image, trace, reader, out, faults),
+    };
+    if opening.explains {
         explain_files(alloc, image, trace, status, faults);
     }
     status

@@ -5,27 +5,26 @@ use Rattle.ir_explore_run.specs.Texts.{IsOutcomeText, AreTexts}
 use Rattle.ir_explore_run.proofs.Joined.{texts_more}
 use Rattle.ir_explore_run.proofs.texts.outcomes_text.Goals as goal
 
-pub outcome_text-requires : goal.outcome_text-requires
-outcome_text-requires c =
-    let less : c.loop-i.i < length c.args.outcomes.now = (let a = c.loop-i-test.true in let b = c.loop-i.auto.i-end in omega (arith, a, b)) in
+pub state_of-requires : goal.state_of-requires
+state_of-requires c =
+    let less : c.loop-i.i < length c.args.outcomes.now =
+    (let a = c.loop-i-test.true in let b = c.loop-i.auto.i-end in let m = c.requires.many in omega (arith, a, b, m)) in
     let x = c.index-outcomes-i.result in
-    let f = c.index-flats-shown.result in
-    let at : slice_get c.args.outcomes.now c.loop-i.i ≡ Some x =
-    slice_get-get_or c.args.outcomes.now c.loop-i.i x less ∙ ap Some (sym c.index-outcomes-i.is) in
-    c.requires.objects x.node f
-    (slice_get-get_or c.args.flats.now x.node f (c.requires.nodes c.loop-i.i x at) ∙ ap Some (sym c.index-flats-shown.is))
+    c.requires.nodes c.loop-i.i x (slice_get-get_or c.args.outcomes.now c.loop-i.i x less ∙ ap Some (sym c.index-outcomes-i.is))
+
+pub outcome_text-requires : goal.outcome_text-requires
+outcome_text-requires c = c.requires.objects c.index-outcomes-i.result.node c.in_ok-state.state c.in_ok-state.ensures.value
 
 pub loop-i-preserved : goal.loop-i-preserved
 loop-i-preserved c =
-    let less : c.loop-i.i < length c.args.outcomes.now = (let a = c.loop-i-test.true in let b = c.loop-i.auto.i-end in omega (arith, a, b)) in
+    let less : c.loop-i.i < length c.args.outcomes.now =
+    (let a = c.loop-i-test.true in let b = c.loop-i.auto.i-end in let m = c.requires.many in omega (arith, a, b, m)) in
     let x = c.index-outcomes-i.result in
-    let f = c.index-flats-shown.result in
+    let f = c.in_ok-state.state in
     let at : slice_get c.args.outcomes.now c.loop-i.i ≡ Some x =
     slice_get-get_or c.args.outcomes.now c.loop-i.i x less ∙ ap Some (sym c.index-outcomes-i.is) in
-    let there : slice_get c.args.flats.now x.node ≡ Some f =
-    slice_get-get_or c.args.flats.now x.node f (c.requires.nodes c.loop-i.i x at) ∙ ap Some (sym c.index-flats-shown.is) in
     let next : c.loop-i.i + 1 ≡ suc c.loop-i.i = omega arith in
-    subst (AreTexts (record { words = c.args.started.words; first = c.args.started.first.now }) c.args.flats.now c.args.outcomes.now (c.loop-i.i + 1))
+    subst (AreTexts (record { words = c.args.started.words; first = c.args.started.first.now }) c.args.flats.now.items c.args.outcomes.now (c.loop-i.i + 1))
     (sym (c.in_ok-extend_from_slice.ensures.items ∙ ap (λ z. c.loop-i.text.items ++ z) c.as_slice.ensures.value))
-    (texts_more (record { words = c.args.started.words; first = c.args.started.first.now }) c.args.flats.now c.args.outcomes.now c.loop-i.i c.loop-i.text.items c.in_ok-own.own.items x f
-    c.loop-i.invariant (at, there) (subst (λ z. IsOutcomeText (record { words = c.args.started.words; first = c.args.started.first.now }) f z x c.in_ok-own.own.items) next c.in_ok-own.ensures))
+    (texts_more (record { words = c.args.started.words; first = c.args.started.first.now }) c.args.flats.now.items c.args.outcomes.now c.loop-i.i c.loop-i.text.items c.in_ok-own.own.items x f
+    c.loop-i.invariant (at, c.in_ok-state.ensures.value) (subst (λ z. IsOutcomeText (record { words = c.args.started.words; first = c.args.started.first.now }) f z x c.in_ok-own.own.items) next c.in_ok-own.ensures))

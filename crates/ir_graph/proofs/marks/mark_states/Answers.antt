@@ -17,17 +17,15 @@ returns c =
     let value = c.deref_mut.ensures.value in
     let many : length c.mark_ways.new.marks ≡ length v.items = c.mark_ways.ensures.nodes ∙ ap length value in
     let same = with_items_is v c.mark_ways.new.marks (many ∙ sym v.ok.0) in
-    let nodes : length v.items ≡ length flats = c.in_ok-marks.ensures.nodes ∙ ap length c.as_slice.ensures.value in
+    let nodes : length v.items ≡ length flats = c.in_ok-marks.ensures.nodes in
     let threads : c.len.result ≡ length rows = c.len.ensures ∙ c.args.graph.now.rows.ok.0 in
     let exact = subst (λ z. (x : ℕ) → IsOpen c.mark_ways.new.marks x ↔ HasMarked (noted_in rows) c.len.result z x) value
     c.mark_ways.ensures.exact in
     subst (AreWays (noted_in rows) (length rows) flats) (sym same) (record {
       done = v.items;
       nodes = nodes;
-      done_marked = subst (λ z. (x : ℕ) (f : Flat) → slice_get z x ≡ Some f → IsOpen v.items x → IsDone (machine f) (tables f))
-          c.as_slice.ensures.value c.in_ok-marks.ensures.done;
-      marked_done = subst (λ z. (x : ℕ) (f : Flat) → slice_get z x ≡ Some f → IsDone (machine f) (tables f) → IsOpen v.items x)
-          c.as_slice.ensures.value c.in_ok-marks.ensures.marked;
+      done_marked = c.in_ok-marks.ensures.done;
+      marked_done = c.in_ok-marks.ensures.marked;
       all = many ∙ nodes;
       exact = subst (λ z. (x : ℕ) → IsOpen c.mark_ways.new.marks x ↔ HasMarked (noted_in rows) z v.items x) threads exact;
     })

@@ -1,28 +1,35 @@
-use Rattle.std.proofs.Common.{◌≡◌, Some, sym, ◌∙◌, subst, [], ◌∷◌}
+use Rattle.std.proofs.Common.{◌≡◌, Some, sym, subst, [], ◌∷◌}
 use Rattle.std.specs.Prelude.{slice_get}
 use Rattle.ir_explore.proofs.CallerLemmas.{pushed_stays}
+use Rattle.ir_store.specs.Nodes.{flat_in}
 use Rattle.ir_graph.specs.Nodes.{AreNodes}
 use Rattle.ir_graph.specs.Reached.{AllReached}
+use Rattle.ir_graph.proofs.Both.{same_alike}
 use Rattle.ir_graph.proofs.Found.{nodes_more, new_alike}
 use Rattle.ir_graph.proofs.Reached.{more_reached}
 use Rattle.ir_graph.proofs.nodes.node_of.Goals as goal
 
-pub find-requires : goal.find-requires
-find-requires c = λ v f is. c.requires.like v f (subst (λ z. slice_get z v ≡ Some f) c.as_slice-2.ensures.value is)
+pub returns-in-Some-clause-alike : goal.returns-in-Some-clause-alike
+returns-in-Some-clause-alike c = λ f is.
+    same_alike (flat_in c.args.flats.now.shared c.args.new) f (c.requires.like c.in-Some.v f is) (c.in-Some.ensures.alike f is)
 
 pub returns-clause-nodes : goal.returns-clause-nodes
 returns-clause-nodes c =
-    subst AreNodes (sym c.in_ok-push.ensures.items) (nodes_more c.args.flats.now.items c.args.flat c.requires.nodes c.requires.like c.requires.rest)
+    let h = flat_in c.args.flats.now.shared c.args.new in
+    subst AreNodes (sym c.in_ok-push.ensures.ok) (nodes_more c.args.flats.now.items h c.requires.nodes c.requires.like c.requires.rest)
 
 pub returns-clause-stay : goal.returns-clause-stay
 returns-clause-stay c = λ v f is.
-    subst (λ z. slice_get z v ≡ Some f) (sym c.in_ok-push.ensures.items) (pushed_stays c.args.flats.now.items (c.args.flat ∷ []) v f is)
+    let h = flat_in c.args.flats.now.shared c.args.new in
+    subst (λ z. slice_get z v ≡ Some f) (sym c.in_ok-push.ensures.ok) (pushed_stays c.args.flats.now.items (h ∷ []) v f is)
 
 pub returns-clause-alike : goal.returns-clause-alike
 returns-clause-alike c = λ f is.
-    new_alike c.args.flats.now.items c.args.flat f c.len-node.result (c.len-node.ensures ∙ c.args.flats.now.ok.0)
-    (subst (λ z. slice_get z c.len-node.result ≡ Some f) c.in_ok-push.ensures.items is)
+    let h = flat_in c.args.flats.now.shared c.args.new in
+    new_alike c.args.flats.now.items h f c.len-node.result c.len-node.ensures
+    (subst (λ z. slice_get z c.len-node.result ≡ Some f) c.in_ok-push.ensures.ok is)
 
 pub returns-clause-reached : goal.returns-clause-reached
 returns-clause-reached c = λ guest all is.
-    subst (AllReached guest) (sym c.in_ok-push.ensures.items) (more_reached guest c.args.flats.now.items c.args.flat all is)
+    let h = flat_in c.args.flats.now.shared c.args.new in
+    subst (AllReached guest) (sym c.in_ok-push.ensures.ok) (more_reached guest c.args.flats.now.items h all is)

@@ -1,80 +1,48 @@
-use Rattle.std.proofs.Common.{◌≡◌, Some, sym, ap, ◌∙◌}
-use Rattle.std.specs.Prelude.{slice_get}
-use Rattle.std.proofs.lemmas.Option.{slice_get-get_or}
-use Rattle.ir_graph.proofs.Reached.{step_reached}
-use Rattle.ir_graph.proofs.Stops.{step_stop, stop_may}
-use Rattle.ir_graph.proofs.Found.{leads_nowhere, reached_like, reached_rests, reached_leads}
+use Rattle.std.proofs.Common.{◌≡◌, Some, sym, subst}
+use Rattle.std.specs.Prelude.{slice_get, IfSome}
+use Rattle.ir_explore.specs.declared.stop.Stop.{Stop}
+use Rattle.ir_flat.specs.Flat.{Flat}
+use Rattle.ir_image.specs.Guest.{Guest}
+use Rattle.ir_graph.specs.declared.known.Turn.{Turn}
+use Rattle.ir_graph.specs.Ahead.{IsTurnOf}
+use Rattle.ir_graph.specs.Reached.{AllReached}
+use Rattle.ir_graph.specs.Stops.{MayStop}
+use Rattle.ir_graph.proofs.Both.{turns_grown, if_err_weaker}
 use Rattle.ir_graph.proofs.nodes.successor.Goals as goal
 
-pub returns-in-Err-clause-leads : goal.returns-in-Err-clause-leads
-returns-in-Err-clause-leads c =
-    let f = c.in_ok-flat.flat in
-    let at : slice_get c.args.flats.now.items c.args.node ≡ Some f =
-    slice_get-get_or c.args.flats.now.items c.args.node c.index.result.now c.requires.node ∙ ap Some (sym c.index.ensures)
-    ∙ ap Some (sym c.in_ok-flat.ensures) in
-    leads_nowhere c.args.flats.now.items f c.args.thread c.args.node c.requires.nodes at (c.requires.thread f at) c.in-Err.ensures.refused
+pub returns-in_err-turn-clause-reached : goal.returns-in_err-turn-clause-reached
+returns-in_err-turn-clause-reached c = λ guest all. subst (AllReached guest) (sym c.turn_of.ensures.items) all
 
-pub node_of-requires-clause-like : goal.node_of-requires-clause-like
-node_of-requires-clause-like c =
-    let f = c.in_ok-flat.flat in
-    let at : slice_get c.args.flats.now.items c.args.node ≡ Some f =
-    slice_get-get_or c.args.flats.now.items c.args.node c.index.result.now c.requires.node ∙ ap Some (sym c.index.ensures)
-    ∙ ap Some (sym c.in_ok-flat.ensures) in
-    reached_like c.args.flats.now.items f c.step.new.self c.run_to_rest.new.flat c.args.thread c.args.node c.requires.nodes at
-    (c.requires.thread f at) c.in_default.ensures.admitted c.in_default.ensures.taken c.in_default.ensures.code c.in_default.ensures.threads
-    c.in_default.ensures.objects c.run_to_rest.ensures.goes
-
-pub node_of-requires-clause-rest : goal.node_of-requires-clause-rest
-node_of-requires-clause-rest c =
-    let f = c.in_ok-flat.flat in
-    let at : slice_get c.args.flats.now.items c.args.node ≡ Some f =
-    slice_get-get_or c.args.flats.now.items c.args.node c.index.result.now c.requires.node ∙ ap Some (sym c.index.ensures)
-    ∙ ap Some (sym c.in_ok-flat.ensures) in
-    reached_rests c.args.flats.now.items f c.step.new.self c.run_to_rest.new.flat c.args.thread c.args.node c.requires.nodes at
-    (c.requires.thread f at) c.in_default.ensures.admitted c.in_default.ensures.taken c.in_default.ensures.code c.in_default.ensures.threads
-    c.in_default.ensures.objects c.run_to_rest.ensures.goes c.run_to_rest.ensures.others c.in_default-run_to_rest.ensures.rests
-
-pub returns-in-Ok-clause-leads : goal.returns-in-Ok-clause-leads
-returns-in-Ok-clause-leads c =
-    let f = c.in_ok-flat.flat in
-    let at : slice_get c.args.flats.now.items c.args.node ≡ Some f =
-    slice_get-get_or c.args.flats.now.items c.args.node c.index.result.now c.requires.node ∙ ap Some (sym c.index.ensures)
-    ∙ ap Some (sym c.in_ok-flat.ensures) in
-    reached_leads c.args.flats.now.items f c.step.new.self c.run_to_rest.new.flat c.args.thread c.args.node c.requires.nodes at
-    (c.requires.thread f at) c.in_default.ensures.admitted c.in_default.ensures.taken c.in_default.ensures.code c.in_default.ensures.threads
-    c.in_default.ensures.objects c.run_to_rest.ensures.goes c.node_of.new.flats.items c.in-Ok.next c.node_of.ensures.stay
-    c.in-Ok.ensures.alike
+pub node_by-requires-clause-turn : goal.node_by-requires-clause-turn
+node_by-requires-clause-turn c = λ f at.
+    let new = c.turn_of.new.flats in
+    let here = subst (λ z. slice_get z c.args.node ≡ Some f) c.turn_of.ensures.items at in
+    let one = subst (λ z. IfSome z (λ (x : Turn). (f : Flat) → slice_get new.items c.args.node ≡ Some f
+    → IsTurnOf c.args.code.now new.shared f c.args.thread x)) c.in-Some.is c.in_ok-turn.ensures.turn in
+    subst (λ z. IsTurnOf z new.shared f c.args.thread c.in-Some.turn) (sym (c.requires.code f here)) (one f at)
 
 pub returns-in-Ok-clause-reached : goal.returns-in-Ok-clause-reached
 returns-in-Ok-clause-reached c = λ guest all.
-    let f = c.in_ok-flat.flat in
-    let at : slice_get c.args.flats.now.items c.args.node ≡ Some f =
-    slice_get-get_or c.args.flats.now.items c.args.node c.index.result.now c.requires.node ∙ ap Some (sym c.index.ensures)
-    ∙ ap Some (sym c.in_ok-flat.ensures) in
-    c.node_of.ensures.reached guest all
-    (step_reached guest f c.step.new.self c.run_to_rest.new.flat c.args.thread (all c.args.node f at)
-    (c.requires.nodes.rest c.args.node f at c.args.thread (c.requires.thread f at)) c.in_default.ensures.admitted c.in_default.ensures.taken
-    c.in_default.ensures.code c.in_default.ensures.threads c.in_default.ensures.objects c.run_to_rest.ensures.goes)
+    c.node_by.ensures.reached guest (subst (AllReached guest) (sym c.turn_of.ensures.items) all)
 
-pub returns-in-Err-node_of-clause-reached : goal.returns-in-Err-node_of-clause-reached
-returns-in-Err-node_of-clause-reached c = λ guest all.
-    let f = c.in_ok-flat.flat in
-    let at : slice_get c.args.flats.now.items c.args.node ≡ Some f =
-    slice_get-get_or c.args.flats.now.items c.args.node c.index.result.now c.requires.node ∙ ap Some (sym c.index.ensures)
-    ∙ ap Some (sym c.in_ok-flat.ensures) in
-    c.node_of.ensures.reached guest all
-    (step_reached guest f c.step.new.self c.run_to_rest.new.flat c.args.thread (all c.args.node f at)
-    (c.requires.nodes.rest c.args.node f at c.args.thread (c.requires.thread f at)) c.in_default.ensures.admitted c.in_default.ensures.taken
-    c.in_default.ensures.code c.in_default.ensures.threads c.in_default.ensures.objects c.run_to_rest.ensures.goes)
+pub returns-in-Err-clause-reached : goal.returns-in-Err-clause-reached
+returns-in-Err-clause-reached c = λ guest all.
+    c.node_by.ensures.reached guest (subst (AllReached guest) (sym c.turn_of.ensures.items) all)
 
-pub returns-in-Err-run_to_rest-clause-stopped : goal.returns-in-Err-run_to_rest-clause-stopped
-returns-in-Err-run_to_rest-clause-stopped c = λ guest all.
-    let f = c.in_ok-flat.flat in
-    let at : slice_get c.args.flats.now.items c.args.node ≡ Some f =
-    slice_get-get_or c.args.flats.now.items c.args.node c.index.result.now c.requires.node ∙ ap Some (sym c.index.ensures)
-    ∙ ap Some (sym c.in_ok-flat.ensures) in
-    stop_may guest c.args.flats.now.items c.args.bounds.nodes c.args.bounds.private c.in-Err-run_to_rest.stop
-    (step_stop guest c.args.bounds.private c.in-Err-run_to_rest.stop f c.step.new.self c.run_to_rest.new.flat c.args.thread
-    (all c.args.node f at) (c.requires.nodes.rest c.args.node f at c.args.thread (c.requires.thread f at)) c.in_default.ensures.admitted
-    c.in_default.ensures.taken c.in_default.ensures.code c.in_default.ensures.threads c.in_default.ensures.objects
-    c.run_to_rest.ensures.goes c.in-Err-run_to_rest.ensures.stopped)
+pub returns-clause-turns : goal.returns-clause-turns
+returns-clause-turns c =
+    turns_grown c.args.code.now c.turn_of.new.flats.shared c.node_by_steps.new.flats.shared c.node_by_steps.ensures.grows c.turn_of.new.ahead
+    c.turn_of.ensures.turns
+
+pub returns-clause-reached : goal.returns-clause-reached
+returns-clause-reached c = λ guest all.
+    c.node_by_steps.ensures.reached guest (subst (AllReached guest) (sym c.turn_of.ensures.items) all)
+
+pub returns-clause-stopped : goal.returns-clause-stopped
+returns-clause-stopped c =
+    let new = c.node_by_steps.new.flats.items in
+    if_err_weaker (λ (stop : Stop). (guest : Guest) → AllReached guest c.turn_of.new.flats.items
+    → MayStop guest new c.args.bounds.nodes c.args.bounds.private stop)
+    (λ (stop : Stop). (guest : Guest) → AllReached guest c.args.flats.now.items → MayStop guest new c.args.bounds.nodes c.args.bounds.private stop)
+    c.node_by_steps.result (λ stop may guest all. may guest (subst (AllReached guest) (sym c.turn_of.ensures.items) all))
+    c.node_by_steps.ensures.stopped

@@ -1,27 +1,35 @@
-use Rattle.std.proofs.Common.{◌≡◌, ◌<◌, Some, inl, inr, sym, ap, ◌∙◌, subst, arith, length}
+use Rattle.std.proofs.Common.{◌≡◌, ◌<◌, Some, inl, inr, sym, ap, ◌∙◌, subst, arith, length, get_or}
 use Rattle.std.specs.Prelude.{slice_get}
 use Rattle.std.proofs.lemmas.Bool.{cases_lt}
-use Rattle.std.proofs.lemmas.Option.{same_Some, slice_get_within}
+use Rattle.std.proofs.lemmas.Option.{same_Some, slice_get_within, slice_get-get_or}
 use Rattle.ir_flat.specs.Flat.{tables}
 use Rattle.ir_graph.specs.Outcomes.{outcome_of}
-use Rattle.ir_graph.proofs.Listing.{listed_here}
 use Rattle.ir_graph.proofs.outcomes.is_listed.Goals as goal
+
+pub get-requires : goal.get-requires
+get-requires c =
+    let l : c.loop-i.i < length c.args.listed.now = (let a = c.loop-i-test.true in let b = c.loop-i.auto.i-end in omega (arith, a, b)) in
+    c.requires.within c.loop-i.i (get_or c.args.listed.now c.loop-i.i 0) (slice_get-get_or c.args.listed.now c.loop-i.i 0 l)
 
 pub same_outcome-requires : goal.same_outcome-requires
 same_outcome-requires c =
     let l : c.loop-i.i < length c.args.listed.now = (let a = c.loop-i-test.true in let b = c.loop-i.auto.i-end in omega (arith, a, b)) in
-    let h = listed_here c.args.flats.now c.args.listed.now c.loop-i.i _ _ c.requires.within l c.index-flats-listed.is in
-    c.requires.like h.0 c.index-flats-listed.result h.2
+    let n = get_or c.args.listed.now c.loop-i.i 0 in
+    let stands = slice_get-get_or c.args.listed.now c.loop-i.i 0 l in
+    let there = c.in_ok-kept.ensures.found in
+    c.requires.like n c.in_ok-kept.kept there
 
 pub returns-then-same_outcome-clause-found : goal.returns-then-same_outcome-clause-found
 returns-then-same_outcome-clause-found c = λ _.
     let l : c.loop-i.i < length c.args.listed.now = (let a = c.loop-i-test.true in let b = c.loop-i.auto.i-end in omega (arith, a, b)) in
-    let h = listed_here c.args.flats.now c.args.listed.now c.loop-i.i _ _ c.requires.within l c.index-flats-listed.is in record {
+    let n = get_or c.args.listed.now c.loop-i.i 0 in
+    let stands = slice_get-get_or c.args.listed.now c.loop-i.i 0 l in
+    let there = c.in_ok-kept.ensures.found in record {
       place = c.loop-i.i;
-      node = h.0;
-      state = c.index-flats-listed.result;
-      stands = h.1;
-      at = h.2;
+      node = n;
+      state = c.in_ok-kept.kept;
+      stands = stands;
+      at = there;
       same = c.same_outcome.ensures.same c.if-same_outcome.true;
     }
 
@@ -32,10 +40,12 @@ loop-i-preserved c = λ i v f less is here same. elim (cases_lt i c.loop-i.i) [
       let now : i ≡ c.loop-i.i = omega (arith, less, late) in
       let l : c.loop-i.i < length c.args.listed.now =
       (let a = c.loop-i-test.true in let b = c.loop-i.auto.i-end in omega (arith, a, b)) in
-      let h = listed_here c.args.flats.now c.args.listed.now c.loop-i.i _ _ c.requires.within l c.index-flats-listed.is in
-      let node : h.0 ≡ v = same_Some h.0 v (sym h.1 ∙ subst (λ z. slice_get c.args.listed.now z ≡ Some v) now is) in
-      let state : c.index-flats-listed.result ≡ f =
-      same_Some c.index-flats-listed.result f (sym (subst (λ z. slice_get c.args.flats.now z ≡ Some c.index-flats-listed.result) node h.2) ∙ here) in
+      let n = get_or c.args.listed.now c.loop-i.i 0 in
+      let stands = slice_get-get_or c.args.listed.now c.loop-i.i 0 l in
+      let there = c.in_ok-kept.ensures.found in
+      let node : n ≡ v = same_Some n v (sym stands ∙ subst (λ z. slice_get c.args.listed.now z ≡ Some v) now is) in
+      let state : c.in_ok-kept.kept ≡ f =
+      same_Some c.in_ok-kept.kept f (sym (subst (λ z. slice_get c.args.flats.now.items z ≡ Some c.in_ok-kept.kept) node there) ∙ here) in
       c.same_outcome.ensures.other c.if-same_outcome.false (ap (λ z. outcome_of (tables z)) state ∙ same)
 ]
 

@@ -5,5 +5,5 @@ use Rattle.ir_graph.specs.Outcomes.{outcome_of}
 use Rattle.ir_graph.proofs.outcomes.is_listed.Given as goal
 
 abbrev pub invariant-loop-i : goal.invariant-loop-i
-invariant-loop-i l = (i v : ℕ) (f : Flat) → i < l.i → slice_get l.listed i ≡ Some v → slice_get l.flats v ≡ Some f
+invariant-loop-i l = (i v : ℕ) (f : Flat) → i < l.i → slice_get l.listed i ≡ Some v → slice_get l.flats.items v ≡ Some f
     → outcome_of (tables f) ≡ outcome_of (tables l.flat) → ⊥

@@ -1,32 +1,33 @@
-use Rattle.std.proofs.Common.{Some, sym, ap, ◌∙◌, subst, suc}
-use Rattle.std.proofs.lemmas.Option.{slice_get-get_or}
+use Rattle.std.proofs.Common.{sym, ◌∙◌, subst, suc}
 use Rattle.ir_graph.specs.Listing.{HasOutcome, AreOutcomes}
 use Rattle.ir_graph.proofs.Listing.{going_skipped, same_skipped, new_listed}
+use Rattle.ir_graph.proofs.Grown.{flat_at}
+use Rattle.ir_graph.proofs.Over.{all_done, not_done}
 use Rattle.ir_graph.proofs.outcomes.list_node.Goals as goal
 
-pub returns-then-not-is_done : goal.returns-then-not-is_done
-returns-then-not-is_done c =
-    going_skipped c.args.flats.now c.args.node c.args.listed.now.items c.index-flats-node.result c.requires.before
-    (slice_get-get_or c.args.flats.now c.args.node c.index-flats-node.result c.requires.within ∙ ap Some (sym c.index-flats-node.is))
-    (c.is_done.ensures.goes_on c.if-not-is_done.true)
+pub returns-then-not-is_over : goal.returns-then-not-is_over
+returns-then-not-is_over c =
+    let f = flat_at c.args.flats.now.items c.args.node c.requires.within in
+    going_skipped c.args.flats.now.items c.args.node c.args.listed.now.items f.0 c.requires.before f.1
+    (not_done f.0 (sym (c.is_over.ensures f.0 f.1) ∙ c.if-not-is_over.true))
 
 pub is_listed-requires-clause-like : goal.is_listed-requires-clause-like
 is_listed-requires-clause-like c = λ v f is.
-    c.requires.states.like v c.args.node f c.index-flats-node.result is
-    (slice_get-get_or c.args.flats.now c.args.node c.index-flats-node.result c.requires.within ∙ ap Some (sym c.index-flats-node.is))
+    c.requires.states.like v c.args.node f c.in_ok-flat.flat is
+    c.in_ok-flat.ensures.found
 
-pub returns-then-is_listed : goal.returns-then-is_listed
-returns-then-is_listed c =
-    same_skipped c.args.flats.now c.args.node c.args.listed.now.items c.index-flats-node.result c.requires.before
-    (slice_get-get_or c.args.flats.now c.args.node c.index-flats-node.result c.requires.within ∙ ap Some (sym c.index-flats-node.is))
-    (subst (λ z. HasOutcome c.args.flats.now z c.index-flats-node.result) c.as_slice.ensures.value
-    (c.is_listed.ensures.found c.if-is_listed.true))
+pub returns-then-found : goal.returns-then-found
+returns-then-found c =
+    same_skipped c.args.flats.now.items c.args.node c.args.listed.now.items c.in_ok-flat.flat c.requires.before
+    c.in_ok-flat.ensures.found
+    (subst (λ z. HasOutcome c.args.flats.now.items z c.in_ok-flat.flat) c.as_slice.ensures.value
+    (c.in_ok-found.ensures.found c.if-found.true))
 
 pub returns : goal.returns
 returns c =
-    subst (AreOutcomes c.args.flats.now (suc c.args.node)) (sym c.in_ok-push.ensures.items)
-    (new_listed c.args.flats.now c.args.node c.args.listed.now.items c.index-flats-node.result c.requires.before
-    (slice_get-get_or c.args.flats.now c.args.node c.index-flats-node.result c.requires.within ∙ ap Some (sym c.index-flats-node.is))
-    (c.is_done.ensures.done c.if-not-is_done.false)
-    (λ h. c.is_listed.ensures.other c.if-is_listed.false
-    (subst (λ z. HasOutcome c.args.flats.now z c.index-flats-node.result) (sym c.as_slice.ensures.value) h)))
+    subst (AreOutcomes c.args.flats.now.items (suc c.args.node)) (sym c.in_ok-push.ensures.items)
+    (new_listed c.args.flats.now.items c.args.node c.args.listed.now.items c.in_ok-flat.flat c.requires.before
+    c.in_ok-flat.ensures.found
+    (all_done c.in_ok-flat.flat (sym (c.is_over.ensures c.in_ok-flat.flat c.in_ok-flat.ensures.found) ∙ c.if-not-is_over.false))
+    (λ h. c.in_ok-found.ensures.other c.if-found.false
+    (subst (λ z. HasOutcome c.args.flats.now.items z c.in_ok-flat.flat) (sym c.as_slice.ensures.value) h)))

@@ -6,7 +6,21 @@ use Rattle.ir_graph.specs.Notes.{noted_in}
 use Rattle.ir_graph.specs.Plain.{GoesPlain}
 use Rattle.ir_graph.proofs.Grown.{first_graph}
 use Rattle.ir_graph.proofs.Reached.{start_reached}
+use Rattle.ir_flat.specs.Flat.{start_flat}
+use Rattle.ir_store.specs.Nodes.{flat_in}
+use Rattle.ir_store.specs.Table.{HaveForm}
+use Rattle.ir_graph.proofs.Forms.{forms_like, start_forms}
+use Rattle.ir_graph.proofs.Plain.{plain_like}
 use Rattle.ir_graph.proofs.start.start_graph.Goals as goal
+
+pub by_numbers-requires : goal.by_numbers-requires
+by_numbers-requires c =
+    let guest = c.args.image.now in
+    let h = c.rest_all.new.flat in
+    let goes = subst (λ z. GoesPlain z h) c.in_ok-flat.ensures c.in_ok-rest_all.ensures.goes in
+    subst (λ z. HaveForm z h.threads) (sym (c.in_ok-flats.ensures.form ∙ c.form.ensures.value))
+    (forms_like guest.form (start_flat guest 1000000000000 One) h (plain_like (start_flat guest 1000000000000 One) h goes)
+    (start_forms guest 1000000000000 One 0 (length guest.entries)))
 
 pub returns-clause-threads : goal.returns-clause-threads
 returns-clause-threads c =
@@ -22,7 +36,9 @@ returns-clause-sound c =
     let goes = subst (λ z. GoesPlain z h) c.in_ok-flat.ensures c.in_ok-rest_all.ensures.goes in
     let many : length rows ≡ length h.threads = c.in_ok-rows.ensures.threads ∙ value in
     let free = subst (λ n. (t v : ℕ) → t < n → noted_in rows t v ≡ None) (sym c.in_ok-rows.ensures.threads) c.in_ok-rows.ensures.free in
-    let flats : c.push.new.self.items ≡ h ∷ [] = c.in_ok-push.ensures.items ∙ ap (λ z. z ++ h ∷ []) c.in_ok-flats.ensures.items in
+    let flats : c.push.new.self.items ≡ h ∷ [] =
+    c.in_ok-push.ensures.ok ∙ ap (λ z. z ++ flat_in c.by_numbers.new.self.shared c.in_ok-first.first ∷ []) (c.by_numbers.ensures.items ∙ c.in_ok-flats.ensures.items)
+    ∙ ap (λ z. z ∷ []) c.in_ok-first.ensures.flat in
     subst (λ z. IsGraph guest z (noted_in rows) (length rows)) (sym flats)
     (first_graph guest 1000000000000 h (noted_in rows) (length rows) goes
     (start_reached guest h goes) c.in_ok-rest_all.ensures.rest (sym many)

@@ -15,9 +15,8 @@ use Rattle.ir_outcomes.proofs.shown.show.Goals as goal
 
 pub same_outcome-requires : goal.same_outcome-requires
 same_outcome-requires c =
-    let f = c.index-flats-node.result in
-    let at : slice_get c.args.flats.now c.args.node ≡ Some f =
-    slice_get-get_or c.args.flats.now c.args.node f c.requires.node ∙ ap Some (sym c.index-flats-node.is) in
+    let f = c.in_ok-kept.kept in
+    let at : slice_get c.args.flats.now.items c.args.node ≡ Some f = c.in_ok-kept.ensures.found in
     like_more c.in_ok-flat.flat (start_flat c.args.image.now most_budget One) f
     (like_back (start_flat c.args.image.now most_budget One) c.in_ok-flat.flat c.in_ok-flat.ensures.again.again.like)
     (c.requires.reached c.args.node f at).like
@@ -28,9 +27,8 @@ returns-clause-level c = λ n is.
 
 pub returns-clause-shown : goal.returns-clause-shown
 returns-clause-shown c = λ g here.
-    let f = c.index-flats-node.result in
-    let at : slice_get c.args.flats.now c.args.node ≡ Some f =
-    slice_get-get_or c.args.flats.now c.args.node f c.requires.node ∙ ap Some (sym c.index-flats-node.is) in
+    let f = c.in_ok-kept.kept in
+    let at : slice_get c.args.flats.now.items c.args.node ≡ Some f = c.in_ok-kept.ensures.found in
     let n : Origin = slice_index_or c.args.origins.now c.args.node first_origin in
     again_shown c.args.image.now (order_of_turns c.in_ok-flat.turns.items) (length c.as_slice.result.now) n.level g c.in_ok-flat.flat
     c.in_ok-flat.ensures.again

@@ -1,0 +1,86 @@
+//! Conditions of what a run comes to.
+
+use crate::values::UNTIL;
+use clap::ArgMatches;
+use ir_chaos::{Fact, condition_of};
+use std::alloc::{AllocError, Global};
+
+// Whether a condition asks for a stale write that rests on what was read, or for none; nothing, if it is another condition.
+fn stale_of(text: &str) -> Option<bool> {
+    let name = text.trim_start_matches('!');
+    (name == "stale").then_some((text.len() - name.len()) % 2 == 0)
+}
+
+/// What is asked of stale writes, by the conditions that are about them, or that these exclude each other.
+pub fn stale_by(
+    alloc: Global,
+    matches: &ArgMatches<'_>,
+) -> Result<Result<Option<bool>, String>, AllocError> {
+    let mut asked = None;
+    for text in matches.get_strs(UNTIL).unwrap_or_default() {
+        let Some(stale) = stale_of(text) else {
+            continue;
+        };
+        if asked == Some(!stale) {
+            return Ok(Err(format!(in alloc;
+                "--{UNTIL}: 'stale' and '!stale' exclude each other"
+            )?));
+        }
+        asked = Some(stale);
+    }
+    Ok(Ok(asked))
+}
+
+// That a text is no condition.
+fn no_condition(alloc: Global, text: &str) -> Result<String, AllocError> {
+    format!(in alloc; "--{UNTIL}: '{text}' is no condition")
+}
+
+/// The other conditions as they are written, or that one is none.
+pub fn conditions_of(
+    alloc: Global,
+    matches: &ArgMatches<'_>,
+) -> Result<Result<Vec<String>, String>, AllocError> {
+    let mut conditions = Vec::new(alloc);
+    for text in matches.get_strs(UNTIL).unwrap_or_default() {
+        if stale_of(text).is_some() {
+            continue;
+        }
+        if condition_of(text.as_bytes()).is_none() {
+            return Ok(Err(no_condition(alloc, text)?));
+        }
+        conditions.push(String::from_str(alloc, text)?)?;
+    }
+    Ok(Ok(conditions))
+}
+
+// What is wrong with a condition that has to hold of an outcome, if something is.
+fn no_outcome(alloc: Global, text: &str) -> Result<Option<String>, AllocError> {
+    if stale_of(text).is_some() {
+        return Ok(Some(format!(in alloc;
+            "--{UNTIL}: '{text}' is about a run, and runs of one outcome differ in it: `ir hunt` looks for it"
+        )?));
+    }
+    let Some(condition) = condition_of(text.as_bytes()) else {
+        return Ok(Some(no_condition(alloc, text)?));
+    };
+    if condition.fact == Fact::Budget {
+        return Ok(Some(format!(in alloc;
+            "--{UNTIL}: '{text}' holds of no outcome, since no budget ends a run here: a hang is printed in a line of its own"
+        )?));
+    }
+    Ok(None)
+}
+
+/// The conditions that have to hold of an outcome as they are written, or what is wrong with one.
+pub fn outcome_conditions_of(
+    alloc: Global,
+    matches: &ArgMatches<'_>,
+) -> Result<Result<Vec<String>, String>, AllocError> {
+    for text in matches.get_strs(UNTIL).unwrap_or_default() {
+        if let Some(why) = no_outcome(alloc, text)? {
+            return Ok(Err(why));
+        }
+    }
+    conditions_of(alloc, matches)
+}

@@ -1,0 +1,48 @@
+-- Searches by growing numbers of switches.
+use Rattle.std.proofs.Common.{◌≡◌, ℕ, suc, Option, None, List, refl, ap, ◌∙◌}
+use Rattle.ir_chaos.specs.Conditions.{Condition}
+use Rattle.ir_explore.specs.declared.search.Ended.TheVariants.{Covered}
+use Rattle.ir_files.specs.declared.exit_status.ExitStatus.{ExitStatus}
+use Rattle.ir_image.specs.Guest.{Guest}
+use Rattle.ir_explore_run.specs.Conditions.{IsFirst}
+use Rattle.ir_explore_run.specs.Texts.{Known, AreKnown, IsKnownText}
+use Rattle.ir_explore_run.specs.Until.{IsSought, IsVain}
+use Rattle.ir_explore_run.specs.declared.plan.ExplorePlan.{ExplorePlan}
+use Rattle.ir_explore_run.proofs.Fulfilled.{none_within, none_ever}
+
+-- what was found out up to a number of switches that is the plan's, or is all
+known_by : (guest : Guest) (plan : ExplorePlan) (n : ℕ) (k : Known) → AreKnown guest (record plan { switches = n }) k
+    → (k.ended ≡ Covered → n ≡ plan.switches) → AreKnown guest plan k
+known_by guest plan n k a last = record {
+  explored = a.explored;
+  all = a.all;
+  reached = a.reached;
+  hanging = a.hanging;
+  unknown = a.unknown;
+  covered = λ e. a.covered e ∙ ap suc (last e);
+  stopped = a.stopped;
+}
+
+-- after the last search
+pub sought_by : (guest : Guest) (plan : ExplorePlan) (cs : List Condition) (n : ℕ) (k : Known) (found : Option ℕ)
+    → AreKnown guest (record plan { switches = n }) k → IsFirst guest cs k.flats k.outcomes found
+    → (found ≡ None → k.ended ≡ Covered → n ≡ plan.switches) → IsSought guest plan cs k found
+sought_by guest plan cs n k found a first last = record {
+  explored = a.explored;
+  reached = a.reached;
+  first = first;
+  whole = λ none. known_by guest plan n k a (last none);
+}
+
+-- none was found
+pub vain_of : (guest : Guest) (plan : ExplorePlan) (cs : List Condition) (k : Known) (answered : ExitStatus) (text : List ℕ)
+    → IsSought guest plan cs k None → IsKnownText guest k answered text → IsVain guest plan cs text
+vain_of guest plan cs k answered text s printed = let a = s.whole refl in record {
+  known = k;
+  are = a;
+  answered = answered;
+  printed = printed;
+  none = s.first;
+  never = λ e. none_ever guest cs k.flats k.outcomes (a.all e) s.first;
+  within = none_within guest cs k.flats k.outcomes k.levels a.explored s.first;
+}

@@ -1,0 +1,49 @@
+use Rattle.std.proofs.Common.{◌≡◌, ◌<◌, ◌+◌, suc, Some, map, length, sym, ap, ◌∙◌, subst, arith}
+use Rattle.std.specs.Prelude.{slice_get}
+use Rattle.std.proofs.lemmas.Option.{slice_get-get_or}
+use Rattle.ir_chaos.specs.Conditions.{as_condition}
+use Rattle.ir_explore_run.specs.Conditions.{NoneBefore}
+use Rattle.ir_explore_run.proofs.Fulfilled.{none_more, holds_of}
+use Rattle.ir_explore_run.proofs.conditions.first_fulfilling.Goals as goal
+
+pub state_of-requires : goal.state_of-requires
+state_of-requires c =
+    let less : c.loop-i.i < length c.args.outcomes.now = (let a = c.loop-i-test.true in let b = c.loop-i.auto.i-end in omega (arith, a, b)) in
+    let x = c.index-outcomes-i.result in
+    c.requires c.loop-i.i x (slice_get-get_or c.args.outcomes.now c.loop-i.i x less ∙ ap Some (sym c.index-outcomes-i.is))
+
+pub returns-then-fulfils : goal.returns-then-fulfils
+returns-then-fulfils c = λ guest reached.
+    let less : c.loop-i.i < length c.args.outcomes.now = (let a = c.loop-i-test.true in let b = c.loop-i.auto.i-end in omega (arith, a, b)) in
+    let x = c.index-outcomes-i.result in
+    let f = c.in_ok-state.state in
+    let at : slice_get c.args.outcomes.now c.loop-i.i ≡ Some x =
+    slice_get-get_or c.args.outcomes.now c.loop-i.i x less ∙ ap Some (sym c.index-outcomes-i.is) in (
+      c.loop-i.invariant guest reached,
+      (
+        x,
+        f,
+        (at, c.in_ok-state.ensures.value),
+        sym (holds_of guest c.args.conditions.now f (reached x.node f c.in_ok-state.ensures.value) c.in_ok-state.ensures.flat)
+            ∙ sym c.fulfils.ensures ∙ c.if-fulfils.true,
+      ),
+    )
+
+pub loop-i-preserved : goal.loop-i-preserved
+loop-i-preserved c = λ guest reached.
+    let less : c.loop-i.i < length c.args.outcomes.now = (let a = c.loop-i-test.true in let b = c.loop-i.auto.i-end in omega (arith, a, b)) in
+    let x = c.index-outcomes-i.result in
+    let f = c.in_ok-state.state in
+    let cs = map as_condition c.args.conditions.now in
+    let at : slice_get c.args.outcomes.now c.loop-i.i ≡ Some x =
+    slice_get-get_or c.args.outcomes.now c.loop-i.i x less ∙ ap Some (sym c.index-outcomes-i.is) in
+    let next : suc c.loop-i.i ≡ c.loop-i.i + 1 = omega arith in
+    subst (NoneBefore guest cs c.args.flats.now.items c.args.outcomes.now) next
+    (none_more guest cs c.args.flats.now.items c.args.outcomes.now c.loop-i.i x f (c.loop-i.invariant guest reached) (at, c.in_ok-state.ensures.value)
+    (sym (holds_of guest c.args.conditions.now f (reached x.node f c.in_ok-state.ensures.value) c.in_ok-state.ensures.flat)
+    ∙ sym c.fulfils.ensures ∙ c.if-fulfils.false))
+
+pub returns : goal.returns
+returns c = λ guest reached i x f less at.
+    c.loop-i.invariant guest reached i x f
+    (let a = c.loop-i-test.false in let b = c.loop-i.auto.i-end in omega (arith, less, a, b)) at

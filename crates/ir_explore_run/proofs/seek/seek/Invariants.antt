@@ -1,0 +1,8 @@
+use Rattle.std.proofs.Common.{◌-◌, ◌≤◌}
+use Rattle.ir_explore_run.proofs.seek.seek.Given as goal
+
+abbrev pub invariant-wider : goal.invariant-wider
+invariant-wider l = l.switches ≤ l.most
+
+abbrev pub decreases-wider : goal.decreases-wider
+decreases-wider l = l.most - l.switches

@@ -1,0 +1,108 @@
+-- What `ir explore --until` finds, and what it writes.
+use Rattle.std.specs.Prelude.{◌≡◌, ◌⊎◌, ℕ, suc, true, List, [], ◌++◌, length, Option, Some, None, Ok}
+use Rattle.ir_chaos.specs.Conditions.{Condition}
+use Rattle.ir_explore.specs.declared.search.Ended.TheVariants.{Finished}
+use Rattle.ir_files.specs.Writers.{Writer, Failed}
+use Rattle.ir_files.specs.declared.exit_status.ExitStatus.{ExitStatus}
+use Rattle.ir_flat.specs.Flat.{Flat}
+use Rattle.ir_graph.specs.Nodes.{told}
+use Rattle.ir_graph.specs.Reached.{AllReached}
+use Rattle.ir_image.specs.Guest.{Guest}
+use Rattle.ir_image.specs.Reading.{guest_at}
+use Rattle.ir_order.specs.Recording.{IsPlanned, IsOfRun}
+use Rattle.ir_outcomes.specs.Explored.{outcome_by, switches_by, IsAt, AreExplored}
+use Rattle.ir_outcomes.specs.declared.shown.Shown.{Shown}
+use Rattle.ir_record_run.specs.Order.{order_of}
+use Rattle.ir_record_run.specs.Plan.{Plan}
+use Rattle.ir_runs.specs.Run.{Step}
+use Rattle.ir_seen.specs.Seen.{IsCounted}
+use Rattle.ir_thread.specs.Allowed.{IsAllowed}
+use Rattle.ir_thread.specs.Calls.{most_budget}
+use Rattle.ir_thread.specs.declared.profile.Profile.TheVariants.{One}
+use Rattle.ir_trace.specs.Recorded.{Recorded}
+use Rattle.ir_explore_run.specs.Conditions.{fulfils_each, NeverFulfils, NeverWithin, NoneBefore, IsFirst}
+use Rattle.ir_explore_run.specs.Faults.{HasNone}
+use Rattle.ir_explore_run.specs.Lines.{found_line}
+use Rattle.ir_explore_run.specs.Texts.{Known, AreKnown, IsKnownText, objects_of, AreTexts, IsStopped}
+use Rattle.ir_explore_run.specs.declared.fault.ExploreFault.{ExploreFault}
+use Rattle.ir_explore_run.specs.declared.fault.ExploreFault.TheVariants.{Image, TooLarge, NoMem, Write}
+use Rattle.ir_explore_run.specs.declared.plan.ExplorePlan.{ExplorePlan}
+
+-- how an outcome is recorded: with the highest budget, by a list, of threads that call nothing outside
+abbrev pub recording : Option (List ℕ) → Plan
+recording list = record { order = list; budget = most_budget; random = 0; input = []; profile = One }
+
+-- A list spells the order of a complete run of the guest, with these many switches, whose outcome fulfils each condition. No complete run with
+-- fewer does, whatever its budget and whatever the world answers.
+pub record IsHit (guest : Guest) (conditions : List Condition) (level : ℕ) (list : List ℕ) : Type 0 where
+  pub order : List ℕ
+  pub spelled : order_of (length guest.entries) list ≡ Some order
+  pub run : List Step
+  pub counted : (answers : ℕ → List ℕ) → IsCounted guest most_budget One told answers run
+  pub planned : IsPlanned guest (recording (Some list)) order run
+  pub fulfilled : fulfils_each guest conditions (outcome_by guest most_budget run) ≡ true
+  pub switched : switches_by guest most_budget run ≡ level
+  pub fewest : NeverWithin guest conditions level
+
+-- The outcomes of the guest are printed up to the first that fulfils each condition, and then which one that is.
+pub record IsHitText (guest : Guest) (conditions : List Condition) (list text : List ℕ) : Type 0 where
+  pub known : Known
+  pub explored : AreExplored guest known.flats known.levels known.outcomes
+  pub place : ℕ
+  pub shown : Shown
+  pub state : Flat
+  pub at : IsAt known.flats known.outcomes place shown state
+  pub first : NoneBefore guest conditions known.flats known.outcomes place
+  pub hit : IsHit guest conditions shown.level list
+  pub lines : List ℕ
+  pub texts : AreTexts (objects_of guest) known.flats known.outcomes (suc place) lines
+  pub whole : text ≡ lines ++ found_line (suc place) shown.level list
+
+-- What was looked for: the first outcome that fulfils each condition, among those that are known; and if there is none, the guest was explored as
+-- the plan says.
+pub record IsSought (guest : Guest) (plan : ExplorePlan) (conditions : List Condition) (known : Known) (found : Option ℕ) : Type 0 where
+  pub explored : AreExplored guest known.flats known.levels known.outcomes
+  pub reached : AllReached guest known.flats
+  pub first : IsFirst guest conditions known.flats known.outcomes found
+  pub whole : found ≡ None → AreKnown guest plan known
+
+-- All outcomes that were found are printed, and how the search for them ended. None fulfils each condition: if the search is finished, no complete
+-- run of the guest does, and however it ended none of fewer switches than it has gone over.
+pub record IsVain (guest : Guest) (plan : ExplorePlan) (conditions : List Condition) (text : List ℕ) : Type 0 where
+  pub known : Known
+  pub are : AreKnown guest plan known
+  pub answered : ExitStatus
+  pub printed : IsKnownText guest known answered text
+  pub none : NoneBefore guest conditions known.flats known.outcomes (length known.outcomes)
+  pub never : known.ended ≡ Finished → NeverFulfils guest conditions
+  pub within : NeverWithin guest conditions known.levels
+
+-- or the search didn't begin
+abbrev pub IsMissText : Guest → ExplorePlan → List Condition → List ℕ → Type 0
+IsMissText guest plan conditions text = IsVain guest plan conditions text ⊎ ((answered : ExitStatus) × IsStopped guest plan answered text)
+
+-- what is written about a guest: with the list of an outcome that fulfils each condition, or that there is none
+abbrev pub IsUntilText : Guest → ExplorePlan → List Condition → Option (List ℕ) → List ℕ → Type 0
+IsUntilText guest plan conditions None text = IsMissText guest plan conditions text
+IsUntilText guest plan conditions (Some list) text = IsHitText guest conditions list text
+
+-- the same of the guest that these bytes encode, which the first profile allows
+pub record IsUntil (image : List ℕ) (plan : ExplorePlan) (conditions : List Condition) (list : Option (List ℕ)) (text : List ℕ) : Type 0 where
+  pub guest : Guest
+  pub is : guest_at image ≡ Ok guest
+  pub allowed : IsAllowed One guest
+  pub says : IsUntilText guest plan conditions list text
+
+-- what was found is recorded: the trace of its run, and what its threads printed
+pub record IsFinding (image : List ℕ) (conditions : List Condition) (list text : List ℕ) (trace : Recorded) (outputs : List (List ℕ)) : Type 0 where
+  pub guest : Guest
+  pub is : guest_at image ≡ Ok guest
+  pub found : IsHitText guest conditions list text
+  pub recorded : IsOfRun guest most_budget One found.hit.run trace outputs
+
+-- Why there is no answer: as without conditions, or the writer failed in it.
+abbrev pub HasNoAnswer : ExploreFault → List ℕ → ExplorePlan → List Condition → Writer → Type 0
+HasNoAnswer (Image e) image plan conditions w = HasNone (Image e) image plan w
+HasNoAnswer TooLarge image plan conditions w = HasNone TooLarge image plan w
+HasNoAnswer NoMem image plan conditions w = HasNone NoMem image plan w
+HasNoAnswer Write image plan conditions w = (list : Option (List ℕ)) × (text : List ℕ) × IsUntil image plan conditions list text × Failed w text

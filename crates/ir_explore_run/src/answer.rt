@@ -1,0 +1,117 @@
+//! What is written about a guest.
+
+ghost use Rattle.std.specs.Prelude.{◌≡◌, ◌<◌, ℕ, List, length, IfOk};
+ghost use Rattle.std.specs.String.{string_bytes};
+ghost use Rattle.ir_chaos.specs.Conditions.{Condition};
+ghost use Rattle.ir_graph.specs.Reached.{AllReached};
+ghost use Rattle.ir_image.specs.Guest.{Guest};
+ghost use Rattle.ir_outcomes.specs.Explored.{AreExplored};
+ghost use Rattle.ir_thread.specs.Allowed.{IsAllowed};
+ghost use Rattle.ir_thread.specs.declared.profile.Profile.TheVariants.{One};
+ghost use Rattle.ir_explore_run.specs.Conditions.{NoneBefore, IsFulfilled};
+ghost use Rattle.ir_explore_run.specs.Texts.{IsReason, IsStopped, AreKnown, IsKnownText, known_of, status_of};
+ghost use Rattle.ir_explore_run.specs.Until.{IsHitText};
+ghost use Rattle.ir_explore_run.specs.declared.plan.ExplorePlan.{ExplorePlan};
+
+use crate::lines::found_line;
+use crate::outcome::Started;
+use crate::plan::ExplorePlan;
+use crate::texts::{Ending, end_line, hang_text, outcomes_text};
+use ir_explore::{Ended, Stop};
+use ir_files::ExitStatus;
+use ir_flat::Flat;
+use ir_image::Image;
+use ir_order::list_of;
+use ir_outcomes::Explored;
+use ir_thread::Profile;
+use std::alloc::{AllocError, Global};
+
+// The exit status of a search that ended so.
+fn status_of(ended: Ended) -> ExitStatus
+    ensures { result ≡ status_of ended }
+{
+    match ended {
+        Ended::Finished | Ended::Covered => ExitStatus::Done,
+        Ended::Stopped(_) => ExitStatus::NotSo,
+    }
+}
+
+/// The lines of what was found out about a guest, and the exit status.
+pub fn known_text(
+    alloc: Global,
+    image: &Image,
+    plan: ExplorePlan,
+    explored: &Explored<'_>,
+) -> Result<(Vec<u8>, ExitStatus), AllocError>
+    requires allowed { IsAllowed One image.now }
+    requires known { AreKnown image.now plan (known_of explored.now) }
+    ensures { IfOk result (λ answer. IsKnownText image.now (known_of explored.now) answer.1 answer.0.items) }
+{
+    let start = Flat::start(alloc, image, 0, Profile::One)?;
+    let flats = &explored.states.graph.flats;
+    let outcomes = explored.outcomes.as_slice();
+    let started = Started {
+        words: image.object_words(),
+        first: start.objects(),
+    };
+    let mut text = outcomes_text(alloc, started, flats, outcomes, outcomes.len())?;
+    let hang = hang_text(alloc, &explored.hang)?;
+    text.extend_from_slice(hang.as_bytes())?;
+    let ending = Ending {
+        ended: explored.ended,
+        levels: explored.levels,
+        outcomes: outcomes.len(),
+        states: flats.len(),
+        hangs: explored.hangs,
+    };
+    let line = end_line(alloc, ending)?;
+    text.extend_from_slice(line.as_bytes())?;
+    Ok((text, status_of(explored.ended)))
+}
+
+/// The line of a search that stopped before it began, and the exit status.
+pub fn stopped_text(alloc: Global, why: Stop) -> Result<(Vec<u8>, ExitStatus), AllocError>
+    ensures { IfOk result (λ answer. (guest : Guest) (plan : ExplorePlan) → IsReason guest plan why → IsStopped guest plan answer.1 answer.0.items) }
+{
+    let ending = Ending {
+        ended: Ended::Stopped(why),
+        levels: 0,
+        outcomes: 0,
+        states: 0,
+        hangs: 0,
+    };
+    let line = end_line(alloc, ending)?;
+    let text = Vec::from_slice(alloc, line.as_bytes())?;
+    Ok((text, ExitStatus::NotSo))
+}
+
+/// The lines of the outcomes up to the one at a place, and of that one as what was found, with the list that spells its order.
+pub fn hit_text(
+    alloc: Global,
+    image: &Image,
+    explored: &Explored<'_>,
+    place: usize,
+) -> Result<(Vec<u8>, String), AllocError>
+    requires allowed { IsAllowed One image.now }
+    requires explored { AreExplored image.now explored.now.states.graph.flats.items explored.now.levels explored.now.outcomes.items }
+    requires reached { AllReached image.now explored.now.states.graph.flats.items }
+    requires place { place < length explored.now.outcomes.items }
+    ensures { IfOk result (λ told. (conditions : List Condition) → NoneBefore image.now conditions explored.now.states.graph.flats.items explored.now.outcomes.items place
+        → IsFulfilled image.now conditions explored.now.states.graph.flats.items explored.now.outcomes.items place → IsHitText image.now conditions (string_bytes told.1) told.0.items) }
+{
+    let start = Flat::start(alloc, image, 0, Profile::One)?;
+    let flats = &explored.states.graph.flats;
+    let outcomes = explored.outcomes.as_slice();
+    let started = Started {
+        words: image.object_words(),
+        first: start.objects(),
+    };
+    // The guest has some thread, so the list isn't empty.
+    let _ = image.entries();
+    let mut text = outcomes_text(alloc, started, flats, outcomes, place + 1)?;
+    let shown = &outcomes[place];
+    let list = list_of(alloc, shown.turns.as_slice())?;
+    let line = found_line(alloc, place + 1, shown.level, list.as_str())?;
+    text.extend_from_slice(line.as_bytes())?;
+    Ok((text, list))
+}

@@ -1,0 +1,209 @@
+//! `ir explore --until`: the first outcome that fulfils conditions is recorded.
+
+ghost use Rattle.std.specs.Prelude.{◌≡◌, ◌⊎◌, ◌++◌, ℕ, List, [], false, true, map, Some, None, Ok, option_map, IfOk, IfErr, OnOk};
+ghost use Rattle.std.specs.String.{string_bytes};
+ghost use Rattle.std.specs.Io.KnownBytes.{Appends};
+ghost use Rattle.ir_chaos.specs.Conditions.{Condition, as_condition};
+ghost use Rattle.ir_files.specs.Outputs.{output_writer_of, TookEach};
+ghost use Rattle.ir_files.specs.Writers.{Writer, Took, writer_of, Reports, fault_text};
+ghost use Rattle.ir_files.specs.declared.exit_status.ExitStatus.TheVariants.{NotSo};
+ghost use Rattle.ir_record_run.specs.Faults as recorded;
+ghost use Rattle.ir_record_run.specs.Faults.{Refuses, Stops, IsReported, unwritten_of};
+ghost use Rattle.ir_record_run.specs.Recording.{lines_of};
+ghost use Rattle.ir_record_run.specs.declared.record_fault.RecordFault.{RecordFault};
+ghost use Rattle.ir_image.specs.Reading.{guest_at};
+ghost use Rattle.ir_thread.specs.Allowed.{IsAllowed};
+ghost use Rattle.ir_thread.specs.declared.profile.Profile.TheVariants.{One};
+ghost use Rattle.ir_trace.specs.Encoding.{encoding};
+ghost use Rattle.ir_explore_run.specs.Faults.{fault_status, fault_words};
+ghost use Rattle.ir_explore_run.specs.Texts.{known_of};
+ghost use Rattle.ir_explore_run.specs.Until.{recording, IsSought, IsUntilText, IsUntil, IsFinding, HasNoAnswer};
+ghost use Rattle.ir_explore_run.specs.declared.fault.ExploreFault.{ExploreFault};
+ghost use Rattle.ir_explore_run.specs.declared.plan.ExplorePlan.{ExplorePlan};
+
+use crate::answer::{hit_text, known_text, stopped_text};
+use crate::fault::ExploreFault;
+use crate::plan::UntilPlan;
+use crate::seek::{Sought, seek};
+use ir_files::{ExitStatus, OutputSink, WholeSink, tell};
+use ir_image::Image;
+use ir_object::OpenGate;
+use ir_record_run::{ParsedImage, RecordFault, RecordPlan, record_run};
+use ir_stream::{Sink, write_all};
+use ir_thread::{MOST_BUDGET, Profile};
+use ir_trace::Trace;
+use std::alloc::{AllocError, Global};
+use std::sync::Wait;
+use std::thread::Threads;
+use std::time::Clock;
+
+// How an outcome is recorded by a list.
+fn recording(list: Option<&str>) -> RecordPlan<'_>
+    ensures { result ≡ recording (option_map (λ s. s.now) list.entry) }
+{
+    RecordPlan {
+        order: list,
+        budget: MOST_BUDGET,
+        random: 0,
+        input: &[],
+        profile: Profile::One,
+    }
+}
+
+// Why a guest isn't explored, by why it isn't recorded.
+fn refusal_of(why: RecordFault) -> ExploreFault
+    ensures { (image : List ℕ) (plan : ExplorePlan) (conditions : List Condition) (w : Writer) → Refuses why image (recording None) → Took w [] → HasNoAnswer result image plan conditions w }
+{
+    match why {
+        RecordFault::Image(why) => ExploreFault::Image(why),
+        RecordFault::TooLarge => ExploreFault::TooLarge,
+        // With a profile and no list nothing else refuses it.
+        _ => ExploreFault::NoMem,
+    }
+}
+
+// The guest, if it is explored.
+fn guest_of<'a>(image: &'a ParsedImage<'_>) -> Result<&'a Image, ExploreFault>
+    ensures exact { IfOk result (λ guest. guest_at image.now ≡ Ok guest.now) }
+    ensures allowed { IfOk result (λ guest. IsAllowed One guest.now) }
+    ensures refused { IfErr result (λ e. (plan : ExplorePlan) (conditions : List Condition) (w : Writer) → Took w [] → HasNoAnswer e image.now plan conditions w) }
+{
+    match image.allowed(&recording(None)) {
+        Ok(guest) => Ok(guest),
+        Err(why) => Err(refusal_of(why)),
+    }
+}
+
+// What is written, and the list of the outcome that was found, if one was.
+#[derive(Drop)]
+struct Told {
+    text: Vec<u8>,
+    list: Option<String>,
+}
+
+// What is written of what was looked for.
+fn sought_text(
+    alloc: Global,
+    image: &Image,
+    plan: &UntilPlan<'_>,
+    sought: &Sought<'_>,
+) -> Result<Told, AllocError>
+    requires allowed { IsAllowed One image.now }
+    requires sought { IsSought image.now plan.now.explore (map as_condition plan.now.conditions.now) (known_of sought.now.explored) sought.now.first }
+    ensures { IfOk result (λ told. IsUntilText image.now plan.now.explore (map as_condition plan.now.conditions.now) (option_map (λ s. string_bytes s) told.list) told.text.items) }
+{
+    let explored = &sought.explored;
+    match sought.first {
+        Some(place) => {
+            let (text, list) = hit_text(alloc, image, explored, place)?;
+            Ok(Told {
+                text,
+                list: Some(list),
+            })
+        }
+        None => {
+            let (text, _) = known_text(alloc, image, plan.explore, explored)?;
+            Ok(Told { text, list: None })
+        }
+    }
+}
+
+// What is written about a guest.
+fn text_about(alloc: Global, image: &Image, plan: &UntilPlan<'_>) -> Result<Told, AllocError>
+    requires { IsAllowed One image.now }
+    ensures { IfOk result (λ told. IsUntilText image.now plan.now.explore (map as_condition plan.now.conditions.now) (option_map (λ s. string_bytes s) told.list) told.text.items) }
+{
+    match seek(alloc, image, plan) {
+        Ok(sought) => sought_text(alloc, image, plan, &sought),
+        Err(why) => {
+            let (text, _) = stopped_text(alloc, why)?;
+            Ok(Told { text, list: None })
+        }
+    }
+}
+
+// Writes it: the list of the outcome that was found, if one was.
+fn tell_sought<O: Sink>(
+    alloc: Global,
+    image: &ParsedImage<'_>,
+    plan: &UntilPlan<'_>,
+    out: &mut O,
+) -> Result<Option<String>, ExploreFault>
+    requires { O.broken out.old ≡ false }
+    ensures told { IfOk result (λ list. (text : List ℕ) × IsUntil image.now plan.now.explore (map as_condition plan.now.conditions.now) (option_map (λ s. string_bytes s) list) text
+        × Appends (O.written out.old) (O.written out.new) text) }
+    ensures works { OnOk result (O.broken out.new ≡ false) }
+    ensures fails { IfErr result (λ e. HasNoAnswer e image.now plan.now.explore (map as_condition plan.now.conditions.now) (writer_of (O.written out.old) (O.written out.new) (O.broken out.new))) }
+{
+    let guest = match guest_of(image) {
+        Ok(guest) => guest,
+        Err(why) => return Err(why),
+    };
+    let Told { text, list } = text_about(alloc, guest, plan)?;
+    write_all(out, text.as_slice())?;
+    Ok(list)
+}
+
+/// Looks for the first outcome of a guest that fulfils each condition, and records a run that has it. The outcomes up to that one are written, then
+/// which one it is, with a list that spells the order of the run, and then all that `record_run` writes of the recording by that list. What was
+/// recorded is handed back.
+///
+/// # Errors
+/// The exit status. It is `NotSo` if none was found: what `explore_run` writes is written, and nothing is recorded. Else it is that of a fault,
+/// which is reported in one line.
+pub fn explore_until<R, W, P, O, E>(
+    rt: &R,
+    image: &ParsedImage<'_>,
+    plan: &UntilPlan<'_>,
+    trace: &mut W,
+    outputs: &mut P,
+    out: &mut O,
+    faults: &mut E,
+) -> Result<Trace, ExitStatus>
+where
+    R: Threads + Wait + Sync + Clock + AllocGlobal,
+    W: WholeSink,
+    P: OutputSink,
+    O: Sink,
+    E: Sink,
+    requires writes { W.broken trace.old ≡ false }
+    requires puts { P.broken outputs.old ≡ false }
+    requires prints { O.broken out.old ≡ false }
+    requires reports { E.broken faults.old ≡ false }
+    // The outcomes up to the first that fulfils each condition were written, and of the run that is told of that one its trace, what its threads
+    // printed, and their lines. No fault is reported.
+    ensures found { IfOk result (λ recorded. (text list : List ℕ) × (printed : List (List ℕ)) × IsFinding image.now (map as_condition plan.now.conditions.now) list text recorded printed
+        × Appends (W.written trace.old) (W.written trace.new) (encoding recorded)
+        × TookEach (output_writer_of (P.taken outputs.old) (P.taken outputs.new) (P.broken outputs.new)) printed
+        × Appends (O.written out.old) (O.written out.new) (text ++ lines_of recorded)) }
+    ensures whole { OnOk result (W.whole trace.new ≡ true) }
+    ensures quiet { OnOk result (faults.new ≡ faults.old) }
+    // Else there is none, which is written and nothing else; or nothing is, or that failed; or what was found is told, and its recording stopped.
+    ensures stopped { IfErr result (λ status. ((status ≡ NotSo) × (trace.new ≡ trace.old) × (outputs.new ≡ outputs.old) × (faults.new ≡ faults.old)
+        × ((text : List ℕ) × IsUntil image.now plan.now.explore (map as_condition plan.now.conditions.now) None text × Appends (O.written out.old) (O.written out.new) text))
+        ⊎ (((e : ExploreFault) × (status ≡ fault_status e) × (trace.new ≡ trace.old) × (outputs.new ≡ outputs.old)
+        × HasNoAnswer e image.now plan.now.explore (map as_condition plan.now.conditions.now) (writer_of (O.written out.old) (O.written out.new) (O.broken out.new))
+        × Reports (writer_of (E.written faults.old) (E.written faults.new) (E.broken faults.new)) (fault_text (fault_words e)))
+        ⊎ ((e : RecordFault) × (status ≡ recorded.fault_status e) × (text list : List ℕ) × (said : O)
+        × IsUntil image.now plan.now.explore (map as_condition plan.now.conditions.now) (Some list) text
+        × Appends (O.written out.old) (O.written said) text
+        × IsReported e image.now (recording (Some list)) (unwritten_of (W.called trace.new) (W.cause trace.new)) (unwritten_of (P.called outputs.new) (P.cause outputs.new))
+        (writer_of (E.written faults.old) (E.written faults.new) (E.broken faults.new))
+        × Stops e image.now (recording (Some list))
+        (writer_of (W.written trace.old) (W.written trace.new) (W.broken trace.new))
+        (output_writer_of (P.taken outputs.old) (P.taken outputs.new) (P.broken outputs.new))
+        (writer_of (O.written said) (O.written out.new) (O.broken out.new))
+        ((trace.new ≡ trace.old) × (outputs.new ≡ outputs.old) × (out.new ≡ said)) ((outputs.new ≡ outputs.old) × (out.new ≡ said)) (out.new ≡ said)))) }
+{
+    let list = match tell_sought(rt.alloc(), image, plan, out) {
+        Ok(Some(list)) => list,
+        Ok(None) => return Err(ExitStatus::NotSo),
+        Err(why) => {
+            tell(faults, why.words());
+            return Err(why.status());
+        }
+    };
+    let how = recording(Some(list.as_str()));
+    let recorded = record_run(rt, &OpenGate, image, &how, trace, outputs, out, faults)?;
+    Ok(recorded)
+}

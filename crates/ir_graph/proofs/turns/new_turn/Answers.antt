@@ -1,0 +1,51 @@
+use Rattle.std.proofs.Common.{◌≡◌, Some, sym, ◌∙◌, subst}
+use Rattle.std.specs.Prelude.{slice_get}
+use Rattle.ir_graph.proofs.Both.{turn_found}
+use Rattle.ir_graph.proofs.Grown.{flat_at}
+use Rattle.ir_graph.proofs.LoneSteps.{turn_form}
+use Rattle.ir_graph.proofs.turns.new_turn.Goals as goal
+
+pub turn_beside-requires : goal.turn_beside-requires
+turn_beside-requires c =
+    let f = flat_at c.args.flats.now.items c.args.node c.requires.node in
+    let own = c.in-Some.ensures.object f.0 f.1 in
+    record {
+      flat = f.0;
+      thread = c.args.thread;
+      is = c.thread_number-from.ensures.flat f.0 f.1;
+      runs = c.requires.code f.0 f.1;
+      has_thread = c.requires.thread f.0 f.1;
+      has_object = own.0;
+      here = sym (c.in_ok-own.ensures.found ∙ c.thread_number-from.ensures.thread f.0 f.1);
+      there = sym (c.object-beside.ensures ∙ own.1);
+    }
+
+pub add_thread-requires : goal.add_thread-requires
+add_thread-requires c =
+    sym (turn_form c.args.code.now c.in-Enter.number c.in_ok-own.own c.turn_beside.new.thread c.object-beside.result c.turn_beside.new.object
+    (c.turn_beside.ensures c.if-not-turn_beside.false))
+    ∙ c.in_ok-own.ensures.form
+
+pub returns-in_err-after-clause-grows : goal.returns-in_err-after-clause-grows
+returns-in_err-after-clause-grows c = record {
+  threads = λ n s e. c.add_object.ensures.grows.threads n s (c.add_thread.ensures.grows.threads n s e);
+  words = λ n s e. c.add_object.ensures.grows.words n s (c.add_thread.ensures.grows.words n s e);
+}
+
+pub returns-clause-grows : goal.returns-clause-grows
+returns-clause-grows c = record {
+  threads = λ n s e. c.add_object.ensures.grows.threads n s (c.add_thread.ensures.grows.threads n s e);
+  words = λ n s e. c.add_object.ensures.grows.words n s (c.add_thread.ensures.grows.words n s e);
+}
+
+pub returns-clause-turn : goal.returns-clause-turn
+returns-clause-turn c = λ f at.
+    let here = subst (λ z. slice_get z c.args.node ≡ Some f) (c.add_object.ensures.items ∙ c.add_thread.ensures.items) at in
+    let own = c.in-Some.ensures.object f here in
+    turn_found c.args.code.now c.args.flats.now.shared c.add_thread.new.self.shared c.add_object.new.self.shared c.add_thread.ensures.grows
+    c.add_object.ensures.grows f c.args.thread
+    (record { from = c.thread_number-from.result; object = c.in-Enter.number; spot = c.in-Some.spot; to = c.in_ok-to.to; after = c.in_ok-after.after })
+    c.in_ok-own.own c.turn_beside.new.thread c.object-beside.result c.turn_beside.new.object c.thread_number-from.ensures.within
+    c.in_ok-own.ensures.found (c.thread_number-from.ensures.thread f here) c.in-Some.ensures.within c.object-beside.ensures own.0 own.1
+    c.in_ok-to.ensures.within c.in_ok-to.ensures.found c.in_ok-after.ensures.within c.in_ok-after.ensures.found
+    (c.turn_beside.ensures c.if-not-turn_beside.false)

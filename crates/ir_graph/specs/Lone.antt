@@ -1,0 +1,99 @@
+-- A thread that goes on beside one object.
+use Rattle.std.specs.Prelude.{◌≡◌, ◌<◌, ℕ, zero, suc, List, length, slice_index, slice_set}
+use Rattle.ir_image.specs.Guest.{most_object_words}
+use Rattle.ir_object.specs.Cell.{Cell, Admitted, CanLeave}
+use Rattle.ir_object.specs.Word.{IsFields, entered, left_by}
+use Rattle.ir_runs.specs.declared.access.Access.{Access}
+use Rattle.ir_thread.specs.Calls.{ask_of, after_ask}
+use Rattle.ir_thread.specs.State.{State}
+use Rattle.ir_thread.specs.declared.ask.Ask.{Ask}
+use Rattle.ir_thread.specs.declared.ask.Ask.TheVariants as ask
+use Rattle.ir_thread.specs.declared.ask.Reply.{Reply}
+use Rattle.ir_thread.specs.declared.ask.Reply.TheVariants.{Go, Value}
+use Rattle.ir_flat.specs.Flat.{Flat, IsFlat, thread_of, cell_of}
+use Rattle.ir_graph.specs.Plain.{IsFair, Rests}
+
+-- an ask is about no object but this one, and nothing outside
+abbrev pub IsAbout : ℕ → Ask → Type 0
+IsAbout o ask.Private = Unit {0}
+IsAbout o (ask.Env kind) = ⊥
+IsAbout o (ask.Enter p access) = p ≡ o
+IsAbout o (ask.Try p) = ⊥
+IsAbout o (ask.Leave p access) = p ≡ o
+IsAbout o (ask.Get p index) = p ≡ o
+IsAbout o (ask.Put p index value) = p ≡ o
+IsAbout o ask.Print = Unit {0}
+IsAbout o (ask.End e) = Unit {0}
+IsAbout o ask.Done = ⊥
+
+-- what the object answers
+abbrev pub answer_from : Cell → Ask → Reply
+answer_from c ask.Private = Go
+answer_from c (ask.Env kind) = Go
+answer_from c (ask.Enter p access) = Go
+answer_from c (ask.Try p) = Go
+answer_from c (ask.Leave p access) = Go
+answer_from c (ask.Get p index) = Value (slice_index c.words index)
+answer_from c (ask.Put p index value) = Go
+answer_from c ask.Print = Go
+answer_from c (ask.End e) = Go
+answer_from c ask.Done = Go
+
+-- the object after what is asked of it
+abbrev pub cell_after : Cell → Ask → Cell
+cell_after c ask.Private = c
+cell_after c (ask.Env kind) = c
+cell_after c (ask.Enter p access) = record c { fields = entered access c.fields }
+cell_after c (ask.Try p) = c
+cell_after c (ask.Leave p access) = record c { fields = left_by access c.fields }
+cell_after c (ask.Get p index) = c
+cell_after c (ask.Put p index value) = record c { words = slice_set c.words index value }
+cell_after c ask.Print = c
+cell_after c (ask.End e) = c
+cell_after c ask.Done = c
+
+-- the thread and the object after the thread's next step
+abbrev pub lone_thread : List ℕ → State → Cell → State
+lone_thread code x c = after_ask code x (ask_of code x) (answer_from c (ask_of code x))
+
+abbrev pub lone_cell : List ℕ → State → Cell → Cell
+lone_cell code x c = cell_after c (ask_of code x)
+
+-- y and d are x and c after so many steps of the thread, none of which can be refused and all of which are about this object alone
+abbrev pub GoesLone : List ℕ → ℕ → ℕ → State → Cell → State → Cell → Type 0
+GoesLone code o zero x c y d = (x ≡ y) × (c ≡ d)
+GoesLone code o (suc k) x c y d = IsFair (ask_of code x) × IsAbout o (ask_of code x)
+    × GoesLone code o k (lone_thread code x c) (lone_cell code x c) y d
+
+-- a thread that rests enters this object and goes on, by steps about it alone, to where it rests again: x and c become y and d
+pub record TakesTurn (code : List ℕ) (o : ℕ) (x : State) (c : Cell) (y : State) (d : Cell) : Type 0 where
+  pub access : Access
+  pub asks : ask_of code x ≡ ask.Enter o access
+  pub admitted : Admitted access c.fields
+  pub steps : ℕ
+  pub goes : GoesLone code o steps (lone_thread code x c) (lone_cell code x c) y d
+  pub rests : Rests (ask_of code y)
+
+-- a thread and an object of some state of a guest
+pub record AreBeside (code : List ℕ) (o : ℕ) (x : State) (c : Cell) : Type 0 where
+  pub flat : Flat
+  pub thread : ℕ
+  pub is : IsFlat flat
+  pub runs : flat.code ≡ code
+  pub has_thread : thread < length flat.threads
+  pub has_object : o < length flat.objects
+  pub here : thread_of flat thread ≡ x
+  pub there : cell_of flat o ≡ c
+
+-- the object may be asked so
+abbrev pub MayTake : Cell → Ask → Type 0
+MayTake c ask.Private = Unit {0}
+MayTake c (ask.Env kind) = ⊥
+MayTake c (ask.Enter p access) = Admitted access c.fields × IsFields (entered access c.fields)
+MayTake c (ask.Try p) = ⊥
+MayTake c (ask.Leave p access) = CanLeave access c.fields × IsFields (left_by access c.fields)
+MayTake c (ask.Get p index) = index < most_object_words
+MayTake c (ask.Put p index value) = index < most_object_words
+MayTake c ask.Print = Unit {0}
+MayTake c (ask.End e) = Unit {0}
+MayTake c ask.Done = ⊥

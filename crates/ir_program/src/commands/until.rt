@@ -1,0 +1,102 @@
+//! `ir explore --until`: the first outcome that fulfils conditions is recorded.
+
+ghost use Rattle.std.specs.Prelude.{◌≡◌, false};
+
+use crate::commands::bytes_of;
+use crate::commands::conditions::conditions_of;
+use crate::commands::recording::{RecordingPaths, loses_input, output_places};
+use crate::ends::tell_ends;
+use ir_arguments::UntilArguments;
+use ir_explore_run::{UntilPlan, explore_until};
+use ir_files::{ExitStatus, Folder, MOST_BYTES, OutputFiles, WholeFile};
+use ir_record_run::ParsedImage;
+use ir_stream::Sink;
+use ir_trace::Trace;
+use std::sync::Wait;
+use std::thread::Threads;
+use std::time::Clock;
+
+// The files of the recording.
+fn paths(arguments: &UntilArguments) -> RecordingPaths<'_> {
+    RecordingPaths {
+        image: arguments.explore.image.as_str(),
+        trace: arguments.trace.as_str(),
+        input: None,
+        list: None,
+        output: arguments.output.as_ref(),
+    }
+}
+
+// Looks for an outcome of a guest, whose trace and outputs go into files at these paths.
+fn found_into<'a, R, D, O, E>(
+    rt: &R,
+    folder: &'a D,
+    place: &'a str,
+    places: Option<&'a [String]>,
+    image: &ParsedImage<'_>,
+    plan: &UntilPlan<'_>,
+    out: &mut O,
+    faults: &mut E,
+) -> Result<Trace, ExitStatus>
+where
+    R: Threads + Wait + Sync + Clock + AllocGlobal,
+    D: Folder,
+    O: Sink,
+    E: Sink,
+    requires writes { O.broken out.old ≡ false }
+    requires reports { E.broken faults.old ≡ false }
+{
+    let mut trace = WholeFile::new(rt.alloc(), folder, place);
+    let mut outputs = OutputFiles::new(folder, places, place);
+    explore_until(rt, image, plan, &mut trace, &mut outputs, out, faults)
+}
+
+// Looks for an outcome of a guest, and records a run that has it into a file, and what its threads print into others where they are asked for.
+pub fn until_file<R, D, O, E>(
+    rt: &R,
+    folder: &D,
+    arguments: &UntilArguments,
+    explains: bool,
+    out: &mut O,
+    faults: &mut E,
+) -> ExitStatus
+where
+    R: Threads + Wait + Sync + Clock + AllocGlobal,
+    D: Folder,
+    O: Sink,
+    E: Sink,
+    requires writes { O.broken out.old ≡ false }
+    requires reports { E.broken faults.old ≡ false }
+{
+    let alloc = rt.alloc();
+    let paths = paths(arguments);
+    if loses_input(folder, faults, &paths) {
+        return ExitStatus::BadArguments;
+    }
+    let Some(image) = bytes_of(alloc, folder, faults, paths.image, MOST_BYTES) else {
+        return ExitStatus::Failed;
+    };
+    let image = ParsedImage::new(alloc, image.as_slice());
+    let conditions = match conditions_of(alloc, faults, &image, arguments.until.as_slice()) {
+        Ok(conditions) => conditions,
+        Err(status) => return status,
+    };
+    let outputs = match output_places(alloc, folder, faults, &paths, &image) {
+        Ok(outputs) => outputs,
+        Err(status) => return status,
+    };
+    let plan = UntilPlan {
+        explore: arguments.explore.plan,
+        conditions: conditions.as_slice(),
+    };
+    let places = outputs.as_ref().map(|each| each.as_slice());
+    match found_into(rt, folder, paths.trace, places, &image, &plan, out, faults) {
+        Ok(recorded) => {
+            if explains {
+                tell_ends(alloc, &recorded, faults);
+            }
+            ExitStatus::Done
+        }
+        Err(status) => status,
+    }
+}

@@ -1,0 +1,6 @@
+mod Lists
+mod Rowed
+mod Shared
+mod Looks
+mod Stored
+pub mod CallerLemmas

@@ -1,0 +1,34 @@
+use Rattle.std.proofs.Common.{◌≡◌, ◌<◌, ℕ, inl, inr, get_or, length, sym, ap, ◌∙◌, subst, arith}
+use Rattle.std.proofs.lemmas.Bool.{cases_lt}
+use Rattle.std.proofs.lemmas.Option.{slice_get-get_or}
+use Rattle.ir_flat.specs.Flat.{idle}
+use Rattle.ir_store.specs.Nodes.{LookSame}
+use Rattle.ir_store.specs.Table.{threads_at}
+use Rattle.ir_store.proofs.Lists.{all_at}
+use Rattle.ir_store.proofs.Stored.{get_or_map}
+use Rattle.ir_store.proofs.compare.same_threads.Goals as goal
+
+pub loop-t-preserved : goal.loop-t-preserved
+loop-t-preserved c = λ u less.
+    let items = c.args.table.now.items in
+    let first = c.args.first.now in
+    let second = c.args.second.now in
+    let t = c.loop-t.t in
+    let size : length first ≡ length second = c.if-first-second.false in
+    let lt : t < length first = (let a = c.loop-t-test.true in let b = c.loop-t.auto.t-end in omega (arith, a, b)) in
+    let lt' : t < length second = omega (arith, lt, size) in
+    let m = get_or first t 0 in
+    let n = get_or second t 0 in
+    let here : LookSame (get_or items m idle) (get_or items n idle) =
+    c.same_look.ensures c.if-not-same_look.false (get_or items m idle) (get_or items n idle)
+    (slice_get-get_or items m idle (all_at (λ k. k < length items) first t 0 c.requires.first lt))
+    (slice_get-get_or items n idle (all_at (λ k. k < length items) second t 0 c.requires.second lt')) in
+    let there : LookSame (get_or (threads_at items first) t idle) (get_or (threads_at items second) t idle) =
+    subst (λ z. LookSame z (get_or (threads_at items second) t idle)) (sym (get_or_map (λ k. get_or items k idle) first t 0 idle lt))
+    (subst (LookSame (get_or items m idle)) (sym (get_or_map (λ k. get_or items k idle) second t 0 idle lt')) here) in
+    elim (cases_lt u t) [
+      | inl old ↦ c.loop-t.invariant u old
+      | inr late ↦
+          let same : t ≡ u = omega (arith, less, late) in
+          subst (λ z. LookSame (get_or (threads_at items first) z idle) (get_or (threads_at items second) z idle)) same there
+    ]

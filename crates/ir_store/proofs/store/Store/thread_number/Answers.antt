@@ -1,0 +1,64 @@
+use Rattle.std.proofs.Common.{◌≡◌, ◌<◌, ℕ, length, get_or, map, refl, sym, ap, ◌∙◌, subst, arith, Some}
+use Rattle.std.specs.Prelude.{slice_get}
+use Rattle.ir_flat.specs.Flat.{Flat, IsFlat, idle, thread_of}
+use Rattle.ir_store.specs.Nodes.{Shared, Node, Stored, flat_in, IsNode}
+use Rattle.ir_store.proofs.Lists.{all_at, length_map}
+use Rattle.ir_store.proofs.Rowed.{read_row}
+use Rattle.ir_store.proofs.Stored.{node_is, flat_is, thread_is}
+use Rattle.ir_store.proofs.store.Store.thread_number.Goals as goal
+
+pub index-requires : goal.index-requires
+index-requires c =
+    let shared : Shared = record { threads = c.self.inside.table.items; words = c.self.inside.words } in
+    let nodes = c.self.inside.nodes.items in
+    let node : Node = c.index-node.result.now in
+    let less = subst (λ (z : Stored). c.args.v < length z.items) (sym c.self.view_is) c.requires.node in
+    let here = read_row (flat_in shared) nodes node c.args.v (flat_in shared node) less c.index-node.ensures refl in
+    let there = subst (λ (z : Stored). slice_get z.items c.args.v ≡ Some (flat_in shared node)) c.self.view_is here in
+    let few = c.requires.thread (flat_in shared node) there in
+    let many = length_map (λ n. get_or shared.threads n idle) node.threads in
+    let e = ap (λ (z : Node). length z.threads) c.node.view_is in
+    let k = c.node.inside.threads.ok.0 in
+    omega (arith, few, many, e, k)
+
+pub returns-clause-within : goal.returns-clause-within
+returns-clause-within c =
+    let shared : Shared = record { threads = c.self.inside.table.items; words = c.self.inside.words } in
+    let nodes = c.self.inside.nodes.items in
+    let node : Node = c.index-node.result.now in
+    let less = subst (λ (z : Stored). c.args.v < length z.items) (sym c.self.view_is) c.requires.node in
+    let here = read_row (flat_in shared) nodes node c.args.v (flat_in shared node) less c.index-node.ensures refl in
+    let there = subst (λ (z : Stored). slice_get z.items c.args.v ≡ Some (flat_in shared node)) c.self.view_is here in
+    let few = c.requires.thread (flat_in shared node) there in
+    let many = length_map (λ n. get_or shared.threads n idle) node.threads in
+    let is = node_is shared nodes c.self.invariant c.args.v node less c.index-node.ensures (flat_in shared node) here in
+    let one = c.index.ensures ∙ ap (λ (z : Node). get_or z.threads c.args.t c.index.result.now) c.node.view_is in
+    let in_here : c.index.result.now < length shared.threads =
+    subst (λ n. n < length shared.threads) (sym one)
+    (all_at (λ n. n < length shared.threads) node.threads c.args.t c.index.result.now is.within.threads (omega (arith, few, many))) in
+    subst (λ (z : Stored). c.index.result.now < length z.shared.threads) c.self.view_is in_here
+
+pub returns-clause-thread : goal.returns-clause-thread
+returns-clause-thread c = λ f at.
+    let shared : Shared = record { threads = c.self.inside.table.items; words = c.self.inside.words } in
+    let nodes = c.self.inside.nodes.items in
+    let node : Node = c.index-node.result.now in
+    let less = subst (λ (z : Stored). c.args.v < length z.items) (sym c.self.view_is) c.requires.node in
+    let there = subst (λ (z : Stored). slice_get z.items c.args.v ≡ Some f) (sym c.self.view_is) at in
+    let few = c.requires.thread f at in
+    let flat = flat_is shared nodes c.self.invariant c.args.v node less c.index-node.ensures f there in
+    let many = sym (length_map (λ n. get_or shared.threads n idle) node.threads) ∙ ap (λ (z : Flat). length z.threads) flat in
+    let one = c.index.ensures ∙ ap (λ (z : Node). get_or z.threads c.args.t c.index.result.now) c.node.view_is in
+    subst (λ (z : Stored). get_or z.shared.threads c.index.result.now idle ≡ thread_of f c.args.t) c.self.view_is
+    (thread_is shared nodes c.self.invariant c.args.v node less c.index-node.ensures f there c.args.t c.index.result.now c.index.result.now
+    (omega (arith, few, many)) one)
+
+pub returns-clause-flat : goal.returns-clause-flat
+returns-clause-flat c = λ f at.
+    let shared : Shared = record { threads = c.self.inside.table.items; words = c.self.inside.words } in
+    let nodes = c.self.inside.nodes.items in
+    let node : Node = c.index-node.result.now in
+    let less = subst (λ (z : Stored). c.args.v < length z.items) (sym c.self.view_is) c.requires.node in
+    let there = subst (λ (z : Stored). slice_get z.items c.args.v ≡ Some f) (sym c.self.view_is) at in
+    subst IsFlat (flat_is shared nodes c.self.invariant c.args.v node less c.index-node.ensures f there)
+    (node_is shared nodes c.self.invariant c.args.v node less c.index-node.ensures f there).flat

@@ -1,0 +1,28 @@
+use Rattle.std.proofs.Common.{◌≡◌, ◌∙◌, sym, ap, subst, get_or}
+use Rattle.std.specs.Prelude.{slice_get, Some}
+use Rattle.std.proofs.lemmas.Option.{get_or_from_slice_get}
+use Rattle.ir_flat.specs.Flat.{idle}
+use Rattle.ir_thread.specs.State.{State}
+use Rattle.ir_store.specs.Table.{HaveForm}
+use Rattle.ir_store.specs.Table as table
+use Rattle.ir_store.proofs.Lists.{all_push, made_more}
+use Rattle.ir_store.proofs.table.Table.threads.Goals as goal
+
+pub loop-n-preserved : goal.loop-n-preserved
+loop-n-preserved c =
+    let i = c.loop-n.n-index in
+    let numbers = c.args.numbers.now in
+    let items = c.args.self.now.items in
+    let x = c.in_ok-thread.thread in
+    let at : slice_get items (get_or numbers i 0) ≡ Some x =
+    subst (λ (z : table.Table). slice_get z.items (get_or numbers i 0) ≡ Some x) c.self.view_is c.in_ok-thread.ensures.found in
+    record {
+      value =
+          c.in_ok-push.ensures.items
+          ∙ made_more (λ k. get_or items k idle) numbers c.loop-n.threads.items x i 0 c.loop-n-test.true c.loop-n.invariant.value
+          (sym (get_or_from_slice_get items (get_or numbers i 0) x idle at));
+      form =
+          subst (HaveForm c.args.self.now.form) (sym c.in_ok-push.ensures.items)
+          (all_push (λ (s : State). s.form ≡ c.args.self.now.form) c.loop-n.threads.items x c.loop-n.invariant.form
+          (c.in_ok-thread.ensures.form ∙ ap (λ (z : table.Table). z.form) c.self.view_is));
+    }

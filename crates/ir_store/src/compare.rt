@@ -1,0 +1,74 @@
+//! States that look the same, by their numbers.
+
+ghost use Rattle.std.specs.Prelude.{◌≡◌, ℕ, ◌<◌, List, true, length};
+ghost use Rattle.std.specs.List.{slice_index_or};
+ghost use Rattle.ir_flat.specs.Flat.{empty, idle};
+ghost use Rattle.ir_store.specs.Nodes.{LookSame, cells_at, AreSameLooks, flat_in};
+ghost use Rattle.ir_store.specs.Table.{AreIn, threads_at};
+
+use crate::hash::{after_number, empty_hash};
+use crate::node::Node;
+use crate::spot::Spot;
+use crate::table::Table;
+
+// The hash, after these objects too.
+fn after_spots(hash: u64, spots: &[Spot]) -> u64 {
+    let mut hash = hash;
+    for spot in spots {
+        hash = after_number(hash, spot.words as u64);
+    }
+    hash
+}
+
+/// A hash of what the threads can see of a state.
+pub fn hash_of(table: &Table, node: &Node<'_>) -> u64
+    requires { AreIn table.now.items node.now.threads }
+{
+    let mut hash = empty_hash();
+    for n in node.threads.as_slice() {
+        hash = after_number(hash, table.look(*n) as u64);
+    }
+    after_spots(hash, node.objects.as_slice())
+}
+
+// Whether the threads of these numbers look the same.
+fn same_threads(table: &Table, first: &[usize], second: &[usize]) -> bool
+    requires first { AreIn table.now.items first.now }
+    requires second { AreIn table.now.items second.now }
+    ensures { result ≡ true → (t : ℕ) → t < length first.now → LookSame (slice_index_or (threads_at table.now.items first.now) t idle) (slice_index_or (threads_at table.now.items second.now) t idle) }
+{
+    if first.len() != second.len() {
+        return false;
+    }
+    for t in 0..first.len() {
+        if !table.same_look(first[t], second[t]) {
+            return false;
+        }
+    }
+    true
+}
+
+// Whether the objects have the same words.
+fn same_spots(first: &[Spot], second: &[Spot]) -> bool
+    ensures { result ≡ true → (words : List (List ℕ)) (o : ℕ) → (slice_index_or (cells_at words first.now) o empty).words ≡ (slice_index_or (cells_at words second.now) o empty).words }
+{
+    if first.len() != second.len() {
+        return false;
+    }
+    for o in 0..first.len() {
+        if first[o].words != second[o].words {
+            return false;
+        }
+    }
+    true
+}
+
+/// Whether two states look the same, as far as that is known.
+pub fn same_looks(table: &Table, first: &Node<'_>, second: &Node<'_>) -> bool
+    requires first { AreIn table.now.items first.now.threads }
+    requires second { AreIn table.now.items second.now.threads }
+    ensures { result ≡ true → (words : List (List ℕ)) → AreSameLooks (flat_in (record { threads = table.now.items; words = words }) first.now) (flat_in (record { threads = table.now.items; words = words }) second.now) }
+{
+    same_threads(table, first.threads.as_slice(), second.threads.as_slice())
+        && same_spots(first.objects.as_slice(), second.objects.as_slice())
+}

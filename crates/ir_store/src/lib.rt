@@ -1,0 +1,25 @@
+//! States of a guest that are kept in little memory: threads and words of objects that are equal once, each thread without the private memory
+//! that is as at the start.
+#![tactic(auto)]
+
+mod bounds;
+mod compare;
+mod hash;
+mod hints;
+mod node;
+mod objects;
+mod put;
+mod row;
+mod rows;
+mod spot;
+mod store;
+mod table;
+mod twin;
+mod words;
+
+pub use bounds::bounded;
+pub use hash::hash_of_numbers;
+pub use hints::Hints;
+pub use node::Node;
+pub use spot::Spot;
+pub use store::Store;

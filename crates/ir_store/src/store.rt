@@ -1,0 +1,265 @@
+//! States by their numbers.
+
+ghost use Rattle.std.specs.Prelude.{◌≡◌, ◌<◌, ◌++◌, [], ◌∷◌, ℕ, length, map, Some, slice_get, IfOk, IfSome, OnOk, OnErr};
+ghost use Rattle.std.specs.List.{slice_index_or};
+ghost use Rattle.ir_flat.specs.Flat.{Flat, IsFlat, cell_of, idle, thread_of};
+ghost use Rattle.ir_flat.specs.Next.{with_object, with_thread};
+ghost use Rattle.ir_freeze.specs.Frozen.{is_over};
+ghost use Rattle.ir_mach.specs.Core.{memory_size};
+ghost use Rattle.ir_store.specs.Nodes.{cell_in, flat_in, AreKept, AreSameLooks, Grows, IsNode, IsWithin, Stored};
+ghost use Rattle.ir_store.specs.Table.{HaveForm, all_over};
+
+use crate::compare::{hash_of, same_looks};
+use crate::hints::Hints;
+use crate::node::Node;
+use crate::objects::{object_at, objects_at, spot_of, spots_of};
+use crate::put::put;
+use crate::spot::Spot;
+use crate::table::Table;
+use crate::words::Words;
+use ir_flat::Flat;
+use ir_image::ImageForm;
+use ir_object::Object;
+use ir_thread::Thread;
+use std::alloc::{AllocError, Global};
+use std::marker::Model;
+
+/// States of a guest, by their numbers; in clauses a list of them, and the form of the guest's image. What they have in common is kept once.
+#[derive(Drop)]
+pub struct Store<'a> {
+    alloc: Global,
+    table: Table,
+    words: Words,
+    nodes: Vec<Node<'a>>,
+    hints: Hints,
+}
+
+impl<'a> Model for Store<'a> {
+    ghost Value = { Stored };
+
+    ghost view = { λ s. record {
+      items = map (flat_in (record { threads = s.table.items; words = s.words })) s.nodes.items;
+      form = s.table.form;
+      shared = record { threads = s.table.items; words = s.words };
+      nodes = s.nodes.items;
+    } };
+
+    ghost invariant = { λ s. AreKept (record { threads = s.table.items; words = s.words }) s.nodes.items };
+}
+
+impl<'a> Store<'a> {
+    /// No states, of an image of this form, and with this private memory at first.
+    ///
+    /// # Errors
+    /// Out of memory.
+    pub fn new(alloc: Global, form: ImageForm, start: &[u8]) -> Result<Store<'a>, AllocError>
+        requires { length start.now ≡ memory_size }
+        ensures items { IfOk result (λ s. s.items ≡ []) }
+        ensures form { IfOk result (λ s. s.form ≡ form) }
+    {
+        Ok(Store {
+            alloc,
+            table: Table::new(alloc, form, start)?,
+            words: Words::new(alloc),
+            nodes: Vec::new(alloc),
+            hints: Hints::new(alloc),
+        })
+    }
+
+    /// How many states there are.
+    pub fn len(&self) -> usize
+        ensures { result ≡ length self.now.items }
+    {
+        self.nodes.len()
+    }
+
+    /// The state of a number.
+    ///
+    /// # Errors
+    /// Out of memory.
+    pub fn get(&self, v: usize) -> Result<Flat<'a>, AllocError>
+        requires { v < length self.now.items }
+        ensures found { IfOk result (λ flat. slice_get self.now.items v ≡ Some flat) }
+        ensures form { IfOk result (λ flat. HaveForm self.now.form flat.threads) }
+    {
+        let node = &self.nodes[v];
+        let threads = self.table.threads(node.threads.as_slice())?;
+        let objects = objects_at(self.alloc, &self.words, node.objects.as_slice())?;
+        Ok(Flat::new(node.code, threads, objects))
+    }
+
+    /// The number of a thread of a state.
+    pub fn thread_number(&self, v: usize, t: usize) -> usize
+        requires node { v < length self.now.items }
+        requires thread { (f : Flat) → slice_get self.now.items v ≡ Some f → t < length f.threads }
+        ensures within { result < length self.now.shared.threads }
+        ensures thread { (f : Flat) → slice_get self.now.items v ≡ Some f → slice_index_or self.now.shared.threads result idle ≡ thread_of f t }
+        ensures flat { (f : Flat) → slice_get self.now.items v ≡ Some f → IsFlat f }
+    {
+        let node = &self.nodes[v];
+        node.threads[t]
+    }
+
+    /// An object of a state, by numbers.
+    pub fn spot(&self, v: usize, o: usize) -> Option<Spot>
+        requires { v < length self.now.items }
+        ensures within { IfSome result (λ s. s.words < length self.now.shared.words) }
+        ensures object { IfSome result (λ s. (f : Flat) → slice_get self.now.items v ≡ Some f → (o < length f.objects) × (cell_in self.now.shared.words s ≡ cell_of f o)) }
+    {
+        let node = &self.nodes[v];
+        if o < node.objects.len() {
+            Some(node.objects[o])
+        } else {
+            None
+        }
+    }
+
+    /// The thread of a number.
+    ///
+    /// # Errors
+    /// Out of memory.
+    pub fn thread(&self, n: usize) -> Result<Thread, AllocError>
+        requires { n < length self.now.shared.threads }
+        ensures found { IfOk result (λ thread. thread ≡ slice_index_or self.now.shared.threads n idle) }
+        ensures form { IfOk result (λ thread. thread.form ≡ self.now.form) }
+    {
+        self.table.thread(n)
+    }
+
+    /// Whether the thread of a number has ended and holds nothing.
+    pub fn thread_over(&self, n: usize) -> bool
+        requires { n < length self.now.shared.threads }
+        ensures { result ≡ is_over (slice_index_or self.now.shared.threads n idle) }
+    {
+        self.table.over(n)
+    }
+
+    /// The object of these numbers.
+    pub fn object(&self, spot: Spot) -> Object
+        requires { spot.words < length self.now.shared.words }
+        ensures { result ≡ cell_in self.now.shared.words spot }
+    {
+        object_at(&self.words, spot)
+    }
+
+    /// The number of a thread, which is added if it is new.
+    ///
+    /// # Errors
+    /// Out of memory.
+    pub fn add_thread(&mut self, thread: &Thread) -> Result<usize, AllocError>
+        requires { thread.now.form ≡ self.old.form }
+        ensures items { self.new.items ≡ self.old.items }
+        ensures form { self.new.form ≡ self.old.form }
+        ensures grows { Grows self.old.shared self.new.shared }
+        ensures within { IfOk result (λ n. n < length self.new.shared.threads) }
+        ensures found { IfOk result (λ n. slice_index_or self.new.shared.threads n idle ≡ thread.now) }
+    {
+        self.table.add(thread)
+    }
+
+    /// An object by numbers, which are added if they are new.
+    ///
+    /// # Errors
+    /// Out of memory.
+    pub fn add_object(&mut self, object: &Object) -> Result<Spot, AllocError>
+        ensures items { self.new.items ≡ self.old.items }
+        ensures form { self.new.form ≡ self.old.form }
+        ensures grows { Grows self.old.shared self.new.shared }
+        ensures within { IfOk result (λ spot. spot.words < length self.new.shared.words) }
+        ensures found { IfOk result (λ spot. cell_in self.new.shared.words spot ≡ object.now) }
+    {
+        spot_of(&mut self.words, object)
+    }
+
+    /// A state by numbers, with another thread and another object.
+    ///
+    /// # Errors
+    /// Out of memory.
+    pub fn with_both(
+        &self,
+        v: usize,
+        t: usize,
+        thread: usize,
+        o: usize,
+        spot: Spot,
+    ) -> Result<Node<'a>, AllocError>
+        requires node { v < length self.now.items }
+        requires own { (f : Flat) → slice_get self.now.items v ≡ Some f → (t < length f.threads) × (o < length f.objects) }
+        requires thread { thread < length self.now.shared.threads }
+        requires spot { spot.words < length self.now.shared.words }
+        ensures within { IfOk result (λ node. IsWithin self.now.shared node) }
+        ensures flat { IfOk result (λ node. (f : Flat) → slice_get self.now.items v ≡ Some f → flat_in self.now.shared node ≡ with_object (with_thread f t (slice_index_or self.now.shared.threads thread idle)) o (cell_in self.now.shared.words spot)) }
+    {
+        let node = &self.nodes[v];
+        let mut threads = Vec::from_slice(self.alloc, node.threads.as_slice())?;
+        threads[t] = thread;
+        let mut objects = Vec::from_slice(self.alloc, node.objects.as_slice())?;
+        objects[o] = spot;
+        Ok(Node {
+            code: node.code,
+            threads,
+            objects,
+        })
+    }
+
+    /// Whether all threads of a state have ended and hold nothing.
+    pub fn is_over(&self, v: usize) -> bool
+        requires { v < length self.now.items }
+        ensures { (f : Flat) → slice_get self.now.items v ≡ Some f → result ≡ all_over f.threads }
+    {
+        let node = &self.nodes[v];
+        self.table.all_over(node.threads.as_slice())
+    }
+
+    /// A state by numbers, of which the new ones are added.
+    ///
+    /// # Errors
+    /// Out of memory.
+    pub fn by_numbers(&mut self, flat: &Flat<'a>) -> Result<Node<'a>, AllocError>
+        requires { HaveForm self.old.form flat.now.threads }
+        ensures items { self.new.items ≡ self.old.items }
+        ensures form { self.new.form ≡ self.old.form }
+        ensures grows { Grows self.old.shared self.new.shared }
+        ensures node { IfOk result (λ node. IsNode self.new.shared node) }
+        ensures flat { IfOk result (λ node. flat_in self.new.shared node ≡ flat.now) }
+    {
+        let threads = self.table.add_all(flat.threads())?;
+        let objects = spots_of(self.alloc, &mut self.words, flat.objects())?;
+        Ok(Node {
+            code: flat.code(),
+            threads,
+            objects,
+        })
+    }
+
+    /// A state that looks the same as one by numbers, if the hint for its hash leads to one.
+    pub fn find(&self, node: &Node<'_>) -> Option<usize>
+        requires { IsWithin self.now.shared node.now }
+        ensures within { IfSome result (λ v. v < length self.now.items) }
+        ensures alike { IfSome result (λ v. (f : Flat) → slice_get self.now.items v ≡ Some f → AreSameLooks (flat_in self.now.shared node.now) f) }
+    {
+        let hash = hash_of(&self.table, node);
+        let v = self.hints.number(hash, self.nodes.len())?;
+        if same_looks(&self.table, node, &self.nodes[v]) {
+            Some(v)
+        } else {
+            None
+        }
+    }
+
+    /// Adds a state by numbers.
+    ///
+    /// # Errors
+    /// Out of memory.
+    pub fn push(&mut self, node: Node<'a>) -> Result<(), AllocError>
+        requires { IsNode self.old.shared node }
+        ensures ok { OnOk result (self.new.items ≡ self.old.items ++ flat_in self.old.shared node.entry ∷ []) }
+        ensures err { OnErr result (self.new.items ≡ self.old.items) }
+        ensures form { self.new.form ≡ self.old.form }
+        ensures shared { self.new.shared ≡ self.old.shared }
+    {
+        let hash = hash_of(&self.table, &node);
+        self.hints.note(hash, self.nodes.len())?;
+        put(&mut self.nodes, node)
+    }
+}
