@@ -1,8 +1,8 @@
 pub mod Laws
 pub mod Fit
-pub mod Numbers
 pub mod Ahead
 pub mod Places
 pub mod Growing
 pub mod Follower
 pub mod Visits
+pub mod Within
