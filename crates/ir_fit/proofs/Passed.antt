@@ -36,3 +36,9 @@ pub one_more : (guest : Guest) (r : Recorded) (ss new : List PassedState) (s : P
     → IsPassed guest r s → new ≡ (if b then ss ++ s ∷ [] else ss) → ArePassed guest r new
 one_more guest r ss new s true all one is = subst (ArePassed guest r) (sym is) (All-push (IsPassed guest r) ss s all one)
 one_more guest r ss new s false all one is = subst (ArePassed guest r) (sym is) all
+
+-- what holds where the run is, for the same trace, threads and objects
+pub passed_on : (guest : Guest) (r q : Recorded) (f g : Flat) (ss new : List PassedState) → q ≡ r → g ≡ f
+    → (IsAlong guest q g → ArePassed guest q ss → ArePassed guest q new) → IsAlong guest r f → ArePassed guest r ss → ArePassed guest r new
+passed_on guest r q f g ss new same is passes = subst (λ (z : Recorded × Flat). IsAlong guest z.0 z.1 → ArePassed guest z.0 ss → ArePassed guest z.0 new)
+    (λ i. (same i, is i)) passes

@@ -33,6 +33,20 @@ at_end f s run prefix is ok left logs ends within =
     (λ t. subst (λ n. n ≤ count (machine_of f) (start_of f) run t) (sym (counted t)) (within t)) (positions s) counted in
     at_tables f (positions s) s run is at.cut at.consistent (ends ∙ at.same_end)
 
+-- the state after a run that follows the trace is the guest at a cut of each complete run with the trace
+pub along_at : (f : FittedTrace) (s : Flat) → IsAlong f.guest f.recorded s → IsStateAt f (positions s) s
+along_at f s along = record {
+  code = along.code;
+  threads = along.threads;
+  objects = along.objects;
+  steps = λ t. refl;
+  each = λ run is. at_end f s run along.run is along.follows.0
+      (λ t. left_log (trail (machine_of f) (start_of f) along.run t) ((trace_of f.recorded).logs t))
+      (λ t. fits_prefix (closing (machine_of f) (trace_of f.recorded) t) ((trace_of f.recorded).steps t) ((trace_of f.recorded).logs t)
+      (trail (machine_of f) (start_of f) along.run t) (along.follows.1 t) ∙ sym (logs_all f run is t))
+      along.ends (λ t. steps_within f s along run is t);
+}
+
 -- ---- the start
 
 none_taken : (f : FittedTrace) (t : ℕ) → positions (start_flat f.guest f.recorded.budget f.recorded.profile) t ≡ 0

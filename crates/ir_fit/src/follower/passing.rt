@@ -56,6 +56,16 @@ fn near_of(steps: u64, threads: u64) -> u64 {
     (gap / gaps.max(1)).max(threads.saturating_mul(LEAST_NEAR))
 }
 
+// By gaps, near the end by halves, and before the end all at once.
+fn pieces_of(left: u64, gap: u64, near: u64) -> u64
+    ensures { 0 < result }
+{
+    if left <= near {
+        return 1;
+    }
+    (left / gap.max(1)).max(2)
+}
+
 impl Passing {
     /// No state is kept, and no thread pauses.
     pub fn none(alloc: Global) -> Passing
@@ -75,33 +85,32 @@ impl Passing {
     pub fn along(alloc: Global, trace: &Trace) -> Passing
         ensures { (guest : Guest) (r : Recorded) → ArePassed guest r result.states.items }
     {
-        let mut passing = Passing::none(alloc);
         let steps = steps_in(trace);
         let count = trace.threads().len();
         let threads = count as u64;
         let least = threads.saturating_mul(LEAST_GAP);
-        if steps >= least && passing.pauses.resize(count, 0).is_ok() {
-            passing.most = (MOST_COPIES / threads.max(1)).min(MOST_STATES);
-            passing.gap = (steps / (passing.most * 3 / 4).max(1)).max(least);
-            passing.near = near_of(steps, threads);
-            passing.mark = passing.mark_after(steps);
+        let mut pauses = Vec::new(alloc);
+        if steps < least || pauses.resize(count, 0).is_err() {
+            return Passing::none(alloc);
         }
-        passing
+        let most = (MOST_COPIES / threads.max(1)).min(MOST_STATES);
+        let gap = (steps / (most * 3 / 4).max(1)).max(least);
+        let near = near_of(steps, threads);
+        Passing {
+            pauses,
+            states: Vec::new(alloc),
+            most,
+            mark: steps - steps / pieces_of(steps, gap, near),
+            gap,
+            near,
+        }
     }
 
     /// Into how many pieces the steps that are left are divided, of which the first leads to the next state.
     pub fn pieces(&self, left: u64) -> u64
         ensures { 0 < result }
     {
-        if left <= self.near {
-            return 1;
-        }
-        (left / self.gap.max(1)).max(2)
-    }
-
-    // How many steps are left at the next state, where this many are left now.
-    fn mark_after(&self, left: u64) -> u64 {
-        left - left / self.pieces(left)
+        pieces_of(left, self.gap, self.near)
     }
 
     /// Where a thread pauses next.
@@ -135,7 +144,7 @@ impl Passing {
         if left > self.mark {
             return;
         }
-        self.mark = self.mark_after(left);
+        self.mark = left - left / self.pieces(left);
         if self.has_room(left) {
             self.keep(flat);
         }
