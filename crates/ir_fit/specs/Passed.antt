@@ -28,5 +28,6 @@ pub record IsPassed (guest : Guest) (r : Recorded) (s : PassedState) : Type 0 wh
   pub flat : IsFlat (flat_at guest s)
   pub along : IsAlong guest r (flat_at guest s)
 
+-- each is such a state
 abbrev pub ArePassed : Guest → Recorded → List PassedState → Type 0
 ArePassed guest r = All (IsPassed guest r)

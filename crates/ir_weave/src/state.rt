@@ -54,7 +54,7 @@ impl State {
     {
         fitted.known();
         let PassedState { threads, objects } = passed;
-        State { threads, objects }
+        State::build(threads, objects)
     }
 
     /// The state of these threads and objects.
