@@ -1,7 +1,3 @@
-use Rattle.std.proofs.Common.{subst, sym}
-use Rattle.ir_flat.specs.Flat.{Flat}
-use Rattle.ir_trace.specs.Recorded.{Recorded}
-use Rattle.ir_fit.specs.Passed.{IsAlong, ArePassed}
 use Rattle.ir_fit.proofs.Passed.{passed_on}
 use Rattle.ir_fit.proofs.follower.Follower.next.Goals as goal
 
