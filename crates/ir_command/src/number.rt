@@ -3,9 +3,8 @@
 ghost use Rattle.std.specs.Prelude.{◌≡◌, ◌≤◌, length, ℕ, Option, MatchOption, option_and_then, true, false};
 ghost use Rattle.std.specs.List.{list_all};
 ghost use Rattle.std.specs.Str.Parse.{digits_value};
-ghost use Rattle.ir_command.specs.Limits.{most_small, most_position};
-ghost use Rattle.ir_command.specs.Limits as limits;
-ghost use Rattle.ir_command.specs.Numbers.{is_digit, numeral, number_of, number_up_to};
+ghost use Rattle.ir_command.specs.Commands.{most_small, most_position, is_digit, numeral, number_of, number_up_to};
+ghost use Rattle.ir_command.specs.Commands as commands;
 
 use crate::command::ByteCount;
 
@@ -33,7 +32,7 @@ fn value(radix: u32, digits: &[u8]) -> Option<u128>
 }
 
 // The number that 1 to `most` digits write.
-#[tactic(auto, unfolding(crate::specs::Numbers::numeral))]
+#[tactic(auto, unfolding(crate::specs::Commands::numeral))]
 fn numeral(radix: u32, most: usize, digits: &[u8]) -> Option<u128>
     requires low { 2 ≤ radix }
     requires high { radix ≤ 16 }
@@ -47,7 +46,7 @@ fn numeral(radix: u32, most: usize, digits: &[u8]) -> Option<u128>
 }
 
 /// The number that a word writes in 1 to 20 decimal digits, or in `0x` and 1 to 16 hexadecimal digits of either case.
-#[tactic(auto, unfolding(crate::specs::Numbers::number_of))]
+#[tactic(auto, unfolding(crate::specs::Commands::number_of))]
 fn number(word: &[u8]) -> Option<u128>
     ensures { result ≡ number_of word.now }
 {
@@ -79,7 +78,7 @@ pub fn parse_u64(word: &[u8]) -> Option<u64>
 
 /// The number of bytes that a word writes, if one command may show as many.
 pub fn byte_count(word: &[u8]) -> Option<ByteCount>
-    ensures { result ≡ option_and_then limits.byte_count (number_of word.now) }
+    ensures { result ≡ option_and_then commands.byte_count (number_of word.now) }
 {
     ByteCount::new(number(word)?)
 }
