@@ -38,6 +38,9 @@ PARTS = [
     ("`advance`, beside these", "### Advance", {"ir_replay/src/moves.rt": ["advance", "advance_in_order"]}),
 ]
 
+# What a law says all of: who believes the law needn't read the definition. The file of the law and its name.
+PINNED = {("ir_isa", "Decoded", "instruction_of"): ("ir_isa/src/laws.rt", "found_by_code")}
+
 HEAD = """# Definitions
 
 `python3 scripts/definitions.py` makes this page of the comments in `specs/`, and the gate refuses it if it differs. What to read first, and in
@@ -162,6 +165,8 @@ def named_by_type(crate, name):
 def named_by(definition):
     """The definitions that one names."""
     crate, name, item = definition
+    if definition in PINNED:
+        return named_by_contract(*PINNED[definition])
     if name.startswith("declared."):
         return named_by_type(crate, name)
     where = module(crate, name)
@@ -188,7 +193,7 @@ def led_to(contracts):
     while rest:
         found |= rest
         rest = {other for definition in rest for other in named_by(definition)} - found
-    return {(crate, name, item) for crate, name, item in found if module(crate, name) and item in module(crate, name).definitions}
+    return {(crate, name, item) for crate, name, item in found - set(PINNED) if module(crate, name) and item in module(crate, name).definitions}
 
 
 def parts():

@@ -60,18 +60,17 @@ fn put_branch(
     parts: &mut Parts,
     address: u32,
     op: BranchOp,
-    rs1: Register,
-    rs2: Register,
+    compared: (Register, Register),
     label: &Name,
 ) -> Result<(), Refusal>
-    ensures { Makes parts.new result (put scan.now address (BranchTo op rs1 rs2 label.now) parts.old) }
+    ensures { Makes parts.new result (put scan.now address (BranchTo op compared.0 compared.1 label.now) parts.old) }
 {
     let distance = distance_to(scan, -4096, 4094, address, label)?;
     let offset = branch_offset(distance);
     parts.add_code(&[encode(&Inst::Branch {
         op,
-        rs1,
-        rs2,
+        rs1: compared.0,
+        rs2: compared.1,
         offset,
     })])?;
     Ok(())
@@ -149,7 +148,12 @@ fn put(
         Item::Code(list) => parts.add_code(list.words.as_slice())?,
         Item::Filled(list) => parts.add_bytes(list.bytes.as_slice())?,
         Item::BranchTo(op, rs1, rs2, label) => put_branch(
-            scan, parts, address, *op, *rs1, *rs2, label,
+            scan,
+            parts,
+            address,
+            *op,
+            (*rs1, *rs2),
+            label,
         )?,
         Item::JumpTo(rd, label) => put_jump(scan, parts, address, *rd, label)?,
         Item::LoadAddress(rd, label) => put_address(alloc, scan, parts, *rd, label)?,

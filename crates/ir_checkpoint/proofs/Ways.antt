@@ -1,11 +1,9 @@
 -- Cuts on the way of a move.
-use Rattle.std.proofs.Common.{◌≡◌, ◌<◌, ◌≤◌, ℕ, List, Result, Ok, Err, length, map, sym, ap, ◌∙◌, subst, arith}
+use Rattle.std.proofs.Common.{◌≡◌, ◌≤◌, ℕ, List, length, map, sym, ap, ◌∙◌, subst, arith}
 use Rattle.std.proofs.Math.Path.{fun_ext}
 use Rattle.std.proofs.Math.ListN.{get_or-map}
 use Rattle.std.proofs.lemmas.List.{length-map}
-use Rattle.std.specs.Prelude.{IfOk}
 use Rattle.std.specs.List.{slice_index_or}
-use Rattle.ir_trace.specs.TraceOf.{recorded_thread}
 use Rattle.ir_thread.specs.State as thread
 use Rattle.ir_flat.specs.Flat.{idle}
 use Rattle.ir_runs.specs.Cuts.{Cut, IsCut, Consistent}
@@ -16,14 +14,6 @@ use Rattle.ir_weave.specs.States.{positions}
 use Rattle.ir_replay.specs.Rounds.{IsBetween}
 use Rattle.ir_checkpoint.specs.Checkpoints.{Stands}
 use Rattle.ir_checkpoint.specs.Parts.{IsOnWay}
-
--- a cut that can be reached is within the threads' steps
-pub within : (f : FittedTrace) (target : List ℕ) (t k : ℕ) → HasRun f → IsConsistentCut f target → t < length f.guest.entries
-    → k ≤ cut_of target t → k ≤ (recorded_thread f.recorded t).steps
-within f target t k h target_is l le =
-    let count = h.whole.1.steps t l in
-    let inside = (target_is h.run h.whole).0 t in
-    omega (arith, le, inside, count)
 
 -- the least cut with a thread further lies below each such that is above
 pub further : (f : FittedTrace) (low : Cut) (target cut new : List ℕ) (t k : ℕ) → HasRun f → IsConsistentCut f target
@@ -77,11 +67,3 @@ below_target f low target cut s way at t = let same = at.at.steps t in let le = 
 pub between_target : (f : FittedTrace) (low : Cut) (target cut : List ℕ) (old new : Standing) → IsOnWay f low (cut_of target) cut
     → IsBetween f cut old new → (t : ℕ) → positions (flat_in f new) t ≤ cut_of target t
 between_target f low target cut old new way between t = let b = between.below t in let le = way.below t in omega (arith, b, le)
-
--- a result that is the least cut, and consistent
-pub further_ok : {E : Type 0} (r : Result (List ℕ) E) (f : FittedTrace) (low : Cut) (target cut : List ℕ) (t k : ℕ) → HasRun f
-    → IsConsistentCut f target → IsOnWay f low (cut_of target) cut → k ≤ cut_of target t → IfOk r (λ c. IsLeastCut f cut t k c)
-    → IfOk r (λ c. IsConsistentCut f c) → IfOk r (λ c. IsOnWay f low (cut_of target) c)
-further_ok (Ok new) f low target cut t k h target_is way le least consistent =
-    further f low target cut new t k h target_is way le least consistent
-further_ok (Err e) f low target cut t k h target_is way le least consistent = tt

@@ -33,28 +33,6 @@ fn first_piece(from: u64, to: u64, pieces: u64) -> u64
     from + (to - from) / pieces
 }
 
-// The least cut at or above this one at which thread t has gone its first piece.
-fn further(
-    alloc: Global,
-    fitted: &Fitted,
-    from: &Cut,
-    target: &Cut,
-    cut: &Cut,
-    t: usize,
-    pieces: u64,
-) -> Result<Cut, AllocError>
-    requires thread { t < length fitted.now.guest.entries }
-    requires some { 0 < pieces }
-    requires size { length from.now ≡ length fitted.now.guest.entries }
-    requires target { (length target.now ≡ length fitted.now.guest.entries) × IsConsistentCut fitted.now target.now }
-    requires way { IsOnWay fitted.now (cut_of from.now) (cut_of target.now) cut.now }
-    ensures { IfOk result (λ c. IsOnWay fitted.now (cut_of from.now) (cut_of target.now) c) }
-{
-    fitted.known();
-    let position = first_piece(from.position(t), target.position(t), pieces);
-    least(alloc, fitted, cut, t, position)
-}
-
 // A cut at which each thread has gone its first piece, and what others need for theirs.
 fn first_part(
     alloc: Global,
@@ -68,9 +46,11 @@ fn first_part(
     requires from { IsOnWay fitted.now (cut_of from.now) (cut_of target.now) from.now }
     ensures { IfOk result (λ c. IsOnWay fitted.now (cut_of from.now) (cut_of target.now) c) }
 {
+    fitted.known();
     let mut cut = from.copy()?;
     for t in 0..from.positions().len() {
-        cut = further(alloc, fitted, from, target, &cut, t, pieces)?;
+        let position = first_piece(from.position(t), target.position(t), pieces);
+        cut = least(alloc, fitted, &cut, t, position)?;
     }
     Ok(cut)
 }

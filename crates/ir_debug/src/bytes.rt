@@ -7,7 +7,7 @@ ghost use Rattle.ir_debug.specs.Openings.{opening_of};
 
 use crate::debugger::Debugger;
 use crate::opening::Opened;
-use ir_fit::{FitErr, fit};
+use ir_fit::{FitErr, fit_passing};
 use ir_image::{Image, ImageErr, read_image};
 use ir_object::Hands;
 use ir_trace::{Trace, TraceErr, read_trace};
@@ -17,8 +17,8 @@ fn open_fitted<H: Hands>(hands: &H, image: Image, trace: Trace) -> Result<Opened
     ensures { IfOk result (λ opened. OpensFit image trace (opening_of opened)) }
 {
     let alloc = hands.alloc();
-    match fit(alloc, image, trace, hands) {
-        Ok(fitted) => Ok(Opened::Ready(Debugger::open(alloc, fitted)?)),
+    match fit_passing(alloc, image, trace, hands) {
+        Ok((fitted, passed)) => Ok(Opened::Ready(Debugger::open(alloc, fitted, passed)?)),
         Err(FitErr::Refused(verdict)) => Ok(Opened::Unfit(verdict)),
         Err(FitErr::NoMem) => Err(AllocError),
     }

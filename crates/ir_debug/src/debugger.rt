@@ -8,7 +8,7 @@ use crate::kept::{KeptCut, MOST_KEPT};
 use crate::points::Points;
 use ir_command::{Command, Point, Refusal, Show};
 use ir_cut::Cut;
-use ir_fit::Fitted;
+use ir_fit::{Fitted, PassedState};
 use ir_hits::NumberedPoint;
 use ir_object::{Hands, Object};
 use ir_text::next_line;
@@ -67,6 +67,7 @@ impl Model for Debugger {
 }
 
 impl Debugger {
+    ghost use Rattle.ir_fit.specs.Passed.{ArePassed};
     ghost use Rattle.std.specs.Prelude.{◌<◌, ◌+◌, None, false, IfOk, OnOk, OnErr};
     ghost use Rattle.ir_cut.specs.Positions.{EachRun};
     ghost use Rattle.ir_command.specs.declared.command.Command.TheVariants as command;
@@ -79,11 +80,16 @@ impl Debugger {
     ghost use Rattle.ir_debug.specs.Machine.Answers.{Answers, AnswersBy};
     ghost use Rattle.ir_debug.specs.Debugging.{IsLast, IsThere, answer_text};
 
-    /// A debugger with all threads at 0.
+    /// A debugger with all threads at 0, with states that a run along the trace passed.
     ///
     /// # Errors
     /// Out of memory.
-    pub fn open(alloc: Global, fitted: Fitted) -> Result<Debugger, AllocError>
+    pub fn open(
+        alloc: Global,
+        fitted: Fitted,
+        passed: Vec<PassedState>,
+    ) -> Result<Debugger, AllocError>
+        requires { ArePassed fitted.guest fitted.recorded passed.items }
         ensures { IfOk result (λ d. d.desk ≡ desk_of fitted) }
     {
         fitted.known();
@@ -91,7 +97,7 @@ impl Debugger {
         let mut kept = Vec::with_capacity(alloc, MOST_KEPT + 1)?;
         kept.push(KeptCut::new(0, at.copy()?))?;
         let points = Points::new(alloc)?;
-        let timeline = Timeline::open(alloc, fitted)?;
+        let timeline = Timeline::open(alloc, fitted, passed)?;
         Ok(Debugger {
             timeline,
             at,

@@ -8,3 +8,4 @@ mod Listed
 mod Found
 mod Recordable
 pub mod CallerLemmas
+mod Passed

@@ -643,11 +643,16 @@ stands_some guest r f ps k t stopped =
           ]
     ]
 
+-- before the first step
+pub start_follower : (guest : Guest) (r : Recorded) (f : Flat) (ps : List Growing) → f ≡ start_flat guest r.budget r.profile
+    → ((t : ℕ) → ((growing_at ps t).entries ≡ []) × ((growing_at ps t).leaves ≡ [])) → IsFollower guest r f ps
+start_follower guest r f ps start none = subst (λ z. IsFollower guest r z ps) (sym start) (started guest r ps none)
+
 -- the guest at the end
 pub followed_there : (guest : Guest) (r : Recorded) (f g : Flat) (ps qs : List Growing) → f ≡ start_flat guest r.budget r.profile
     → ((t : ℕ) → ((growing_at ps t).entries ≡ []) × ((growing_at ps t).leaves ≡ [])) → GoesOn r f ps g qs
     → ((t : ℕ) → t < length g.threads → IsStopped r g t) → IsFollowed guest r g qs
 followed_there guest r f g ps qs start none goes stopped =
-    let k : IsFollower guest r g qs = goes.follows guest (subst (λ z. IsFollower guest r z ps) (sym start) (started guest r ps none)) in
+    let k : IsFollower guest r g qs = goes.follows guest (start_follower guest r f ps start none) in
     let all : (t : ℕ) → t < length guest.entries → IsStopped r g t = λ t l. stopped t (let n = k.threads in omega (arith, l, n)) in
     record { follower = k; stopped = all; stands = λ t l. stands_some guest r g qs k t (all t l) }

@@ -6,3 +6,4 @@ pub mod Places
 pub mod Growing
 pub mod Follower
 pub mod Visits
+pub mod Passed

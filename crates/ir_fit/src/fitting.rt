@@ -1,9 +1,10 @@
 //! Whether a trace is a run's.
 
-ghost use Rattle.std.specs.Prelude.{◌≡◌, ◌≢◌, ◌<◌, ℕ, length, slice_get, Some, true, false, IfOk, IfErr};
+ghost use Rattle.std.specs.Prelude.{◌≡◌, ◌≢◌, ◌<◌, ℕ, length, slice_get, Some, true, false, IfOk, OnOk, IfErr};
 ghost use Rattle.ir_fit.specs.Ahead.{IsStopped};
 ghost use Rattle.ir_fit.specs.Fit.{HasRun, IsRefused};
 ghost use Rattle.ir_fit.specs.Follower.{IsFollower, IsSized, AreStanding};
+ghost use Rattle.ir_fit.specs.Passed.{ArePassed};
 ghost use Rattle.ir_runs.specs.declared.thread_verdict.ThreadVerdict.{ThreadVerdict};
 ghost use Rattle.ir_runs.specs.declared.thread_verdict.ThreadVerdict.TheVariants.{Same};
 
@@ -13,7 +14,9 @@ use crate::fitted::Fitted;
 use crate::follower::Follower;
 use crate::follower::ending::followed;
 use crate::follower::growing::{GrowingPlaces, all_grown};
+use crate::follower::passing::Passing;
 use crate::header::same_header;
+use crate::passed_state::PassedState;
 use crate::verdict::Verdict;
 use ir_image::Image;
 use ir_object::Gate;
@@ -60,6 +63,33 @@ fn all_same(verdicts: &[ThreadVerdict]) -> bool
     true
 }
 
+// `fit`, with states kept on the way.
+fn fit_with<G: Gate>(
+    alloc: Global,
+    image: Image,
+    trace: Trace,
+    passing: &mut Passing,
+    gate: &G,
+) -> Result<Fitted, FitErr>
+    ensures fits { IfOk result (λ f. (f.guest ≡ image) × (f.recorded ≡ trace)) }
+    ensures run { IfOk result HasRun }
+    ensures passed { OnOk result (ArePassed image trace passing.old.states.items → ArePassed image trace passing.new.states.items) }
+    ensures refused { IfErr result (IsRefused image trace) }
+{
+    if let Err(cause) = same_header(&image, &trace) {
+        return Err(FitErr::Refused(Verdict::Header(cause)));
+    }
+    coherent(alloc, &trace)?;
+    let follower = followed(alloc, &image, trace, passing, gate)?;
+    let verdicts = follower.verdicts(alloc)?;
+    if !all_same(&verdicts) {
+        return Err(FitErr::Refused(Verdict::Threads(verdicts)));
+    }
+    let (trace, growing) = follower.into_parts();
+    let places = all_grown(alloc, growing)?;
+    Ok(Fitted::new(alloc, image, trace, places)?)
+}
+
 /// Whether a trace is that of a complete run of a guest's, under the budget that the trace names. The guest is run once,
 /// on this thread, and the gate is told now and then of its steps, but of no entry and leave.
 ///
@@ -74,16 +104,28 @@ pub fn fit<G: Gate>(alloc: Global, image: Image, trace: Trace, gate: &G) -> Resu
     ensures run { IfOk result HasRun }
     ensures refused { IfErr result (IsRefused image trace) }
 {
-    if let Err(cause) = same_header(&image, &trace) {
-        return Err(FitErr::Refused(Verdict::Header(cause)));
-    }
-    coherent(alloc, &trace)?;
-    let follower = followed(alloc, &image, trace, gate)?;
-    let verdicts = follower.verdicts(alloc)?;
-    if !all_same(&verdicts) {
-        return Err(FitErr::Refused(Verdict::Threads(verdicts)));
-    }
-    let (trace, growing) = follower.into_parts();
-    let places = all_grown(alloc, growing)?;
-    Ok(Fitted::new(alloc, image, trace, places)?)
+    fit_with(alloc, image, trace, &mut Passing::none(alloc), gate)
+}
+
+/// `fit`, with states that the run passed: at gaps, and near the end by halves, of a run that is long enough, at most 64. The last one
+/// is at the end. A state for which memory runs out isn't kept.
+///
+/// # Errors
+/// Those of `fit`.
+pub fn fit_passing<G: Gate>(
+    alloc: Global,
+    image: Image,
+    trace: Trace,
+    gate: &G,
+) -> Result<(Fitted, Vec<PassedState>), FitErr>
+    ensures fits { IfOk result (λ r. (r.0.guest ≡ image) × (r.0.recorded ≡ trace)) }
+    ensures run { IfOk result (λ r. HasRun r.0) }
+    // Each is the guest after a run that follows the trace.
+    ensures passed { IfOk result (λ r. ArePassed image trace r.1.items) }
+    ensures refused { IfErr result (IsRefused image trace) }
+{
+    let mut passing = Passing::along(alloc, &trace);
+    let fitted = fit_with(alloc, image, trace, &mut passing, gate)?;
+    let Passing { states, .. } = passing;
+    Ok((fitted, states))
 }

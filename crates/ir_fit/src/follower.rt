@@ -16,6 +16,8 @@ use ir_trace::{ThreadTrace, Trace};
 pub mod ending;
 pub mod growing;
 pub mod look;
+pub mod passing;
+mod pausing;
 mod readiness;
 mod running;
 mod stepping;

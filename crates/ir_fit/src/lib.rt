@@ -12,6 +12,7 @@ mod header_cause;
 mod laws;
 mod leave;
 mod object_places;
+mod passed_state;
 mod place;
 mod places;
 mod verdict;
@@ -21,7 +22,7 @@ mod visits;
 pub use coherence::coherent;
 pub use fit_err::FitErr;
 pub use fitted::Fitted;
-pub use fitting::fit;
+pub use fitting::{fit, fit_passing};
 pub use follower::look::is_open;
 pub use header_cause::HeaderCause;
 pub use ir_coherence::Cause;
@@ -30,5 +31,6 @@ pub use laws::{
     one_step_each, one_verdict, own_trace_coherent, trace_determines,
 };
 pub use leave::Leave;
+pub use passed_state::PassedState;
 pub use place::Place;
 pub use verdict::Verdict;

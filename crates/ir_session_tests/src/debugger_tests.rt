@@ -70,7 +70,11 @@ fn walk<R: Threads + Clock + Sync>(
     alloc: Global,
     commands: &[Command; 8],
 ) -> Result<[Sight; 8], Fail> {
-    let mut debugger = Debugger::open(alloc, fitted(alloc, TWO_COUNTERS, SECOND_FIRST)?)?;
+    let mut debugger = Debugger::open(
+        alloc,
+        fitted(alloc, TWO_COUNTERS, SECOND_FIRST)?,
+        Vec::new(alloc),
+    )?;
     let hands = Given::new(rt, alloc, &OpenGate);
     Ok(sights(&hands, &mut debugger, commands))
 }

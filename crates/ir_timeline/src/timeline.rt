@@ -1,7 +1,9 @@
 //! A recorded run in hand.
 
 ghost use Rattle.std.specs.Prelude.{◌≡◌};
+ghost use Rattle.ir_checkpoint.specs.Checkpoints.{AreCheckpoints};
 ghost use Rattle.ir_fit.specs.Fit.{HasRun};
+ghost use Rattle.ir_fit.specs.Passed.{ArePassed};
 ghost use Rattle.ir_timeline.specs.Hand.{IsInHand};
 ghost use Rattle.ir_timeline.specs.Replaying.{Replaying, IsReplaying};
 
@@ -10,7 +12,7 @@ use crate::searching::{hit_above, hit_below, hit_up_to};
 use ir_checkpoint::Checkpoints;
 use ir_command::{Direction, Hit};
 use ir_cut::Cut;
-use ir_fit::Fitted;
+use ir_fit::{Fitted, PassedState};
 use ir_hits::NumberedPoint;
 use ir_object::{Hands, Object};
 use ir_replay::State;
@@ -34,6 +36,17 @@ impl Model for Timeline {
     ghost invariant = { λ l. HasRun l.fitted × IsInHand l.fitted l.hand };
 }
 
+// Keeps states that a run along the trace passed.
+fn keep_passed(fitted: &Fitted, checkpoints: &mut Checkpoints, passed: Vec<PassedState>)
+    requires checkpoints { AreCheckpoints fitted.now checkpoints.old }
+    requires passed { ArePassed fitted.now.guest fitted.now.recorded passed.items }
+    ensures { AreCheckpoints fitted.now checkpoints.new }
+{
+    for state in passed {
+        checkpoints.pass(fitted, &State::passed(fitted, state));
+    }
+}
+
 impl Timeline {
     ghost use Rattle.std.specs.Prelude.{◌<◌, ◌≤◌, IfOk, IsOk, OnOk};
     ghost use Rattle.ir_cut.specs.Positions.{EachRun, cut_of};
@@ -42,17 +55,23 @@ impl Timeline {
     ghost use Rattle.ir_timeline.specs.Positions.{Cuts, Finds, first_cut, last_of, threads_of};
     ghost use Rattle.ir_timeline.specs.Replaying.{IsThere};
 
-    /// The guest at its start.
+    /// The guest at its start, with states that a run along the trace passed. Those for which memory runs out aren't kept.
     ///
     /// # Errors
     /// Out of memory.
-    pub fn open(alloc: Global, fitted: Fitted) -> Result<Timeline, AllocError>
+    pub fn open(
+        alloc: Global,
+        fitted: Fitted,
+        passed: Vec<PassedState>,
+    ) -> Result<Timeline, AllocError>
+        requires { ArePassed fitted.guest fitted.recorded passed.items }
         ensures fitted { IfOk result (λ l. l.fitted ≡ fitted) }
         ensures start { IfOk result (λ l. IsThere l (first_cut fitted)) }
     {
         fitted.known();
         let state = State::start(alloc, &fitted)?;
-        let checkpoints = Checkpoints::new(alloc, &fitted)?;
+        let mut checkpoints = Checkpoints::new(alloc, &fitted)?;
+        keep_passed(&fitted, &mut checkpoints, passed);
         let hand = InHand { state, checkpoints };
         Ok(Timeline { fitted, hand })
     }

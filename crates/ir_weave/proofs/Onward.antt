@@ -1,18 +1,21 @@
 -- A state that advances along the trace is a state at a later cut.
-use Rattle.std.proofs.Common.{◌≡◌, ◌≢◌, ℕ, suc, zero, ◌+◌, ◌-◌, ◌<◌, ◌≤◌, List, [], ◌∷◌, ◌++◌, length, replicate, Result, Ok, Err, OnOk, OnErr, refl, sym, ap, ◌∙◌, subst, arith, inl, inr, append_assoc}
-use Rattle.std.proofs.lemmas.Bool.{cases_eq}
+use Rattle.std.proofs.Common.{◌≡◌, ◌≢◌, ℕ, suc, zero, ◌+◌, ◌-◌, ◌<◌, ◌≤◌, List, [], ◌∷◌, ◌++◌, length, replicate, Result, Ok, Err, OnOk, OnErr, refl, sym, ap, ◌∙◌, subst, arith, inl, inr, append_assoc, pred}
+use Rattle.std.proofs.lemmas.Bool.{cases_eq, cases_lt}
 use Rattle.ir_image.specs.Guest.{object_count}
 use Rattle.ir_runs.specs.Machine.{Machine}
 use Rattle.ir_runs.specs.Labels.{Label, Quiet, Answer, In, Refused, Out, logged}
 use Rattle.ir_thread.specs.State as thread
 use Rattle.ir_flat.specs.Alone.{WentAlone}
 use Rattle.ir_flat.specs.Flat.{Flat, tables, machine, start_flat}
-use Rattle.ir_runs.specs.Run.{State, Step, Can, after, label, IsRun, end, events, log, count}
-use Rattle.ir_runs.proofs.CallerLemmas.{run_append, end_append, log_append, trail_same, trail_other, IsPrefix, prefix_at}
-use Rattle.ir_flat.proofs.CallerLemmas.{tally, threads_length, cells_length, no_steps}
+use Rattle.ir_runs.specs.Run.{State, Step, Can, after, label, IsRun, end, trail, events, log, count}
+use Rattle.ir_runs.proofs.CallerLemmas.{run_append, end_append, log_append, trail_same, trail_other, fits_prefix, IsPrefix, prefix_at}
+use Rattle.ir_flat.proofs.CallerLemmas.{tally, threads_length, cells_length, no_steps, start_idle}
 use Rattle.ir_runs.specs.Cuts.{part}
+use Rattle.ir_trace.specs.TraceOf.{trace_of}
 use Rattle.ir_fit.specs.Fit.{FittedTrace, IsRunOf}
-use Rattle.ir_runs.specs.Following.{unlogged}
+use Rattle.ir_fit.specs.Passed.{IsAlong}
+use Rattle.ir_fit.proofs.CallerLemmas.{idle_trail}
+use Rattle.ir_runs.specs.Following.{Check, Fits, Follows, closing, left_log, unlogged}
 use Rattle.ir_cut.specs.Positions.{machine_of, start_of, cut_of}
 use Rattle.ir_weave.specs.States.{IsAt, IsStateAt, positions}
 use Rattle.ir_weave.specs.Stepping.{LogsNext, IsTarget, IsUnder, HasGone}
@@ -32,6 +35,57 @@ at_end f s run prefix is ok left logs ends within =
     prefix_at (machine_of f) (law f) (start_of f) (good f) run prefix is.1.runs ok left logs
     (λ t. subst (λ n. n ≤ count (machine_of f) (start_of f) run t) (sym (counted t)) (within t)) (positions s) counted in
     at_tables f (positions s) s run is at.cut at.consistent (ends ∙ at.same_end)
+
+-- no more steps follow than the trace has
+fits_length : {T : Type 0} (E : Check T) (n : ℕ) (es : List Label) (xs : List (T × Label)) → Fits E n es xs → length xs ≤ n
+fits_length E n es [] h = omega arith
+fits_length E n es (x ∷ xs) h = omega (arith, fits_length E (pred n) (unlogged x.1 es) xs h.3, h.0)
+
+-- a run that follows the trace
+abbrev IsFollowing : FittedTrace → List Step → Type 0
+IsFollowing f prefix = Follows (closing (machine_of f) (trace_of f.recorded)) (machine_of f) (start_of f) (trace_of f.recorded) prefix
+
+-- what it logs of a thread is the first of what each complete run with the trace logs
+follows_log : (f : FittedTrace) (run prefix : List Step) → IsRunOf f.guest f.recorded run → IsFollowing f prefix → (t : ℕ)
+    → (left : List Label) × (log (machine_of f) (start_of f) prefix t ++ left ≡ log (machine_of f) (start_of f) run t)
+follows_log f run prefix is follows t =
+    let m = machine_of f in let s = start_of f in let tr = trace_of f.recorded in
+    elim (cases_lt t (length f.guest.entries)) [
+      | inl l ↦ (
+        left_log (trail m s prefix t) (tr.logs t),
+        fits_prefix (closing m tr t) (tr.steps t) (tr.logs t) (trail m s prefix t) (follows.1 t) ∙ sym (is.1.logs t l),
+      )
+      | inr past ↦ (
+        log m s run t,
+        ap (λ z. events z ++ log m s run t) (idle_trail m s (length f.guest.entries)
+            (start_idle f.guest f.recorded.budget f.recorded.profile) prefix follows.0 t past),
+      )
+    ]
+
+-- and no thread is past its last step
+follows_count : (f : FittedTrace) (run prefix : List Step) → IsRunOf f.guest f.recorded run → IsFollowing f prefix → (t : ℕ)
+    → count (machine_of f) (start_of f) prefix t ≤ count (machine_of f) (start_of f) run t
+follows_count f run prefix is follows t =
+    let m = machine_of f in let s = start_of f in let tr = trace_of f.recorded in
+    elim (cases_lt t (length f.guest.entries)) [
+      | inl l ↦ let few = fits_length (closing m tr t) (tr.steps t) (tr.logs t) (trail m s prefix t) (follows.1 t) in
+          let all = is.1.steps t l in omega (arith, few, all)
+      | inr past ↦ let none = ap length (idle_trail m s (length f.guest.entries)
+          (start_idle f.guest f.recorded.budget f.recorded.profile) prefix follows.0 t past) in omega (arith, none)
+    ]
+
+-- the guest after such a run is the guest at a cut of each complete run with the trace
+pub along_at : (f : FittedTrace) (s : Flat) → IsAlong f.guest f.recorded s → IsStateAt f (positions s) s
+along_at f s along = record {
+  code = along.code;
+  threads = along.threads;
+  objects = along.objects;
+  steps = λ t. refl;
+  each = λ run is. at_end f s run along.run is along.follows.0 (λ t. (follows_log f run along.run is along.follows t).0)
+      (λ t. (follows_log f run along.run is along.follows t).1) along.ends
+      (λ t. let few = follows_count f run along.run is along.follows t in
+      let counted = ap (λ z. (z.now t).steps) along.ends ∙ steps_counted f along.run along.follows.0 t in omega (arith, few, counted));
+}
 
 -- ---- the start
 

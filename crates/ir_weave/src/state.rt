@@ -3,7 +3,7 @@
 ghost use Rattle.std.specs.Prelude.{◌≡◌};
 ghost use Rattle.ir_weave.specs.Standing.{Standing};
 
-use ir_fit::Fitted;
+use ir_fit::{Fitted, PassedState};
 use ir_flat::Flat;
 use ir_object::Object;
 use ir_thread::Thread;
@@ -25,6 +25,7 @@ impl Model for State {
 
 impl State {
     ghost use Rattle.std.specs.Prelude.{◌≤◌, ℕ, IfOk};
+    ghost use Rattle.ir_fit.specs.Passed.{IsPassed};
     ghost use Rattle.ir_weave.specs.Standing.{StandsAt, flat_in};
     ghost use Rattle.ir_weave.specs.States.{positions};
 
@@ -43,6 +44,17 @@ impl State {
         let flat = Flat::start(alloc, fitted.image(), trace.budget(), trace.profile())?;
         let (threads, objects) = flat.into_parts();
         Ok(State { threads, objects })
+    }
+
+    /// The state that a run along the trace passed.
+    pub fn passed(fitted: &Fitted, passed: PassedState) -> State
+        requires { IsPassed fitted.now.guest fitted.now.recorded passed }
+        ensures stands { StandsAt fitted.now (positions (flat_in fitted.now result)) result }
+        ensures same { result ≡ record { threads = passed.threads.items; objects = passed.objects.items } }
+    {
+        fitted.known();
+        let PassedState { threads, objects } = passed;
+        State::build(threads, objects)
     }
 
     /// The state of these threads and objects.

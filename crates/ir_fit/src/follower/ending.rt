@@ -1,17 +1,19 @@
 //! A guest at the end of a run that follows a trace.
 
-ghost use Rattle.std.specs.Prelude.{◌≡◌, ◌<◌, [], length, map, IfOk};
+ghost use Rattle.std.specs.Prelude.{◌≡◌, ◌<◌, [], length, map, IfOk, OnOk};
 ghost use Rattle.ir_image.specs.Guest.{Guest};
 ghost use Rattle.ir_flat.specs.Flat.{start_flat, tables, machine};
 ghost use Rattle.ir_trace.specs.TraceOf.{trace_of};
 ghost use Rattle.ir_fit.specs.Ahead.{IsStopped};
 ghost use Rattle.ir_fit.specs.Fit.{HasHeader};
 ghost use Rattle.ir_fit.specs.Follower.{IsFollower, IsFollowed, IsSized};
+ghost use Rattle.ir_fit.specs.Passed.{ArePassed};
 ghost use Rattle.ir_runs.specs.Standing.{StandsAs};
 
 use crate::follower::Follower;
 use crate::follower::growing::GrowingPlaces;
 use crate::follower::look::Look;
+use crate::follower::passing::Passing;
 use crate::follower::readiness::Readiness;
 use ir_flat::Flat;
 use ir_image::Image;
@@ -31,17 +33,19 @@ fn rooms(alloc: Global, emitted: &[ThreadTrace]) -> Result<Vec<GrowingPlaces>, A
     Ok(places)
 }
 
-// The guest of the image, run along the trace as far as any run can that follows it.
+// The guest of the image, run along the trace as far as any run can that follows it, with states kept on the way.
 pub fn followed<'a, G: Gate>(
     alloc: Global,
     image: &'a Image,
     trace: Trace,
+    passing: &mut Passing,
     gate: &G,
 ) -> Result<Follower<'a>, AllocError>
     requires { HasHeader image.now trace }
     ensures followed { IfOk result (λ f. IsFollowed image.now trace f.flat f.places.items) }
     ensures trace { IfOk result (λ f. f.trace ≡ trace) }
     ensures sized { IfOk result (λ f. IsSized f) }
+    ensures passed { OnOk result (ArePassed image.now trace passing.old.states.items → ArePassed image.now trace passing.new.states.items) }
 {
     let flat = Flat::start(alloc, image, trace.budget(), trace.profile())?;
     let count = trace.threads().len();
@@ -55,7 +59,7 @@ pub fn followed<'a, G: Gate>(
         waiting: 0,
         places,
     };
-    follower.follow(gate);
+    follower.follow(passing, gate);
     Ok(follower)
 }
 

@@ -9,6 +9,8 @@ pub enum Readiness {
     Ready,
     // It waits until its object can be entered as this event says, the next one that it logs.
     Waits(Event),
+    // It goes no further until a state is kept.
+    Paused,
     // It has no further step that follows the trace.
     Stopped,
 }

@@ -2,16 +2,19 @@
 
 ghost use Rattle.std.specs.Prelude.{◌≡◌, ◌<◌, ℕ, length, IfSome, IfNone};
 ghost use Rattle.ir_fit.specs.Ahead.{IsMove, IsStopped};
-ghost use Rattle.ir_fit.specs.Follower.{GoesOn, IsSized};
+ghost use Rattle.ir_fit.specs.Follower.{GoesOn, IsFollower, IsSized};
+ghost use Rattle.ir_fit.specs.Passed.{IsAlong, ArePassed};
+ghost use Rattle.ir_image.specs.Guest.{Guest};
 
 use crate::follower::Follower;
 use crate::follower::look::{Look, Move};
+use crate::follower::passing::Passing;
 use crate::follower::readiness::Readiness;
-use ir_object::{Gate, MOST_UNTOLD, Untold};
+use ir_object::{Gate, Untold};
 
 impl Follower<'_> {
-    // Thread t continues while its steps follow the trace. The gate is told of its steps now and then.
-    pub fn advance<G: Gate>(&mut self, t: usize, gate: &G)
+    // Thread t continues while its steps follow the trace, up to where it pauses. The gate is told of its steps now and then.
+    pub fn advance<G: Gate>(&mut self, t: usize, pause: u64, gate: &G)
         requires sized { IsSized self.old }
         requires thread { t < length self.old.flat.threads }
         ensures goes { GoesOn self.old.trace self.old.flat self.old.places.items self.new.flat self.new.places.items }
@@ -22,7 +25,8 @@ impl Follower<'_> {
         let mut untold = Untold::new();
         'steps: loop {
             let ahead = self.steps_left(t);
-            let (taken, asked) = self.flat.run_to_ask(t, ahead.min(MOST_UNTOLD));
+            let stretch = self.stretch(t, ahead, pause);
+            let (taken, asked) = self.flat.run_to_ask(t, stretch);
             // With the step that it took before.
             untold.add(gate, number, taken.saturating_add(1));
             let look = self.look_at(t, asked);
@@ -32,6 +36,11 @@ impl Follower<'_> {
                 return;
             };
             self.take(next);
+            if self.thread(t).steps() >= pause {
+                self.pause(t);
+                untold.tell(gate, number);
+                return;
+            }
         }
     }
 
@@ -70,9 +79,9 @@ impl Follower<'_> {
         None
     }
 
-    // A step that follows the trace, of a thread that is ready before others. That there is none rests on a last look at
-    // each thread, and not on what is known of those that wait.
-    fn next(&mut self) -> Option<Move>
+    // A step that follows the trace, of a thread that is ready before others, and of one that paused where none is ready. That there is
+    // none rests on a last look at each thread, and not on what is known of those that wait.
+    fn next(&mut self, passing: &mut Passing) -> Option<Move>
         requires { IsSized self.old }
         ensures flat { self.new.flat ≡ self.old.flat }
         ensures places { self.new.places.items ≡ self.old.places.items }
@@ -80,24 +89,30 @@ impl Follower<'_> {
         ensures sized { IsSized self.new }
         ensures follows { IfSome result (λ next. IsMove self.old.trace self.old.flat next) }
         ensures none { IfNone result ((t : ℕ) → t < length self.old.flat.threads → IsStopped self.old.trace self.old.flat t) }
+        ensures passed { (guest : Guest) → IsAlong guest self.old.trace self.old.flat → ArePassed guest self.old.trace passing.old.states.items → ArePassed guest self.old.trace passing.new.states.items }
     {
+        if let Some(next) = self.ready_step() {
+            return Some(next);
+        }
+        self.pass(passing);
         match self.ready_step() {
             Some(next) => Some(next),
             None => self.last_look(),
         }
     }
 
-    // Continues while any thread has a step that follows.
-    pub fn follow<G: Gate>(&mut self, gate: &G)
+    // Continues while any thread has a step that follows, and keeps states on the way.
+    pub fn follow<G: Gate>(&mut self, passing: &mut Passing, gate: &G)
         requires { IsSized self.old }
         ensures goes { GoesOn self.old.trace self.old.flat self.old.places.items self.new.flat self.new.places.items }
         ensures trace { self.new.trace ≡ self.old.trace }
         ensures sized { IsSized self.new }
         ensures stopped { (t : ℕ) → t < length self.new.flat.threads → IsStopped self.new.trace self.new.flat t }
+        ensures passed { (guest : Guest) → IsFollower guest self.old.trace self.old.flat self.old.places.items → ArePassed guest self.old.trace passing.old.states.items → ArePassed guest self.old.trace passing.new.states.items }
     {
-        'moves: while let Some(next) = self.next() {
+        'moves: while let Some(next) = self.next(passing) {
             self.take(next);
-            self.advance(next.thread, gate);
+            self.advance(next.thread, passing.pause_of(next.thread), gate);
         }
     }
 }

@@ -19,7 +19,7 @@ returns-in_default g c = record {
       (sym c.note.ensures.places)
       (went_further c.args.self.now.trace c.steps.self.trace c.args.self.now.flat c.steps.self.flat c.run_to_ask-taken.new.self
       c.args.self.now.places.items c.steps.self.places.items c.args.t c.run_to_ask-taken.result.0 c.steps_left-ahead.result
-      c.steps.invariant.trace c.steps.invariant.goes c.run_to_ask-taken.ensures.went (let a = c.run_to_ask-taken.ensures.within in let m = c.min.ensures in omega (arith, a, m))
+      c.steps.invariant.trace c.steps.invariant.goes c.run_to_ask-taken.ensures.went (let a = c.run_to_ask-taken.ensures.within in let m = c.stretch-stretch.ensures in omega (arith, a, m))
       c.steps_left-ahead.ensures));
   trace = c.note.ensures.trace ∙ c.steps.invariant.trace;
   sized = c.note.ensures.sized;
@@ -34,7 +34,7 @@ steps-preserved g c = record {
   goes = moved_further c.args.self.now.trace c.steps.self.trace c.args.self.now.flat c.steps.self.flat c.run_to_ask-taken.new.self
       c.take.new.self.flat c.args.self.now.places.items c.steps.self.places.items c.take.new.self.places.items c.args.t
       c.run_to_ask-taken.result.0 c.steps_left-ahead.result c.steps.invariant.trace c.steps.invariant.goes c.run_to_ask-taken.ensures.went
-      (let a = c.run_to_ask-taken.ensures.within in let m = c.min.ensures in omega (arith, a, m)) c.steps_left-ahead.ensures c.take.ensures.goes;
+      (let a = c.run_to_ask-taken.ensures.within in let m = c.stretch-stretch.ensures in omega (arith, a, m)) c.steps_left-ahead.ensures c.take.ensures.goes;
   trace = c.take.ensures.trace ∙ c.steps.invariant.trace;
   sized = c.take.ensures.sized;
 }
@@ -57,3 +57,13 @@ take-requires-clause-sized g c = record {
   placed = went_placed c.steps.self.trace c.steps.self.flat c.run_to_ask-taken.new.self c.steps.self.places.items c.args.t
       c.run_to_ask-taken.result.0 c.steps.invariant.sized.placed c.run_to_ask-taken.ensures.went;
 }
+
+pub returns-then-steps-pause-clause-goes : goal.returns-then-steps-pause-clause-goes
+returns-then-steps-pause-clause-goes g c = subst (λ z. GoesOn c.args.self.now.trace c.args.self.now.flat c.args.self.now.places.items z c.pause.new.self.places.items)
+    (sym c.pause.ensures.flat)
+    (subst (GoesOn c.args.self.now.trace c.args.self.now.flat c.args.self.now.places.items c.take.new.self.flat)
+    (sym c.pause.ensures.places)
+    (moved_further c.args.self.now.trace c.steps.self.trace c.args.self.now.flat c.steps.self.flat c.run_to_ask-taken.new.self
+    c.take.new.self.flat c.args.self.now.places.items c.steps.self.places.items c.take.new.self.places.items c.args.t
+    c.run_to_ask-taken.result.0 c.steps_left-ahead.result c.steps.invariant.trace c.steps.invariant.goes c.run_to_ask-taken.ensures.went
+    (let a = c.run_to_ask-taken.ensures.within in let m = c.stretch-stretch.ensures in omega (arith, a, m)) c.steps_left-ahead.ensures c.take.ensures.goes))

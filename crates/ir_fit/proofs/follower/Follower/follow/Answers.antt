@@ -1,5 +1,6 @@
 use Rattle.std.proofs.Common.{refl, ◌∙◌}
 use Rattle.ir_fit.proofs.Moves.{stays, chained, chained_less}
+use Rattle.ir_fit.proofs.Passed.{along_of, passed_on}
 use Rattle.ir_fit.proofs.follower.Follower.follow.Goals as goal
 
 pub moves-init : goal.moves-init
@@ -8,6 +9,7 @@ moves-init g c = record {
   trace = refl;
   sized =
       c.requires;
+  passed = λ guest k passed. passed;
 }
 
 pub moves-preserved : goal.moves-preserved
@@ -20,7 +22,17 @@ moves-preserved g c = record {
       c.take.ensures.trace c.advance.ensures.goes;
   trace = c.advance.ensures.trace ∙ c.take.ensures.trace ∙ c.next.ensures.trace ∙ c.moves.invariant.trace;
   sized = c.advance.ensures.sized;
+  passed = λ guest k passed. passed_on guest c.args.self.now.trace c.moves.self.trace c.moves.self.flat c.moves.self.flat
+      c.moves.passing.states.items c.next.new.passing.states.items c.moves.invariant.trace refl (c.next.ensures.passed guest)
+      (along_of guest c.args.self.now.trace c.moves.self.flat c.moves.self.places.items (c.moves.invariant.goes.follows guest k))
+      (c.moves.invariant.passed guest k passed);
 }
+
+pub returns-clause-passed : goal.returns-clause-passed
+returns-clause-passed g c = λ guest k passed. passed_on guest c.args.self.now.trace c.moves.self.trace c.moves.self.flat c.moves.self.flat
+    c.moves.passing.states.items c.next.new.passing.states.items c.moves.invariant.trace refl (c.next.ensures.passed guest)
+    (along_of guest c.args.self.now.trace c.moves.self.flat c.moves.self.places.items (c.moves.invariant.goes.follows guest k))
+    (c.moves.invariant.passed guest k passed)
 
 pub moves-smaller : goal.moves-smaller
 moves-smaller g c = chained_less c.moves.self.trace c.next.new.self.trace c.take.new.self.trace c.advance.new.self.trace c.moves.self.flat

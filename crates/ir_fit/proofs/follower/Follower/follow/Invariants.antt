@@ -1,5 +1,7 @@
 use Rattle.std.proofs.Common.{◌≡◌}
-use Rattle.ir_fit.specs.Follower.{all_ahead, GoesOn, IsSized}
+use Rattle.ir_fit.specs.Follower.{all_ahead, GoesOn, IsFollower, IsSized}
+use Rattle.ir_fit.specs.Passed.{ArePassed}
+use Rattle.ir_image.specs.Guest.{Guest}
 use Rattle.ir_fit.proofs.follower.Follower.follow.Given as goal
 
 abbrev pub invariant-moves : goal.invariant-moves
@@ -7,6 +9,8 @@ invariant-moves g l = record {
   goes : GoesOn l.fn.self.trace l.fn.self.flat l.fn.self.places.items l.self.flat l.self.places.items;
   trace : l.self.trace ≡ l.fn.self.trace;
   sized : IsSized l.self;
+  passed : (guest : Guest) → IsFollower guest l.fn.self.trace l.fn.self.flat l.fn.self.places.items
+      → ArePassed guest l.fn.self.trace l.fn.passing.states.items → ArePassed guest l.fn.self.trace l.passing.states.items;
 }
 
 abbrev pub decreases-moves : goal.decreases-moves

@@ -5,7 +5,7 @@ use Rattle.ir_flat.specs.Flat.{start_flat}
 use Rattle.ir_flat.proofs.CallerLemmas.{threads_length}
 use Rattle.ir_fit.specs.Ahead.{IsStopped}
 use Rattle.ir_fit.proofs.Guests.{allowed}
-use Rattle.ir_fit.proofs.Moves.{followed_there, start_placed, start_none, room_for}
+use Rattle.ir_fit.proofs.Moves.{followed_there, start_follower, start_placed, start_none, room_for}
 use Rattle.ir_fit.proofs.follower.ending.followed.Goals as goal
 
 pub start-requires-clause-allowed : goal.start-requires-clause-allowed
@@ -37,3 +37,12 @@ returns-clause-followed g c =
     followed_there c.args.image.now c.args.trace c.in_ok-flat.flat c.follow.new.self.flat c.in_ok-places.places.items
     c.follow.new.self.places.items start (start_none c.args.trace c.in_ok-places.places.items rooms) c.follow.ensures.goes
     (λ t l. subst (λ z. IsStopped z c.follow.new.self.flat t) c.follow.ensures.trace (c.follow.ensures.stopped t l))
+
+pub returns-clause-passed : goal.returns-clause-passed
+returns-clause-passed g c =
+    let start : c.in_ok-flat.flat ≡ start_flat c.args.image.now c.args.trace.budget c.args.trace.profile = c.in_ok-flat.ensures
+    ∙ (λ i. start_flat c.args.image.now (c.budget.ensures.value i) (c.profile.ensures i)) in
+    let rooms : c.in_ok-places.places.items ≡ map room_for c.args.trace.threads = c.in_ok-places.ensures
+    ∙ ap (map room_for) c.threads.ensures.value in
+    c.follow.ensures.passed c.args.image.now (start_follower c.args.image.now c.args.trace c.in_ok-flat.flat c.in_ok-places.places.items start
+    (start_none c.args.trace c.in_ok-places.places.items rooms))

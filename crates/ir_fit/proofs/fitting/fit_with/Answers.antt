@@ -8,7 +8,7 @@ use Rattle.ir_fit.specs.Follower.{AreStanding}
 use Rattle.ir_runs.specs.declared.thread_verdict.ThreadVerdict.{ThreadVerdict}
 use Rattle.ir_trace.specs.TraceOf.{trace_of}
 use Rattle.ir_fit.proofs.Furthest.{breaks_refuse, threads_refuse, threads_accept}
-use Rattle.ir_fit.proofs.fitting.fit.Goals as goal
+use Rattle.ir_fit.proofs.fitting.fit_with.Goals as goal
 
 pub returns-in_err-coherent-clause-refused : goal.returns-in_err-coherent-clause-refused
 returns-in_err-coherent-clause-refused g c =
