@@ -201,6 +201,9 @@ def merge_lines(text):
     seen = {}
     out = []
     for l in text.split('\n'):
+        if l == '}':
+            # what a block imports is its own
+            seen = {k: v for k, v in seen.items() if not k[0][0].isspace()}
         m = re.match(r"^([ \t]*(?:ghost )?use )(Rattle\.ir_\w+\.specs\.[\w.]+?)\.\{([^}]*)\}(;?)$", l)
         if m:
             key = (m[1], m[2])
