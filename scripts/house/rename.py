@@ -1,106 +1,149 @@
 #!/usr/bin/env python3
-"""rename.py TREE: gives definitions of specs/ other names, by the list RENAMES, wherever a file names them.
+"""rename.py TREE [--dry] TABLE..: gives definitions of specs/ and lemmas of proofs/ other names wherever a file names them.
 
-A file names a definition if its own module defines it, or by an import, an alias or a whole path. In the code only clauses, what is ghost
-and named tactics are changed.
+A line of a table is `crate kind module old new`: kind is specs or proofs, the module is the file's path with dots. A file names an item if
+its own module has it, or by an import, an alias or a whole path; what a module offers again has the new name there too. In the code only
+clauses, what is ghost and named tactics are changed. With --dry nothing is written. Faults are printed, and then nothing is written either:
+no such item, a new name that the module or a file that imports it has already, two rows for one item.
 """
-import re, sys
+import re
+import sys
 from pathlib import Path
 
-TREE = Path(sys.argv[1])
-# crate, module, old name, new name
-RENAMES = [
-    ("ir_stream", "Answers", "Answered", "LinesAnswered"),
-    ("ir_stream", "Answers", "Cut", "SplitBytes"),
-    ("ir_stream", "Answers", "cut", "split_lines"),
-    ("ir_stream", "Answers", "cut_of", "split_of"),
-    ("ir_stream", "Answers", "Reads", "ReadsUpTo"),
-    ("ir_bytes", "Reading", "Reads", "IsRead"),
-    ("ir_thread", "State", "State", "ThreadState"),
-    ("ir_image", "Guest", "magic", "image_magic"),
-    ("ir_trace", "Reading", "magic", "trace_magic"),
-    ("ir_image", "Reading", "magic_field", "image_magic_field"),
-    ("ir_trace", "Reading", "magic_field", "trace_magic_field"),
-    ("ir_image", "Reading", "objects_field", "image_objects_field"),
-    ("ir_trace", "Reading", "objects_field", "trace_objects_field"),
-    ("ir_image", "Reading", "threads_field", "image_threads_field"),
-    ("ir_trace", "Reading", "threads_field", "trace_threads_field"),
-    ("ir_debug", "Machine.Desk", "moved", "desk_at"),
-    ("ir_runs", "Run", "moved", "after_act"),
-    ("ir_mach", "Memory", "number_at", "memory_number"),
-    ("ir_image", "Reading", "number_of", "image_fault_number"),
-    ("ir_trace", "Reading", "number_of", "trace_fault_number"),
-    ("ir_image", "Reading", "refusal_number", "image_refusal_number"),
-    ("ir_disasm", "Printed", "printed", "instruction_text"),
-    ("ir_thread", "Calls", "printed_by", "call_output"),
-    ("ir_thread", "Calls", "printed", "next_output"),
-    ("ir_trace", "Reading", "thread_at", "thread_part_at"),
-    ("ir_image", "Guest", "word_at", "word_at_pc"),
-]
-NAME = r"[^\s(){}\[\].,;λ⟨⟩]"
+DRY = "--dry" in sys.argv
+ARGS = [a for a in sys.argv[1:] if a != "--dry"]
+TREE = Path(ARGS[0])
+ITEM = re.compile(r"^(?:pub |abbrev |unfoldable |macro |rigid )*(?:record |data )?([^\s:{}()]+)", re.M)
+LIST = r"(Rattle\.(ir_\w+)\.(specs|proofs)\.([\w.\-]+?)\.\{)([^}]*)(\})"
+CLAUSES = ("ghost ", "requires", "ensures", "decreases", "invariant", "maintains", "measure", "#[tactic")
 
 
-def word(name, before=r"(?<![\w.'-])"):
-    return re.compile(before + re.escape(name) + r"(?![\w'-])")
-
-
-def code_parts(text):
-    """(is it named in clauses?, piece) of a .rt file, by lines"""
+def ghostly(text):
+    """(is it a clause's?, line) of a .rt file"""
     depth = 0
     for line in text.splitlines(keepends=True):
-        stripped = line.lstrip()
-        ghost = depth > 0 or stripped.startswith(("ghost ", "requires", "ensures", "decreases", "invariant", "maintains", "measure", "#[tactic"))
+        bare = line.lstrip()
+        ghost = depth > 0 or bare.startswith(CLAUSES)
         yield ghost, line
-        if ghost and not stripped.startswith("#["):
+        if ghost and not bare.startswith("#["):
             depth = max(0, depth + line.count("{") - line.count("}"))
-            if stripped.startswith("//"): pass
 
 
-def change(path, text, crate, module, old, new):
-    full = f"Rattle.{crate}.specs.{module}"
-    own = path == TREE / "crates" / crate / "specs" / (module.replace(".", "/") + ".antt")
-    local = own
-    # imports
-    def lists(m):
-        nonlocal local
-        items = [x.strip() for x in m[2].split(",")]
-        out = []
-        for x in items:
-            name, _, alias = x.partition(" as ")
-            if name.strip() == old:
-                if alias: out.append(f"{new} as {alias.strip()}")
-                else: local = True; out.append(new)
-            else: out.append(x)
-        return m[1] + ", ".join(out) + m[3]
-    text = re.sub(rf"({re.escape(full)}\.\{{)([^}}]*)(\}})", lists, text)
-    aliases = re.findall(rf"{re.escape(full)} as (\w+)", text)
-    text = re.sub(re.escape(full + "." + old) + r"(?![\w'-])", full + "." + new, text)
-    for a in aliases:
-        text = re.sub(rf"(?<![\w.]){a}\.{re.escape(old)}(?![\w'-])", f"{a}.{new}", text)
-    text = re.sub(rf"(?<=crate::specs::{module.replace('.', '::')}::){re.escape(old)}(?![\w'-])", new, text) if f"crates/{crate}/" in str(path) else text
-    if local:
-        pattern = word(old)
-        if path.suffix == ".antt":
-            lines = []
-            for line in text.split("\n"):
-                if re.match(r"^(pub )?use ", line): lines.append(line); continue
-                body, sep, comment = line.partition("--")
-                lines.append(pattern.sub(new, body) + sep + comment)
-            text = "\n".join(lines)
-        else:
-            text = "".join(pattern.sub(new, line) if ghost and not re.match(r"\s*ghost use ", line) else line for ghost, line in code_parts(text))
-    return text
+FILES = {f: f.read_text() for f in (TREE / "crates").rglob("*") if f.suffix in (".rt", ".antt") and "/out/" not in str(f)}
+
+
+def module_of(path):
+    parts = path.relative_to(TREE / "crates").with_suffix("").parts
+    return (parts[0], parts[1], ".".join(parts[2:])) if path.suffix == ".antt" and parts[1] in ("specs", "proofs") else None
+
+
+MODULES = {module_of(f): f for f in FILES if module_of(f)}
+
+
+def rows():
+    for table in ARGS[1:]:
+        for n, line in enumerate(Path(table).read_text().splitlines(), 1):
+            if line.strip() and not line.startswith("#"):
+                parts = line.split()
+                if len(parts) != 5: print(f"{table}:{n}: not five words: {line}"); continue
+                yield f"{table}:{n}", tuple(parts[:3]), parts[3], parts[4]
+
+
+def offered_again(module, old):
+    """modules that offer an item of a module again"""
+    full = "Rattle." + ".".join(module)
+    for other, f in MODULES.items():
+        for m in re.finditer(rf"^pub use {re.escape(full)}\.\{{([^}}]*)\}}", FILES[f], re.M):
+            if old in [x.strip() for x in m[1].split(",")]: yield other
 
 
 def main():
-    files = [f for f in (TREE / "crates").rglob("*") if f.suffix in (".rt", ".antt")]
-    for f in files:
-        text = before = f.read_text()
-        for crate, module, old, new in RENAMES:
-            own = f == TREE / "crates" / crate / "specs" / (module.replace(".", "/") + ".antt")
-            if own or f"{crate}.specs.{module}" in text or f"specs::{module.replace('.', '::')}::{old}" in text:
-                text = change(f, text, crate, module, old, new)
-        if text != before: f.write_text(text)
+    table, faults = {}, []
+    for where, module, old, new in rows():
+        if module not in MODULES: faults.append(f"{where}: no module {' '.join(module)}"); continue
+        here = set(ITEM.findall(FILES[MODULES[module]]))
+        if old not in here: faults.append(f"{where}: {' '.join(module)} has no {old}"); continue
+        if not re.fullmatch(r"[A-Za-z][A-Za-z0-9_]*", new): faults.append(f"{where}: {new} is no name"); continue
+        if new in here and (module, new) not in {(m, o) for _, m, o, _ in rows()}: faults.append(f"{where}: {' '.join(module)} has {new} already"); continue
+        if table.get((module, old), new) != new: faults.append(f"{where}: a second row for {old}"); continue
+        table[module, old] = new
+        queue = [module]
+        while queue:
+            for other in offered_again(queue.pop(), old):
+                if (other, old) not in table: table[other, old] = new; queue.append(other)
+    news = {}
+    for (module, old), new in table.items(): news.setdefault((module, new), set()).add(old)
+    faults += [f"two items of {' '.join(m)} become {n}: {sorted(o)}" for (m, n), o in news.items() if len(o) > 1]
+    by_module = {}
+    for (module, old), new in table.items(): by_module.setdefault(module, {})[old] = new
+    out = {}
+    for f, text in FILES.items():
+        new_text, clash = changed(f, text, by_module)
+        faults += clash
+        if new_text != text: out[f] = new_text
+    print("\n".join(faults[:200]) if faults else f"{len(table)} names, {len(out)} files")
+    if not faults and not DRY:
+        for f, text in out.items(): f.write_text(text)
+    return 1 if faults else 0
 
 
-main()
+def changed(f, text, by_module):
+    own = module_of(f)
+    local = dict(by_module.get(own, {})) if own else {}
+    taken = set(ITEM.findall(text)) if own else set()
+    imported, clash = {}, []
+    for m in re.finditer(LIST, text):
+        for x in m[5].split(","):
+            name, _, alias = x.strip().partition(" as ")
+            imported.setdefault((alias or name).strip(), set()).add(m[0][:40])
+    for m in re.finditer(LIST, text):
+        names = by_module.get((m[2], m[3], m[4]), {})
+        for x in m[5].split(","):
+            x = x.strip()
+            if x in names:
+                new = names[x]
+                if new != x and (new in imported or (new in taken and new not in local)) and new not in local: clash.append(f"{f.relative_to(TREE)}: {x} becomes {new}, which it has")
+                if local.get(x, new) != new: clash.append(f"{f.relative_to(TREE)}: {x} of two modules")
+                local[x] = new
+
+    def lists(m):
+        names = by_module.get((m[2], m[3], m[4]), {})
+        items = []
+        for x in m[5].split(","):
+            name, mid, alias = x.strip().partition(" as ")
+            items.append(names.get(name.strip(), name.strip()) + mid + alias)
+        return m[1] + ", ".join(items) + m[6]
+
+    text = re.sub(LIST, lists, text)
+    for module, names in by_module.items():
+        full = "Rattle." + ".".join(module)
+        path = "::".join(["", module[1], *module[2].split("."), ""])
+        if full in text or path in text:
+            aliases = re.findall(rf"{re.escape(full)} as (\w+)", text)
+            for old, new in names.items():
+                text = re.sub(re.escape(full + "." + old) + r"(?![\w'-])", full + "." + new, text)
+                prefix = "crate" if f.relative_to(TREE / "crates").parts[0] == module[0] else module[0]
+                text = re.sub(re.escape(prefix + path + old) + r"(?![\w'-])", prefix + path + new, text)
+                for a in aliases: text = re.sub(rf"(?<![\w.]){a}\.{re.escape(old)}(?![\w'-])", f"{a}.{new}", text)
+    if not local: return text, clash
+    pattern = re.compile(r"(?<![\w.'-])(" + "|".join(re.escape(x) for x in sorted(local, key=len, reverse=True)) + r")(?![\w'-])")
+
+    def put(line):
+        def one(m):
+            before, after = line[:m.start()], line[m.end():]
+            # a record's field
+            if re.match(r" *(=|:)(?![:=])", after) and (re.search(r"[{;]\s*$", before) or (before.strip() in ("", "pub") and before[:1] == " ")): return m[0]
+            return local[m[0]]
+        return pattern.sub(one, line)
+
+    if f.suffix == ".antt":
+        lines, in_use = [], False
+        for line in text.split("\n"):
+            if re.match(r"(pub )?use ", line): lines.append(line); continue
+            body, sep, comment = line.partition("--")
+            lines.append(put(body) + sep + comment)
+        return "\n".join(lines), clash
+    return "".join(put(line) if g and not re.match(r"\s*ghost use ", line) else line for g, line in ghostly(text)), clash
+
+
+sys.exit(main())
