@@ -15,6 +15,9 @@ ARGS = [a for a in sys.argv[1:] if a != "--dry"]
 TREE = Path(ARGS[0])
 ITEM = re.compile(r"^(?:pub |abbrev |unfoldable |macro |rigid )*(?:record |data )?([^\s:{}()]+)", re.M)
 LIST = r"(Rattle\.(ir_\w+)\.(specs|proofs)\.([\w.\-]+?)\.\{)([^}]*)(\})"
+ALIAS = re.compile(r"Rattle\.(ir_\w+)\.(specs|proofs)\.([\w.\-]+?) as (\w+)")
+WHOLE = re.compile(r"Rattle\.(ir_\w+)\.(specs|proofs)\.([\w.\-]+)\.([\w'-]+)")
+PATH = re.compile(r"\b(ir_\w+|crate)::(specs|proofs)::((?:\w+::)+\w+)")
 CLAUSES = ("ghost ", "requires", "ensures", "decreases", "invariant", "maintains", "measure", "#[tactic")
 
 
@@ -49,22 +52,27 @@ def rows():
                 yield f"{table}:{n}", tuple(parts[:3]), parts[3], parts[4]
 
 
+AGAIN = {}
+for other, f in MODULES.items():
+    for m in re.finditer(r"^pub use Rattle\.(ir_\w+)\.(specs|proofs)\.([\w.\-]+?)\.\{([^}]*)\}", FILES[f], re.M):
+        for x in m[4].split(","): AGAIN.setdefault(((m[1], m[2], m[3]), x.strip()), []).append(other)
+
+
 def offered_again(module, old):
     """modules that offer an item of a module again"""
-    full = "Rattle." + ".".join(module)
-    for other, f in MODULES.items():
-        for m in re.finditer(rf"^pub use {re.escape(full)}\.\{{([^}}]*)\}}", FILES[f], re.M):
-            if old in [x.strip() for x in m[1].split(",")]: yield other
+    return AGAIN.get((module, old), [])
 
 
 def main():
     table, faults = {}, []
-    for where, module, old, new in rows():
+    every = list(rows())
+    listed = {(m, o) for _, m, o, _ in every}
+    for where, module, old, new in every:
         if module not in MODULES: faults.append(f"{where}: no module {' '.join(module)}"); continue
         here = set(ITEM.findall(FILES[MODULES[module]]))
         if old not in here: faults.append(f"{where}: {' '.join(module)} has no {old}"); continue
         if not re.fullmatch(r"[A-Za-z][A-Za-z0-9_]*", new): faults.append(f"{where}: {new} is no name"); continue
-        if new in here and (module, new) not in {(m, o) for _, m, o, _ in rows()}: faults.append(f"{where}: {' '.join(module)} has {new} already"); continue
+        if new in here and (module, new) not in listed: faults.append(f"{where}: {' '.join(module)} has {new} already"); continue
         if table.get((module, old), new) != new: faults.append(f"{where}: a second row for {old}"); continue
         table[module, old] = new
         queue = [module]
@@ -115,16 +123,26 @@ def changed(f, text, by_module):
         return m[1] + ", ".join(items) + m[6]
 
     text = re.sub(LIST, lists, text)
-    for module, names in by_module.items():
-        full = "Rattle." + ".".join(module)
-        path = "::".join(["", module[1], *module[2].split("."), ""])
-        if full in text or path in text:
-            aliases = re.findall(rf"{re.escape(full)} as (\w+)", text)
-            for old, new in names.items():
-                text = re.sub(re.escape(full + "." + old) + r"(?![\w'-])", full + "." + new, text)
-                prefix = "crate" if f.relative_to(TREE / "crates").parts[0] == module[0] else module[0]
-                text = re.sub(re.escape(prefix + path + old) + r"(?![\w'-])", prefix + path + new, text)
-                for a in aliases: text = re.sub(rf"(?<![\w.]){a}\.{re.escape(old)}(?![\w'-])", f"{a}.{new}", text)
+    aliases = {}
+    for m in ALIAS.finditer(text):
+        if (m[1], m[2], m[3]) in by_module: aliases[m[4]] = by_module[m[1], m[2], m[3]]
+
+    def whole(m):
+        names = by_module.get((m[1], m[2], m[3]), {})
+        return f"Rattle.{m[1]}.{m[2]}.{m[3]}.{names[m[4]]}" if m[4] in names else m[0]
+
+    text = WHOLE.sub(whole, text)
+    crate = f.relative_to(TREE / "crates").parts[0]
+
+    def path(m):
+        *modules, name = m[3].split("::")
+        names = by_module.get((crate if m[1] == "crate" else m[1], m[2], ".".join(modules)), {})
+        return f"{m[1]}::{m[2]}::" + "::".join([*modules, names[name]]) if name in names else m[0]
+
+    if f.suffix == ".rt": text = PATH.sub(path, text)
+    if aliases:
+        dotted = re.compile(r"(?<![\w.'])(" + "|".join(map(re.escape, aliases)) + r")\.([\w'-]+)")
+        text = dotted.sub(lambda m: f"{m[1]}.{aliases[m[1]].get(m[2], m[2])}", text)
     if not local: return text, clash
     pattern = re.compile(r"(?<![\w.'-])(" + "|".join(re.escape(x) for x in sorted(local, key=len, reverse=True)) + r")(?![\w'-])")
 
