@@ -149,6 +149,8 @@ def changed(f, text, by_module):
     def put(line):
         def one(m):
             before, after = line[:m.start()], line[m.end():]
+            # a text
+            if before.count('"') % 2: return m[0]
             # a record's field
             if re.match(r" *(=|:)(?![:=])", after) and (re.search(r"[{;]\s*$", before) or (before.strip() in ("", "pub") and before[:1] == " ")): return m[0]
             return local[m[0]]
