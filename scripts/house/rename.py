@@ -64,13 +64,13 @@ def offered_again(module, old):
 
 
 def main():
-    table, faults = {}, []
+    table, faults, gone = {}, [], 0
     every = list(rows())
     listed = {(m, o) for _, m, o, _ in every}
     for where, module, old, new in every:
-        if module not in MODULES: faults.append(f"{where}: no module {' '.join(module)}"); continue
+        if module not in MODULES: gone += 1; continue
         here = set(ITEM.findall(FILES[MODULES[module]]))
-        if old not in here: faults.append(f"{where}: {' '.join(module)} has no {old}"); continue
+        if old not in here: gone += 1; continue
         if not re.fullmatch(r"[A-Za-z][A-Za-z0-9_]*", new): faults.append(f"{where}: {new} is no name"); continue
         if new in here and (module, new) not in listed: faults.append(f"{where}: {' '.join(module)} has {new} already"); continue
         if table.get((module, old), new) != new: faults.append(f"{where}: a second row for {old}"); continue
@@ -89,7 +89,7 @@ def main():
         new_text, clash = changed(f, text, by_module)
         faults += clash
         if new_text != text: out[f] = new_text
-    print("\n".join(faults[:200]) if faults else f"{len(table)} names, {len(out)} files")
+    print("\n".join(faults[:200]) if faults else f"{len(table)} names, {len(out)} files, {gone} rows of items that are gone")
     if not faults and not DRY:
         for f, text in out.items(): f.write_text(text)
     return 1 if faults else 0
@@ -113,6 +113,14 @@ def changed(f, text, by_module):
                 if new != x and (new in imported or (new in taken and new not in local)) and new not in local: clash.append(f"{f.relative_to(TREE)}: {x} becomes {new}, which it has")
                 if local.get(x, new) != new: clash.append(f"{f.relative_to(TREE)}: {x} of two modules")
                 local[x] = new
+
+    owned = {local.get(x, x) for x in taken} if own else set()
+    for m in re.finditer(LIST, text):
+        names = by_module.get((m[2], m[3], m[4]), {})
+        for x in m[5].split(","):
+            name, _, alias = x.strip().partition(" as ")
+            there = alias.strip() or names.get(name, name)
+            if there in owned and there and (name in names or there not in taken): clash.append(f"{f.relative_to(TREE)}: {name} becomes {there}, which it defines")
 
     def lists(m):
         names = by_module.get((m[2], m[3], m[4]), {})
@@ -146,15 +154,25 @@ def changed(f, text, by_module):
     if not local: return text, clash
     pattern = re.compile(r"(?<![\w.'-])(" + "|".join(re.escape(x) for x in sorted(local, key=len, reverse=True)) + r")(?![\w'-])")
 
+    fields, other_names = set(), set(re.findall(r"^(?:pub )?use [\w.\-]+ as (\w+)", text, re.M))
+
     def put(line):
+        if line[:1].strip(): fields.clear()
+        declared = re.match(r"\s+(?:pub )?([^\s:]+) :(?![:=])", line)
+
         def one(m):
             before, after = line[:m.start()], line[m.end():]
+            if m[0] in fields: return m[0]
+            # a module's other name
+            if after[:1] == "." and m[0] in other_names: return m[0]
             # a text
             if before.count('"') % 2: return m[0]
             # a record's field
             if re.match(r" *(=|:)(?![:=])", after) and (re.search(r"[{;]\s*$", before) or (before.strip() in ("", "pub") and before[:1] == " ")): return m[0]
             return local[m[0]]
-        return pattern.sub(one, line)
+        out = pattern.sub(one, line)
+        if declared and declared[1] in local: fields.add(declared[1])
+        return out
 
     if f.suffix == ".antt":
         lines, in_use = [], False
