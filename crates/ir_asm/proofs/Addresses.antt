@@ -3,7 +3,7 @@ use Rattle.std.proofs.Common.{◌≡◌, ◌<◌, ◌^◌, ℕ, true, List, [], 
 use Rattle.std.specs.Prelude.{not, ◌==◌, codes, ℤ, nat_abs}
 use Rattle.std.specs.List.{list_all}
 use Rattle.std.specs.Fmt.{signed_decimal}
-use Rattle.ir_isa.specs.Names.{register_name}
+use Rattle.ir_isa.specs.Fields.{register_name}
 use Rattle.ir_isa.specs.Words.{word_of}
 use Rattle.ir_isa.specs.declared.inst.Inst.TheVariants.{Jalr, Load, Store}
 use Rattle.ir_isa.specs.declared.inst.LoadOp.{LoadOp}
@@ -14,12 +14,11 @@ use Rattle.ir_isa.specs.declared.inst.Register.{Register}
 use Rattle.ir_isa.specs.declared.inst.Immediate.{Immediate}
 use Rattle.ir_asm.specs.declared.form.Form.TheVariants.{Loads, JumpsTo, Stores}
 use Rattle.ir_asm.specs.declared.item.Operand.TheVariants.{Index, Offset}
-use Rattle.ir_disasm.specs.Names.{load_name, store_name}
+use Rattle.ir_disasm.specs.Printed.{load_name, store_name, printed, address}
 use Rattle.ir_asm.specs.Forms.{form_named}
 use Rattle.ir_asm.specs.Operands.{operands_of, at_address, address as address_of}
 use Rattle.ir_asm.specs.Items.{instruction}
 use Rattle.ir_asm.specs.Passes.{assembled, IsWordGuest}
-use Rattle.ir_disasm.specs.Printed.{printed, address}
 use Rattle.ir_asm.proofs.Pieces.{all_append, clean, IsPiece, not_nil, split_at, split_one, trim_clean}
 use Rattle.ir_asm.proofs.Numbers.{register_again, register_piece, signed_again, signed_piece, signed_plain, register_plain, plain_open, plain_close}
 use Rattle.ir_asm.proofs.FieldLaws.{immediate_kept}

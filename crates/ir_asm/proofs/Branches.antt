@@ -4,9 +4,8 @@ use Rattle.std.specs.Prelude.{◌&&◌, not, ◌==◌, decimal, codes, ℤ, pos,
 use Rattle.std.specs.List.{list_all}
 use Rattle.std.proofs.lemmas.Bool.{and_parts, le-leb}
 use Rattle.std.proofs.lemmas.Grind.{common_steps}
-use Rattle.ir_isa.specs.Fields.{IsEven}
-use Rattle.ir_isa.specs.Names.{register_name}
-use Rattle.ir_isa.specs.Words.{word_of, low_bits}
+use Rattle.ir_isa.specs.Fields.{IsEven, low_bits, register_name}
+use Rattle.ir_isa.specs.Words.{word_of}
 use Rattle.ir_isa.specs.declared.inst.Inst.TheVariants.{Branch, Shift}
 use Rattle.ir_isa.specs.declared.inst.BranchOp.{BranchOp}
 use Rattle.ir_isa.specs.declared.inst.ShiftOp.{ShiftOp}
@@ -18,13 +17,12 @@ use Rattle.ir_asm.specs.declared.form.Form.TheVariants.{Shifts, Branches, Words}
 use Rattle.ir_asm.specs.declared.item.Operand.TheVariants.{Index, Integer}
 use Rattle.ir_asm.specs.declared.item.Item.TheVariants.{Code}
 use Rattle.ir_asm.specs.Text.{trim, trim_end}
-use Rattle.ir_disasm.specs.Names.{branch_name, shift_name}
+use Rattle.ir_disasm.specs.Printed.{branch_name, shift_name, one, far, distance, hex, printed}
 use Rattle.ir_asm.specs.Forms.{form_named}
 use Rattle.ir_asm.specs.Operands.{operands_of, int_le, is_even, distance_in, distance_text}
 use Rattle.ir_asm.specs.Items.{instruction}
 use Rattle.ir_asm.specs.Source.{texts_of, is_source_byte}
 use Rattle.ir_asm.specs.Passes.{assembled, IsWordGuest}
-use Rattle.ir_disasm.specs.Printed.{one, far, distance, hex, printed}
 use Rattle.ir_asm.proofs.Pieces.{all_append, clean, IsPiece, split_one, clean_lacks, trim_clean, end_clean, before_none, no_blank}
 use Rattle.ir_asm.proofs.Numbers.{register_again, register_piece, decimal_again, decimal_piece, hex_again, hex_clean, natural_number}
 use Rattle.ir_asm.proofs.FieldLaws.{branch_offset_kept, amount_kept}

@@ -5,7 +5,7 @@ use Rattle.std.specs.List.{list_all}
 use Rattle.std.specs.Fmt.{signed_decimal}
 use Rattle.std.proofs.lemmas.Bool.{and_parts}
 use Rattle.std.proofs.lemmas.Grind.{common_steps}
-use Rattle.ir_isa.specs.Names.{register_name}
+use Rattle.ir_isa.specs.Fields.{register_name}
 use Rattle.ir_isa.specs.Words.{word_of}
 use Rattle.ir_isa.specs.declared.inst.Inst.TheVariants.{OpImm, Op}
 use Rattle.ir_isa.specs.declared.inst.BranchOp.{BranchOp}
@@ -23,14 +23,13 @@ use Rattle.ir_asm.specs.declared.item.Operand.{Operand}
 use Rattle.ir_asm.specs.declared.item.Operand.TheVariants.{Index, Integer}
 use Rattle.ir_asm.specs.declared.item.Item.TheVariants.{Code}
 use Rattle.ir_asm.specs.Text.{before, trim, trim_end, is_blank, is_nil}
-use Rattle.ir_disasm.specs.Names.{branch_name, immediate_name, operation_name}
+use Rattle.ir_disasm.specs.Printed.{branch_name, immediate_name, operation_name, three, printed}
 use Rattle.ir_image.specs.declared.form.ImageForm.TheVariants.{Small}
 use Rattle.ir_asm.specs.Forms.{form_named, in_image, stands_in}
 use Rattle.ir_asm.specs.Operands.{operands_of, int_le}
 use Rattle.ir_asm.specs.Items.{instruction, item_of}
 use Rattle.ir_asm.specs.Source.{operand_texts, texts_of, is_source_byte, may_stand}
 use Rattle.ir_asm.specs.Passes.{assembled, IsWordGuest}
-use Rattle.ir_disasm.specs.Printed.{three, printed}
 use Rattle.ir_asm.proofs.Pieces.{lacks, all_append, clean, IsPiece, start_kept, not_nil, name_before, name_after, split_at, split_one, clean_lacks, trim_clean, end_clean, parts, before_none}
 use Rattle.ir_asm.proofs.Numbers.{register_again, register_piece, signed_again, signed_piece}
 use Rattle.ir_asm.proofs.FieldLaws.{immediate_kept}

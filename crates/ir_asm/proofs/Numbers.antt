@@ -9,7 +9,7 @@ use Rattle.std.proofs.lemmas.Fmt.{decimal_is_IsNumeral, length-decimal-le}
 use Rattle.std.proofs.lemmas.Bool.{and_parts, lt-ltb, le-leb, eqb-true, eqb-false}
 use Rattle.std.proofs.lemmas.Grind.{common_steps}
 use Rattle.ir_asm.specs.Text.{is_nil, numeral, natural, number, starts_hex, first_byte}
-use Rattle.ir_isa.specs.Names.{register_name}
+use Rattle.ir_isa.specs.Fields.{register_name}
 use Rattle.ir_isa.specs.declared.inst.Register.{Register}
 use Rattle.ir_asm.specs.Fields.{register_of}
 use Rattle.ir_asm.specs.Names.{named, register_rows, register}

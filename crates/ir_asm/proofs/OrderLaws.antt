@@ -2,8 +2,7 @@
 use Rattle.std.proofs.Common.{◌≡◌, ◌+◌, ◌*◌, ◌≤◌, ◌<◌, ℕ, List, [], ◌∷◌, ◌++◌, Ok, not, is_some, refl, ap, subst, arith}
 use Rattle.std.specs.Prelude.{nat_le, nat_lt}
 use Rattle.std.specs.List.{AllByRecursion, list_all}
-use Rattle.ir_image.specs.Forms.{limits_of}
-use Rattle.ir_image.specs.Guest.{memory_size, most_code_words}
+use Rattle.ir_image.specs.Guest.{limits_of, memory_size, most_code_words}
 use Rattle.ir_asm.specs.Forms.{stated}
 use Rattle.ir_asm.specs.declared.cause.Cause.TheVariants.{LabelTwice, BadByte, BadLabel, BadSize, BadCount}
 use Rattle.ir_asm.specs.declared.form.Section.{Section}

@@ -3,7 +3,7 @@ use Rattle.std.proofs.Common.{◌≡◌, ◌<◌, ◌^◌, ℕ, Bool, true, List
 use Rattle.std.specs.Prelude.{◌&&◌, not, ◌==◌, codes, ℤ, pos, negsuc, nat_abs, ◌≤ℤ◌}
 use Rattle.std.specs.List.{list_all}
 use Rattle.std.proofs.lemmas.Grind.{common_steps}
-use Rattle.ir_isa.specs.Names.{register_name}
+use Rattle.ir_isa.specs.Fields.{register_name}
 use Rattle.ir_isa.specs.Words.{word_of}
 use Rattle.ir_isa.specs.declared.inst.Inst.TheVariants.{Jal}
 use Rattle.ir_isa.specs.declared.inst.Register.{Register}

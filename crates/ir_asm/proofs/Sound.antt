@@ -8,8 +8,8 @@ use Rattle.std.proofs.lemmas.List.Sums.{sum_by-append}
 use Rattle.byteorder.specs.Endian.{little_bytes}
 use Rattle.ir_image.specs.declared.form.ImageForm.{ImageForm}
 use Rattle.ir_image.specs.declared.form.ImageForm.TheVariants.{Large}
-use Rattle.ir_image.specs.Forms.{limits_of}
-use Rattle.ir_image.specs.Guest.{Guest, IsGuest, IsPlace, IsWord, IsByte, code_start, memory_size, most_code_words, object_words, object_count}
+use Rattle.ir_image.specs.Guest.{limits_of, Guest, IsWord, IsByte, code_start, memory_size, most_code_words, object_words, object_count}
+use Rattle.ir_image.specs.Within.{IsGuest, IsPlace}
 use Rattle.ir_image.proofs.CallerLemmas.{most_words, some_threads, threads_of, objects_of, count_of, whole_of}
 use Rattle.ir_asm.specs.declared.cause.Cause.TheVariants.{UnknownStatement, WrongSection, WrongOperands, BadNumber, BadSize, BadCount, BadByte, BadLabel, LabelTwice}
 use Rattle.ir_asm.specs.declared.form.Section.{Section}
@@ -22,7 +22,7 @@ use Rattle.ir_asm.specs.declared.item.Operand.TheVariants.{Index, Integer, Offse
 use Rattle.ir_asm.specs.declared.item.Item.{Item}
 use Rattle.ir_asm.specs.declared.item.Item.TheVariants.{Code, BranchTo, JumpTo, LoadAddress, Filled, Enlarged, Within, Entry, Count, First, Nothing}
 use Rattle.ir_asm.specs.declared.item.Placed.{Placed}
-use Rattle.ir_isa.specs.Words.{low_bits}
+use Rattle.ir_isa.specs.Fields.{low_bits}
 use Rattle.ir_asm.specs.Faults.{◌>>=◌, or_cause}
 use Rattle.ir_asm.specs.Forms.{form_named, stated, in_image, may_come, stands_in, takes, kind_at}
 use Rattle.ir_asm.specs.Operands.{int_le, number_in, read, read_all, are_formed, operands_of}

@@ -2,8 +2,8 @@
 use Rattle.std.proofs.Common.{◌≡◌, ◌/◌, ◌<◌, ◌^◌, ℕ, [], ◌∷◌, ◌++◌, Ok, refl, ap, arith}
 use Rattle.std.specs.Prelude.{decimal, codes, pos}
 use Rattle.std.proofs.lemmas.Bool.{le-leb}
-use Rattle.ir_isa.specs.Names.{register_name}
-use Rattle.ir_isa.specs.Words.{word_of, low_bits}
+use Rattle.ir_isa.specs.Fields.{register_name, low_bits}
+use Rattle.ir_isa.specs.Words.{word_of}
 use Rattle.ir_isa.specs.declared.inst.Inst.TheVariants.{Lui, Auipc, Fence}
 use Rattle.ir_isa.specs.declared.inst.Register.{Register}
 use Rattle.ir_isa.specs.declared.inst.Immediate.{Immediate}

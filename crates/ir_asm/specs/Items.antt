@@ -1,6 +1,7 @@
 -- What a statement places, one row a form.
 use Rattle.std.specs.Prelude.{ℕ, ◌+◌, ◌/◌, ◌^◌, List, [], ◌∷◌, replicate, pos}
-use Rattle.ir_isa.specs.Words.{low_bits, word_of}
+use Rattle.ir_isa.specs.Words.{word_of}
+use Rattle.ir_isa.specs.Fields.{low_bits}
 use Rattle.ir_isa.specs.declared.inst.Inst.{Inst}
 use Rattle.ir_isa.specs.declared.inst.Inst.TheVariants.{Lui, Auipc, Jal, Jalr, Branch, Load, Store, OpImm, Shift, Op, Fence, Ecall, Ebreak}
 use Rattle.ir_isa.specs.declared.inst.ImmediateOp.TheVariants.{Addi}

@@ -1,7 +1,7 @@
 -- The names of registers, and the operations of each kind.
 use Rattle.std.specs.Map.{lookup}
 use Rattle.std.specs.Prelude.{ℕ, ◌+◌, List, [], ◌∷◌, ◌++◌, codes, Option, Some, None, bytes_eq, option_map}
-use Rattle.ir_isa.specs.Names.{register_names}
+use Rattle.ir_isa.specs.Fields.{register_names}
 use Rattle.ir_isa.specs.declared.inst.Register.{Register}
 use Rattle.ir_asm.specs.Fields.{register_of}
 use Rattle.ir_isa.specs.declared.inst.BranchOp.{BranchOp}

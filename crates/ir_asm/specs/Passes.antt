@@ -3,8 +3,7 @@ use Rattle.std.specs.Prelude.{◌≡◌, ◌==◌, ◌&&◌, ℕ, ◌+◌, ◌-�
 use Rattle.ir_isa.specs.Words.{word_of}
 use Rattle.ir_isa.specs.declared.inst.Inst.TheVariants.{Jal, Branch}
 use Rattle.ir_image.specs.declared.form.ImageForm.TheVariants.{Small}
-use Rattle.ir_image.specs.Forms.{limits_of}
-use Rattle.ir_image.specs.Guest.{Guest, code_start, object_words, padded_to}
+use Rattle.ir_image.specs.Guest.{limits_of, Guest, code_start, object_words, padded_to}
 use Rattle.ir_asm.specs.declared.cause.Cause.{Cause}
 use Rattle.ir_asm.specs.declared.cause.Cause.TheVariants.{LabelMissing, TooFar, WrongSection, BadSize, BadCount}
 use Rattle.ir_asm.specs.declared.form.Section.TheVariants.{Text}

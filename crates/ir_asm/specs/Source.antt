@@ -4,8 +4,7 @@ use Rattle.std.specs.List.{list_all}
 use Rattle.byteorder.specs.Endian.{little_bytes}
 use Rattle.ir_image.specs.declared.form.ImageForm.{ImageForm}
 use Rattle.ir_image.specs.declared.form.ImageForm.TheVariants.{Large}
-use Rattle.ir_image.specs.Forms.{limits_of}
-use Rattle.ir_image.specs.Guest.{code_start, memory_size, most_code_words}
+use Rattle.ir_image.specs.Guest.{limits_of, code_start, memory_size, most_code_words}
 use Rattle.ir_asm.specs.declared.cause.Cause.{Cause}
 use Rattle.ir_asm.specs.declared.cause.Cause.TheVariants.{BadByte, UnknownStatement, LabelTwice, WrongSection, BadSize, BadCount, BadLabel}
 use Rattle.ir_asm.specs.declared.form.Form.{Form}

@@ -1,8 +1,7 @@
 //! The fields of instructions, made of numbers.
 
 ghost use Rattle.std.specs.Prelude.{◌≡◌, ◌≤◌, ◌<◌, ◌^◌, ◌*◌, ◌%◌};
-ghost use Rattle.ir_isa.specs.Fields.{sign_extended};
-ghost use Rattle.ir_isa.specs.Words.{low_bits};
+ghost use Rattle.ir_isa.specs.Fields.{sign_extended, low_bits};
 ghost use Rattle.ir_asm.specs.Fields.{even_bits, register_of, immediate_of, branch_offset_of, jump_offset_of, upper_of, amount_of};
 
 use ir_isa::{BranchOffset, Immediate, JumpOffset, Register, ShiftAmount, UpperImmediate};

@@ -1,7 +1,7 @@
 //! What a statement places.
 
 ghost use Rattle.std.specs.Prelude.{◌≡◌, ◌==◌, length, if◌then◌else◌, IfOk};
-ghost use Rattle.ir_isa.specs.Words.{low_bits};
+ghost use Rattle.ir_isa.specs.Fields.{low_bits};
 ghost use Rattle.ir_image.specs.declared.form.ImageForm.{ImageForm};
 ghost use Rattle.ir_asm.specs.Items.{instruction, li_words, values, item_of};
 ghost use Rattle.ir_asm.specs.declared.form.Form.TheVariants.{Registers, Immediates, Shifts, Loads, JumpsTo, Stores, Branches, Jumps, LoadsUpper, AddsUpper, Fences, DoesNothing, LoadsValue, Enlarges, Sections, Space, Thread, Objects, Object};

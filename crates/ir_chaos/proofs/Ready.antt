@@ -8,8 +8,7 @@ use Rattle.ir_flat.specs.Flat.{Flat, start_flat, tables, machine}
 use Rattle.ir_image.specs.Guest.{Guest}
 use Rattle.ir_runs.proofs.CallerLemmas.{run_idle}
 use Rattle.ir_runs.specs.Machine as machine
-use Rattle.ir_runs.specs.Machine.{Machine}
-use Rattle.ir_runs.specs.Object.{Admits, target}
+use Rattle.ir_runs.specs.Machine.{Machine, Admits, target}
 use Rattle.ir_runs.specs.Run.{State, Step, asked, Can, after, IsRun, end, IsDone}
 use Rattle.ir_thread.specs.Instance.{thread_machine}
 use Rattle.ir_thread.specs.State as thread

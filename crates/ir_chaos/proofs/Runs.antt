@@ -4,16 +4,14 @@ use Rattle.std.proofs.lemmas.Bool.{cases_eq}
 use Rattle.std.proofs.lemmas.List.{map-append, length-map}
 use Rattle.ir_flat.specs.Alone.{WentAlone}
 use Rattle.ir_flat.specs.Flat.{Flat, IsFlat, tables, machine, thread_of}
-use Rattle.ir_record.specs.Progress.{answers_at, all_left}
-use Rattle.ir_record.specs.Turns.{order_of_turns}
-use Rattle.ir_record.specs.Worlds.{Answered, answers_in, NoneFailed}
+use Rattle.ir_record.specs.Progress.{all_left}
+use Rattle.ir_record.specs.Worlds.{answers_at, Answered, answers_in, NoneFailed}
+use Rattle.ir_record.specs.Recording.{order_of_turns}
 use Rattle.ir_record.specs.declared.turns.Turns.{Turns}
 use Rattle.ir_runs.proofs.CallerLemmas.{end_append, log_append, upd_other}
 use Rattle.ir_runs.specs.InOrder.{EntersIfFree}
-use Rattle.ir_runs.specs.Labels.{Label, Quiet, Answer, In, Out, Refused, logged}
+use Rattle.ir_runs.specs.Machine.{Label, Quiet, Answer, In, Out, Refused, logged, Machine, Private, Try, act_of, Object, Admits, emitted, target}
 use Rattle.ir_runs.specs.Machine as machine
-use Rattle.ir_runs.specs.Machine.{Machine, Private, Try, act_of}
-use Rattle.ir_runs.specs.Object.{Object, Admits, emitted, target}
 use Rattle.ir_runs.specs.Run.{State, Step, asked, Can, after, label, IsRun, end, join_if, events, log}
 use Rattle.ir_runs.specs.declared.access.Access.TheVariants.{Reading, Writing}
 use Rattle.ir_runs.specs.declared.env_kind.EnvKind.{EnvKind}

@@ -2,7 +2,7 @@
 use Rattle.std.proofs.Common.{◌≡◌, ℕ, zero, suc, ◌+◌, ◌<◌, List, [], ◌∷◌, ◌++◌, length, replicate, get_or, set, sym, ap, ◌∙◌, arith, append-nil, append_assoc}
 use Rattle.std.proofs.lemmas.List.{replicate-append-replicate, get_or_default}
 use Rattle.std.proofs.lemmas.List.Concat.{flat_map-append}
-use Rattle.ir_record.specs.Turns.{order_of_turns}
+use Rattle.ir_record.specs.Recording.{order_of_turns}
 use Rattle.ir_record.specs.declared.turns.Turns.{Turns}
 
 -- an item more

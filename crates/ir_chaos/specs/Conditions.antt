@@ -4,7 +4,7 @@ use Rattle.std.specs.List.{slice_index_or, starts_with}
 use Rattle.ir_flat.specs.Flat.{Flat}
 use Rattle.ir_image.specs.Guest.{Guest, object_count, object_words}
 use Rattle.std.specs.Prelude.{length}
-use Rattle.ir_thread.specs.Ends.{end_number}
+use Rattle.ir_thread.specs.State.{end_number}
 use Rattle.ir_thread.specs.declared.end.End as end
 use Rattle.ir_thread.specs.declared.end.End.TheVariants as ends
 use Rattle.ir_chaos.specs.declared.condition.Condition as declared

@@ -2,9 +2,9 @@
 use Rattle.std.specs.Prelude.{◌≡◌, ◌≢◌, ◌<◌, ◌≤◌, ◌+◌, ◌++◌, ℕ, List, [], ◌∷◌, length, map, Bool, true, vec_len, vec_capacity, ⊤}
 use Rattle.ir_flat.specs.Flat.{Flat, tables, machine, start_flat}
 use Rattle.ir_image.specs.Guest.{Guest}
-use Rattle.ir_record.specs.Progress.{answers_at, all_left}
-use Rattle.ir_record.specs.Turns.{order_of_turns}
-use Rattle.ir_record.specs.Worlds.{Answered, answers_in, NoneFailed, IsFirstFailed}
+use Rattle.ir_record.specs.Progress.{all_left}
+use Rattle.ir_record.specs.Worlds.{answers_at, Answered, answers_in, NoneFailed, IsFirstFailed}
+use Rattle.ir_record.specs.Recording.{order_of_turns}
 use Rattle.ir_record.specs.declared.turns.Turns.{Turns}
 use Rattle.ir_runs.specs.InOrder.{EntersIfFree}
 use Rattle.ir_runs.specs.Run.{Step, Can, after, end, log}

@@ -1,8 +1,7 @@
 -- How conditions are written.
 use Rattle.std.specs.Prelude.{ℕ, suc, ◌+◌, ◌%◌, ◌==◌, ◌&&◌, nat_le, nat_lt, Bool, List, [], ◌∷◌, length, take, drop, codes, Option, Some, None, option_map, option_and_then, if◌then◌else◌}
 use Rattle.std.specs.Str.{bytes_eq}
-use Rattle.ir_command.specs.Limits.{most_small}
-use Rattle.ir_command.specs.Numbers.{number_up_to}
+use Rattle.ir_command.specs.Commands.{most_small, number_up_to}
 use Rattle.ir_chaos.specs.Conditions.{Fact, End, Code, Word, Printed, Fault, Budget, Condition}
 
 -- how many bytes come before the first blank

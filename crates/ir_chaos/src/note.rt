@@ -2,7 +2,7 @@
 
 ghost use Rattle.std.specs.Prelude.{◌≡◌, ◌++◌, ◌<◌, true, false, length, replicate, vec_len, vec_capacity, OnOk, OnErr, IfErr};
 ghost use Rattle.ir_chaos.specs.declared.stop.Stop.TheVariants.{TooLong};
-ghost use Rattle.ir_record.specs.Turns.{order_of_turns};
+ghost use Rattle.ir_record.specs.Recording.{order_of_turns};
 
 use crate::stop::Stop;
 use ir_record::Turns;

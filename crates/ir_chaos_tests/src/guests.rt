@@ -1,6 +1,6 @@
 //! A guest with a timing fault, and its runs by seeds.
 
-ghost use Rattle.ir_thread.specs.Allowed.{IsAllowed};
+ghost use Rattle.ir_thread.specs.State.{IsAllowed};
 ghost use Rattle.ir_thread.specs.declared.profile.Profile.TheVariants.{One};
 ghost use Rattle.std.specs.Prelude.{IfOk};
 

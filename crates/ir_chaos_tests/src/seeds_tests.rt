@@ -1,6 +1,6 @@
 //! Orders that seeds give.
 
-ghost use Rattle.ir_thread.specs.Allowed.{IsAllowed};
+ghost use Rattle.ir_thread.specs.State.{IsAllowed};
 ghost use Rattle.ir_thread.specs.declared.profile.Profile.TheVariants.{One};
 
 use crate::guests::{ENTRIES, lost_update, run};

@@ -5,8 +5,7 @@ use Rattle.std.proofs.lemmas.Option.{same_Some}
 use Rattle.ir_thread.specs.State as thread
 use Rattle.ir_fit.specs.Fit.{FittedTrace}
 use Rattle.ir_cut.specs.Positions.{cut_of}
-use Rattle.ir_weave.specs.Standing.{Standing, flat_in}
-use Rattle.ir_weave.specs.States.{positions}
+use Rattle.ir_weave.specs.Standing.{Standing, flat_in, positions}
 use Rattle.ir_keep.specs.Keeping.{Kept, kept_as, cut_in}
 use Rattle.ir_checkpoint.specs.Checkpoints.{Stands, AllStand}
 use Rattle.ir_checkpoint.specs.Below.{IsBelow, IsBefore}

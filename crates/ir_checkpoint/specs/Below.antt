@@ -2,8 +2,7 @@
 use Rattle.std.specs.Prelude.{◌≡◌, ◌<◌, ◌⊎◌, ℕ, List, Some}
 use Rattle.ir_cut.specs.Positions.{cut_of}
 use Rattle.ir_fit.specs.Fit.{FittedTrace}
-use Rattle.ir_weave.specs.Standing.{Standing, flat_in}
-use Rattle.ir_weave.specs.States.{positions}
+use Rattle.ir_weave.specs.Standing.{Standing, flat_in, positions}
 use Rattle.ir_keep.specs.Keeping.{Kept, kept_as, cut_in}
 use Rattle.ir_checkpoint.specs.declared.below.Found.{Found}
 

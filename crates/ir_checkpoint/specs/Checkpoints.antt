@@ -1,8 +1,7 @@
 -- States that are kept for moves to begin at.
 use Rattle.std.specs.Prelude.{⊤, List, [], ◌∷◌}
 use Rattle.ir_fit.specs.Fit.{FittedTrace}
-use Rattle.ir_weave.specs.Standing.{Standing, StandsAt, flat_in}
-use Rattle.ir_weave.specs.States.{positions}
+use Rattle.ir_weave.specs.Standing.{Standing, StandsAt, flat_in, positions}
 use Rattle.ir_keep.specs.Keeping.{Keeping, Kept}
 
 -- the guest at a cut, its own positions

@@ -1,8 +1,7 @@
 //! States that are kept in which a thread is below a position.
 
 ghost use Rattle.std.specs.Prelude.{◌<◌, length, IfOk, IfSome};
-ghost use Rattle.ir_weave.specs.Standing.{flat_in};
-ghost use Rattle.ir_weave.specs.States.{positions};
+ghost use Rattle.ir_weave.specs.Standing.{flat_in, positions};
 ghost use Rattle.ir_checkpoint.specs.Checkpoints.{AllStand, Stands};
 ghost use Rattle.ir_checkpoint.specs.Below.{IsBelow};
 

@@ -3,8 +3,7 @@
 ghost use Rattle.std.specs.Prelude.{◌≡◌, ◌<◌, ◌≤◌, ℕ, true, false, length, slice_index_or, IfSome};
 ghost use Rattle.ir_flat.specs.Flat.{idle};
 ghost use Rattle.ir_cut.specs.Positions.{IsConsistentCut, cut_of};
-ghost use Rattle.ir_weave.specs.Standing.{flat_in};
-ghost use Rattle.ir_weave.specs.States.{positions};
+ghost use Rattle.ir_weave.specs.Standing.{flat_in, positions};
 ghost use Rattle.ir_checkpoint.specs.Checkpoints.{Stands};
 ghost use Rattle.ir_checkpoint.specs.Parts.{IsOnWay};
 

@@ -3,8 +3,7 @@
 ghost use Rattle.std.specs.Prelude.{◌≡◌, ◌<◌, ◌≤◌, ℕ, length, IfOk, IfErr, OnOk, IsOk};
 ghost use Rattle.ir_cut.specs.Positions.{IsConsistentCut, cut_of};
 ghost use Rattle.ir_keep.specs.Keeping.{IsNearest};
-ghost use Rattle.ir_weave.specs.Standing.{StandsAt, flat_in};
-ghost use Rattle.ir_weave.specs.States.{positions};
+ghost use Rattle.ir_weave.specs.Standing.{StandsAt, flat_in, positions};
 ghost use Rattle.ir_checkpoint.specs.Checkpoints as checkpoints;
 ghost use Rattle.ir_checkpoint.specs.Checkpoints.{AllStand, Stands};
 ghost use Rattle.ir_checkpoint.specs.Below.{IsBefore};

@@ -2,8 +2,7 @@
 
 ghost use Rattle.std.specs.Prelude.{◌≡◌, ◌<◌, ◌≤◌, ℕ, length, map, IfOk};
 ghost use Rattle.ir_cut.specs.Positions.{IsConsistentCut, cut_of};
-ghost use Rattle.ir_weave.specs.Standing.{flat_in};
-ghost use Rattle.ir_weave.specs.States.{positions};
+ghost use Rattle.ir_weave.specs.Standing.{flat_in, positions};
 ghost use Rattle.ir_checkpoint.specs.Checkpoints.{Stands};
 ghost use Rattle.ir_checkpoint.specs.Parts.{IsOnWay};
 

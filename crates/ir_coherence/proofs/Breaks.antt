@@ -6,12 +6,12 @@ use Rattle.std.proofs.lemmas.Option.{same_Some}
 use Rattle.std.proofs.lemmas.List.{length-map}
 use Rattle.ir_thread.specs.Calls.{most_events}
 use Rattle.ir_thread.specs.declared.profile.Profile.{Profile}
-use Rattle.ir_runs.specs.Labels.{Label, In, Trace}
+use Rattle.ir_runs.specs.Machine.{Label, In, Trace}
 use Rattle.ir_runs.specs.declared.access.Access.TheVariants.{Writing}
 use Rattle.ir_log.specs.Logging.{label_of}
 use Rattle.ir_log.specs.declared.event.Event.{Event}
-use Rattle.ir_trace.specs.Recorded.{Recorded, RecordedThread, IsRecorded, IsEvent, IsRecordedThread}
-use Rattle.ir_trace.specs.TraceOf.{absent, recorded_thread, trace_of}
+use Rattle.ir_trace.specs.Recorded.{Recorded, RecordedThread, absent, recorded_thread, trace_of}
+use Rattle.ir_trace.specs.Within.{IsRecorded, IsEvent, IsRecordedThread}
 use Rattle.ir_trace.proofs.CallerLemmas.{most_recorded_threads}
 use Rattle.ir_runs.specs.Coherent.{reads, IsCoherent}
 use Rattle.ir_coherence.specs.Counting.{MayStand, writes, reads_in, writes_in, reads_of, writes_of, cause_by, CountsMore, CountsAll, HasRoom, FirstCause, NoCause}

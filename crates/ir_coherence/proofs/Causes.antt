@@ -1,13 +1,14 @@
 -- The causes by counts are the causes.
 use Rattle.std.proofs.Common.{◌≡◌, ℕ, suc, zero, ◌-◌, ◌<◌, ◌≤◌, ◌⊎◌, inl, inr, Bool, true, false, nat_lt, ◌==◌, if◌then◌else◌, Option, Some, None, refl, sym, ap, ◌∙◌, subst, arith}
 use Rattle.std.proofs.lemmas.Bool.{cases_eq, cases_lt, and_parts, and_cases, ltb-true, ltb-false, eqb-true, eqb-false}
-use Rattle.ir_runs.specs.Labels.{Label, Quiet, Answer, In, Refused, Out, Trace}
+use Rattle.ir_runs.specs.Machine.{Label, Quiet, Answer, In, Refused, Out, Trace}
 use Rattle.ir_runs.specs.declared.access.Access.{Access}
 use Rattle.ir_runs.specs.declared.access.Access.TheVariants.{Reading, Writing}
 use Rattle.ir_runs.specs.Coherent.{IsCoherent}
 use Rattle.ir_coherence.specs.Counting.{reads_in, writes_in, nobody_made, cause_by}
 use Rattle.ir_runs.specs.Cuts.{At}
-use Rattle.ir_coherence.specs.Breaking.{IsUnmade, IsTwice, IsMiscounted, HasCause, CoherentUnbroken, UnbrokenCoherent}
+use Rattle.ir_coherence.specs.Breaking.{IsUnmade, IsTwice, IsMiscounted, HasCause}
+use Rattle.ir_coherence.specs.Laws.{CoherentUnbroken, UnbrokenCoherent}
 use Rattle.ir_coherence.specs.declared.cause.Cause.{Cause}
 use Rattle.ir_coherence.specs.declared.cause.Cause.TheVariants.{Unmade, Twice, Readers}
 use Rattle.ir_coherence.proofs.Writes.{at_same, IsOf, some_entry, entry_counted, two_entries, another_entry}

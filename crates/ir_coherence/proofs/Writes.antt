@@ -1,7 +1,7 @@
 -- Counts of write entries, and the entries themselves.
 use Rattle.std.proofs.Common.{◌≡◌, ℕ, suc, zero, ◌+◌, ◌<◌, ◌≤◌, ◌⊎◌, inl, inr, Bool, true, false, cond, eqb, List, [], ◌∷◌, refl, sym, ap, ◌∙◌, subst, arith, eq-eqb, ne_eqb}
 use Rattle.std.proofs.lemmas.Bool.{cases_eq, cases_lt}
-use Rattle.ir_runs.specs.Labels.{Label, Quiet, Answer, In, Refused, Out, Trace}
+use Rattle.ir_runs.specs.Machine.{Label, Quiet, Answer, In, Refused, Out, Trace}
 use Rattle.ir_runs.specs.declared.access.Access.TheVariants.{Reading, Writing}
 use Rattle.ir_runs.specs.Coherent.{sum_below}
 use Rattle.ir_coherence.specs.Counting.{writes_one, writes, writes_in}

@@ -1,9 +1,9 @@
 -- The events of a trace that break its coherence.
-use Rattle.std.specs.Prelude.{◌≡◌, ◌≢◌, ℕ, suc, ◌<◌, ◌≤◌, ◌⊎◌, []}
-use Rattle.ir_runs.specs.Labels.{In, Trace}
+use Rattle.std.specs.Prelude.{◌≡◌, ◌≢◌, ℕ, suc, ◌<◌, ◌⊎◌}
+use Rattle.ir_runs.specs.Machine.{In, Trace}
 use Rattle.ir_runs.specs.declared.access.Access.{Access}
 use Rattle.ir_runs.specs.declared.access.Access.TheVariants.{Writing}
-use Rattle.ir_runs.specs.Coherent.{IsCoherent, reads, sum_below}
+use Rattle.ir_runs.specs.Coherent.{reads, sum_below}
 use Rattle.ir_runs.specs.Cuts.{At}
 use Rattle.ir_coherence.specs.declared.cause.Cause.{Cause}
 use Rattle.ir_coherence.specs.declared.cause.Cause.TheVariants.{Unmade, Twice, Readers}
@@ -53,15 +53,8 @@ pub record IsFirstBreak (n : ℕ) (tr : Trace) (t i : ℕ) (c : Cause) : Type 0 
   pub breaks : HasCause n tr t i c
   pub first : (u j : ℕ) (d : Cause) → IsBefore u j t i → HasCause n tr u j d → ⊥
 
--- no event of a coherent trace breaks coherence
-abbrev pub CoherentUnbroken : Type 0
-CoherentUnbroken = (n : ℕ) (tr : Trace) → IsCoherent n tr → (t i : ℕ) (c : Cause) → HasCause n tr t i c → ⊥
-
--- a trace of n threads is coherent where no event breaks coherence
-abbrev pub UnbrokenCoherent : Type 0
-UnbrokenCoherent = (n : ℕ) (tr : Trace) → ((t : ℕ) → n ≤ t → tr.logs t ≡ []) → ((t i : ℕ) (c : Cause) → HasCause n tr t i c → ⊥)
-    → IsCoherent n tr
-
--- an event has one first cause at most
-abbrev pub OneCause : Type 0
-OneCause = (n : ℕ) (tr : Trace) (t i : ℕ) (c d : Cause) → HasCause n tr t i c → HasCause n tr t i d → c ≡ d
+-- why an event breaks coherence
+abbrev pub cause_number : Cause → ℕ
+cause_number Unmade = 1
+cause_number Twice = 2
+cause_number Readers = 3

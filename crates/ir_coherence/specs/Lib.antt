@@ -1,3 +1,3 @@
-pub mod Numbers
 pub mod Breaking
 pub mod Counting
+pub mod Laws

@@ -13,7 +13,7 @@ pub enum Cause {
 
 impl Cause {
     ghost use Rattle.std.specs.Prelude.{◌≡◌};
-    ghost use Rattle.ir_coherence.specs.Numbers.{cause_number};
+    ghost use Rattle.ir_coherence.specs.Breaking.{cause_number};
 
     /// The cause's number, from 1 in the order above.
     pub fn number(self) -> u8

@@ -3,7 +3,7 @@
 ghost use Rattle.std.specs.Prelude.{◌≡◌, ◌<◌, ◌≤◌, length, map, OnOk, IfOk, vec_len};
 ghost use Rattle.std.specs.List.{AllByRecursion};
 ghost use Rattle.ir_log.specs.Logging.{label_of};
-ghost use Rattle.ir_trace.specs.TraceOf.{trace_of};
+ghost use Rattle.ir_trace.specs.Recorded.{trace_of};
 ghost use Rattle.ir_coherence.specs.Counting.{MayStand, CountsMore, CountsAll, HasRoom, AreSettled};
 
 use crate::entry_counts::EntryCounts;

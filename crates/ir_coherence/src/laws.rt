@@ -1,6 +1,6 @@
 //! What holds of the events that break coherence. The functions do nothing: their contracts are the laws.
 
-ghost use Rattle.ir_coherence.specs.Breaking.{CoherentUnbroken, UnbrokenCoherent, OneCause};
+ghost use Rattle.ir_coherence.specs.Laws.{CoherentUnbroken, UnbrokenCoherent, OneCause};
 
 /// No event of a coherent trace breaks coherence.
 pub fn coherent_unbroken()

@@ -2,7 +2,7 @@
 use Rattle.std.proofs.Common.{◌≡◌, ℕ, Bool, true, false, List, [], ◌∷◌, take, drop, refl, sym, ap, ◌∙◌}
 use Rattle.std.specs.Prelude.{filter, not}
 use Rattle.std.specs.List.{slice_split}
-use Rattle.ir_command.specs.Words.{is_blank, is_empty, words_of}
+use Rattle.ir_command.specs.Commands.{is_blank, is_empty, words_of}
 use Rattle.ir_command.specs.Cuts.{skip_blanks, word_end}
 
 abbrev is_word : List ℕ → Bool

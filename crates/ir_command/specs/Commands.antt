@@ -1,9 +1,6 @@
 -- What a line asks: one table of names and of the numbers after them.
-use Rattle.std.specs.Prelude.{ℕ, nat_lt, List, [], ◌∷◌, length, codes, find, slice_index, Option, Some, None, option_map, option_and_then, Result, Ok, Err, if◌then◌else◌}
+use Rattle.std.specs.Prelude.{ℕ, nat_lt, List, [], ◌∷◌, length, codes, find, slice_index, Option, Some, None, option_map, option_and_then, Result, Ok, Err, if◌then◌else◌, ◌-◌, ◌==◌, ◌||◌, not, Bool, true, false, take, filter, ◌^◌, ◌&&◌, nat_le, drop}
 use Rattle.std.specs.Str.{bytes_eq}
-use Rattle.ir_command.specs.Limits.{most_line, most_small, most_position, byte_count}
-use Rattle.ir_command.specs.Words.{words_of, without_return}
-use Rattle.ir_command.specs.Numbers.{number_of, number_up_to}
 use Rattle.ir_command.specs.declared.command.Command.{Command}
 use Rattle.ir_command.specs.declared.command.Command.TheVariants as command
 use Rattle.ir_command.specs.declared.command.Move.TheVariants.{Step, Back, Goto, Start, End}
@@ -12,13 +9,63 @@ use Rattle.ir_command.specs.declared.command.Point.TheVariants.{Break, Watch, Wa
 use Rattle.ir_command.specs.declared.command.Show.TheVariants.{Registers, Memory, Object, Output, Log, Next}
 use Rattle.ir_command.specs.declared.command.Keeping.TheVariants.{Keep, Load, Drop, Kept}
 use Rattle.ir_command.specs.declared.refusal.Refusal.{Refusal}
-use Rattle.ir_command.specs.declared.refusal.Refusal.TheVariants.{UnknownCommand, BadArgument, LineTooLong}
+use Rattle.ir_command.specs.declared.refusal.Refusal.TheVariants.{UnknownCommand, BadArgument, LineTooLong, NoSuchThread, NoSuchObject, NoSuchNumber, BadAddress, NoMemory, Full}
+use Rattle.std.specs.List.{slice_split, list_all}
+use Rattle.std.specs.Char.{digit_value}
+use Rattle.std.specs.Str.Parse.{digits_value}
 
 -- the numbers that a word may write: of a thread, an object, a count or an address; of a position; of bytes that are shown
 pub data Kind : Type 0 where
   Small : Kind
   Position : Kind
   Bytes : Kind
+
+-- the most that a thread, an object, a count or an address may be
+abbrev pub most_small : ℕ
+most_small = 2 ^ 32 - 1
+
+-- the most that a position may be
+abbrev pub most_position : ℕ
+most_position = 2 ^ 64 - 1
+
+-- the most bytes that one command shows
+abbrev pub most_bytes : ℕ
+most_bytes = 256
+
+-- n, if one command may show n bytes
+abbrev pub byte_count : ℕ → Option ℕ
+byte_count n = if nat_le 1 n && nat_le n most_bytes then Some n else None
+
+-- the most digits of a number
+abbrev pub most_decimal : ℕ
+most_decimal = 20
+
+abbrev pub most_hexadecimal : ℕ
+most_hexadecimal = 16
+
+-- whether the byte is a digit of the radix
+abbrev pub is_digit : ℕ → ℕ → Bool
+is_digit radix c = nat_lt (digit_value c) radix
+
+-- from one digit of the radix to the most
+abbrev pub is_numeral : ℕ → ℕ → List ℕ → Bool
+is_numeral radix most digits = (nat_le 1 (length digits) && nat_le (length digits) most) && list_all (is_digit radix) digits
+
+unfoldable pub numeral : ℕ → ℕ → List ℕ → Option ℕ
+numeral radix most digits = if is_numeral radix most digits then Some (digits_value radix digits) else None
+
+-- `0x`
+abbrev pub starts_hexadecimal : List ℕ → Bool
+starts_hexadecimal (a ∷ b ∷ digits) = (a == 48) && (b == 120)
+starts_hexadecimal digits = false
+
+-- 1 to 20 decimal digits, or `0x` and 1 to 16 hexadecimal digits of either case
+unfoldable pub number_of : List ℕ → Option ℕ
+number_of word = if starts_hexadecimal word then numeral 16 most_hexadecimal (drop 2 word) else numeral 10 most_decimal word
+
+-- a number that may not pass the limit
+abbrev pub number_up_to : ℕ → List ℕ → Option ℕ
+number_up_to limit word = option_and_then (λ n. if nat_le n limit then Some n else None) (number_of word)
 
 -- the number of a kind that a word writes
 abbrev pub argument : Kind → List ℕ → Option ℕ
@@ -104,6 +151,37 @@ abbrev pub command_of_words : List (List ℕ) → Result (Option Command) Refusa
 command_of_words [] = Ok None
 command_of_words (name ∷ words) = some_command (command_named name words)
 
+-- the line without a carriage return at its end
+abbrev pub without_return : List ℕ → List ℕ
+without_return line = if slice_index line (length line - 1) == 13 then take (length line - 1) line else line
+
+-- a space or a tab
+abbrev pub is_blank : ℕ → Bool
+is_blank b = (b == 32) || (b == 9)
+
+abbrev pub is_empty : List ℕ → Bool
+is_empty [] = true
+is_empty (b ∷ bytes) = false
+
+-- the words of a line, parted by blanks
+unfoldable pub words_of : List ℕ → List (List ℕ)
+words_of line = filter (λ word. not (is_empty word)) (slice_split is_blank line)
+
+-- the most bytes of a line, a carriage return among them
+abbrev pub most_line : ℕ
+most_line = 1024
+
 -- what a line asks, which is given without its line feed
 unfoldable pub command_of : List ℕ → Result (Option Command) Refusal
 command_of line = if nat_lt most_line (length line) then Err LineTooLong else command_of_words (words_of (without_return line))
+
+abbrev pub refusal_number : Refusal → ℕ
+refusal_number UnknownCommand = 1
+refusal_number BadArgument = 2
+refusal_number NoSuchThread = 3
+refusal_number NoSuchObject = 4
+refusal_number NoSuchNumber = 5
+refusal_number BadAddress = 6
+refusal_number LineTooLong = 7
+refusal_number NoMemory = 8
+refusal_number Full = 9

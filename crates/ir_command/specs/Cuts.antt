@@ -1,6 +1,6 @@
 -- Where the first word of a line begins and ends.
 use Rattle.std.specs.Prelude.{ℕ, suc, List, [], ◌∷◌, if◌then◌else◌}
-use Rattle.ir_command.specs.Words.{is_blank}
+use Rattle.ir_command.specs.Commands.{is_blank}
 
 -- the bytes from the first that is no blank
 unfoldable pub skip_blanks : List ℕ → List ℕ

@@ -1,8 +1,7 @@
 //! The numbers that a line's words write after its first.
 
 ghost use Rattle.std.specs.Prelude.{◌≡◌, ◌≢◌, [], ◌∷◌, List, Some, None, MatchOption, MatchResult, ℕ};
-ghost use Rattle.ir_command.specs.Words.{words_of};
-ghost use Rattle.ir_command.specs.Commands.{Small, Position, Bytes, arguments};
+ghost use Rattle.ir_command.specs.Commands.{words_of, Small, Position, Bytes, arguments};
 ghost use Rattle.ir_command.specs.declared.refusal.Refusal.TheVariants.{BadArgument};
 
 use crate::command::ByteCount;

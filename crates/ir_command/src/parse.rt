@@ -1,8 +1,7 @@
 //! What a line asks.
 
 ghost use Rattle.std.specs.Prelude.{◌≡◌};
-ghost use Rattle.ir_command.specs.Words.{words_of};
-ghost use Rattle.ir_command.specs.Commands.{command_of, command_named};
+ghost use Rattle.ir_command.specs.Commands.{words_of, command_of, command_named};
 
 use crate::arguments::{
     no_argument, one_number, thread_and_bytes, thread_and_position, two_numbers,

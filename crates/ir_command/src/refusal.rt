@@ -24,7 +24,7 @@ pub enum Refusal {
 }
 
 impl Refusal {
-    ghost use Rattle.ir_command.specs.Refusals.{refusal_number};
+    ghost use Rattle.ir_command.specs.Commands.{refusal_number};
     ghost use Rattle.std.specs.Prelude.{◌≡◌};
 
     /// The number of the refusal, from 1 to 9.

@@ -1,7 +1,7 @@
 //! Lines cut into words.
 
 ghost use Rattle.std.specs.Prelude.{◌≡◌, ◌≤◌, [], ◌∷◌, length, MatchOption};
-ghost use Rattle.ir_command.specs.Words.{is_blank, without_return, words_of};
+ghost use Rattle.ir_command.specs.Commands.{is_blank, without_return, words_of};
 ghost use Rattle.ir_command.specs.Cuts.{skip_blanks, word_end};
 
 fn is_blank(byte: u8) -> bool

@@ -2,8 +2,7 @@
 use Rattle.std.proofs.Common.{◌≡◌, ◌≢◌, ℕ, zero, suc, ◌+◌, ◌*◌, ◌<◌, ◌≤◌, eqb, List, [], ◌∷◌, ◌++◌, refl, sym, ap, subst, arith, inl, inr, eq-eqb, ne_eqb}
 use Rattle.std.proofs.lemmas.Bool.{cases_eq}
 use Rattle.ir_image.specs.Guest.{most_threads}
-use Rattle.ir_runs.specs.Machine.{Machine}
-use Rattle.ir_runs.specs.Object.{Object}
+use Rattle.ir_runs.specs.Machine.{Machine, Object}
 use Rattle.ir_object.specs.Order.{Shared, keep_if, of_thread, objects_then, IsLegal}
 use Rattle.ir_crew.specs.Rule.{one_if_entry, entries}
 

@@ -7,13 +7,14 @@ use lib.ListN.{get_elem?}
 use Rattle.atomic_table.specs.Seated.{TableId}
 use Rattle.atomic_table.specs.Table.{Final, Seen}
 use Rattle.atomic_table.specs.declared.shared.Seat.{Seat}
-use Rattle.ir_image.specs.Forms.{limits_of}
-use Rattle.ir_image.specs.Guest.{Guest, IsGuest, most_object_words, object_count, object_words}
+use Rattle.ir_image.specs.Guest.{limits_of, Guest, most_object_words, object_count, object_words}
+use Rattle.ir_image.specs.Within.{IsGuest}
 use Rattle.ir_image.specs.declared.form.ImageForm.{ImageForm}
 use Rattle.ir_image.specs.declared.form.ImageForm.TheVariants.{Small, Large}
 use Rattle.ir_image.proofs.CallerLemmas.{padded_at}
-use Rattle.ir_object.specs.Cell.{Cell, StandsFor}
-use Rattle.ir_runs.specs.Object.{Object}
+use Rattle.ir_object.specs.Cell.{Cell}
+use Rattle.ir_object.specs.Standing.{StandsFor}
+use Rattle.ir_runs.specs.Machine.{Object}
 use Rattle.ir_object.specs.Layout.{word_place, content_place, table_length}
 use Rattle.ir_object.specs.Order.{Shared, objects_after}
 use Rattle.ir_object.specs.Word.{fields_of}

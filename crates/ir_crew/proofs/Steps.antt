@@ -11,11 +11,9 @@ use Rattle.atomic_table.proofs.Lists.{at_set, set_again}
 use Rattle.ir_image.specs.Guest.{Guest, most_threads, object_count, most_object_words}
 use Rattle.ir_thread.specs.Calls.{most_events}
 use Rattle.ir_thread.specs.Instance.{thread_machine}
-use Rattle.ir_runs.specs.Machine.{Entry, Exit, Store, upd}
-use Rattle.ir_runs.specs.Labels.{Label}
+use Rattle.ir_runs.specs.Machine.{Entry, Exit, Store, upd, Object, target, Admits, acted, reply, emitted, Label}
 use Rattle.ir_runs.specs.declared.access.Access.TheVariants.{Reading, Writing}
-use Rattle.ir_object.specs.Cell.{Admitted}
-use Rattle.ir_runs.specs.Object.{Object, target, Admits, acted, reply, emitted}
+use Rattle.ir_object.specs.Standing.{Admitted}
 use Rattle.ir_object.specs.Layout.{word_place, content_place}
 use Rattle.ir_object.specs.Order.{Shared, of_thread, objects_after, order_labels, Uses}
 use Rattle.ir_object.specs.Word.{version_unit, left_limit, reader_leaves, fields_of}
@@ -277,7 +275,7 @@ enters_read g slots id o old me alone lt room outside free =
         uses = out;
         admits = admits_reader n (fields_of old) b.inside a.represents.inside free;
         answers = refl;
-        represents = λ i. Rattle.ir_runs.specs.Labels.In o Reading (sym a.represents.version i) 0;
+        represents = λ i. Rattle.ir_runs.specs.Machine.In o Reading (sym a.represents.version i) 0;
       };
       represents = subst (λ f. Represents n f (acted (Entry o Reading 0) t b))
           (sym (read_entry_word old free (let few = a.narrow in omega (arith, few))))
@@ -302,7 +300,7 @@ enters_write g slots id o old me alone lt room free =
         uses = nobody t;
         admits = nobody;
         answers = refl;
-        represents = λ i. Rattle.ir_runs.specs.Labels.In o Writing (sym a.represents.version i) (sym a.represents.left i);
+        represents = λ i. Rattle.ir_runs.specs.Machine.In o Writing (sym a.represents.version i) (sym a.represents.left i);
       };
       represents = subst (λ f. Represents n f (acted (Entry o Writing 0) t b)) (sym (write_entry_word old free))
           (record {
@@ -326,7 +324,7 @@ enters_by_try g slots id o old me alone lt room free =
         uses = nobody t;
         admits = nobody;
         answers = refl;
-        represents = λ i. Rattle.ir_runs.specs.Labels.In o Writing (sym a.represents.version i) (sym a.represents.left i);
+        represents = λ i. Rattle.ir_runs.specs.Machine.In o Writing (sym a.represents.version i) (sym a.represents.left i);
       };
       represents = subst (λ f. Represents n f (acted (Entry o Writing 1) t b)) (sym (write_entry_word old free))
           (record {

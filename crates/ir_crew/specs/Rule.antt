@@ -3,15 +3,14 @@ use Rattle.std.specs.Prelude.{◌≡◌, ℕ, zero, suc, ◌+◌, ◌<◌, ◌�
 use mathlib.Core.Option.{some}
 use lib.ListN.{get_elem?}
 use Rattle.atomic_table.specs.Table.{State}
-use Rattle.ir_image.specs.Guest.{Guest, IsGuest, object_count, most_object_words, first_words}
+use Rattle.ir_image.specs.Guest.{Guest, object_count, most_object_words, first_words}
+use Rattle.ir_image.specs.Within.{IsGuest}
 use Rattle.ir_thread.specs.Calls.{most_events}
 use Rattle.ir_thread.specs.Instance.{thread_machine}
-use Rattle.ir_runs.specs.Machine.{Act, Silent, Result, Entry, Refusal, Exit, Load, Store, Never}
-use Rattle.ir_runs.specs.Labels.{Label, Quiet, In, Out}
+use Rattle.ir_runs.specs.Machine.{Act, Silent, Result, Entry, Refusal, Exit, Load, Store, Never, Object, Label, Quiet, In, Out}
 use Rattle.ir_runs.specs.declared.access.Access.TheVariants.{Writing}
 use Rattle.ir_object.specs.Cell.{Counts}
 use Rattle.ir_object.specs.Layout.{word_place, content_place, table_length}
-use Rattle.ir_runs.specs.Object.{Object}
 use Rattle.ir_object.specs.Order.{Shared, of_thread, objects_after, order_labels, IsLegal}
 use Rattle.ir_object.specs.Word.{fields_of}
 use Rattle.ir_object.specs.declared.fields.Fields.{Fields}

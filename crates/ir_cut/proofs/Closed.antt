@@ -7,9 +7,10 @@ use Rattle.std.proofs.lemmas.List.{get_or_past}
 use Rattle.std.proofs.lemmas.Option.{slice_get_within, slice_get-get_or}
 use Rattle.ir_log.specs.Logging.{label_of}
 use Rattle.ir_log.specs.declared.event.Event.{Event}
-use Rattle.ir_trace.specs.TraceOf.{recorded_thread}
+use Rattle.ir_trace.specs.Recorded.{recorded_thread}
 use Rattle.ir_runs.specs.Cuts.{Emits, Needs}
-use Rattle.ir_fit.specs.Fit.{FittedTrace, HasRun, IsFitted}
+use Rattle.ir_fit.specs.Fit.{FittedTrace, HasRun}
+use Rattle.ir_fit.specs.Within.{IsFitted}
 use Rattle.ir_fit.specs.Places.{placed_at}
 use Rattle.ir_cut.specs.Positions.{machine_of, start_of, cut_of, EachRun, IsConsistentCut}
 use Rattle.ir_cut.specs.Searching.{AreInside, NeededBy, IsClosed}

@@ -1,8 +1,9 @@
 -- What the searches find.
 use Rattle.std.proofs.Common.{◌≡◌, ◌≢◌, ℕ, max, min, ◌<◌, ◌≤◌, List, length, set, sym, ap, ◌∙◌, subst, arith, length-set}
 use Rattle.std.specs.List.{slice_index_or}
-use Rattle.ir_trace.specs.TraceOf.{recorded_thread}
-use Rattle.ir_fit.specs.Fit.{FittedTrace, IsFitted}
+use Rattle.ir_trace.specs.Recorded.{recorded_thread}
+use Rattle.ir_fit.specs.Fit.{FittedTrace}
+use Rattle.ir_fit.specs.Within.{IsFitted}
 use Rattle.ir_thread.proofs.CallerLemmas.{lawful}
 use Rattle.ir_runs.proofs.CallerLemmas.{start_good, least_exact, greatest_exact}
 use Rattle.ir_fit.proofs.CallerLemmas.{starts}

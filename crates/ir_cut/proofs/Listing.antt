@@ -9,12 +9,12 @@ use Rattle.ir_fit.proofs.CallerLemmas as kept
 use Rattle.ir_fit.proofs.CallerLemmas.{emits_below, entries_long, entry_emits, entry_of, leave_emits, leave_of}
 use Rattle.ir_cut.proofs.Again.{again}
 use Rattle.std.specs.Prelude.{slice_get}
-use Rattle.ir_runs.specs.Labels.{In, Out}
+use Rattle.ir_runs.specs.Machine.{In, Out}
 use Rattle.ir_runs.specs.declared.access.Access.{Access}
 use Rattle.ir_runs.specs.Run.{Step}
 use Rattle.ir_log.specs.Logging.{label_of}
 use Rattle.ir_log.specs.declared.event.Event.{Event}
-use Rattle.ir_trace.specs.TraceOf.{recorded_thread}
+use Rattle.ir_trace.specs.Recorded.{recorded_thread}
 use Rattle.ir_runs.specs.Cuts.{Emits}
 use Rattle.ir_fit.specs.Fit.{FittedTrace, HasRun, IsRunOf}
 use Rattle.ir_fit.specs.Places.{placed_at, none_placed}

@@ -1,13 +1,14 @@
 -- What entries need, and what needs leaves.
 use Rattle.std.proofs.Common.{◌≡◌, ℕ, suc, ◌+◌, ◌-◌, ◌<◌, ◌≤◌, ◌^◌, ◌⊎◌, ◌↔◌, Bool, false, List, length, refl, sym, ap, ◌∙◌, subst, arith, inl, inr, IsTrue}
-use Rattle.ir_runs.specs.Labels.{Label, Quiet, Answer, In, Refused, Out}
+use Rattle.ir_runs.specs.Machine.{Label, Quiet, Answer, In, Refused, Out}
 use Rattle.ir_runs.specs.declared.access.Access.TheVariants.{Reading, Writing}
 use Rattle.ir_runs.specs.declared.env_kind.EnvKind.{EnvKind}
 use Rattle.ir_log.specs.Logging.{label_of}
 use Rattle.ir_log.specs.declared.event.Event.{Event}
 use Rattle.ir_log.specs.declared.event.Event.TheVariants.{Read, Write}
 use Rattle.ir_runs.specs.Cuts.{Emits, Needs, Cut}
-use Rattle.ir_fit.specs.Fit.{FittedTrace, IsFitted}
+use Rattle.ir_fit.specs.Fit.{FittedTrace}
+use Rattle.ir_fit.specs.Within.{IsFitted}
 use Rattle.ir_fit.specs.declared.leave.Leave.{Leave}
 use Rattle.ir_cut.specs.Moving.{EachPlace, IsRaised, IsLowered}
 use Rattle.ir_cut.specs.Positions.{machine_of, start_of, cut_of, EachRun}

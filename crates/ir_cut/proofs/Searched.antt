@@ -5,18 +5,17 @@ use Rattle.std.specs.List.{slice_index_or}
 use Rattle.std.proofs.lemmas.Bool.{cases_eq, cases_lt}
 use Rattle.std.proofs.lemmas.List.{get_or_past}
 use Rattle.std.proofs.lemmas.Option.{slice_get_within, slice_get-get_or, get_or_from_slice_get}
-use Rattle.ir_runs.specs.Labels.{Label, Quiet, Answer, In, Refused, Out}
+use Rattle.ir_runs.specs.Machine.{Label, Quiet, Answer, In, Refused, Out}
 use Rattle.ir_runs.specs.declared.access.Access.{Access}
 use Rattle.ir_runs.specs.declared.access.Access.TheVariants.{Reading, Writing}
 use Rattle.ir_runs.specs.Run.{Step, count}
 use Rattle.ir_log.specs.Logging.{label_of}
 use Rattle.ir_log.specs.declared.event.Event.{Event}
-use Rattle.ir_trace.specs.TraceOf.{recorded_thread}
-use Rattle.ir_runs.specs.Cuts.{Emits, Needs, Cut, IsCut, Consistent}
+use Rattle.ir_trace.specs.Recorded.{recorded_thread}
+use Rattle.ir_runs.specs.Cuts.{Emits, Needs, Cut, IsCut, Consistent, IsLeast, IsGreatest}
 use Rattle.ir_fit.specs.Fit.{FittedTrace, HasRun, IsRunOf}
 use Rattle.ir_fit.specs.Places.{placed_at}
 use Rattle.ir_fit.specs.declared.leave.Leave.{Leave}
-use Rattle.ir_runs.specs.Extremes.{IsLeast, IsGreatest}
 use Rattle.ir_cut.specs.Positions.{machine_of, start_of, cut_of}
 use Rattle.ir_cut.specs.Searching.{AreInside, AreOutside, RaisedFor, LoweredFor, NeededBy, Needing, Rising, Falling, NoneBelow, NoneAbove, HasBelow, AreFirst, AreRest}
 use Rattle.ir_cut.proofs.Again.{teller, place_within}

@@ -3,12 +3,13 @@ use Rattle.std.proofs.Common.{◌≡◌, ℕ, ◌<◌, ◌⊎◌, ◌↔◌, Lis
 use Rattle.std.specs.Prelude.{slice_get}
 use Rattle.std.specs.List.{Contains}
 use Rattle.std.proofs.lemmas.Option.{slice_get_read, slice_get_within, get_or_from_slice_get}
-use Rattle.ir_runs.specs.Labels.{Label, In, Out}
+use Rattle.ir_runs.specs.Machine.{Label, In, Out}
 use Rattle.ir_runs.specs.declared.access.Access.{Access}
 use Rattle.ir_runs.specs.Run.{Step, count}
-use Rattle.ir_trace.specs.Recorded.{IsRecorded}
+use Rattle.ir_trace.specs.Within.{IsRecorded}
 use Rattle.ir_runs.specs.Cuts.{Emits, Cut}
-use Rattle.ir_fit.specs.Fit.{FittedTrace, HasRun, IsRunOf, IsFitted}
+use Rattle.ir_fit.specs.Fit.{FittedTrace, HasRun, IsRunOf}
+use Rattle.ir_fit.specs.Within.{IsFitted}
 use Rattle.ir_coherence.proofs.CallerLemmas.{thread_fits}
 use Rattle.ir_cut.specs.Moving.{ArePlaced, EachPlace, IsRaised, IsLowered}
 use Rattle.ir_cut.specs.Positions.{machine_of, start_of, cut_of, EachRun}

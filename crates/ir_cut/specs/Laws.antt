@@ -1,11 +1,11 @@
 -- What holds of the consistent cuts of all runs of a guest.
 use Rattle.std.specs.Prelude.{◌≡◌, ℕ, min, max, ◌<◌, ◌≤◌, List, []}
 use Rattle.ir_image.specs.Guest.{Guest}
-use Rattle.ir_runs.specs.Labels.{Label, logged}
+use Rattle.ir_runs.specs.Machine.{Label, logged}
 use Rattle.ir_flat.specs.Flat.{start_flat, tables, machine}
 use Rattle.ir_runs.specs.Run.{Step, Can, label, IsRun, end, count}
-use Rattle.ir_runs.specs.Cuts.{Emits, Cut, IsCut, Consistent, part, Admitted}
-use Rattle.ir_runs.specs.Extremes.{IsLeast, IsGreatest}
+use Rattle.ir_runs.specs.Cuts.{Emits, Cut, IsCut, Consistent, part, IsLeast, IsGreatest}
+use Rattle.ir_runs.specs.Admitted.{Admitted}
 use Rattle.ir_thread.specs.declared.profile.Profile.{Profile}
 
 -- a thread that is admitted stays so at every later consistent cut in which it has gone no further

@@ -5,9 +5,8 @@ use Rattle.ir_runs.specs.Machine.{Machine}
 use Rattle.ir_thread.specs.State as thread
 use Rattle.ir_flat.specs.Flat.{start_flat, tables, machine}
 use Rattle.ir_runs.specs.Run.{State, Step}
-use Rattle.ir_runs.specs.Cuts.{Cut, IsCut, Consistent}
+use Rattle.ir_runs.specs.Cuts.{Cut, IsCut, Consistent, IsLeast, IsGreatest}
 use Rattle.ir_fit.specs.Fit.{FittedTrace, IsRunOf}
-use Rattle.ir_runs.specs.Extremes.{IsLeast, IsGreatest}
 
 -- what the guest's threads do
 abbrev pub machine_of : FittedTrace → Machine thread.State

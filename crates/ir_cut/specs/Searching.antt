@@ -1,11 +1,11 @@
 -- Positions on the way to the least and the greatest consistent cut.
 use Rattle.std.specs.Prelude.{◌≡◌, ℕ, suc, ◌-◌, ◌<◌, ◌≤◌, List, length, slice_get, Some}
-use Rattle.ir_runs.specs.Labels.{Label, In, Out}
+use Rattle.ir_runs.specs.Machine.{Label, In, Out}
 use Rattle.ir_runs.specs.declared.access.Access.{Access}
 use Rattle.ir_runs.specs.Run.{Step}
 use Rattle.ir_log.specs.Logging.{label_of}
 use Rattle.ir_log.specs.declared.event.Event.{Event}
-use Rattle.ir_trace.specs.TraceOf.{recorded_thread}
+use Rattle.ir_trace.specs.Recorded.{recorded_thread}
 use Rattle.ir_runs.specs.Coherent.{sum_below}
 use Rattle.ir_runs.specs.Cuts.{Emits, Needs, Cut, IsCut, Consistent}
 use Rattle.ir_fit.specs.Fit.{FittedTrace}

@@ -1,9 +1,9 @@
 //! Whether a cut is consistent.
 
 ghost use Rattle.std.specs.Prelude.{◌≡◌, ◌<◌, ◌≤◌, ℕ, length, IsTrue, ◌↔◌};
-ghost use Rattle.ir_trace.specs.TraceOf.{recorded_thread};
+ghost use Rattle.ir_trace.specs.Recorded.{recorded_thread};
 ghost use Rattle.ir_cut.specs.Positions.{EachRun, IsConsistentCut, cut_of};
-ghost use Rattle.ir_fit.specs.Fit.{IsFitted};
+ghost use Rattle.ir_fit.specs.Within.{IsFitted};
 ghost use Rattle.ir_cut.specs.Searching.{IsClosed};
 
 use crate::cut::Cut;

@@ -4,7 +4,7 @@ ghost use Rattle.std.specs.Prelude.{◌≡◌, ◌<◌, ◌≤◌, true, false, 
 ghost use Rattle.std.specs.List.Sorted.{IsNonDecreasingBy};
 ghost use Rattle.ir_fit.specs.declared.leave.Leave.{Leave};
 ghost use Rattle.ir_cut.specs.Positions.{EachRun, IsConsistentCut, IsGreatestCut, cut_of};
-ghost use Rattle.ir_fit.specs.Fit.{IsFitted};
+ghost use Rattle.ir_fit.specs.Within.{IsFitted};
 ghost use Rattle.ir_cut.specs.Searching.{AreLeaves, AreRest, Falling, HasAbove, NoneAbove, leaves_left};
 
 use crate::cut::Cut;

@@ -1,9 +1,9 @@
 //! The logs of a fitted trace.
 
 ghost use Rattle.std.specs.Prelude.{◌≡◌, ◌<◌, length};
-ghost use Rattle.ir_trace.specs.TraceOf.{recorded_thread};
+ghost use Rattle.ir_trace.specs.Recorded.{recorded_thread};
 ghost use Rattle.ir_fit.specs.Places.{placed_at};
-ghost use Rattle.ir_fit.specs.Fit.{IsFitted};
+ghost use Rattle.ir_fit.specs.Within.{IsFitted};
 
 use ir_fit::Fitted;
 use ir_log::Event;

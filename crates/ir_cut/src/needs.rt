@@ -1,11 +1,11 @@
 //! What the entries of a cut need, and what needs its leaves.
 
 ghost use Rattle.std.specs.Prelude.{◌≡◌, ◌<◌, ℕ, length, IsTrue, ◌↔◌};
-ghost use Rattle.ir_runs.specs.Labels.{In};
+ghost use Rattle.ir_runs.specs.Machine.{In};
 ghost use Rattle.ir_runs.specs.declared.access.Access.TheVariants.{Reading};
 ghost use Rattle.ir_log.specs.Logging.{label_of};
 ghost use Rattle.ir_cut.specs.Positions.{EachRun, cut_of};
-ghost use Rattle.ir_fit.specs.Fit.{IsFitted};
+ghost use Rattle.ir_fit.specs.Within.{IsFitted};
 ghost use Rattle.ir_cut.specs.Searching.{AreInside, IsEntryAt, NeededBy, Needing, RaisedFor, LoweredFor};
 
 use crate::moving::{are_inside, lower, raise};

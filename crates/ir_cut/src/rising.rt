@@ -2,9 +2,9 @@
 
 ghost use Rattle.std.specs.Prelude.{◌≡◌, ◌<◌, ◌≤◌, ℕ, List, length, slice_get, Some, IfOk, IfSome, IfNone};
 ghost use Rattle.std.specs.List.Sorted.{IsNonDecreasingBy};
-ghost use Rattle.ir_trace.specs.TraceOf.{recorded_thread};
+ghost use Rattle.ir_trace.specs.Recorded.{recorded_thread};
 ghost use Rattle.ir_cut.specs.Positions.{EachRun, IsConsistentCut, IsLeastCut, cut_of};
-ghost use Rattle.ir_fit.specs.Fit.{IsFitted};
+ghost use Rattle.ir_fit.specs.Within.{IsFitted};
 ghost use Rattle.ir_cut.specs.Searching.{AreFirst, HasBelow, NoneBelow, Rising, events_left};
 
 use crate::cut::Cut;

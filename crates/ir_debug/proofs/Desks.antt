@@ -4,7 +4,8 @@ use Rattle.ir_fit.specs.Fit.{FittedTrace, HasRun}
 use Rattle.ir_cut.specs.Positions.{IsConsistentCut}
 use Rattle.ir_hits.specs.Hits.{AreWatchable}
 use Rattle.ir_timeline.specs.Positions.{threads_of, Cuts}
-use Rattle.ir_debug.specs.Machine.Desk.{Desk, IsDesk, AllKept, most_kept}
+use Rattle.ir_debug.specs.Machine.Desk.{Desk, most_kept}
+use Rattle.ir_debug.specs.Within.{IsDesk, AllKept}
 
 -- the facts of a trace are those of one that is equal
 pub desk_over : (f : FittedTrace) (d : Desk) → d.fitted ≡ f → HasRun f → Cuts f d.at → AreWatchable d.points → AllKept f d.kept

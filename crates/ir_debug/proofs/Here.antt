@@ -5,28 +5,26 @@ use Rattle.std.proofs.lemmas.List.{get_or_default}
 use Rattle.ir_image.specs.Guest.{object_words}
 use Rattle.ir_object.specs.Cell.{Cell}
 use Rattle.ir_flat.specs.Flat.{empty, object_with}
-use Rattle.ir_runs.specs.Labels.{Label}
-use Rattle.ir_runs.specs.Object.{Object}
+use Rattle.ir_runs.specs.Machine.{Label, Object}
 use Rattle.ir_runs.specs.Run.{Step}
 use Rattle.ir_runs.specs.Cuts.{object_at}
 use Rattle.ir_thread.specs.State as thread
 use Rattle.ir_cut.specs.Positions.{machine_of, start_of, cut_of, EachRun}
-use Rattle.ir_weave.specs.Standing.{flat_in}
-use Rattle.ir_weave.specs.States.{IsAt}
+use Rattle.ir_weave.specs.Standing.{flat_in, IsAt}
 use Rattle.ir_weave.proofs.CallerLemmas.{LogsBefore, log_before}
 use Rattle.ir_command.specs.declared.command.Show.{Show}
 use Rattle.ir_command.specs.declared.command.Show.TheVariants as show
-use Rattle.ir_text.specs.Answers.{machine_text}
+use Rattle.ir_text.specs.Texts.{machine_text, bytes_from, memory_text, output_text, object_text, log_text, next_text}
 use Rattle.ir_command.specs.declared.command.Command.TheVariants as command
 use Rattle.ir_debug.specs.declared.answer.Answer.{Answer}
 use Rattle.ir_debug.specs.declared.answer.Answer.TheVariants.{Shown}
 use Rattle.ir_debug.specs.declared.answer.Answer.TheVariants as answer
 use Rattle.ir_debug.specs.Debugging.{Debugging, IsThere, IsLast, IsText, answer_text}
 use Rattle.ir_debug.proofs.Passed.{thread_below, object_below}
-use Rattle.ir_text.specs.Texts.{held_by, bytes_from, memory_text, output_text, object_text, log_text, next_text}
+use Rattle.ir_text.specs.Held.{held_by}
 use Rattle.ir_debug.specs.AtHand.{thread_here, object_here, events_of, shown_here, text_here, ShowsHere}
 use Rattle.ir_timeline.specs.Positions.{threads_of}
-use Rattle.ir_debug.specs.Machine.Desk.{IsDesk}
+use Rattle.ir_debug.specs.Within.{IsDesk}
 use Rattle.ir_debug.specs.Machine.Shown.{shown, current, logged_so_far}
 
 -- a thread in hand is the run's at its position

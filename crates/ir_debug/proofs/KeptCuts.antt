@@ -6,7 +6,8 @@ use Rattle.std.proofs.lemmas.List.{at_drop_more, at_drop_all}
 use Rattle.std.proofs.lemmas.Bool.Decides.{nat_tests}
 use Rattle.ir_fit.specs.Fit.{FittedTrace}
 use Rattle.ir_timeline.specs.Positions.{Cuts, threads_of}
-use Rattle.ir_debug.specs.Machine.Desk.{Kept, kept_cut, without, AllKept}
+use Rattle.ir_debug.specs.Machine.Desk.{Kept, kept_cut, without}
+use Rattle.ir_debug.specs.Within.{AllKept}
 use Rattle.ir_debug.specs.Machine.Answers.{kept_line, kept_text}
 
 -- ---- the kept cut of a number, from a place on

@@ -3,9 +3,7 @@ use Rattle.std.proofs.Common.{◌≡◌, ℕ, List, [], ◌∷◌, ◌++◌, Opt
 use Rattle.std.specs.Prelude.{IfSome}
 use Rattle.std.specs.Io.KnownBytes.{Appends, Consumes}
 use Rattle.std.proofs.KnownBytes.{Appends-trans}
-use Rattle.ir_stream.specs.Lines.{cut, lines_of, heard}
-use Rattle.ir_stream.specs.Answers.{Wrote, WroteInPart, through}
-use Rattle.ir_stream.specs.Devices.{AppendsPrefix, Reads}
+use Rattle.ir_stream.specs.Answers.{cut, lines_of, heard, Wrote, WroteInPart, through, AppendsPrefix, Reads}
 use Rattle.ir_stream.specs.Endings.{IfEnded, LeadsTo}
 use Rattle.ir_stream.specs.declared.serving.Served.{Served}
 use Rattle.ir_stream.specs.declared.serving.Served.TheVariants as served

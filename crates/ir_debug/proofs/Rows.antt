@@ -6,9 +6,7 @@ use Rattle.ir_image.specs.Guest.{Guest}
 use Rattle.ir_image.specs.declared.form.ImageForm.TheVariants.{Small}
 use Rattle.ir_thread.specs.declared.end.End.TheVariants.{Breakpoint}
 use Rattle.ir_thread.specs.declared.profile.Profile.TheVariants.{One}
-use Rattle.ir_command.specs.Words.{words_of}
-use Rattle.ir_command.specs.Numbers.{number_of, numeral}
-use Rattle.ir_command.specs.Commands.{command_of, command_named}
+use Rattle.ir_command.specs.Commands.{words_of, command_of, command_named, number_of, numeral}
 use Rattle.ir_command.specs.declared.command.Command.{Command}
 use Rattle.ir_command.specs.declared.command.Command.TheVariants.{Move, Position, Show, Set, Quit}
 use Rattle.ir_command.specs.declared.command.Point.TheVariants.{Break}

@@ -13,10 +13,9 @@ use Rattle.ir_thread.specs.declared.profile.Profile.{Profile}
 use Rattle.ir_thread.specs.declared.profile.Profile.TheVariants.{One, Two}
 use Rattle.ir_runs.specs.Run.{Step, after}
 use Rattle.ir_fit.specs.Fit.{FittedTrace}
-use Rattle.ir_text.specs.Answers.{registers_text}
+use Rattle.ir_text.specs.Texts.{registers_text, inside_for, event_lines, memory_lines, output_lines, bytes_from}
 use Rattle.ir_command.specs.declared.command.Show.TheVariants.{Registers, Memory, Output, Object, Log, Next}
 use Rattle.ir_debug.specs.Machine.Desk.{Desk, desk_of}
-use Rattle.ir_text.specs.Texts.{inside_for, event_lines, memory_lines, output_lines, bytes_from}
 use Rattle.ir_debug.specs.Machine.Shown.{shown}
 
 abbrev fitted_by : ImageForm → Profile → List ℕ → ℕ → ℕ → FittedTrace

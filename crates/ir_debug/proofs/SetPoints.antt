@@ -7,7 +7,7 @@ use Rattle.std.proofs.lemmas.Bool.Decides.{nat_tests}
 use Rattle.ir_mach.specs.Memory.{memory_word}
 use Rattle.ir_thread.specs.State as thread
 use Rattle.ir_runs.specs.declared.access.Access.TheVariants.{Writing}
-use Rattle.ir_runs.specs.Labels.{Out}
+use Rattle.ir_runs.specs.Machine.{Out}
 use Rattle.ir_runs.specs.Run.{Step, trail, end}
 use Rattle.ir_fit.specs.Fit.{FittedTrace, HasRun, IsRunOf}
 use Rattle.ir_fit.proofs.CallerLemmas.{get_at}

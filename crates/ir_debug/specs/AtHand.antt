@@ -2,31 +2,31 @@
 use Rattle.std.specs.Prelude.{◌≡◌, ◌<◌, ℕ, List, ◌++◌, take, map, length, codes, Some}
 use Rattle.ir_image.specs.Guest.{object_words}
 use Rattle.ir_thread.specs.State as thread
-use Rattle.ir_runs.specs.Object as object
+use Rattle.ir_runs.specs.Machine as machine
 use Rattle.ir_flat.specs.Flat.{thread_of, cell_of, object_with}
 use Rattle.ir_log.specs.Logging.{label_of}
 use Rattle.ir_log.specs.declared.event.Event.{Event}
-use Rattle.ir_trace.specs.TraceOf.{recorded_thread}
+use Rattle.ir_trace.specs.Recorded.{recorded_thread}
 use Rattle.ir_cut.specs.Positions.{EachRun}
 use Rattle.ir_weave.specs.Standing.{flat_in}
 use Rattle.ir_command.specs.declared.command.Show.{Show}
 use Rattle.ir_command.specs.declared.command.Show.TheVariants.{Registers, Memory, Object, Output, Log, Next}
 use Rattle.ir_debug.specs.declared.answer.Answer.{Answer}
 use Rattle.ir_debug.specs.declared.answer.Answer.TheVariants as answer
-use Rattle.ir_text.specs.Answers.{machine_text, refusal_text}
+use Rattle.ir_text.specs.Texts.{machine_text, refusal_text, bytes_from, number_line, positions_text, memory_text, output_text, object_text, log_text, next_text}
 use Rattle.ir_debug.specs.Debugging.{Debugging, IsThere}
 use Rattle.ir_debug.specs.Machine.Answers.{moved_text, continued_text, kept_text}
 use Rattle.ir_timeline.specs.Positions.{threads_of}
 use Rattle.ir_debug.specs.Machine.Refusals.{thread_shown}
 use Rattle.ir_debug.specs.Machine.Shown.{shown}
-use Rattle.ir_text.specs.Texts.{bytes_from, number_line, positions_text, memory_text, output_text, object_text, log_text, next_text, held_by}
+use Rattle.ir_text.specs.Held.{held_by}
 
 -- a thread in hand
 abbrev pub thread_here : Debugging → ℕ → thread.State
 thread_here d t = thread_of (flat_in d.desk.fitted d.state) t
 
 -- an object in hand
-abbrev pub object_here : Debugging → ℕ → object.Object
+abbrev pub object_here : Debugging → ℕ → machine.Object
 object_here d o = object_with (cell_of (flat_in d.desk.fitted d.state) o) (held_by d.state.threads o)
 
 -- the events of a thread in its run

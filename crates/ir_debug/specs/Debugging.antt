@@ -9,11 +9,11 @@ use Rattle.ir_command.specs.declared.command.Command.TheVariants as command
 use Rattle.ir_command.specs.declared.refusal.Refusal.{Refusal}
 use Rattle.ir_debug.specs.declared.answer.Answer.{Answer}
 use Rattle.ir_debug.specs.declared.answer.Answer.TheVariants.{Moved, Continued, Position, Shown, Next, Set, Cleared, Kept, Dropped, KeptCuts, Refused, Bye}
-use Rattle.ir_text.specs.Answers.{refusal_text}
-use Rattle.ir_debug.specs.Machine.Desk.{Desk, IsDesk}
+use Rattle.ir_text.specs.Texts.{refusal_text, number_line, positions_text}
+use Rattle.ir_debug.specs.Machine.Desk.{Desk}
+use Rattle.ir_debug.specs.Within.{IsDesk}
 use Rattle.ir_debug.specs.Machine.Refusals.{refusal_of, is_at_hand}
 use Rattle.ir_debug.specs.Machine.Shown.{shown}
-use Rattle.ir_text.specs.Texts.{number_line, positions_text}
 use Rattle.ir_debug.specs.Machine.Answers.{kept_text, moved_text, continued_text, RepliesBy}
 
 -- the small machine, and beside it the guest's threads and objects at some consistent cut

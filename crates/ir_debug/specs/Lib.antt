@@ -4,3 +4,4 @@ pub mod Openings
 pub mod Session
 pub mod LongLines
 pub mod AtHand
+pub mod Within

@@ -1,10 +1,7 @@
 -- The bytes of a whole session, and how it ends.
 use Rattle.std.specs.Prelude.{◌≡◌, ◌≢◌, ◌⊎◌, ℕ, false, ⊤, List, [], ◌++◌, Option, Result, Ok, Err}
 use Rattle.std.specs.Io.KnownBytes.{Appends, IsAtEnd}
-use Rattle.ir_stream.specs.Lines.{cut, heard, lines_of}
-use Rattle.ir_stream.specs.Answers.{Answered, WroteInPart, through, some_quits}
-use Rattle.ir_stream.specs.Devices.{AppendsPrefix}
-use Rattle.ir_stream.specs.Endings.{ends}
+use Rattle.ir_stream.specs.Answers.{cut, heard, lines_of, Answered, WroteInPart, through, some_quits, ends, AppendsPrefix}
 use Rattle.ir_stream.specs.declared.serving.Served.{Served}
 use Rattle.ir_stream.specs.declared.serving.Served.TheVariants as served
 use Rattle.ir_stream.specs.declared.serving.Fault.{Fault}

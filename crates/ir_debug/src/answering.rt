@@ -5,7 +5,7 @@ ghost use Rattle.std.specs.List.{AllByRecursion};
 ghost use Rattle.ir_image.specs.Guest.{most_threads};
 ghost use Rattle.std.specs.Io.KnownBytes.{Appends};
 ghost use Rattle.arrayvec.specs.ArrayVec.{array_vec_len};
-ghost use Rattle.ir_stream.specs.Devices.{AppendsPrefix};
+ghost use Rattle.ir_stream.specs.Answers.{AppendsPrefix};
 ghost use Rattle.ir_command.specs.declared.command.Command.TheVariants as command;
 ghost use Rattle.ir_debug.specs.AtHand.{text_here};
 ghost use Rattle.ir_debug.specs.Debugging.{IsLast, IsText};

@@ -2,10 +2,8 @@
 
 ghost use Rattle.std.specs.Prelude.{◌≡◌, ◌≢◌, true, false, [], IfOk, IfErr, IfSome, IfNone, OnOk, OnErr, Ok, Err, None};
 ghost use Rattle.std.specs.Io.KnownBytes.{IsAtEnd};
-ghost use Rattle.ir_stream.specs.Lines.{cut, lines_of, last_line};
+ghost use Rattle.ir_stream.specs.Answers.{cut, lines_of, last_line, Wrote, WroteInPart, Replied, RepliedPrefix, through, some_quits, Reads};
 ghost use Rattle.ir_stream.specs.Endings.{flow_after, served_after, IfEnded, LeadsTo};
-ghost use Rattle.ir_stream.specs.Answers.{Wrote, WroteInPart, Replied, RepliedPrefix, through, some_quits};
-ghost use Rattle.ir_stream.specs.Devices.{Reads};
 ghost use Rattle.ir_debug.specs.Machine.Answers.{Replies, quits, quits_by};
 ghost use Rattle.ir_debug.specs.Debugging.{IsAnswer};
 

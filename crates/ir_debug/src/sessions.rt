@@ -1,7 +1,7 @@
 //! A session, from the bytes of an image and a trace to the answers to lines.
 
 ghost use Rattle.std.specs.Prelude.{◌≡◌, ◌≤◌, true, false, Err, IfSome};
-ghost use Rattle.ir_stream.specs.Devices.{Reads};
+ghost use Rattle.ir_stream.specs.Answers.{Reads};
 ghost use Rattle.ir_debug.specs.Session.{most_input, IfServed, IfRefused, Session, AnsweredWhole, AnsweredInPart, ended_by};
 
 use crate::announcing::announce;

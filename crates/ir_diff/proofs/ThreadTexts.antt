@@ -3,14 +3,13 @@ use Rattle.std.proofs.Common.{◌≡◌, ℕ, zero, suc, ◌+◌, ◌⊎◌, inl
 use Rattle.std.specs.Prelude.{slice_get, flat_map}
 use Rattle.std.proofs.lemmas.List.{length_push, flat_map_more}
 use Rattle.std.proofs.lemmas.Option.{same_Some, none-some}
-use Rattle.ir_runs.specs.Labels.{In}
+use Rattle.ir_runs.specs.Machine.{In}
 use Rattle.ir_runs.specs.Cuts.{At}
 use Rattle.ir_runs.specs.declared.access.Access.{Access}
 use Rattle.ir_runs.specs.declared.access.Access.TheVariants.{Reading, Writing}
 use Rattle.ir_log.specs.declared.event.Event.{Event}
 use Rattle.ir_log.specs.declared.event.Event.TheVariants as variant
-use Rattle.ir_trace.specs.Recorded.{Recorded}
-use Rattle.ir_trace.specs.TraceOf.{recorded_thread, trace_of}
+use Rattle.ir_trace.specs.Recorded.{Recorded, recorded_thread, trace_of}
 use Rattle.ir_past.specs.Past.{event_at, IsMadeBy}
 use Rattle.ir_past.specs.Naming.{maker_text}
 use Rattle.ir_past.specs.Tables.{maker_in}

@@ -1,12 +1,11 @@
 -- What `ir diff` writes.
 use Rattle.std.specs.Prelude.{◌≡◌, ◌≢◌, ◌⊎◌, ℕ, ◌==◌, Bool, true, false, if◌then◌else◌, List, [], ◌∷◌, ◌++◌, codes, decimal, length, flat_map, Option, Some, None, Result, Ok}
 use Rattle.std.specs.List.{slice_get, slice_index_or}
-use Rattle.ir_thread.specs.Ends.{end_number, end_code}
+use Rattle.ir_thread.specs.State.{end_number, end_code}
 use Rattle.ir_log.specs.Logging.{label_of}
 use Rattle.ir_log.specs.declared.event.Event.{Event}
 use Rattle.ir_log.specs.declared.event.Event.TheVariants.{Answer, Read, Write, Try}
-use Rattle.ir_trace.specs.Recorded.{Recorded, RecordedThread}
-use Rattle.ir_trace.specs.TraceOf.{recorded_thread}
+use Rattle.ir_trace.specs.Recorded.{Recorded, RecordedThread, recorded_thread}
 use Rattle.ir_trace.specs.declared.trace_err.TraceErr.{TraceErr}
 use Rattle.ir_text.specs.Texts.{event_text}
 use Rattle.ir_files.specs.declared.exit_status.ExitStatus.{ExitStatus}

@@ -2,8 +2,7 @@
 use Rattle.std.specs.Prelude.{◌≡◌, ℕ, ◌-◌, List, length}
 use Rattle.std.specs.List.{slice_index_or}
 use Rattle.ir_runs.specs.Coherent.{sum_below}
-use Rattle.ir_trace.specs.Recorded.{Recorded}
-use Rattle.ir_trace.specs.TraceOf.{recorded_thread}
+use Rattle.ir_trace.specs.Recorded.{Recorded, recorded_thread}
 use Rattle.ir_past.specs.Answers.{AreCoherent}
 use Rattle.ir_past.specs.Progress.{Makes}
 use Rattle.ir_past.specs.declared.makers.Makers.{Makers}

@@ -2,10 +2,10 @@
 
 ghost use Rattle.std.specs.Prelude.{◌≡◌, ◌<◌, ◌++◌, ℕ, List, codes, length, Some, IfOk};
 ghost use Rattle.std.specs.String.{string_bytes};
-ghost use Rattle.ir_runs.specs.Labels.{In};
+ghost use Rattle.ir_runs.specs.Machine.{In};
 ghost use Rattle.ir_runs.specs.Cuts.{At};
 ghost use Rattle.ir_runs.specs.declared.access.Access.{Access};
-ghost use Rattle.ir_trace.specs.TraceOf.{trace_of};
+ghost use Rattle.ir_trace.specs.Recorded.{trace_of};
 ghost use Rattle.ir_past.specs.Past.{event_at, IsMadeBy};
 ghost use Rattle.ir_past.specs.Naming.{maker_text};
 ghost use Rattle.ir_diff.specs.Common.{Tells, AreCommon};

@@ -1,7 +1,7 @@
 -- Powers of sixteen within a word.
 use Rattle.std.proofs.Common.{◌≡◌, ◌<◌, ◌+◌, ◌-◌, ◌/◌, ◌%◌, ◌^◌, ℕ, zero, suc, List, ◌∷◌, ◌++◌, arith, refl, ap, ◌∙◌}
 use Rattle.std.specs.Prelude.{codes, ℤ}
-use Rattle.ir_isa.specs.Words.{low_bits}
+use Rattle.ir_isa.specs.Fields.{low_bits}
 use Rattle.std.specs.Char.{digit_char}
 use Rattle.ir_disasm.specs.Printed.{hex, distance, far}
 

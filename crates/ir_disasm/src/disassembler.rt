@@ -4,8 +4,7 @@ ghost use Rattle.std.specs.Prelude.{◌≡◌, ◌≤◌, ◌<◌, [], ◌∷◌
 ghost use Rattle.std.specs.String.{string_bytes};
 ghost use Rattle.std.specs.Fmt.{signed_decimal};
 ghost use Rattle.std.specs.Char.{digit_char};
-ghost use Rattle.ir_isa.specs.Names.{register_name};
-ghost use Rattle.ir_isa.specs.Words.{low_bits};
+ghost use Rattle.ir_isa.specs.Fields.{register_name, low_bits};
 ghost use Rattle.ir_disasm.specs.Printed.{hex, two, three, distance, far, address, printed, text_of};
 
 use crate::names::{

@@ -10,8 +10,8 @@ use Rattle.ir_bytes.specs.Reading.{◌>>=◌, bytes_at, field_at, fields_at}
 use Rattle.ir_bytes.proofs.CallerLemmas.{two_ok, three_ok, four_ok, guard_ok, pass_ok, ok_is, choose, passed, within_ok, IsBytes, drop_fits, number_parts, number_whole, Takes, field_takes, bytes_take, fields_take}
 use Rattle.ir_image.specs.declared.form.ImageForm.{ImageForm}
 use Rattle.ir_image.specs.declared.form.ImageForm.TheVariants.{Small, Large}
-use Rattle.ir_image.specs.Forms.{limits_of}
-use Rattle.ir_image.specs.Guest.{Guest, IsGuest, IsPlace, IsWord, IsByte, most_code_words}
+use Rattle.ir_image.specs.Guest.{limits_of, Guest, IsWord, IsByte, most_code_words}
+use Rattle.ir_image.specs.Within.{IsGuest, IsPlace}
 use Rattle.ir_image.specs.Encoding.{words_encoding}
 use Rattle.ir_elf.specs.declared.part.Part.{Part}
 use Rattle.ir_elf.specs.declared.part.Part.TheVariants.{Code, Memory, Table}

@@ -2,8 +2,7 @@
 
 ghost use Rattle.std.specs.Prelude.{◌≡◌, ◌≤◌, length, IfOk};
 ghost use Rattle.ir_bytes.specs.Reading.{Reads, field_at, fields_at};
-ghost use Rattle.ir_image.specs.Forms.{limits_of};
-ghost use Rattle.ir_image.specs.Guest.{most_code_words};
+ghost use Rattle.ir_image.specs.Guest.{limits_of, most_code_words};
 ghost use Rattle.ir_elf.specs.declared.refusal.Refusal.TheVariants.{Table};
 ghost use Rattle.ir_elf.specs.Refusal.{Gives};
 ghost use Rattle.ir_elf.specs.Table.{form_field, form_of, threads_field, entry_at, are_objects, table_at};

@@ -2,11 +2,11 @@
 use Rattle.std.proofs.Common.{List, get_or, subst}
 use Rattle.std.proofs.lemmas.Option.{slice_get_within, get_or_from_slice_get}
 use Rattle.ir_thread.specs.State as thread
-use Rattle.ir_runs.specs.Labels.{Label}
+use Rattle.ir_runs.specs.Machine.{Label}
 use Rattle.ir_runs.specs.Cuts.{At, Emits}
 use Rattle.ir_log.specs.Logging.{label_of}
 use Rattle.ir_log.specs.declared.event.Event.{Event}
-use Rattle.ir_trace.specs.TraceOf.{recorded_thread}
+use Rattle.ir_trace.specs.Recorded.{recorded_thread}
 use Rattle.ir_fit.proofs.CallerLemmas.{entry_emits}
 use Rattle.ir_cut.specs.Positions.{machine_of, start_of}
 use Rattle.ir_cut.proofs.CallerLemmas.{same_trail}

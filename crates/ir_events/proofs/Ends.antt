@@ -7,8 +7,7 @@ use Rattle.ir_runs.specs.Run.{Step, trail, count}
 use Rattle.ir_fit.specs.Fit.{FittedTrace, IsRunOf}
 use Rattle.ir_fit.proofs.CallerLemmas.{idle_trail, get_at}
 use Rattle.ir_cut.specs.Positions.{machine_of, start_of, cut_of, IsConsistentCut}
-use Rattle.ir_weave.specs.Standing.{Standing, flat_in}
-use Rattle.ir_weave.specs.States.{positions}
+use Rattle.ir_weave.specs.Standing.{Standing, flat_in, positions}
 use Rattle.ir_weave.specs.Stepping.{IsTarget, IsUnder, Rests}
 use Rattle.ir_replay.proofs.CallerLemmas.{all_reached}
 use Rattle.ir_events.specs.Walk.{AreEnds, IsOnWay}

@@ -12,8 +12,7 @@ use Rattle.ir_fit.specs.Fit.{FittedTrace, HasRun, IsRunOf}
 use Rattle.ir_fit.proofs.CallerLemmas.{entries_rise, entries_long, entry_within}
 use Rattle.ir_cut.specs.Positions.{cut_of}
 use Rattle.ir_weave.specs.Ahead.{thread_at}
-use Rattle.ir_weave.specs.Standing.{Standing, StandsAt, flat_in}
-use Rattle.ir_weave.specs.States.{positions}
+use Rattle.ir_weave.specs.Standing.{Standing, StandsAt, flat_in, positions}
 use Rattle.ir_events.specs.Events.{entries_of, entry_of, pc_of, AreThreadPcs}
 use Rattle.ir_events.specs.Walk.{AreEnds, IsListed}
 

@@ -5,8 +5,7 @@ use Rattle.std.specs.List.{slice_index_or}
 use Rattle.ir_runs.proofs.CallerLemmas.{sum_less}
 use Rattle.ir_fit.specs.Fit.{FittedTrace}
 use Rattle.ir_cut.specs.Positions.{cut_of}
-use Rattle.ir_weave.specs.Standing.{Standing, flat_in}
-use Rattle.ir_weave.specs.States.{positions}
+use Rattle.ir_weave.specs.Standing.{Standing, flat_in, positions}
 use Rattle.ir_weave.specs.Stepping.{HasGone, IsSame, Rests, steps_left}
 use Rattle.ir_events.specs.Walk.{AreEnds, IsOnWay, IsFurther, IsListed, AreListed, IsPass}
 use Rattle.ir_replay.proofs.CallerLemmas.{rests_same}

@@ -1,8 +1,7 @@
 -- The line of an event.
 use Rattle.std.specs.Prelude.{ℕ, List, ◌++◌, codes, decimal}
 use Rattle.ir_log.specs.Logging.{label_of}
-use Rattle.ir_text.specs.Answers.{hex_word}
-use Rattle.ir_text.specs.Texts.{event_text}
+use Rattle.ir_text.specs.Texts.{hex_word, event_text}
 use Rattle.ir_events.specs.declared.logged.Logged.{Logged}
 
 -- the thread and the number of an event, its step and the pc

@@ -2,7 +2,7 @@
 use Rattle.std.specs.Prelude.{ℕ, zero, suc, List, [], ◌++◌, length, slice_index, slice_get, Option, Some, None, unwrap_or}
 use Rattle.std.specs.List.{slice_index_or}
 use Rattle.ir_log.specs.declared.event.Event.{Event}
-use Rattle.ir_trace.specs.TraceOf.{recorded_thread}
+use Rattle.ir_trace.specs.Recorded.{recorded_thread}
 use Rattle.ir_fit.specs.Fit.{FittedTrace}
 use Rattle.ir_symbols.specs.Symbols.{Symbol}
 use Rattle.ir_symbols.specs.Names.{name_text}

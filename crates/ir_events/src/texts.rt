@@ -2,7 +2,7 @@
 
 ghost use Rattle.std.specs.Prelude.{◌≡◌, ◌<◌, ◌++◌, [], length, slice_get, IfOk, OnOk, Some, unwrap_or};
 ghost use Rattle.std.specs.String.{string_bytes};
-ghost use Rattle.ir_trace.specs.TraceOf.{recorded_thread};
+ghost use Rattle.ir_trace.specs.Recorded.{recorded_thread};
 ghost use Rattle.ir_symbols.specs.Names.{name_text};
 ghost use Rattle.ir_events.specs.Events.{ArePcs};
 ghost use Rattle.ir_events.specs.Texts.{named_line, logged_at, thread_text, events_text};

@@ -2,8 +2,7 @@
 
 ghost use Rattle.std.specs.Prelude.{◌≡◌, ◌<◌, ◌≤◌, true, false, length, slice_index_or, IfOk};
 ghost use Rattle.ir_flat.specs.Flat.{idle};
-ghost use Rattle.ir_weave.specs.Standing.{flat_in};
-ghost use Rattle.ir_weave.specs.States.{positions};
+ghost use Rattle.ir_weave.specs.Standing.{flat_in, positions};
 ghost use Rattle.ir_weave.specs.Stepping.{Rests};
 ghost use Rattle.ir_events.specs.Walk.{AreEnds, IsOnWay, IsFurther, IsListed};
 

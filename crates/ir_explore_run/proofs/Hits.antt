@@ -17,14 +17,14 @@ use Rattle.ir_outcomes.specs.Again.{steps_of}
 use Rattle.ir_outcomes.specs.Explored.{IsAt, AreExplored}
 use Rattle.ir_outcomes.specs.Shown.{IsShown}
 use Rattle.ir_outcomes.specs.declared.shown.Shown.{Shown}
-use Rattle.ir_record.specs.Turns.{order_of_turns}
+use Rattle.ir_record.specs.Recording.{order_of_turns}
 use Rattle.ir_record.specs.Worlds.{answers_in}
 use Rattle.ir_record_run.specs.Recording.{IsRecordedOf}
 use Rattle.ir_runs.proofs.CallerLemmas.{stays_idle}
-use Rattle.ir_runs.specs.Labels.{Label, Quiet, Answer, In, Refused, Out}
+use Rattle.ir_runs.specs.Machine.{Label, Quiet, Answer, In, Refused, Out, target, Admits}
 use Rattle.ir_runs.specs.Machine as machine
-use Rattle.ir_runs.specs.Object.{target, Admits}
-use Rattle.ir_runs.specs.Run.{State, Step, IsRun, IsIdle, after, log}
+use Rattle.ir_runs.specs.Run.{State, Step, IsRun, after, log}
+use Rattle.ir_runs.specs.Bounds.{IsIdle}
 use Rattle.ir_sources.specs.Sources.{origin_of, IsAnswered, source}
 use Rattle.ir_states.specs.Sources.{Gives}
 use Rattle.ir_thread.specs.Calls.{most_budget}

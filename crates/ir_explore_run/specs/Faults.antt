@@ -8,7 +8,7 @@ use Rattle.ir_image.specs.Reading.{guest_at}
 use Rattle.ir_image.specs.declared.image_err.ImageErr.{ImageErr}
 use Rattle.ir_image.specs.declared.image_err.ImageErr.TheVariants as image
 use Rattle.ir_record_run.specs.Faults.{image_words}
-use Rattle.ir_thread.specs.Allowed.{IsAllowed}
+use Rattle.ir_thread.specs.State.{IsAllowed}
 use Rattle.ir_thread.specs.declared.profile.Profile.TheVariants.{One}
 use Rattle.ir_explore_run.specs.Texts.{IsAnswerAbout}
 use Rattle.ir_explore_run.specs.declared.plan.ExplorePlan.{ExplorePlan}

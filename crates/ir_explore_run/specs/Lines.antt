@@ -1,11 +1,9 @@
 -- The lines of `ir explore`.
 use Rattle.std.specs.Prelude.{ℕ, zero, suc, ◌*◌, List, [], ◌∷◌, ◌++◌, codes, decimal, length, take, drop, flat_map, Option, Some, None}
 use Rattle.hex.specs.Hex.{encode_lower}
-use Rattle.ir_thread.specs.Ends.{end_number, end_code}
-use Rattle.ir_thread.specs.State.{State}
+use Rattle.ir_thread.specs.State.{end_number, end_code, State}
 use Rattle.ir_thread.specs.declared.end.End.{End}
-use Rattle.ir_text.specs.Answers.{hex_word}
-use Rattle.ir_text.specs.Texts.{lines_for}
+use Rattle.ir_text.specs.Texts.{hex_word, lines_for}
 use Rattle.ir_explore.specs.declared.search.Ended.{Ended}
 use Rattle.ir_explore.specs.declared.search.Ended.TheVariants.{Finished, Covered, Stopped}
 use Rattle.ir_explore.specs.declared.stop.Stop.{Stop}

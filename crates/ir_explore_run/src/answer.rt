@@ -6,7 +6,7 @@ ghost use Rattle.ir_chaos.specs.Conditions.{Condition};
 ghost use Rattle.ir_graph.specs.Reached.{AllReached};
 ghost use Rattle.ir_image.specs.Guest.{Guest};
 ghost use Rattle.ir_outcomes.specs.Explored.{AreExplored};
-ghost use Rattle.ir_thread.specs.Allowed.{IsAllowed};
+ghost use Rattle.ir_thread.specs.State.{IsAllowed};
 ghost use Rattle.ir_thread.specs.declared.profile.Profile.TheVariants.{One};
 ghost use Rattle.ir_explore_run.specs.Conditions.{NoneBefore, IsFulfilled};
 ghost use Rattle.ir_explore_run.specs.Texts.{IsReason, IsStopped, AreKnown, IsKnownText, known_of, status_of};

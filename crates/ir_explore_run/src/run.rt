@@ -2,7 +2,7 @@
 
 ghost use Rattle.std.specs.Prelude.{◌≡◌, ◌⊎◌, IfOk, IfErr, false};
 ghost use Rattle.ir_files.specs.Writers.{writer_of, Reports, fault_text};
-ghost use Rattle.ir_thread.specs.Allowed.{IsAllowed};
+ghost use Rattle.ir_thread.specs.State.{IsAllowed};
 ghost use Rattle.ir_thread.specs.declared.profile.Profile.TheVariants.{One};
 ghost use Rattle.ir_explore_run.specs.Faults.{Answers, HasNone, fault_status, fault_words};
 ghost use Rattle.ir_explore_run.specs.Texts.{IsAnswerAbout};

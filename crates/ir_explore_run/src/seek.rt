@@ -3,7 +3,7 @@
 ghost use Rattle.std.specs.Prelude.{◌≡◌, ◌≤◌, ◌<◌, None, true, false, map, IfOk, IfErr};
 ghost use Rattle.ir_chaos.specs.Conditions.{as_condition};
 ghost use Rattle.ir_explore.specs.declared.search.Ended.TheVariants.{Covered};
-ghost use Rattle.ir_thread.specs.Allowed.{IsAllowed};
+ghost use Rattle.ir_thread.specs.State.{IsAllowed};
 ghost use Rattle.ir_thread.specs.declared.profile.Profile.TheVariants.{One};
 ghost use Rattle.ir_explore_run.specs.Conditions.{IsFirst};
 ghost use Rattle.ir_explore_run.specs.Texts.{IsReason, AreKnown, known_of};

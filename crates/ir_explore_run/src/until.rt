@@ -12,7 +12,7 @@ ghost use Rattle.ir_record_run.specs.Faults.{Refuses, Stops, IsReported, unwritt
 ghost use Rattle.ir_record_run.specs.Recording.{lines_of};
 ghost use Rattle.ir_record_run.specs.declared.record_fault.RecordFault.{RecordFault};
 ghost use Rattle.ir_image.specs.Reading.{guest_at};
-ghost use Rattle.ir_thread.specs.Allowed.{IsAllowed};
+ghost use Rattle.ir_thread.specs.State.{IsAllowed};
 ghost use Rattle.ir_thread.specs.declared.profile.Profile.TheVariants.{One};
 ghost use Rattle.ir_trace.specs.Encoding.{encoding};
 ghost use Rattle.ir_explore_run.specs.Faults.{fault_status, fault_words};

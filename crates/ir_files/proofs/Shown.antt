@@ -3,7 +3,7 @@ use Rattle.std.proofs.Common.{◌≡◌, refl, ◌==◌, ◌&&◌, if◌then◌e
 use Rattle.std.specs.Prelude.{Option, not, nat_lt}
 use Rattle.std.specs.List.{list_all}
 use Rattle.std.specs.Io.KnownBytes.{Appends}
-use Rattle.ir_stream.specs.Devices.{AppendsPrefix}
+use Rattle.ir_stream.specs.Answers.{AppendsPrefix}
 use Rattle.ir_stream.proofs.CallerLemmas.{prefix_after, prefix_longer}
 use Rattle.ir_files.specs.Shown.{shown, shown_byte, is_control, is_late_control, is_plain, mark}
 

@@ -1,7 +1,7 @@
 -- What a writer took of a text, and the lines that tell faults.
 use Rattle.std.specs.Prelude.{◌≡◌, ℕ, Bool, true, List, [], ◌∷◌, ◌++◌, codes, ◌⊎◌, Option}
 use Rattle.std.specs.Io.KnownBytes.{Appends}
-use Rattle.ir_stream.specs.Devices.{AppendsPrefix}
+use Rattle.ir_stream.specs.Answers.{AppendsPrefix}
 use Rattle.ir_files.specs.Shown.{shown}
 
 -- a writer: what it took before and after, and whether it has failed

@@ -7,33 +7,37 @@ use Rattle.std.proofs.lemmas.Bool.{cases_lt}
 use Rattle.std.proofs.lemmas.Bool.Decides.{nat_tests}
 use Rattle.ir_image.specs.Guest.{Guest}
 use Rattle.ir_thread.specs.Instance.{thread_machine, is_result}
-use Rattle.ir_runs.specs.Labels.{Label}
+use Rattle.ir_runs.specs.Machine.{Label}
 use Rattle.ir_runs.specs.declared.env_kind.EnvKind.{EnvKind}
 use Rattle.ir_runs.specs.declared.env_kind.EnvKind.TheVariants.{Clock, Random, Input}
 use Rattle.ir_thread.proofs.CallerLemmas.{lawful, closing}
 use Rattle.ir_flat.specs.Flat.{Flat, start_flat, tables}
-use Rattle.ir_runs.specs.Run.{Step, log, trace}
+use Rattle.ir_runs.specs.Run.{Step, log}
+use Rattle.ir_runs.specs.Bounds.{trace}
 use Rattle.ir_runs.proofs.CallerLemmas.{start_good, one_maximal, Over, over, all_same, whole_same, same_verdict, own_coherent, settled, verdict_at, goes_on, all_done}
 use Rattle.ir_flat.proofs.CallerLemmas.{start_idle}
 use Rattle.ir_log.specs.Logging.{label_of}
 use Rattle.ir_log.specs.declared.event.Event.{Event}
 use Rattle.ir_log.specs.declared.event.Event.TheVariants.{Answer, Read, Write, Try}
 use Rattle.ir_thread.specs.declared.profile.Profile.{Profile}
-use Rattle.ir_trace.specs.Recorded.{Recorded, RecordedThread, IsRecorded, IsRecordedThread, IsEvent, IsResult}
-use Rattle.ir_trace.specs.TraceOf.{absent, trace_of}
+use Rattle.ir_trace.specs.Recorded.{Recorded, RecordedThread, absent, trace_of}
+use Rattle.ir_trace.specs.Within.{IsRecorded, IsRecordedThread, IsEvent, IsResult}
 use Rattle.ir_coherence.proofs.CallerLemmas.{coherent_unbroken}
 use Rattle.ir_fit.proofs.Guests.{starts, lives}
 use Rattle.ir_coherence.specs.Breaking.{IsFirstBreak}
 use Rattle.ir_runs.specs.Coherent.{IsCoherent}
 use Rattle.ir_runs.specs.Cuts.{At}
-use Rattle.ir_fit.specs.Fit.{HasHeader, IsRunOf, HasRun, GoesFurthest, AreVerdicts, IsRefused, BreaksBy}
+use Rattle.ir_fit.specs.Fit.{HasHeader, IsRunOf, HasRun, GoesFurthest, AreVerdicts, IsRefused}
+use Rattle.ir_fit.specs.Within.{BreaksBy}
 use Rattle.ir_fit.specs.Follower.{IsFollowed, AreStanding}
 use Rattle.ir_runs.specs.Following as following
 use Rattle.ir_fit.specs.Places.{placed_at}
 use Rattle.ir_fit.specs.Growing.{Growing, grown, growing_at}
 use Rattle.ir_runs.specs.Standing.{StandsAs}
 use Rattle.ir_runs.specs.Verdicts as verdicts
-use Rattle.ir_runs.specs.Verdicts.{HoldsEvents, IsWhole}
+use Rattle.ir_runs.specs.Events as events
+use Rattle.ir_runs.specs.Verdicts.{IsWhole}
+use Rattle.ir_runs.specs.Events.{HoldsEvents}
 use Rattle.ir_fit.specs.declared.fit_err.FitErr.{FitErr}
 use Rattle.ir_fit.specs.declared.fit_err.FitErr.TheVariants.{NoMem, Refused}
 use Rattle.ir_runs.specs.declared.thread_verdict.ThreadVerdict.{ThreadVerdict}
@@ -48,20 +52,20 @@ result_fits Random value h = grind (arith, nat_tests, h)
 result_fits Input value (inl h) = grind (arith, nat_tests, h)
 result_fits Input value (inr h) = grind (arith, nat_tests, h)
 
-event_fits : (code : List ℕ) (profile : Profile) (objects : ℕ) (e : Event) → IsEvent profile objects e → verdicts.IsEvent (thread_machine code) (label_of e)
+event_fits : (code : List ℕ) (profile : Profile) (objects : ℕ) (e : Event) → IsEvent profile objects e → events.IsEvent (thread_machine code) (label_of e)
 event_fits code profile objects (Answer kind value) h = result_fits kind value h
 event_fits code profile objects (Read object version) h = refl
 event_fits code profile objects (Write object version readers) h = tt
 event_fits code profile objects (Try object) h = tt
 
 events_fit : (code : List ℕ) (profile : Profile) (objects : ℕ) (es : List Event) → AllByRecursion (IsEvent profile objects) es → (i : ℕ) (k : Label)
-    → At (map label_of es) i k → verdicts.IsEvent (thread_machine code) k
+    → At (map label_of es) i k → events.IsEvent (thread_machine code) k
 events_fit code profile objects [] all i k h = absurd h
-events_fit code profile objects (e ∷ es) all zero k h = subst (verdicts.IsEvent (thread_machine code)) h (event_fits code profile objects e all.0)
+events_fit code profile objects (e ∷ es) all zero k h = subst (events.IsEvent (thread_machine code)) h (event_fits code profile objects e all.0)
 events_fit code profile objects (e ∷ es) all (suc i) k h = events_fit code profile objects es all.1 i k h
 
 threads_fit : (code : List ℕ) (profile : Profile) (objects : ℕ) (ts : List RecordedThread) → AllByRecursion (IsRecordedThread profile objects) ts
-    → (t i : ℕ) (k : Label) → At (map label_of (get_or ts t absent).events) i k → verdicts.IsEvent (thread_machine code) k
+    → (t i : ℕ) (k : Label) → At (map label_of (get_or ts t absent).events) i k → events.IsEvent (thread_machine code) k
 threads_fit code profile objects [] all t i k h = absurd h
 threads_fit code profile objects (x ∷ xs) all zero i k h = events_fit code profile objects x.events all.0.events_fit i k h
 threads_fit code profile objects (x ∷ xs) all (suc t) i k h = threads_fit code profile objects xs all.1 t i k h

@@ -3,19 +3,19 @@ use Rattle.std.proofs.Common.{◌≡◌, ℕ, suc, zero, ◌+◌, ◌<◌, ◌�
 use Rattle.std.proofs.lemmas.Bool.{cases_lt}
 use Rattle.std.proofs.lemmas.List.{length-map, get_or-map}
 use Rattle.ir_thread.specs.Instance.{thread_machine}
-use Rattle.ir_runs.specs.Machine.{Machine}
-use Rattle.ir_runs.specs.Labels.{Label, Quiet, Answer, In, Refused, Out, logged}
+use Rattle.ir_runs.specs.Machine.{Machine, Label, Quiet, Answer, In, Refused, Out, logged}
 use Rattle.ir_thread.specs.State as thread
 use Rattle.ir_runs.specs.declared.access.Access.{Access}
 use Rattle.ir_runs.specs.declared.env_kind.EnvKind.{EnvKind}
 use Rattle.ir_runs.specs.declared.env_kind.EnvKind.TheVariants.{Clock}
 use Rattle.ir_flat.specs.Flat.{start_flat, tables, machine}
-use Rattle.ir_runs.specs.Run.{State, Step, after, IsRun, IsIdle, trail, count, events}
+use Rattle.ir_runs.specs.Run.{State, Step, after, IsRun, trail, count, events}
+use Rattle.ir_runs.specs.Bounds.{IsIdle}
 use Rattle.ir_flat.proofs.CallerLemmas.{start_idle}
 use Rattle.ir_log.specs.Logging.{label_of}
 use Rattle.ir_log.specs.declared.event.Event.{Event}
 use Rattle.ir_log.specs.declared.event.Event.TheVariants as logged_event
-use Rattle.ir_trace.specs.TraceOf.{recorded_thread}
+use Rattle.ir_trace.specs.Recorded.{recorded_thread}
 use Rattle.ir_runs.proofs.CallerLemmas.{trail_other, below_idle}
 use Rattle.ir_runs.specs.Cuts.{At}
 use Rattle.ir_fit.specs.Fit.{FittedTrace, HasRun}

@@ -6,25 +6,22 @@ use Rattle.std.proofs.lemmas.List.Folds.{sum_by-replicate}
 use Rattle.std.proofs.Math.Seq.{drop-append_seam}
 use Rattle.ir_image.specs.Guest.{Guest, object_count}
 use Rattle.ir_thread.specs.Calls.{ask_of, after_ask}
-use Rattle.ir_thread.specs.Held.{held_count, one_if_held}
+use Rattle.ir_thread.specs.State.{held_count, one_if_held}
 use Rattle.ir_thread.proofs.CallerLemmas.{ask_permits, one_fewer}
 use Rattle.ir_runs.proofs.CallerLemmas.{upd_same, upd_other, upd_elim, trail_append, end_append, trail_same, trail_other, run_last, fits_prefix, goes_further, is_done, agrees, fits_last, sum_le, sum_less}
 use Rattle.ir_thread.specs.Instance.{shared_ask, reply_of, thread_machine}
 use Rattle.ir_runs.specs.Machine as machine
-use Rattle.ir_runs.specs.Machine.{Machine, act_of}
-use Rattle.ir_runs.specs.Labels.{Label, logged, Trace}
+use Rattle.ir_runs.specs.Machine.{Machine, act_of, target, emitted, reply, Admits, Label, logged, Trace}
 use Rattle.ir_thread.specs.State as thread
-use Rattle.ir_thread.specs.Calls.{Permits}
+use Rattle.ir_thread.specs.Permitted.{Permits}
 use Rattle.ir_runs.specs.declared.access.Access.{Access}
 use Rattle.ir_thread.specs.declared.ask.Ask.TheVariants.{Private, Done, Leave as Leaves}
-use Rattle.ir_runs.specs.Object.{target, emitted, reply, Admits}
 use Rattle.ir_flat.specs.Alone.{WentAlone}
 use Rattle.ir_flat.specs.Flat.{Flat, thread_of, tables, machine as machine_of, start_flat, start_threads, idle, IsFlat}
 use Rattle.ir_runs.specs.Run.{State, Step, act, asked, Can, after, label, end, trail, events, log, count}
 use Rattle.ir_flat.proofs.CallerLemmas.{tally, really_done, moved_thread, now_after, fresh, no_steps, threads_length, cells_length}
 use Rattle.ir_log.specs.Logging.{label_of}
-use Rattle.ir_trace.specs.Recorded.{Recorded, RecordedThread}
-use Rattle.ir_trace.specs.TraceOf.{recorded_thread, absent, trace_of}
+use Rattle.ir_trace.specs.Recorded.{Recorded, RecordedThread, recorded_thread, absent, trace_of}
 use Rattle.ir_fit.specs.Ahead.{steps_ahead, log_ahead, StepFollows, CanFollow, IsStopped, AgreesAhead, IsMove}
 use Rattle.ir_runs.specs.Coherent.{sum_below}
 use Rattle.ir_fit.specs.Follower.{IsFollower, IsFollowed, IsPlaced, GoesOn, all_ahead}

@@ -6,11 +6,12 @@ use Rattle.std.proofs.lemmas.Bool.{cases_eq}
 use Rattle.std.proofs.lemmas.Bool.Decides.{nat_tests}
 use Rattle.std.proofs.lemmas.List.{length-map}
 use Rattle.std.proofs.lemmas.List.FromFn.{get_or-map-range_with_len, length-map-range_with_len}
-use Rattle.ir_image.specs.Guest.{Guest, IsGuest, object_count}
+use Rattle.ir_image.specs.Guest.{Guest, object_count}
+use Rattle.ir_image.specs.Within.{IsGuest}
 use Rattle.ir_image.proofs.CallerLemmas.{few_threads, few_objects}
-use Rattle.ir_thread.specs.Allowed.{IsAllowed}
-use Rattle.ir_thread.specs.Calls.{ask_of, Permits, most_budget}
-use Rattle.ir_thread.specs.Ends.{end_number, end_code}
+use Rattle.ir_thread.specs.State.{IsAllowed, end_number, end_code}
+use Rattle.ir_thread.specs.Calls.{ask_of, most_budget}
+use Rattle.ir_thread.specs.Permitted.{Permits}
 use Rattle.ir_thread.specs.Instance.{shared_ask, is_result, thread_machine}
 use Rattle.ir_thread.specs.State as thread
 use Rattle.ir_thread.specs.declared.ask.Ask.{Ask}
@@ -19,9 +20,7 @@ use Rattle.ir_thread.specs.declared.end.End.{End}
 use Rattle.ir_thread.specs.declared.end.End.TheVariants as end_of
 use Rattle.ir_thread.specs.declared.profile.Profile.{Profile}
 use Rattle.ir_thread.proofs.CallerLemmas.{ask_permits, over, closing}
-use Rattle.ir_runs.specs.Machine.{act_of}
-use Rattle.ir_runs.specs.Labels.{Label, logged}
-use Rattle.ir_runs.specs.Object.{Object, Admits, emitted}
+use Rattle.ir_runs.specs.Machine.{act_of, Object, Admits, emitted, Label, logged}
 use Rattle.ir_runs.specs.Run.{State, Step, Can, after, label, IsRun, end, events, log, count, IsDone}
 use Rattle.ir_runs.specs.declared.access.Access.TheVariants.{Reading, Writing}
 use Rattle.ir_runs.specs.declared.env_kind.EnvKind.{EnvKind}
@@ -33,8 +32,8 @@ use Rattle.ir_flat.proofs.CallerLemmas.{counts_all_fit, no_steps, fresh, tally, 
 use Rattle.ir_log.specs.Logging.{label_of}
 use Rattle.ir_log.specs.declared.event.Event.{Event}
 use Rattle.ir_log.specs.declared.event.Event.TheVariants.{Answer, Read, Write, Try}
-use Rattle.ir_trace.specs.Recorded.{IsWord, IsResult, IsEvent, RecordedThread, Recorded, IsRecordedThread, IsRecorded}
-use Rattle.ir_trace.specs.TraceOf.{absent, recorded_thread}
+use Rattle.ir_trace.specs.Recorded.{IsWord, RecordedThread, Recorded, absent, recorded_thread}
+use Rattle.ir_trace.specs.Within.{IsResult, IsEvent, IsRecordedThread, IsRecorded}
 use Rattle.ir_fit.specs.Fit.{IsRunOf}
 use Rattle.ir_fit.specs.Laws.{EachRunIsRecorded}
 

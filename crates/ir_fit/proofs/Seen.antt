@@ -3,14 +3,13 @@ use Rattle.std.proofs.Common.{◌≡◌, ◌≢◌, ℕ, zero, suc, ◌<◌, ◌
 use Rattle.std.specs.Prelude.{◌↔◌, IsTrue, slice_get, nat_lt, ◌||◌, ◌==◌}
 use Rattle.std.specs.List.{AllByRecursion}
 use Rattle.std.proofs.lemmas.Bool.Decides.{nat_tests}
-use Rattle.ir_thread.specs.Calls.{ask_of, after_ask, after_reply, Permits}
-use Rattle.ir_thread.specs.Ends.{end_number, end_code}
-use Rattle.ir_thread.specs.Held.{held_count}
+use Rattle.ir_thread.specs.Calls.{ask_of, after_ask, after_reply}
+use Rattle.ir_thread.specs.Permitted.{Permits}
+use Rattle.ir_thread.specs.State.{end_number, end_code, held_count}
 use Rattle.ir_thread.specs.Instance.{shared_ask, reply_of, is_result, thread_machine}
 use Rattle.ir_runs.specs.Machine as machine
-use Rattle.ir_runs.specs.Machine.{act_of}
-use Rattle.ir_runs.specs.Labels as labels
-use Rattle.ir_runs.specs.Labels.{Label, logged}
+use Rattle.ir_runs.specs.Machine.{act_of, target, Admits, emitted, Label, logged}
+use Rattle.ir_runs.specs.Machine as machine_labels
 use Rattle.ir_thread.specs.State as thread
 use Rattle.ir_runs.specs.declared.access.Access.{Access}
 use Rattle.ir_runs.specs.declared.access.Access.TheVariants.{Reading, Writing}
@@ -21,17 +20,18 @@ use Rattle.ir_runs.specs.declared.env_kind.EnvKind.TheVariants.{Clock, Random, I
 use Rattle.ir_thread.specs.declared.ask.Reply.{Reply}
 use Rattle.ir_thread.specs.declared.end.End as end
 use Rattle.ir_thread.proofs.CallerLemmas.{ask_permits, over}
-use Rattle.ir_object.specs.Cell.{Cell, Admitted}
-use Rattle.ir_runs.specs.Object.{target, Admits, emitted}
+use Rattle.ir_object.specs.Cell.{Cell}
+use Rattle.ir_object.specs.Standing.{Admitted}
 use Rattle.ir_flat.specs.Flat.{Flat, thread_of, cell_of, tables, machine, IsFlat}
 use Rattle.ir_flat.proofs.CallerLemmas.{may_admits, added}
 use Rattle.std.proofs.lemmas.Option.{slice_get_within}
-use Rattle.ir_log.specs.Logging.{label_of, ask_of as event_ask, Suits}
+use Rattle.ir_log.specs.Logging.{label_of}
+use Rattle.ir_log.specs.Asked.{ask_of as event_ask, Suits}
 use Rattle.ir_log.proofs.CallerLemmas.{call_suits as call_asked, entry_suits as entry_asked}
 use Rattle.ir_log.specs.declared.event.Event.{Event}
 use Rattle.ir_log.specs.declared.event.Event.TheVariants.{Answer, Read, Write, Try as Refused}
-use Rattle.ir_trace.specs.Recorded.{Recorded, IsResult, IsEvent, IsRecordedThread}
-use Rattle.ir_trace.specs.TraceOf.{recorded_thread, trace_of}
+use Rattle.ir_trace.specs.Recorded.{Recorded, recorded_thread, trace_of}
+use Rattle.ir_trace.specs.Within.{IsResult, IsEvent, IsRecordedThread}
 use Rattle.ir_fit.specs.Ahead.{steps_ahead, log_ahead, CanFollow, IsStopped, AgreesAhead, IsOpen, IsOwn, EndsSo, IsSeen}
 use Rattle.ir_fit.specs.declared.follower.look.Look.{Look}
 use Rattle.ir_fit.specs.declared.follower.look.Look.TheVariants as look
@@ -223,7 +223,7 @@ call_follows r f t v kind j fits is steps next suits =
     let asked = call_asked kind (Answer j v) suits in
     let same : j ≡ kind = cc asked in
     let here : Answer j v ≡ Answer kind v = ap (λ z. Answer z v) same in
-    let es : log_ahead r f t ≡ labels.Answer kind v ∷ drop (suc (thread_of f t).events) (map label_of (recorded_thread r t).events) =
+    let es : log_ahead r f t ≡ machine_labels.Answer kind v ∷ drop (suc (thread_of f t).events) (map label_of (recorded_thread r t).events) =
     ahead_at (recorded_thread r t).events (thread_of f t).events (Answer kind v)
     (subst (λ z. slice_get (recorded_thread r t).events (thread_of f t).events ≡ Some z) here next) in
     let result : IsResult kind v = subst (λ z. IsResult z v) same
@@ -231,7 +231,7 @@ call_follows r f t v kind j fits is steps next suits =
     follows_by r f t v (Env kind) is (record {
       can = fits_result kind v result;
       steps = steps;
-      logs = ap (λ z. labels.Answer kind v ∷ unlogged (labels.Answer kind v) z) es ∙ sym es;
+      logs = ap (λ z. machine_labels.Answer kind v ∷ unlogged (machine_labels.Answer kind v) z) es ∙ sym es;
       ends = tt;
     })
 
@@ -248,8 +248,8 @@ open_entry f t v o a (Read p w) es rest is suits h =
     let access : ◌≡◌ {A = Access} Reading a = cc asked in
     subst (λ z. (Admitted z (cell_of f o).fields) × (logged (emits f (Enter o z) v) (unlogged (emits f (Enter o z) v) es) ≡ es)) access (
       h.1,
-      ap (λ z. labels.In o Reading (cell_of f o).fields.version 0 ∷ unlogged (labels.In o Reading (cell_of f o).fields.version 0) z) is
-          ∙ (λ i. labels.In (object i) Reading (h.0 i) 0 ∷ rest) ∙ sym is,
+      ap (λ z. machine_labels.In o Reading (cell_of f o).fields.version 0 ∷ unlogged (machine_labels.In o Reading (cell_of f o).fields.version 0) z) is
+          ∙ (λ i. machine_labels.In (object i) Reading (h.0 i) 0 ∷ rest) ∙ sym is,
     )
 open_entry f t v o a (Write p w l) es rest is suits h =
     let asked = entry_asked o a (Write p w l) suits in
@@ -257,9 +257,9 @@ open_entry f t v o a (Write p w l) es rest is suits h =
     let access : ◌≡◌ {A = Access} Writing a = cc asked in
     subst (λ z. (Admitted z (cell_of f o).fields) × (logged (emits f (Enter o z) v) (unlogged (emits f (Enter o z) v) es) ≡ es)) access (
       h.2,
-      ap (λ z. labels.In o Writing (cell_of f o).fields.version (cell_of f o).fields.left
-          ∷ unlogged (labels.In o Writing (cell_of f o).fields.version (cell_of f o).fields.left) z) is
-          ∙ (λ i. labels.In (object i) Writing (h.0 i) (h.1 i) ∷ rest) ∙ sym is,
+      ap (λ z. machine_labels.In o Writing (cell_of f o).fields.version (cell_of f o).fields.left
+          ∷ unlogged (machine_labels.In o Writing (cell_of f o).fields.version (cell_of f o).fields.left) z) is
+          ∙ (λ i. machine_labels.In (object i) Writing (h.0 i) (h.1 i) ∷ rest) ∙ sym is,
     )
 
 entry_open : (f : Flat) (t v o : ℕ) (a : Access) (e : Event) (es rest : List Label) → es ≡ label_of e ∷ rest → Suits (Enter o a) e
@@ -269,16 +269,16 @@ entry_open f t v o a (Refused p) es rest is suits can h = let asked = entry_aske
 entry_open f t v o a (Read p w) es rest is suits can h =
     let asked = entry_asked o a (Read p w) suits in
     let access : ◌≡◌ {A = Access} a Reading = sym (let e : ◌≡◌ {A = Access} Reading a = cc asked in e) in
-    let emits_read : labels.In o Reading (cell_of f o).fields.version 0
-    ∷ unlogged (labels.In o Reading (cell_of f o).fields.version 0) es ≡ es =
+    let emits_read : machine_labels.In o Reading (cell_of f o).fields.version 0
+    ∷ unlogged (machine_labels.In o Reading (cell_of f o).fields.version 0) es ≡ es =
     subst (λ z. logged (emits f (Enter o z) v) (unlogged (emits f (Enter o z) v) es) ≡ es) access h in
     let both = emits_read ∙ is in
     ((let e : ◌≡◌ {A = ℕ} (cell_of f o).fields.version w = cc both in e), subst (λ z. Admitted z (cell_of f o).fields) access can)
 entry_open f t v o a (Write p w l) es rest is suits can h =
     let asked = entry_asked o a (Write p w l) suits in
     let access : ◌≡◌ {A = Access} a Writing = sym (let e : ◌≡◌ {A = Access} Writing a = cc asked in e) in
-    let emits_write : labels.In o Writing (cell_of f o).fields.version (cell_of f o).fields.left
-    ∷ unlogged (labels.In o Writing (cell_of f o).fields.version (cell_of f o).fields.left) es ≡ es =
+    let emits_write : machine_labels.In o Writing (cell_of f o).fields.version (cell_of f o).fields.left
+    ∷ unlogged (machine_labels.In o Writing (cell_of f o).fields.version (cell_of f o).fields.left) es ≡ es =
     subst (λ z. logged (emits f (Enter o z) v) (unlogged (emits f (Enter o z) v) es) ≡ es) access h in
     let both = emits_write ∙ is in (
       (let e : ◌≡◌ {A = ℕ} (cell_of f o).fields.version w = cc both in e),
@@ -344,12 +344,12 @@ pub refused_follows : (r : Recorded) (f : Flat) (t o p : ℕ) → ask_of f.code 
 refused_follows r f t o p is steps next suits =
     let rest = drop (suc (thread_of f t).events) (map label_of (recorded_thread r t).events) in
     let same : ◌≡◌ {A = ℕ} p o = suits_try (Refused p) rest o suits in
-    let es : log_ahead r f t ≡ labels.Refused o ∷ rest =
-    ahead_at (recorded_thread r t).events (thread_of f t).events (Refused p) next ∙ ap (λ z. labels.Refused z ∷ rest) same in
+    let es : log_ahead r f t ≡ machine_labels.Refused o ∷ rest =
+    ahead_at (recorded_thread r t).events (thread_of f t).events (Refused p) next ∙ ap (λ z. machine_labels.Refused z ∷ rest) same in
     follows_by r f t 0 (Try o) is (record {
       can = tt;
       steps = steps;
-      logs = ap (λ z. labels.Refused o ∷ unlogged (labels.Refused o) z) es ∙ sym es;
+      logs = ap (λ z. machine_labels.Refused o ∷ unlogged (machine_labels.Refused o) z) es ∙ sym es;
       ends = tt;
     })
 

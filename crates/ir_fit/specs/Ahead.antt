@@ -1,23 +1,21 @@
 -- What a trace leaves to the threads of a guest, and their next steps beside it.
 use Rattle.std.specs.Prelude.{◌≡◌, ◌≢◌, ℕ, suc, ◌-◌, ◌<◌, ◌≤◌, List, length, map, drop, slice_get, Some, ⊤}
 use Rattle.ir_thread.specs.Calls.{ask_of}
-use Rattle.ir_thread.specs.Ends.{end_number, end_code}
-use Rattle.ir_thread.specs.Held.{held_count}
+use Rattle.ir_thread.specs.State.{end_number, end_code, held_count}
 use Rattle.ir_thread.specs.Instance.{shared_ask}
-use Rattle.ir_runs.specs.Machine.{Machine}
-use Rattle.ir_runs.specs.Labels.{Label, logged, Trace}
+use Rattle.ir_runs.specs.Machine.{Machine, Label, logged, Trace}
 use Rattle.ir_runs.specs.declared.access.Access.TheVariants.{Reading, Writing}
 use Rattle.ir_thread.specs.declared.ask.Ask as ask
 use Rattle.ir_thread.specs.declared.ask.Ask.TheVariants as asks
 use Rattle.ir_thread.specs.declared.end.End.{End}
-use Rattle.ir_object.specs.Cell.{Cell, Admitted}
+use Rattle.ir_object.specs.Cell.{Cell}
+use Rattle.ir_object.specs.Standing.{Admitted}
 use Rattle.ir_flat.specs.Flat.{Flat, thread_of, tables, machine}
 use Rattle.ir_runs.specs.Run.{State, Can, label}
 use Rattle.ir_log.specs.Logging.{label_of}
 use Rattle.ir_log.specs.declared.event.Event.{Event}
 use Rattle.ir_log.specs.declared.event.Event.TheVariants.{Answer, Read, Write, Try}
-use Rattle.ir_trace.specs.Recorded.{Recorded}
-use Rattle.ir_trace.specs.TraceOf.{recorded_thread, trace_of}
+use Rattle.ir_trace.specs.Recorded.{Recorded, recorded_thread, trace_of}
 use Rattle.ir_runs.specs.Following.{unlogged, closing}
 use Rattle.ir_runs.specs.Verdicts.{Agrees, Awaits}
 use Rattle.ir_fit.specs.declared.follower.look.Look.{Look}

@@ -3,8 +3,7 @@ use Rattle.std.specs.Prelude.{◌≡◌, ◌≢◌, ◌<◌, ℕ, List, length, 
 use Rattle.ir_image.specs.Guest.{Guest, object_count}
 use Rattle.ir_flat.specs.Flat.{start_flat, tables, machine}
 use Rattle.ir_runs.specs.Run.{Step, trail}
-use Rattle.ir_trace.specs.Recorded.{Recorded, IsRecorded}
-use Rattle.ir_trace.specs.TraceOf.{trace_of}
+use Rattle.ir_trace.specs.Recorded.{Recorded, trace_of}
 use Rattle.ir_coherence.specs.Breaking.{IsFirstBreak}
 use Rattle.ir_runs.specs.Coherent.{IsCoherent}
 use Rattle.ir_runs.specs.Following.{Follows, IsMaximal, closing}
@@ -35,17 +34,6 @@ GoesFurthest guest r run = let f = start_flat guest r.budget r.profile in
     Follows (closing (machine f) (trace_of r)) (machine f) (tables f) (trace_of r) run
     × IsMaximal (closing (machine f) (trace_of r)) (machine f) (tables f) (trace_of r) run
 
--- the verdict names the first event that breaks coherence, and its first cause
-abbrev pub NamesBreak : Recorded → Verdict → Type 0
-NamesBreak r (Incoherent t i c) = IsFirstBreak (length r.threads) (trace_of r) t i c
-NamesBreak r (Header c) = ⊥
-NamesBreak r (verdict.Threads vs) = ⊥
-
--- out of memory, or such a verdict
-abbrev pub BreaksBy : Recorded → FitErr → Type 0
-BreaksBy r NoMem = ⊤
-BreaksBy r (Refused v) = NamesBreak r v
-
 -- a verdict for each thread, read off any such run
 abbrev pub AreVerdicts : Guest → Recorded → List ThreadVerdict → Type 0
 AreVerdicts guest r vs = let f = start_flat guest r.budget r.profile in (length vs ≡ length guest.entries)
@@ -70,11 +58,6 @@ pub record HasRun (f : FittedTrace) : Type 0 where
       → (placed_at f.placed t).leaves ≡ leaves_of
       (trail (machine (start_flat f.guest f.recorded.budget f.recorded.profile)) (tables (start_flat f.guest f.recorded.budget f.recorded.profile)) run t)
 
--- there is a run with the trace, and the trace is within its limits
-pub record IsFitted (f : FittedTrace) : Type 0 where
-  pub run : HasRun f
-  pub within : IsRecorded f.recorded
-
 -- the trace has another number of threads than the guest; or as many, and another number of objects
 abbrev pub IsOther : Guest → Recorded → HeaderCause → Type 0
 IsOther guest r Threads = length r.threads ≢ length guest.entries
@@ -91,3 +74,8 @@ IsRefusal guest r (verdict.Threads vs) = HasHeader guest r × IsCoherent (length
 abbrev pub IsRefused : Guest → Recorded → FitErr → Type 0
 IsRefused guest r NoMem = ⊤
 IsRefused guest r (Refused v) = IsRefusal guest r v × ((run : List Step) → IsRunOf guest r run → ⊥)
+
+-- why a header isn't the guest's
+abbrev pub header_cause_number : HeaderCause → ℕ
+header_cause_number Threads = 1
+header_cause_number Objects = 2

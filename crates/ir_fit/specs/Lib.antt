@@ -1,9 +1,9 @@
 pub mod Laws
 pub mod Fit
-pub mod Numbers
 pub mod Ahead
 pub mod Places
 pub mod Growing
 pub mod Follower
 pub mod Visits
 pub mod Passed
+pub mod Within

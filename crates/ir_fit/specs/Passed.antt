@@ -5,8 +5,7 @@ use Rattle.ir_image.specs.Guest.{Guest, object_count}
 use Rattle.ir_flat.specs.Flat.{Flat, IsFlat, tables, machine, start_flat}
 use Rattle.ir_runs.specs.Run.{Step, end}
 use Rattle.ir_runs.specs.Following.{Follows, closing}
-use Rattle.ir_trace.specs.Recorded.{Recorded}
-use Rattle.ir_trace.specs.TraceOf.{trace_of}
+use Rattle.ir_trace.specs.Recorded.{Recorded, trace_of}
 use Rattle.ir_fit.specs.declared.passed_state.PassedState.{PassedState}
 
 -- the guest after a run that follows the trace, which needn't go as far as any can

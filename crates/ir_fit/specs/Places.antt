@@ -1,7 +1,7 @@
 -- Where a thread's events and leaves are among its steps.
 use Rattle.std.specs.Prelude.{ℕ, suc, List, [], ◌∷◌}
 use Rattle.std.specs.List.{slice_index_or}
-use Rattle.ir_runs.specs.Labels.{Label, Quiet, Answer, In, Refused, Out}
+use Rattle.ir_runs.specs.Machine.{Label, Quiet, Answer, In, Refused, Out}
 use Rattle.ir_fit.specs.declared.leave.Leave.{Leave}
 
 -- the position of a step that is logged, and those after it

@@ -1,9 +1,9 @@
 //! Whether a trace is coherent.
 
 ghost use Rattle.std.specs.Prelude.{length, IfErr, OnOk};
-ghost use Rattle.ir_trace.specs.TraceOf.{trace_of};
+ghost use Rattle.ir_trace.specs.Recorded.{trace_of};
 ghost use Rattle.ir_runs.specs.Coherent.{IsCoherent};
-ghost use Rattle.ir_fit.specs.Fit.{BreaksBy};
+ghost use Rattle.ir_fit.specs.Within.{BreaksBy};
 
 use crate::fit_err::FitErr;
 use crate::verdict::Verdict;

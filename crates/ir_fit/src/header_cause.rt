@@ -11,7 +11,7 @@ pub enum HeaderCause {
 
 impl HeaderCause {
     ghost use Rattle.std.specs.Prelude.{◌≡◌};
-    ghost use Rattle.ir_fit.specs.Numbers.{header_cause_number};
+    ghost use Rattle.ir_fit.specs.Fit.{header_cause_number};
 
     /// The cause's number, from 1 in the order above.
     pub fn number(self) -> u8

@@ -2,7 +2,7 @@
 
 ghost use Rattle.std.specs.Prelude.{◌≤◌, ◌<◌, ℕ, [], length, IfOk, OnOk};
 ghost use Rattle.ir_image.specs.Guest.{most_threads};
-ghost use Rattle.ir_trace.specs.TraceOf.{recorded_thread};
+ghost use Rattle.ir_trace.specs.Recorded.{recorded_thread};
 ghost use Rattle.ir_fit.specs.Places.{placed_at};
 ghost use Rattle.ir_fit.specs.Visits.{AddsAll, IsListing, left_by, enter_if, entered_by, all_left, all_entered};
 

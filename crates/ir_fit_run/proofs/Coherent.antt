@@ -3,7 +3,7 @@ use Rattle.std.proofs.Common.{◌≡◌, ℕ, suc, List, length, map, sym, ap, �
 use Rattle.std.proofs.Math.Path.{fun_ext}
 use Rattle.std.proofs.lemmas.Bool.{cases_lt}
 use Rattle.std.proofs.lemmas.List.{get_or_past}
-use Rattle.ir_runs.specs.Labels.{Label, In}
+use Rattle.ir_runs.specs.Machine.{Label, In}
 use Rattle.ir_runs.specs.declared.access.Access.{Access}
 use Rattle.ir_runs.specs.declared.access.Access.TheVariants.{Writing}
 use Rattle.ir_runs.specs.Run.{log, events}
@@ -12,8 +12,7 @@ use Rattle.ir_runs.specs.Coherent.{reads, sum_below}
 use Rattle.ir_runs.proofs.CallerLemmas.{own_coherent}
 use Rattle.ir_flat.proofs.CallerLemmas.{start_idle}
 use Rattle.ir_log.specs.Logging.{label_of}
-use Rattle.ir_trace.specs.Recorded.{RecordedThread}
-use Rattle.ir_trace.specs.TraceOf.{trace_of, absent}
+use Rattle.ir_trace.specs.Recorded.{RecordedThread, trace_of, absent}
 use Rattle.ir_fit.specs.Fit.{FittedTrace, HasRun}
 use Rattle.ir_fit.proofs.CallerLemmas.{starts}
 use Rattle.ir_cut.specs.Positions.{machine_of, start_of}

@@ -4,7 +4,7 @@ use Rattle.std.specs.Prelude.{Option, Some, None, IfSome, IfNone}
 use Rattle.std.specs.List.Sorted.{IsNonDecreasingBy, IsPartitionPoint}
 use Rattle.std.proofs.lemmas.Bool.{cases_lt}
 use Rattle.std.proofs.lemmas.Option.{slice_get_within, none-some}
-use Rattle.ir_runs.specs.Labels.{Label, Out}
+use Rattle.ir_runs.specs.Machine.{Label, Out}
 use Rattle.ir_runs.specs.Run.{trail}
 use Rattle.ir_runs.specs.Cuts.{At, Emits}
 use Rattle.ir_runs.specs.declared.access.Access.{Access}
@@ -12,10 +12,10 @@ use Rattle.ir_runs.specs.declared.access.Access.TheVariants.{Reading, Writing}
 use Rattle.ir_thread.specs.State as thread
 use Rattle.ir_log.specs.declared.event.Event.{Event}
 use Rattle.ir_log.specs.declared.event.Event.TheVariants.{Answer, Read, Write, Try}
-use Rattle.ir_trace.specs.Recorded.{Recorded}
-use Rattle.ir_trace.specs.TraceOf.{recorded_thread}
+use Rattle.ir_trace.specs.Recorded.{Recorded, recorded_thread}
 use Rattle.ir_coherence.proofs.CallerLemmas.{thread_fits}
-use Rattle.ir_fit.specs.Fit.{FittedTrace, HasRun, IsFitted}
+use Rattle.ir_fit.specs.Fit.{FittedTrace, HasRun}
+use Rattle.ir_fit.specs.Within.{IsFitted}
 use Rattle.ir_fit.specs.Places.{placed_at}
 use Rattle.ir_fit.specs.declared.leave.Leave.{Leave}
 use Rattle.ir_fit.proofs.CallerLemmas.{entries_long, entry_within, get_at, leave_emits, leave_of, leaves_rise}

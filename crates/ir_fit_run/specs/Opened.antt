@@ -1,18 +1,16 @@
 -- What the bytes of an image and of a trace are.
 use Rattle.std.specs.Prelude.{◌≡◌, ℕ, List, ◌++◌, codes, decimal, Some, Ok, Err}
 use Rattle.ir_image.specs.Guest.{Guest}
-use Rattle.ir_image.specs.Reading.{guest_at}
-use Rattle.ir_image.specs.Refusal.{number_of as image_fault}
+use Rattle.ir_image.specs.Reading.{guest_at, number_of as image_fault}
 use Rattle.ir_image.specs.declared.image_err.ImageErr.{ImageErr}
-use Rattle.ir_trace.specs.Reading.{recorded_at}
+use Rattle.ir_trace.specs.Reading.{recorded_at, number_of as trace_fault}
 use Rattle.ir_trace.specs.Recorded.{Recorded}
-use Rattle.ir_trace.specs.Refusal.{number_of as trace_fault}
 use Rattle.ir_trace.specs.declared.trace_err.TraceErr.{TraceErr}
 use Rattle.ir_fit.specs.Fit.{FittedTrace, HasRun, IsRefusal as IsRefusedBy}
 use Rattle.ir_fit.specs.declared.verdict.Verdict.{Verdict}
 use Rattle.ir_files.specs.declared.exit_status.ExitStatus.{ExitStatus}
 use Rattle.ir_files.specs.declared.exit_status.ExitStatus.TheVariants as status
-use Rattle.ir_text.specs.Verdicts.{verdict_text}
+use Rattle.ir_text.specs.Texts.{verdict_text}
 use Rattle.ir_fit_run.specs.declared.opened.Opened.{Opened}
 use Rattle.ir_fit_run.specs.declared.opened.Opened.TheVariants as opened
 use Rattle.ir_fit_run.specs.declared.opened.Refusal.{Refusal}

@@ -2,7 +2,7 @@
 
 ghost use Rattle.std.specs.Prelude.{◌≡◌, ℕ, List, Ok, IfOk, OnOk, OnErr, IfErr, true, false};
 ghost use Rattle.std.specs.Io.KnownBytes.{Appends};
-ghost use Rattle.ir_stream.specs.Devices.{AppendsPrefix};
+ghost use Rattle.ir_stream.specs.Answers.{AppendsPrefix};
 ghost use Rattle.ir_image.specs.Reading.{guest_at};
 ghost use Rattle.ir_trace.specs.Reading.{recorded_at};
 ghost use Rattle.ir_files.specs.Writers.{writer_of};

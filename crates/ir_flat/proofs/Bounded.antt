@@ -3,12 +3,13 @@ use Rattle.std.proofs.Common.{◌≡◌, ℕ, zero, suc, ◌+◌, ◌*◌, ◌<�
 use Rattle.std.proofs.lemmas.Bool.{cases_lt}
 use Rattle.std.proofs.lemmas.Bool.Decides.{nat_tests}
 use Rattle.std.proofs.lemmas.List.{get_or_past, length-replicate}
-use Rattle.ir_image.specs.Guest.{Guest, IsGuest, IsWord, object_count, object_words}
+use Rattle.ir_image.specs.Guest.{Guest, IsWord, object_count, object_words}
+use Rattle.ir_image.specs.Within.{IsGuest}
 use Rattle.ir_image.proofs.CallerLemmas.{few_threads, padded_at}
 use Rattle.ir_mach.proofs.CallerLemmas.{all_there, all_take, all_drop, HasWords, start_words}
-use Rattle.ir_thread.specs.Calls.{ask_of, after_ask, after_reply, IsRunning, Permits, most_events}
-use Rattle.ir_thread.specs.Ends.{end_code}
-use Rattle.ir_thread.specs.Held.{held_count}
+use Rattle.ir_thread.specs.Calls.{ask_of, after_ask, after_reply, most_events}
+use Rattle.ir_thread.specs.Permitted.{IsRunning, Permits}
+use Rattle.ir_thread.specs.State.{end_code, held_count}
 use Rattle.ir_thread.specs.Instance.{shared_ask, reply_of, is_result, thread_machine}
 use Rattle.ir_thread.specs.State as thread
 use Rattle.ir_thread.specs.declared.ask.Ask.{Ask}
@@ -16,12 +17,11 @@ use Rattle.ir_thread.specs.declared.ask.Ask.TheVariants.{Private, Env, Enter, Tr
 use Rattle.ir_thread.specs.declared.end.End as end
 use Rattle.ir_thread.specs.declared.profile.Profile.{Profile}
 use Rattle.ir_thread.proofs.CallerLemmas.{ask_permits, one_fewer, count_le_length, AsksWords, asks_words, after_words}
-use Rattle.ir_runs.specs.Machine.{act_of}
+use Rattle.ir_runs.specs.Machine.{act_of, Object, target, Admits, acted, reply}
 use Rattle.ir_runs.specs.declared.access.Access.{Access}
 use Rattle.ir_runs.specs.declared.access.Access.TheVariants.{Reading, Writing}
 use Rattle.ir_runs.specs.declared.env_kind.EnvKind.{EnvKind}
 use Rattle.ir_runs.specs.declared.env_kind.EnvKind.TheVariants.{Clock, Random, Input}
-use Rattle.ir_runs.specs.Object.{Object, target, Admits, acted, reply}
 use Rattle.ir_runs.specs.Run.{State, Step, act, Can, after, IsRun, end}
 use Rattle.ir_runs.proofs.CallerLemmas.{upd_elim}
 use Rattle.ir_flat.specs.Flat.{idle, empty, thread_of, tables, start_threads, start_cells, start_flat}

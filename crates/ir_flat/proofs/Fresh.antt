@@ -2,15 +2,15 @@
 use Rattle.std.proofs.Common.{◌≡◌, ℕ, zero, suc, ◌+◌, ◌-◌, ◌*◌, ◌<◌, ◌≤◌, List, [], ◌∷◌, ◌++◌, length, take, drop, replicate, get_or, Option, None, refl, sym, ap, ◌∙◌, subst, arith, inl, inr, false}
 use Rattle.std.proofs.lemmas.List.{get_or-replicate, get_or_past, length-replicate, length-append, length-take}
 use Rattle.std.proofs.lemmas.Bool.{cases_lt}
-use Rattle.ir_image.specs.Guest.{Guest, IsGuest, object_count, object_words, most_object_words, first_words}
+use Rattle.ir_image.specs.Guest.{Guest, object_count, object_words, most_object_words, first_words}
+use Rattle.ir_image.specs.Within.{IsGuest}
 use Rattle.ir_image.proofs.CallerLemmas.{most_words, few_threads, few_objects}
-use Rattle.ir_thread.specs.Held.{held_at}
+use Rattle.ir_thread.specs.State.{held_at}
 use Rattle.ir_thread.specs.declared.profile.Profile.{Profile}
 use Rattle.ir_thread.specs.State as thread
 use Rattle.ir_runs.specs.declared.access.Access.{Access}
-use Rattle.ir_object.specs.Cell.{Cell, Counts, readers, has_writer}
+use Rattle.ir_object.specs.Cell.{Cell, Counts, readers, has_writer, bit_of}
 use Rattle.ir_object.specs.declared.fields.Fields.{Fields}
-use Rattle.ir_object.specs.Word.{bit_of}
 use Rattle.ir_object.proofs.CallerLemmas.{none_read, none_write}
 use Rattle.ir_flat.specs.Flat.{Flat, idle, empty, cell_of, inside_of, tables, start_threads, start_cell, start_cells, start_flat, IsFlat}
 use Rattle.ir_flat.specs.Kept.{IsKept}

@@ -2,10 +2,11 @@
 use Rattle.std.proofs.Common.{◌≡◌, ◌≢◌, ◌↔◌, ℕ, zero, suc, ◌+◌, ◌*◌, ◌<◌, ◌≤◌, true, Bool, false, length, length-set, Option, Some, None, refl, sym, le_refl, ap, ◌∙◌, subst, arith, get_or-set_same}
 use Rattle.std.specs.Prelude.{slice_index, IsTrue}
 use Rattle.ir_image.specs.Guest.{most_threads, most_object_words}
-use Rattle.ir_thread.specs.Calls.{ask_of, Permits, most_events}
-use Rattle.ir_thread.specs.Held.{held_at}
+use Rattle.ir_thread.specs.Calls.{ask_of, most_events}
+use Rattle.ir_thread.specs.Permitted.{Permits}
+use Rattle.ir_thread.specs.State.{held_at}
 use Rattle.ir_thread.specs.Instance.{shared_ask}
-use Rattle.ir_runs.specs.Machine.{act_of, upd}
+use Rattle.ir_runs.specs.Machine.{act_of, upd, target, Admits}
 use Rattle.ir_thread.specs.State as thread
 use Rattle.ir_runs.specs.declared.access.Access.{Access}
 use Rattle.ir_runs.specs.declared.access.Access.TheVariants.{Reading, Writing}
@@ -13,9 +14,9 @@ use Rattle.ir_thread.specs.declared.ask.Ask.{Ask}
 use Rattle.ir_thread.specs.declared.ask.Ask.TheVariants.{Private, Env, Enter, Try, Leave, Get, Put, Print, End, Done}
 use Rattle.ir_thread.specs.declared.ask.Reply.TheVariants.{Go, Value}
 use Rattle.ir_thread.proofs.CallerLemmas.{ask_permits, above_held}
-use Rattle.ir_object.specs.Cell.{Cell, CanLeave, Counts, readers, one_if_reading}
-use Rattle.ir_runs.specs.Object.{target, Admits}
-use Rattle.ir_object.specs.Word.{IsFields, entered, left_by, bit_of}
+use Rattle.ir_object.specs.Cell.{Cell, Counts, readers, one_if_reading, bit_of}
+use Rattle.ir_object.specs.Standing.{CanLeave}
+use Rattle.ir_object.specs.Word.{IsFields, entered, left_by}
 use Rattle.ir_object.proofs.CallerLemmas.{admits_reader, reader_admitted, admits_writer, writer_admitted, entry_counts, can_leave, leave_counts}
 use Rattle.ir_runs.proofs.CallerLemmas.{upd_elim, upd_id}
 use Rattle.ir_flat.specs.Flat.{Flat, idle, empty, thread_of, cell_of, inside_of, tables, machine, IsShared, IsFlat}

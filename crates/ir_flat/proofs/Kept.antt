@@ -1,10 +1,11 @@
 -- Each step keeps what is kept.
 use Rattle.std.proofs.Common.{◌≡◌, ◌≢◌, ℕ, zero, suc, ◌+◌, ◌*◌, ◌<◌, ◌≤◌, List, length, length-set, Option, Some, None, refl, sym, le_refl, ap, ◌∙◌, arith, inl, inr}
 use Rattle.std.proofs.lemmas.Bool.{cases_eq}
-use Rattle.ir_thread.specs.Calls.{ask_of, Permits, held_after_try, after_ask, after_reply, most_events}
-use Rattle.ir_thread.specs.Held.{held_at}
+use Rattle.ir_thread.specs.Calls.{ask_of, held_after_try, after_ask, after_reply, most_events}
+use Rattle.ir_thread.specs.Permitted.{Permits}
+use Rattle.ir_thread.specs.State.{held_at}
 use Rattle.ir_thread.specs.Instance.{shared_ask, reply_of, thread_machine}
-use Rattle.ir_runs.specs.Machine.{act_of, upd}
+use Rattle.ir_runs.specs.Machine.{act_of, upd, Object, target, Admits, acted, reply}
 use Rattle.ir_thread.specs.State as thread
 use Rattle.ir_runs.specs.declared.access.Access.{Access}
 use Rattle.ir_runs.specs.declared.access.Access.TheVariants.{Reading, Writing}
@@ -13,9 +14,7 @@ use Rattle.ir_thread.specs.declared.ask.Ask.TheVariants.{Private, Env, Enter, Tr
 use Rattle.ir_thread.specs.declared.ask.Reply.{Reply}
 use Rattle.ir_thread.specs.declared.ask.Reply.TheVariants.{Go, Value}
 use Rattle.ir_thread.proofs.CallerLemmas.{ask_permits, lawful, above_held, not_entered}
-use Rattle.ir_object.specs.Cell.{has_writer, one_if_reading, is_writing}
-use Rattle.ir_runs.specs.Object.{Object, target, Admits, acted, reply}
-use Rattle.ir_object.specs.Word.{bit_of}
+use Rattle.ir_object.specs.Cell.{has_writer, one_if_reading, is_writing, bit_of}
 use Rattle.ir_runs.proofs.CallerLemmas.{upd_same, upd_other, upd_elim, Good, stays_good}
 use Rattle.ir_object.proofs.CallerLemmas.{readers_upd, none_write, one_writes, writer_upd}
 use Rattle.ir_flat.specs.Kept.{IsKept, events_below, entries_seen}

@@ -1,14 +1,16 @@
 -- A thread with its replies is the thread run alone.
 use Rattle.std.proofs.Common.{◌≡◌, ℕ, zero, suc, List, [], ◌∷◌, Some, refl, inl, inr, ap, ◌∙◌}
 use Rattle.ir_thread.specs.Alone.{AllSuit, after_replies}
-use Rattle.ir_thread.specs.Calls.{ask_of, Suits}
+use Rattle.ir_thread.specs.Calls.{ask_of}
+use Rattle.ir_thread.specs.Permitted.{Suits}
 use Rattle.ir_thread.specs.Instance.{shared_ask, reply_of, thread_machine}
 use Rattle.ir_runs.specs.Machine.{act_of}
 use Rattle.ir_thread.specs.State as thread
 use Rattle.ir_thread.specs.declared.ask.Ask.{Ask}
 use Rattle.ir_thread.specs.declared.ask.Ask.TheVariants.{Private, Env, Enter, Try, Leave, Get, Put, Print, End, Done}
 use Rattle.ir_thread.proofs.CallerLemmas.{alone}
-use Rattle.ir_flat.specs.Splice.{MayReply, MayRun, alone_after, replies_to, AloneIsLone}
+use Rattle.ir_flat.specs.Splice.{replies_to, AloneIsLone}
+use Rattle.ir_flat.specs.Lone.{MayReply, MayRun, alone_after}
 
 suits : (code : List ℕ) (q : Ask) (v : ℕ) → MayReply (thread_machine code) (act_of (shared_ask q) v) v → Suits q (reply_of q v)
 suits code Private v may = refl

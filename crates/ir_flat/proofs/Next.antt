@@ -4,10 +4,11 @@ use Rattle.std.proofs.Math.Path.{fun_ext}
 use Rattle.std.specs.Prelude.{slice_set}
 use Rattle.std.proofs.lemmas.Bool.{cases_eq}
 use Rattle.ir_image.specs.Guest.{most_object_words}
-use Rattle.ir_thread.specs.Calls.{ask_of, Permits, after_ask, after_reply}
-use Rattle.ir_thread.specs.Held.{held_at}
+use Rattle.ir_thread.specs.Calls.{ask_of, after_ask, after_reply}
+use Rattle.ir_thread.specs.Permitted.{Permits}
+use Rattle.ir_thread.specs.State.{held_at}
 use Rattle.ir_thread.specs.Instance.{shared_ask, reply_of}
-use Rattle.ir_runs.specs.Machine.{act_of, upd, Exit, Store}
+use Rattle.ir_runs.specs.Machine.{act_of, upd, Exit, Store, Object, target, acted, reply}
 use Rattle.ir_thread.specs.State as thread
 use Rattle.ir_runs.specs.declared.access.Access.{Access}
 use Rattle.ir_runs.specs.declared.access.Access.TheVariants.{Reading, Writing}
@@ -15,7 +16,6 @@ use Rattle.ir_thread.specs.declared.ask.Ask.{Ask}
 use Rattle.ir_thread.specs.declared.ask.Ask.TheVariants.{Private, Env, Enter, Try, Leave, Get, Put, Print, End, Done}
 use Rattle.ir_thread.specs.declared.ask.Reply.TheVariants.{Go, Value}
 use Rattle.ir_object.specs.Cell.{Cell}
-use Rattle.ir_runs.specs.Object.{Object, target, acted, reply}
 use Rattle.ir_object.specs.Word.{entered, left_by}
 use Rattle.ir_runs.proofs.CallerLemmas.{upd_same, upd_other, upd_elim, upd_id}
 use Rattle.ir_flat.specs.Flat.{Flat, idle, empty, thread_of, cell_of, inside_of, object_with, tables, machine, IsFlat}

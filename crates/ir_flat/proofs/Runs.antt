@@ -3,10 +3,11 @@ use Rattle.std.proofs.Common.{◌≡◌, ℕ, ◌<◌, ◌≤◌, true, List, []
 use Rattle.std.proofs.lemmas.Bool.{cases_lt}
 use Rattle.std.proofs.lemmas.List.{get_or_past}
 use Rattle.ir_image.specs.Guest.{Guest, object_count}
-use Rattle.ir_thread.specs.Calls.{ask_of, after_ask, after_reply, Permits}
+use Rattle.ir_thread.specs.Calls.{ask_of, after_ask, after_reply}
+use Rattle.ir_thread.specs.Permitted.{Permits}
 use Rattle.ir_thread.specs.Instance.{shared_ask, reply_of, is_result, thread_machine}
 use Rattle.ir_runs.specs.Machine as machine
-use Rattle.ir_runs.specs.Machine.{upd}
+use Rattle.ir_runs.specs.Machine.{upd, target, Admits, reply}
 use Rattle.ir_thread.specs.declared.profile.Profile.{Profile}
 use Rattle.ir_thread.specs.State as thread
 use Rattle.ir_runs.specs.declared.access.Access.{Access}
@@ -15,12 +16,12 @@ use Rattle.ir_thread.specs.declared.ask.Ask.TheVariants.{Private, Env, Enter, Tr
 use Rattle.ir_runs.specs.declared.env_kind.EnvKind.{EnvKind}
 use Rattle.ir_runs.specs.declared.env_kind.EnvKind.TheVariants.{Clock, Random, Input}
 use Rattle.ir_thread.proofs.CallerLemmas.{ask_permits, lawful}
-use Rattle.ir_runs.specs.Object.{target, Admits, reply}
 use Rattle.ir_runs.proofs.CallerLemmas.{upd_elim, run_idle, stays_idle, some_step}
 use Rattle.ir_flat.specs.Flat.{idle, thread_of, tables, start_threads, start_flat}
 use Rattle.ir_flat.specs.Kept.{IsKept}
 use Rattle.ir_flat.specs.Laws.{NothingStuck, WritersAlone, HeldInside, CountsFit}
-use Rattle.ir_runs.specs.Run.{State, Step, act, Can, after, IsRun, end, IsIdle, IsBounded}
+use Rattle.ir_runs.specs.Run.{State, Step, act, Can, after, IsRun, end}
+use Rattle.ir_runs.specs.Bounds.{IsIdle, IsBounded}
 use Rattle.ir_flat.proofs.Kept.{held_length, stays_kept, events_most, as_good}
 use Rattle.ir_flat.proofs.Keeps.{readers_le}
 use Rattle.ir_flat.proofs.Fresh.{start_kept, threads_length, places_at}

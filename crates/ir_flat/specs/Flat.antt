@@ -3,16 +3,14 @@ use Rattle.std.specs.Prelude.{◌≡◌, ◌<◌, ◌≤◌, ℕ, zero, suc, Lis
 use Rattle.std.specs.List.{slice_index_or}
 use Rattle.ir_image.specs.Guest.{Guest, most_threads, most_objects, most_object_words, object_count, first_words}
 use Rattle.ir_image.specs.declared.form.ImageForm.TheVariants.{Small}
-use Rattle.ir_thread.specs.Held.{held_at}
+use Rattle.ir_thread.specs.State.{held_at, State, start_state}
 use Rattle.ir_thread.specs.Instance.{thread_machine}
-use Rattle.ir_runs.specs.Machine.{Machine}
-use Rattle.ir_thread.specs.State.{State, start_state}
+use Rattle.ir_runs.specs.Machine.{Machine, Object}
 use Rattle.ir_runs.specs.declared.access.Access.{Access}
 use Rattle.ir_thread.specs.declared.end.End.TheVariants.{Breakpoint}
 use Rattle.ir_thread.specs.declared.profile.Profile.{Profile}
 use Rattle.ir_thread.specs.declared.profile.Profile.TheVariants.{One}
 use Rattle.ir_object.specs.Cell.{Cell, Counts}
-use Rattle.ir_runs.specs.Object.{Object}
 use Rattle.ir_flat.specs.Kept.{IsKept}
 use Rattle.ir_runs.specs.Run as run
 

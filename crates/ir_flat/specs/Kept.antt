@@ -1,12 +1,11 @@
 -- What each step of the threads keeps.
 use Rattle.std.specs.Prelude.{◌≡◌, ◌≢◌, ◌+◌, ◌<◌, ◌≤◌, ℕ, zero, suc, Some, None}
 use Rattle.ir_thread.specs.Calls.{most_events}
-use Rattle.ir_thread.specs.Held.{held_at}
+use Rattle.ir_thread.specs.State.{held_at}
 use Rattle.ir_thread.specs.State as thread
 use Rattle.ir_runs.specs.declared.access.Access.TheVariants.{Writing}
-use Rattle.ir_object.specs.Cell.{readers, has_writer}
-use Rattle.ir_runs.specs.Object.{Object}
-use Rattle.ir_object.specs.Word.{bit_of}
+use Rattle.ir_object.specs.Cell.{readers, has_writer, bit_of}
+use Rattle.ir_runs.specs.Machine.{Object}
 use Rattle.ir_runs.specs.Run.{State}
 
 -- how many events the first n threads have logged

@@ -1,12 +1,11 @@
 -- What holds in each state that a run reaches.
 use Rattle.std.specs.Prelude.{◌≡◌, ◌≢◌, ℕ, ◌<◌, ◌≤◌, List, length, Some, None}
 use Rattle.ir_image.specs.Guest.{Guest, most_threads}
-use Rattle.ir_runs.specs.Machine.{Done}
+use Rattle.ir_runs.specs.Machine.{Done, Object}
 use Rattle.ir_runs.specs.declared.access.Access.TheVariants.{Writing}
 use Rattle.ir_thread.specs.declared.profile.Profile.{Profile}
 use Rattle.ir_object.specs.Cell.{readers}
 use Rattle.ir_object.specs.Word.{version_unit, left_limit, inside_limit}
-use Rattle.ir_runs.specs.Object.{Object}
 use Rattle.ir_flat.specs.Flat.{start_flat, tables, machine}
 use Rattle.ir_runs.specs.Run.{Step, IsRun, end, asked, Can}
 

@@ -5,3 +5,4 @@ pub mod Alone
 pub mod Laws
 pub mod Splice
 pub mod Replies
+pub mod Lone

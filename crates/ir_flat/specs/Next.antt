@@ -9,7 +9,8 @@ use Rattle.ir_thread.specs.declared.ask.Reply.{Reply}
 use Rattle.ir_thread.specs.declared.ask.Reply.TheVariants.{Go, Value}
 use Rattle.ir_runs.specs.declared.access.Access.TheVariants.{Writing}
 use Rattle.ir_object.specs.declared.fields.Fields.{Fields}
-use Rattle.ir_object.specs.Cell.{Cell, Admitted}
+use Rattle.ir_object.specs.Cell.{Cell}
+use Rattle.ir_object.specs.Standing.{Admitted}
 use Rattle.ir_object.specs.Word.{entered, left_by}
 use Rattle.ir_flat.specs.Flat.{Flat, thread_of, cell_of}
 

@@ -1,35 +1,14 @@
 -- A run made of the runs of threads alone and of one order of their object steps.
-use Rattle.std.specs.Prelude.{◌≡◌, ℕ, suc, zero, ◌≤◌, Bool, true, false, cond, List, [], ◌∷◌, ◌++◌, map, length, Some}
+use Rattle.std.specs.Prelude.{◌≡◌, ℕ, suc, zero, ◌≤◌, cond, List, [], ◌∷◌, ◌++◌, map, length, Some}
 use Rattle.ir_thread.specs.Alone.{lone_run, values_of}
 use Rattle.ir_thread.specs.Calls.{ask_of}
 use Rattle.ir_thread.specs.Instance.{reply_of, thread_machine}
 use Rattle.ir_thread.specs.State as thread
 use Rattle.ir_thread.specs.declared.ask.Reply.{Reply}
-use Rattle.ir_runs.specs.Machine.{Act, act_of, Silent, Result, Entry, Refusal, Exit, Load, Store, Never, Done, Machine, upd}
-use Rattle.ir_runs.specs.Labels.{Label, Quiet, Answer, Refused}
-use Rattle.ir_object.specs.Order.{is_shared, Shared, keep_if, of_thread, IsAllowed, objects_after, order_labels}
+use Rattle.ir_runs.specs.Machine.{act_of, Done, Machine, upd, is_shared}
+use Rattle.ir_object.specs.Order.{Shared, keep_if, of_thread, IsAllowed, objects_after, order_labels}
 use Rattle.ir_runs.specs.Run.{State, Step, IsRun, IsDone, end, trail}
-
--- what may be answered to a thread that runs alone
-abbrev pub MayReply : {T : Type 0} → Machine T → Act → ℕ → Type 0
-MayReply m Silent v = v ≡ 0
-MayReply m (Result k w) v = m.fits k v ≡ true
-MayReply m (Entry o a w) v = v ≡ w
-MayReply m (Refusal o) v = v ≡ 0
-MayReply m (Exit o a) v = v ≡ 0
-MayReply m (Load o i) v = Unit {0}
-MayReply m (Store o i w) v = v ≡ 0
-MayReply m Never v = ⊥
-
--- a thread that starts as x, alone, may be given these replies
-abbrev pub MayRun : {T : Type 0} → Machine T → T → List ℕ → Type 0
-MayRun m x [] = Unit {0}
-MayRun m x (v ∷ vs) = MayReply m (act_of (m.ask x) v) v × MayRun m (m.take x v) vs
-
--- what it is after them
-abbrev pub alone_after : {T : Type 0} → Machine T → T → List ℕ → T
-alone_after m x [] = x
-alone_after m x (v ∷ vs) = alone_after m (m.take x v) vs
+use Rattle.ir_flat.specs.Lone.{MayRun, alone_after, alone_trail}
 
 -- the object steps of a thread alone
 abbrev pub shared_steps : {T : Type 0} → Machine T → T → List ℕ → List Shared
@@ -63,26 +42,6 @@ abbrev pub splice : {T : Type 0} → Machine T → (ℕ → T) → (ℕ → List
 splice m now rs n [] = last_steps rs n
 splice m now rs n (x ∷ xs) = map (λ r. (x.0, r)) (lead m (now x.0) (rs x.0)) ++ (x.0, x.1.1)
     ∷ splice m (upd now x.0 (m.take (led m (now x.0) (rs x.0)) x.1.1)) (upd rs x.0 (tail_of (remain m (now x.0) (rs x.0)))) n xs
-
--- what a step of a thread alone emits, where ks is what its object steps emit
-abbrev pub alone_label : Act → List Label → Label
-alone_label Silent ks = Quiet
-alone_label (Result k v) ks = Answer k v
-alone_label (Refusal o) ks = Refused o
-alone_label Never ks = Quiet
-alone_label _ [] = Quiet
-alone_label _ (k ∷ ks) = k
-
-abbrev pub labels_left : Bool → List Label → List Label
-labels_left false ks = ks
-labels_left true [] = []
-labels_left true (k ∷ ks) = ks
-
--- the steps of a thread alone, with what they emit
-abbrev pub alone_trail : {T : Type 0} → Machine T → T → List ℕ → List Label → List (T × Label)
-alone_trail m x [] ks = []
-alone_trail m x (v ∷ vs) ks = (x, alone_label (act_of (m.ask x) v) ks)
-    ∷ alone_trail m (m.take x v) vs (labels_left (is_shared (act_of (m.ask x) v)) ks)
 
 -- a run in which each thread takes the steps that it takes alone, answered so, and the objects are stepped on in this order
 pub record IsSplice {T : Type 0} (m : Machine T) (s : State T) (replies : ℕ → List ℕ) (order : List (ℕ × Shared)) (run : List Step) : Type

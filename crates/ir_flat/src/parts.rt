@@ -3,9 +3,10 @@
 ghost use Rattle.ir_flat.specs.Flat.{Flat, IsFlat, thread_of, cell_of, start_flat, HaveRoom};
 ghost use Rattle.ir_flat.specs.Next.{with_thread, with_object, answered, next, next_try, MayStep, MayTry};
 ghost use Rattle.ir_image.specs.Guest.{most_object_words, object_count};
-ghost use Rattle.ir_object.specs.Cell.{Admitted, CanLeave};
+ghost use Rattle.ir_object.specs.Standing.{Admitted, CanLeave};
 ghost use Rattle.ir_object.specs.Word.{IsFields, entered, left_by};
-ghost use Rattle.ir_thread.specs.Calls.{ask_of, run_of, after_reply, Permits, Suits, most_budget};
+ghost use Rattle.ir_thread.specs.Calls.{ask_of, after_reply, most_budget};
+ghost use Rattle.ir_thread.specs.Permitted.{run_of, Permits, Suits};
 ghost use Rattle.ir_thread.specs.Instance.{is_result};
 ghost use Rattle.ir_thread.specs.Private.{NoInstruction, UnmarkedSteps, StopsUnmarked};
 ghost use Rattle.ir_thread.specs.declared.ask.Ask.TheVariants.{Private, Try};

@@ -5,7 +5,7 @@ use Rattle.std.specs.Int.{w16, to_le_bytes}
 use Rattle.std.proofs.lemmas.List.{append_assoc, append-nil, drop_more, drop-drop, take-append-drop}
 use Rattle.ir_runs.specs.declared.access.Access.{Access}
 use Rattle.ir_mach.specs.Pages.{page_of, page_size}
-use Rattle.ir_thread.specs.Held.{higher_of}
+use Rattle.ir_thread.specs.State.{higher_of}
 use Rattle.ir_freeze.specs.Frozen.{change, changes}
 
 -- what is the same is no change

@@ -3,9 +3,7 @@ use Rattle.std.specs.Prelude.{◌==◌, ◌&&◌, ℕ, suc, Bool, List, [], ◌�
 use Rattle.std.specs.Int.{w16, w32, to_le_bytes}
 use Rattle.ir_runs.specs.declared.access.Access.{Access}
 use Rattle.ir_runs.specs.declared.access.Access.TheVariants.{Reading, Writing}
-use Rattle.ir_thread.specs.Ends.{end_number, end_code}
-use Rattle.ir_thread.specs.Held.{highest}
-use Rattle.ir_thread.specs.State.{State}
+use Rattle.ir_thread.specs.State.{end_number, end_code, State, highest}
 use Rattle.ir_thread.specs.declared.end.End.{End}
 
 -- the four bytes of a word, the lowest first

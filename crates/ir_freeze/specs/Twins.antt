@@ -1,11 +1,11 @@
 -- Threads whose bytes can be compared.
 use Rattle.std.specs.Prelude.{◌≡◌, ◌↔◌, ℕ, ◌≤◌, List, length, false, MatchOption, ⊤}
 use Rattle.ir_image.specs.Guest.{IsWord}
-use Rattle.ir_mach.specs.Core.{IsCore, memory_size}
+use Rattle.ir_mach.specs.Core.{memory_size}
+use Rattle.ir_mach.specs.Within.{IsCore}
 use Rattle.ir_thread.specs.Calls.{most_output}
-use Rattle.ir_thread.specs.Ends.{end_code}
+use Rattle.ir_thread.specs.State.{end_code, State}
 use Rattle.ir_thread.specs.Frames.{frame_of}
-use Rattle.ir_thread.specs.State.{State}
 use Rattle.ir_seen.specs.Seen.{Same, view}
 use Rattle.ir_freeze.specs.Frozen.{changes, frozen, is_over}
 use Rattle.ir_freeze.specs.Thawed.{before_changes, thawed}

@@ -2,7 +2,7 @@
 
 ghost use Rattle.std.specs.Prelude.{◌≡◌, ◌+◌, ◌≤◌, ◌^◌, ◌++◌, map, flat_map, length, is_none, IfOk, OnOk};
 ghost use Rattle.ir_mach.specs.Core.{memory_size};
-ghost use Rattle.ir_thread.specs.Held.{highest};
+ghost use Rattle.ir_thread.specs.State.{highest};
 ghost use Rattle.ir_freeze.specs.Frozen.{word, held_byte, end_bytes, change, changes, is_over, fixed_bytes, going_bytes, frozen};
 
 use crate::pages::page_in;

@@ -2,7 +2,7 @@
 use Rattle.std.proofs.Common.{◌≡◌, ◌⊎◌, ◌&&◌, ℕ, Bool, true, false, List, [], Option, Result, IfOk, codes, not, refl, sym, subst, inl, inr}
 use Rattle.std.specs.Io.KnownBytes.{Appends}
 use Rattle.std.proofs.KnownBytes.{Appends-nil}
-use Rattle.ir_stream.specs.Devices.{AppendsPrefix}
+use Rattle.ir_stream.specs.Answers.{AppendsPrefix}
 use Rattle.ir_stream.specs.Endings.{flow_after}
 use Rattle.ir_stream.specs.declared.serving.Flow.{Flow}
 use Rattle.ir_packet.specs.Packets.{packet_of}

@@ -4,7 +4,7 @@ use Rattle.ir_image.specs.Guest.{object_count, object_words, most_objects}
 use Rattle.ir_flat.specs.Flat.{empty}
 use Rattle.ir_mach.specs.Memory.{byte_at}
 use Rattle.ir_object.specs.Cell.{Cell}
-use Rattle.ir_runs.specs.Object.{Object}
+use Rattle.ir_runs.specs.Machine.{Object}
 use Rattle.ir_runs.specs.Run.{Step}
 use Rattle.ir_runs.specs.Cuts.{object_at}
 use Rattle.ir_cut.specs.Positions.{EachRun, machine_of, start_of, cut_of}

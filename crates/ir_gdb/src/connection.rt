@@ -1,7 +1,7 @@
 //! A connection of gdb: bytes are read, and the replies to the packets in them are written.
 
 ghost use Rattle.std.specs.Prelude.{◌≡◌, true, false, Err, IfOk, IfSome};
-ghost use Rattle.ir_stream.specs.Devices.{Reads};
+ghost use Rattle.ir_stream.specs.Answers.{Reads};
 ghost use Rattle.ir_stream.specs.Endings.{IfEnded};
 ghost use Rattle.ir_packet.specs.Stream.{Between, items};
 ghost use Rattle.ir_gdb.specs.Connection.{link_of, Wrote, WroteInPart, LeadsTo};

@@ -2,7 +2,7 @@
 
 ghost use Rattle.std.specs.Prelude.{◌≡◌, false, true, Err, IfSome};
 ghost use Rattle.std.specs.Io.KnownBytes.{Appends};
-ghost use Rattle.ir_stream.specs.Devices.{AppendsPrefix, Reads};
+ghost use Rattle.ir_stream.specs.Answers.{AppendsPrefix, Reads};
 ghost use Rattle.ir_packet.specs.Stream.{items};
 ghost use Rattle.ir_debug.specs.Session.{most_input, IfServed, IfRefused, ended_by};
 ghost use Rattle.ir_debug.specs.Openings.{opening_of};

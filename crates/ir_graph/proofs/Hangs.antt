@@ -11,7 +11,8 @@ use Rattle.ir_explore.specs.Meaning.{Steps}
 use Rattle.ir_explore.specs.Origins.{first_origin, AreReached}
 use Rattle.ir_explore.proofs.CallerLemmas.{asked_finished, marked_way, way_to_marked, slice_less}
 use Rattle.ir_runs.specs.Machine as machine
-use Rattle.ir_runs.specs.Machine.{Machine, IsLawful}
+use Rattle.ir_runs.specs.Machine.{Machine}
+use Rattle.ir_runs.specs.Lawful.{IsLawful}
 use Rattle.ir_runs.specs.Run.{State, Step, asked, after, end, IsDone}
 use Rattle.ir_runs.proofs.CallerLemmas.{Good, end_append}
 use Rattle.ir_states.specs.Counting.{Answers, IsAnswered, Counts, entering}

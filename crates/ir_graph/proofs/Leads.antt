@@ -1,8 +1,7 @@
 -- Where a thread leads from a state at rest.
 use Rattle.std.proofs.Common.{◌≡◌, ℕ, ◌≤◌, false, List, inl, inr, refl, sym, ap, ◌∙◌, subst, length}
 use Rattle.std.proofs.lemmas.Bool.{cases_lt}
-use Rattle.ir_runs.specs.Machine.{act_of}
-use Rattle.ir_runs.specs.Object.{Admits, target}
+use Rattle.ir_runs.specs.Machine.{act_of, Admits, target}
 use Rattle.ir_runs.specs.Run as run
 use Rattle.ir_runs.specs.Run.{Step, asked, act, Can, after, end}
 use Rattle.ir_states.specs.Counting.{IsAnswered, is_own, IsAtRest, GoesAhead}

@@ -2,12 +2,14 @@
 use Rattle.std.proofs.Common.{◌≡◌, ◌≢◌, ℕ, zero, suc, ◌+◌, ◌<◌, List, length, set, get_or, refl, sym, ap, ◌∙◌, subst, arith, get_or-set_same, get_or-set_other}
 use Rattle.std.proofs.lemmas.List.{set-get_or, set-set}
 use Rattle.std.specs.Prelude.{slice_set}
-use Rattle.ir_object.specs.Cell.{Cell, Admitted, CanLeave}
+use Rattle.ir_object.specs.Cell.{Cell}
+use Rattle.ir_object.specs.Standing.{Admitted, CanLeave}
 use Rattle.ir_object.specs.Word.{IsFields, entered, left_by}
 use Rattle.ir_runs.specs.Run.{Can, after}
-use Rattle.ir_thread.specs.Calls.{ask_of, run_of, step_of, after_reply, after_ask, Permits}
+use Rattle.ir_thread.specs.Calls.{ask_of, after_reply, after_ask}
+use Rattle.ir_thread.specs.Permitted.{run_of, step_of, Permits}
 use Rattle.ir_thread.specs.Private.{PrivateSteps}
-use Rattle.ir_thread.specs.State.{State}
+use Rattle.ir_thread.specs.State.{State, held_at}
 use Rattle.ir_thread.specs.declared.ask.Ask.{Ask}
 use Rattle.ir_thread.specs.declared.ask.Ask.TheVariants as ask
 use Rattle.ir_thread.specs.declared.ask.Reply.TheVariants.{Go}
@@ -15,7 +17,6 @@ use Rattle.ir_flat.specs.Flat.{Flat, IsFlat, thread_of, cell_of, tables, machine
 use Rattle.ir_flat.specs.Next.{with_thread, with_object, next, MayStep}
 use Rattle.ir_flat.proofs.CallerLemmas.{next_flat, taken_by, can_by_may, thread_count, object_count, enter_fits, leave_fits, leave_allowed}
 use Rattle.ir_thread.proofs.CallerLemmas.{ask_permits}
-use Rattle.ir_thread.specs.Held.{held_at}
 use Rattle.ir_runs.specs.declared.access.Access.{Access}
 use Rattle.ir_graph.specs.Lone.{IsAbout, answer_from, cell_after, lone_thread, lone_cell, GoesLone, TakesTurn, AreBeside, MayTake}
 use Rattle.ir_graph.specs.Plain.{IsFair, GoesPlain, OthersStay, Rests}

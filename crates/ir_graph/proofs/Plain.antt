@@ -3,9 +3,8 @@ use Rattle.std.proofs.Common.{◌≡◌, ◌≢◌, ℕ, zero, suc, ◌<◌, Boo
 use Rattle.std.specs.Prelude.{◌==◌, replicate}
 use Rattle.std.proofs.lemmas.Bool.{cases_eq}
 use Rattle.ir_runs.specs.Machine as machine
-use Rattle.ir_runs.specs.Machine.{Machine, upd}
+use Rattle.ir_runs.specs.Machine.{Machine, upd, target, reply, acted}
 use Rattle.ir_runs.specs.Run.{State, Step, asked, act, Can, after, end, IsRun}
-use Rattle.ir_runs.specs.Object.{target, reply, acted}
 use Rattle.ir_runs.proofs.CallerLemmas.{upd_same, upd_other, upd_elim, now_other, end_append}
 use Rattle.ir_states.specs.Counting.{IsAnswered, Counts, is_own, GoesAhead}
 use Rattle.ir_states.specs.Sources.{Giving, answer_of, left_of, sourced, by_source}

@@ -2,10 +2,8 @@
 use Rattle.std.proofs.Common.{◌≡◌, ℕ, Bool, true, false, List, [], ◌∷◌, ◌++◌, inl, inr, eqb, length, refl, sym, ap, ◌∙◌, subst}
 use Rattle.ir_explore.proofs.CallerLemmas.{pushed_cases}
 use Rattle.ir_image.specs.Guest.{Guest}
-use Rattle.ir_runs.specs.Labels.{Label, logged}
+use Rattle.ir_runs.specs.Machine.{Label, logged, act_of, Object, emitted, target}
 use Rattle.ir_runs.specs.Machine as machine
-use Rattle.ir_runs.specs.Machine.{act_of}
-use Rattle.ir_runs.specs.Object.{Object, emitted, target}
 use Rattle.ir_runs.specs.Run.{State, Step, asked, act, Can, after, end, IsRun, IsDone, log, trail, join_if, label, events}
 use Rattle.ir_runs.proofs.CallerLemmas.{end_append}
 use Rattle.ir_runs.specs.declared.access.Access.TheVariants.{Reading, Writing}

@@ -1,8 +1,7 @@
 -- One thread that goes on alone.
 use Rattle.std.proofs.Common.{◌≡◌, ℕ, zero, suc, ◌+◌, cond, List, [], ◌∷◌, ◌++◌, length, refl, sym, ap, ◌∙◌, subst, arith}
 use Rattle.std.specs.Prelude.{replicate}
-use Rattle.ir_runs.specs.Object.{Admits, target}
-use Rattle.ir_runs.specs.Machine.{act_of}
+use Rattle.ir_runs.specs.Machine.{Admits, target, act_of}
 use Rattle.ir_runs.specs.Run.{State, Step, asked, Can, after, end}
 use Rattle.ir_runs.proofs.CallerLemmas.{end_append}
 use Rattle.ir_states.specs.Counting.{entering}

@@ -1,7 +1,8 @@
 -- A thread that goes on beside one object.
 use Rattle.std.specs.Prelude.{◌≡◌, ◌<◌, ℕ, zero, suc, List, length, slice_index, slice_set}
 use Rattle.ir_image.specs.Guest.{most_object_words}
-use Rattle.ir_object.specs.Cell.{Cell, Admitted, CanLeave}
+use Rattle.ir_object.specs.Cell.{Cell}
+use Rattle.ir_object.specs.Standing.{Admitted, CanLeave}
 use Rattle.ir_object.specs.Word.{IsFields, entered, left_by}
 use Rattle.ir_runs.specs.declared.access.Access.{Access}
 use Rattle.ir_thread.specs.Calls.{ask_of, after_ask}

@@ -3,7 +3,7 @@
 ghost use Rattle.std.specs.Prelude.{◌≡◌, ℕ, true, IfSome};
 ghost use Rattle.ir_graph.specs.Lone.{IsAbout, answer_from, cell_after, GoesLone, TakesTurn, AreBeside, MayTake};
 ghost use Rattle.ir_graph.specs.Plain.{IsFair, Rests};
-ghost use Rattle.ir_object.specs.Cell.{Admitted};
+ghost use Rattle.ir_object.specs.Standing.{Admitted};
 ghost use Rattle.ir_thread.specs.Calls.{ask_of, after_ask};
 ghost use Rattle.ir_thread.specs.declared.ask.Ask.TheVariants as ask;
 

@@ -10,7 +10,7 @@ ghost use Rattle.ir_graph.specs.Outcomes.{AllListed, AllShown};
 ghost use Rattle.ir_graph.specs.Notes.{noted_in};
 ghost use Rattle.ir_graph.specs.Searched.{AreSearched};
 ghost use Rattle.ir_graph.specs.Stops.{IsStop, MayStop};
-ghost use Rattle.ir_thread.specs.Allowed.{IsAllowed};
+ghost use Rattle.ir_thread.specs.State.{IsAllowed};
 ghost use Rattle.ir_thread.specs.declared.profile.Profile.TheVariants.{One};
 
 use crate::graph::Graph;

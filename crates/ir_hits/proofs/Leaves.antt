@@ -2,17 +2,16 @@
 use Rattle.std.proofs.Common.{◌≡◌, ◌≢◌, ℕ, suc, zero, ◌<◌, ◌≤◌, List, [], ◌∷◌, length, Option, Some, None, refl, sym, ap, ◌∙◌, subst, inl, inr, arith, get_or}
 use Rattle.std.proofs.lemmas.Bool.{cases_eq}
 use Rattle.std.proofs.lemmas.Option.{same_Some}
-use Rattle.ir_runs.specs.Machine.{Machine, Ask, act_of, upd, held_after, Holds}
+use Rattle.ir_runs.specs.Machine.{Machine, Ask, act_of, upd, Object, reply, emitted, Label, Quiet, Answer, In, Refused, Out}
+use Rattle.ir_runs.specs.Lawful.{held_after, Holds}
 use Rattle.ir_runs.specs.Machine as machine
-use Rattle.ir_runs.specs.Labels.{Label, Quiet, Answer, In, Refused, Out}
 use Rattle.ir_runs.specs.declared.access.Access.{Access}
 use Rattle.ir_runs.specs.declared.access.Access.TheVariants.{Reading, Writing}
-use Rattle.ir_runs.specs.Object.{Object, reply, emitted}
 use Rattle.ir_runs.specs.Run.{Step, trail, thread_in, end}
 use Rattle.ir_runs.specs.Cuts.{Emits}
 use Rattle.ir_runs.proofs.CallerLemmas.{upd_same, upd_other}
 use Rattle.ir_thread.specs.State as thread
-use Rattle.ir_thread.specs.Held.{held_at}
+use Rattle.ir_thread.specs.State.{held_at}
 use Rattle.ir_fit.specs.Fit.{FittedTrace, IsRunOf}
 use Rattle.ir_fit.proofs.CallerLemmas.{at_get, get_at}
 use Rattle.ir_cut.specs.Positions.{machine_of, start_of}

@@ -5,8 +5,7 @@ use Rattle.std.proofs.lemmas.Option.{slice_get_within}
 use Rattle.ir_isa.specs.declared.inst.Inst.{Inst}
 use Rattle.ir_isa.specs.declared.inst.Inst.TheVariants as inst
 use Rattle.ir_isa.specs.Decoded.{instruction_of}
-use Rattle.ir_image.specs.Guest.{code_start}
-use Rattle.ir_image.specs.Fetch.{fetched_word, decoded}
+use Rattle.ir_image.specs.Guest.{code_start, fetched_word, decoded}
 use Rattle.ir_image.specs.declared.fetched.Fetched.TheVariants.{Found}
 use Rattle.ir_mach.specs.Marks.{mark_of, IsStore, AreStoresMarked}
 use Rattle.ir_command.specs.declared.command.Point.{Point}

@@ -8,8 +8,7 @@ use Rattle.ir_flat.specs.Flat.{idle, thread_of}
 use Rattle.ir_runs.specs.Run.{Step}
 use Rattle.ir_fit.specs.Fit.{FittedTrace, IsRunOf}
 use Rattle.ir_cut.specs.Positions.{cut_of, EachRun}
-use Rattle.ir_weave.specs.Standing.{Standing, StandsAt, flat_in}
-use Rattle.ir_weave.specs.States.{positions}
+use Rattle.ir_weave.specs.Standing.{Standing, StandsAt, flat_in, positions}
 use Rattle.ir_hits.specs.Hits.{Numbered, thread_at, NoneWithin, IsLowest, IsLastHit}
 use Rattle.ir_hits.specs.Searching.{AreLast, IsLastFrom, IsNextHit, IsStartHit, window_start}
 use Rattle.ir_hits.specs.Passing.{AreCovered, HasPassed}

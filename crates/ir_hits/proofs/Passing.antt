@@ -2,12 +2,11 @@
 use Rattle.std.proofs.Common.{◌≡◌, ℕ, suc, zero, ◌+◌, ◌-◌, ◌<◌, ◌≤◌, Bool, true, false, List, refl, sym, ap, ◌∙◌, subst, add-zero, add-suc, inl, inr, arith}
 use Rattle.ir_mach.specs.Marks.{Marked, is_marked}
 use Rattle.ir_mach.specs.Memory.{memory_word}
-use Rattle.ir_runs.specs.Machine.{act_of}
-use Rattle.ir_runs.specs.Object.{reply}
+use Rattle.ir_runs.specs.Machine.{act_of, reply}
 use Rattle.ir_runs.specs.Run.{Step}
-use Rattle.ir_thread.specs.State.{State}
-use Rattle.ir_thread.specs.Calls.{ask_of, after_reply, step_of, run_of}
-use Rattle.ir_thread.specs.Held.{held_at}
+use Rattle.ir_thread.specs.State.{State, held_at}
+use Rattle.ir_thread.specs.Calls.{ask_of, after_reply}
+use Rattle.ir_thread.specs.Permitted.{step_of, run_of}
 use Rattle.ir_thread.specs.Instance.{reply_of}
 use Rattle.ir_thread.specs.Private.{UnmarkedSteps}
 use Rattle.ir_thread.specs.declared.ask.Ask.TheVariants as ask
@@ -16,7 +15,7 @@ use Rattle.ir_flat.specs.Flat.{Flat, thread_of}
 use Rattle.ir_fit.specs.Fit.{FittedTrace, IsRunOf}
 use Rattle.ir_cut.specs.Positions.{machine_of, start_of}
 use Rattle.ir_weave.proofs.CallerLemmas.{StepOf, step_at, step_there}
-use Rattle.ir_weave.specs.States.{positions}
+use Rattle.ir_weave.specs.Standing.{positions}
 use Rattle.ir_weave.specs.Stepping.{HasGone}
 use Rattle.ir_command.specs.declared.command.Point.{Point}
 use Rattle.ir_command.specs.declared.command.Point.TheVariants.{Break, Watch, WatchObject}

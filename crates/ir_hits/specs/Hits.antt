@@ -4,7 +4,7 @@ use Rattle.std.specs.List.{AllByRecursion}
 use Rattle.ir_mach.specs.Memory.{IsMemoryWord, memory_word}
 use Rattle.ir_thread.specs.State as thread
 use Rattle.ir_runs.specs.declared.access.Access.TheVariants.{Writing}
-use Rattle.ir_runs.specs.Labels.{Out}
+use Rattle.ir_runs.specs.Machine.{Out}
 use Rattle.ir_runs.specs.Run.{Step, th, count}
 use Rattle.ir_runs.specs.Cuts.{Emits}
 use Rattle.ir_fit.specs.Fit.{FittedTrace}

@@ -6,7 +6,7 @@ use Rattle.ir_isa.specs.Decoded.{instruction_of}
 use Rattle.ir_mach.specs.Marks.{Marked, is_marked, AreStoresMarked}
 use Rattle.ir_thread.specs.Private.{UnmarkedSteps}
 use Rattle.ir_flat.specs.Flat.{Flat, thread_of}
-use Rattle.ir_weave.specs.States.{positions}
+use Rattle.ir_weave.specs.Standing.{positions}
 use Rattle.ir_command.specs.declared.command.Point.{Point}
 use Rattle.ir_command.specs.declared.command.Point.TheVariants.{Break, Watch, WatchObject}
 use Rattle.ir_hits.specs.Hits.{Numbered}

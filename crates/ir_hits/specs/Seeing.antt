@@ -2,8 +2,7 @@
 use Rattle.std.specs.Prelude.{◌≡◌, ◌≢◌, ℕ, ◌<◌, ◌≤◌, ⊤, List, length, slice_get, min, Option, Some, None}
 use Rattle.ir_mach.specs.Memory.{memory_word}
 use Rattle.ir_runs.specs.declared.access.Access.TheVariants.{Writing}
-use Rattle.ir_thread.specs.Held.{held_at}
-use Rattle.ir_thread.specs.State.{State}
+use Rattle.ir_thread.specs.State.{held_at, State}
 use Rattle.ir_command.specs.declared.command.Point.{Point}
 use Rattle.ir_command.specs.declared.command.Point.TheVariants.{Break, Watch, WatchObject}
 use Rattle.ir_hits.specs.declared.before.Before.{Before}

@@ -3,10 +3,9 @@
 ghost use Rattle.std.specs.Prelude.{◌≡◌, ◌<◌, ◌≤◌, ◌+◌, List, None, false, length, IfOk, OnOk};
 ghost use Rattle.ir_runs.specs.Run.{Step};
 ghost use Rattle.ir_fit.specs.Fit.{FittedTrace};
-ghost use Rattle.ir_trace.specs.TraceOf.{recorded_thread};
+ghost use Rattle.ir_trace.specs.Recorded.{recorded_thread};
 ghost use Rattle.ir_cut.specs.Positions.{EachRun};
-ghost use Rattle.ir_weave.specs.Standing.{StandsAt, flat_in};
-ghost use Rattle.ir_weave.specs.States.{positions};
+ghost use Rattle.ir_weave.specs.Standing.{StandsAt, flat_in, positions};
 ghost use Rattle.ir_hits.specs.Hits.{AreWatchable};
 ghost use Rattle.ir_hits.specs.Searching.{IsLastFrom, IsNextHit, IsSearch, IsStartHit, NeverHits, reached, window_start};
 

@@ -3,8 +3,7 @@
 ghost use Rattle.std.specs.Prelude.{◌≡◌, ◌<◌, ◌≤◌, ◌+◌, ℕ, length, slice_index_or, IfOk, OnOk};
 ghost use Rattle.ir_cut.specs.Positions.{IsConsistentCut, cut_of};
 ghost use Rattle.ir_flat.specs.Flat.{idle};
-ghost use Rattle.ir_weave.specs.Standing.{StandsAt, flat_in};
-ghost use Rattle.ir_weave.specs.States.{positions};
+ghost use Rattle.ir_weave.specs.Standing.{StandsAt, flat_in, positions};
 ghost use Rattle.ir_hits.specs.Passing.{HasPassed};
 ghost use Rattle.ir_hits.specs.Searching.{AreLast, IsSearch};
 

@@ -8,9 +8,8 @@ use Rattle.ir_flat.proofs.CallerLemmas.{threads_length}
 use Rattle.ir_runs.specs.InOrder.{IsByOrder}
 use Rattle.ir_runs.specs.Run.{Step, log}
 use Rattle.ir_trace.specs.Recorded.{Recorded}
-use Rattle.ir_record.specs.Progress.{answers_at}
-use Rattle.ir_record.specs.Turns.{order_of_turns}
-use Rattle.ir_record.specs.Worlds.{Answered, answers_in}
+use Rattle.ir_record.specs.Worlds.{answers_at, Answered, answers_in}
+use Rattle.ir_record.specs.Recording.{order_of_turns}
 use Rattle.ir_sources.specs.Sources.{origin_of, IsAnswered}
 use Rattle.ir_record_run.specs.Plan.{Plan}
 use Rattle.ir_record_run.specs.Recording.{IsRecordedOf}

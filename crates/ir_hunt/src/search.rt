@@ -2,7 +2,7 @@
 
 ghost use Rattle.std.specs.Prelude.{◌≡◌, ◌<◌, IfOk, map};
 ghost use Rattle.ir_hunt.specs.Seeds.{lower, IsLowest};
-ghost use Rattle.ir_thread.specs.Allowed.{IsAllowed};
+ghost use Rattle.ir_thread.specs.State.{IsAllowed};
 
 use crate::dealing::Dealer;
 use crate::plan::{HuntPlan, Seeds};

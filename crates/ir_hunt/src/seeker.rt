@@ -2,8 +2,8 @@
 
 ghost use Rattle.std.specs.Prelude.{◌≡◌, ◌≢◌, ◌<◌, ◌⊎◌, [], length, map, replicate, true, false, IfOk, OnOk};
 ghost use Rattle.std.specs.List.{list_all};
-ghost use Rattle.ir_thread.specs.Allowed.{IsAllowed};
-ghost use Rattle.ir_record.specs.Turns.{order_of_turns};
+ghost use Rattle.ir_thread.specs.State.{IsAllowed};
+ghost use Rattle.ir_record.specs.Recording.{order_of_turns};
 ghost use Rattle.ir_record.specs.Worlds.{NoneFailed};
 ghost use Rattle.ir_sources.specs.Sources.{made_with, origins};
 ghost use Rattle.ir_chaos.specs.Choices.{Serves, chooser_of};

@@ -7,10 +7,10 @@ use Rattle.ir_bytes.specs.Reading.{◌>>=◌, field_at}
 use Rattle.ir_bytes.proofs.CallerLemmas.{two_ok, ok_is, IsBytes, Takes, number_takes, number_again, field_takes, field_again, passed}
 use Rattle.ir_image.specs.declared.image_err.ImageErr.{ImageErr}
 use Rattle.ir_image.specs.declared.image_err.ImageErr.TheVariants.{Short, Magic, Entry}
-use Rattle.ir_image.specs.Guest.{IsPlace, IsWord, code_start, most_code_words}
+use Rattle.ir_image.specs.Guest.{IsWord, code_start, most_code_words, magic, magic_number, form_of}
+use Rattle.ir_image.specs.Within.{IsPlace}
 use Rattle.ir_image.specs.declared.form.ImageForm.{ImageForm}
 use Rattle.ir_image.specs.declared.form.ImageForm.TheVariants.{Small, Large}
-use Rattle.ir_image.specs.Forms.{magic, magic_number, form_of}
 use Rattle.ir_image.specs.Reading.{magic_field, is_place, entry_field, word_at, entry_at, form_at}
 
 -- the bytes of a form's number

@@ -8,8 +8,7 @@ use Rattle.ir_image.specs.declared.counts.Counts.{Counts}
 use Rattle.ir_image.specs.declared.image_err.ImageErr.{ImageErr}
 use Rattle.ir_image.specs.declared.image_err.ImageErr.TheVariants.{Short, Trailing}
 use Rattle.ir_image.specs.declared.form.ImageForm.{ImageForm}
-use Rattle.ir_image.specs.Forms.{limits_of, form_of}
-use Rattle.ir_image.specs.Guest.{Guest}
+use Rattle.ir_image.specs.Guest.{limits_of, form_of, Guest}
 use Rattle.ir_image.specs.Reading.{magic_field, threads_field, objects_field, words_field, bytes_field, entry_field, word_at, entry_at, form_at, counts_at, body_at, guest_at}
 use Rattle.ir_image.specs.Fields.{image_fault}
 

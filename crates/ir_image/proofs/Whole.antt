@@ -9,9 +9,9 @@ use Rattle.ir_bytes.proofs.CallerLemmas.{two_ok, five_ok, six_ok, pass_ok, ok_is
 use Rattle.ir_image.specs.declared.counts.Counts.{Counts}
 use Rattle.ir_image.specs.declared.image_err.ImageErr.{ImageErr}
 use Rattle.ir_image.specs.declared.image_err.ImageErr.TheVariants.{Short, Count, Trailing}
-use Rattle.ir_image.specs.Guest.{Guest, IsGuest, IsPlace, IsWord, memory_size, most_code_words, object_count}
+use Rattle.ir_image.specs.Guest.{Guest, IsWord, memory_size, most_code_words, object_count, limits_of, magic}
+use Rattle.ir_image.specs.Within.{IsGuest, IsPlace}
 use Rattle.ir_image.specs.declared.form.ImageForm.{ImageForm}
-use Rattle.ir_image.specs.Forms.{limits_of, magic}
 use Rattle.ir_image.specs.Encoding.{counts_of, counts_encoding, words_encoding, body_encoding, encoding}
 use Rattle.ir_image.specs.Reading.{threads_field, objects_field, words_field, bytes_field, word_at, entry_at, form_at, counts_at, body_at, guest_at}
 use Rattle.ir_image.proofs.Forms.{count_of, whole_of, words_again}

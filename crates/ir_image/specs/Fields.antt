@@ -4,7 +4,7 @@ use Rattle.ir_bytes.specs.Reading.{plain}
 use Rattle.ir_bytes.specs.Format.{Format, finished, next, before, repeated, first_refused}
 use Rattle.ir_image.specs.declared.image_err.ImageErr.{ImageErr}
 use Rattle.ir_image.specs.declared.image_err.ImageErr.TheVariants.{Short, Trailing}
-use Rattle.ir_image.specs.Forms.{limits_of, form_of}
+use Rattle.ir_image.specs.Guest.{limits_of, form_of}
 use Rattle.ir_image.specs.Reading.{magic_field, threads_field, objects_field, words_field, bytes_field, entry_field}
 
 -- the magic, which names the form; how many threads, objects, words of code and bytes of data; the entries; the code; the data; the

@@ -1,9 +1,14 @@
 -- A guest: what an image holds, apart from where it lies in memory.
-use Rattle.std.specs.Prelude.{◌≡◌, ℕ, ◌+◌, ◌-◌, ◌*◌, ◌/◌, ◌%◌, ◌<◌, ◌≤◌, List, length, ◌++◌, take, drop, replicate}
-use Rattle.std.specs.List.{AllByRecursion}
+use Rattle.std.specs.Prelude.{ℕ, ◌+◌, ◌-◌, ◌*◌, ◌/◌, List, length, ◌++◌, take, drop, replicate, ◌==◌, [], ◌∷◌, if◌then◌else◌, slice_get, nat_le, Option, Some, None}
 pub use Rattle.ir_bytes.specs.Numbers.{IsWord, IsByte}
 use Rattle.ir_image.specs.declared.form.ImageForm.{ImageForm}
-pub use Rattle.ir_image.specs.Forms.{limits_of, most_threads, most_objects, most_object_words}
+use Rattle.byteorder.specs.Endian.{little_number}
+use Rattle.ir_image.specs.declared.form.ImageForm.TheVariants.{Small, Large}
+use Rattle.ir_image.specs.declared.form.Limits.{Limits}
+use Rattle.ir_isa.specs.declared.inst.Inst.{Inst}
+use Rattle.ir_isa.specs.Decoded.{instruction_of}
+use Rattle.ir_image.specs.declared.fetched.Fetched.{Fetched}
+use Rattle.ir_image.specs.declared.fetched.Fetched.TheVariants.{Outside, Illegal, Found}
 
 pub record Guest : Type 0 where
   -- how many threads, objects and words of an object it may have
@@ -33,6 +38,11 @@ memory_size = 0x00010000
 abbrev pub most_code_words : ℕ
 most_code_words = 16384
 
+-- the most threads, the most objects, and the number of words of each object
+abbrev pub limits_of : ImageForm → Limits
+limits_of Small = record { threads = 8; objects = 16; words = 8 }
+limits_of Large = record { threads = 16; objects = 64; words = 16 }
+
 -- the number of words of each object
 abbrev pub object_words : Guest → ℕ
 object_words g = (limits_of g.form).words
@@ -45,6 +55,10 @@ object_count g = length g.words / object_words g
 abbrev pub padded_to : ℕ → List ℕ → List ℕ
 padded_to count words = words ++ replicate (count - length words) 0
 
+-- the most words of an object of any form
+abbrev pub most_object_words : ℕ
+most_object_words = 16
+
 -- up to the most words of an object of any form
 abbrev pub padded : List ℕ → List ℕ
 padded words = padded_to most_object_words words
@@ -53,21 +67,39 @@ padded words = padded_to most_object_words words
 abbrev pub first_words : Guest → ℕ → List ℕ
 first_words g o = padded (take (object_words g) (drop (object_words g * o) g.words))
 
--- the address of a word in code of `words` words
-pub record IsPlace (words place : ℕ) : Type 0 where
-  pub aligned : place % 4 ≡ 0
-  pub low : code_start ≤ place
-  pub high : place < code_start + 4 * words
+-- the most threads of any form
+abbrev pub most_threads : ℕ
+most_threads = 16
 
--- the limits of a guest
-pub record IsGuest (g : Guest) : Type 0 where
-  pub some_thread : 1 ≤ length g.entries
-  pub few_threads : length g.entries ≤ (limits_of g.form).threads
-  pub short_code : length g.code ≤ most_code_words
-  pub short_data : length g.bytes ≤ memory_size
-  pub whole_objects : length g.words % object_words g ≡ 0
-  pub few_objects : object_count g ≤ (limits_of g.form).objects
-  pub entries_fit : AllByRecursion (IsPlace (length g.code)) g.entries
-  pub code_fits : AllByRecursion IsWord g.code
-  pub bytes_fit : AllByRecursion IsByte g.bytes
-  pub words_fit : AllByRecursion IsWord g.words
+-- the most objects of any form
+abbrev pub most_objects : ℕ
+most_objects = 64
+
+-- what an image of the form begins with: `IRI1` or `IRI2`
+abbrev pub magic : ImageForm → List ℕ
+magic Small = 0x49 ∷ 0x52 ∷ 0x49 ∷ 0x31 ∷ []
+magic Large = 0x49 ∷ 0x52 ∷ 0x49 ∷ 0x32 ∷ []
+
+-- the number of these bytes
+abbrev pub magic_number : ImageForm → ℕ
+magic_number form = little_number 4 (magic form)
+
+-- the form whose number this is, if it is a form's
+abbrev pub form_of : ℕ → ImageForm
+form_of number = if number == magic_number Large then Large else Small
+
+-- the word at a pc, if it is a place in the code
+abbrev pub word_at : List ℕ → ℕ → Option ℕ
+word_at code pc = if nat_le code_start pc then slice_get code ((pc - code_start) / 4) else None
+
+abbrev pub decoded : Option Inst → Fetched
+decoded (Some i) = Found i
+decoded None = Illegal
+
+abbrev pub fetched_word : Option ℕ → Fetched
+fetched_word (Some word) = decoded (instruction_of word)
+fetched_word None = Outside
+
+-- the instruction at a pc
+abbrev pub fetched : List ℕ → ℕ → Fetched
+fetched code pc = fetched_word (word_at code pc)

@@ -1,28 +1,11 @@
 -- Reading an image from the left: each field is read whole and then tested, and the first fault is named.
-use Rattle.std.specs.Prelude.{◌≡◌, ℕ, ◌+◌, ◌*◌, ◌%◌, Bool, List, length, Result, Ok, Err, nat_lt, nat_le, ◌==◌, ◌&&◌, if◌then◌else◌}
+use Rattle.std.specs.Prelude.{ℕ, ◌+◌, ◌*◌, ◌%◌, Bool, List, length, Result, Ok, Err, nat_lt, nat_le, ◌==◌, ◌&&◌, if◌then◌else◌, Option, Some, None}
 use Rattle.ir_bytes.specs.Reading.{◌>>=◌, Reader, Field, tested, within, number_at, field_at, bytes_at, fields_at}
 use Rattle.ir_image.specs.declared.counts.Counts.{Counts}
 use Rattle.ir_image.specs.declared.image_err.ImageErr.{ImageErr}
 use Rattle.ir_image.specs.declared.image_err.ImageErr.TheVariants.{Short, Magic, Count, Entry, Trailing, NoMem}
 use Rattle.ir_image.specs.declared.form.ImageForm.{ImageForm}
-use Rattle.ir_image.specs.Forms.{limits_of, magic_number, form_of}
-use Rattle.ir_image.specs.Guest.{Guest, code_start, memory_size, most_code_words}
-
--- reading meets this fault, or memory ran out
-abbrev pub Fails : {Y : Type 0} → ImageErr → Result Y ImageErr → Type 0
-Fails NoMem read = Unit {0}
-Fails Short read = read ≡ Err Short
-Fails Magic read = read ≡ Err Magic
-Fails Count read = read ≡ Err Count
-Fails Entry read = read ≡ Err Entry
-Fails Trailing read = read ≡ Err Trailing
-
--- an answer, seen by a view, is what reading gives, unless memory ran out
-abbrev pub Gives : {X Y : Type 0} → (X → Y) → Result X ImageErr → Result Y ImageErr → Type 0
-Gives view (Ok x) read = read ≡ Ok (view x)
-Gives view (Err e) read = Fails e read
-
--- ---- the fields that are tested
+use Rattle.ir_image.specs.Guest.{limits_of, magic_number, form_of, Guest, code_start, memory_size, most_code_words}
 
 -- a form's magic
 abbrev pub magic_field : Field ImageErr
@@ -86,3 +69,21 @@ body_at c bytes = do
 -- the whole image
 unfoldable pub guest_at : List ℕ → Result Guest ImageErr
 guest_at bytes = counts_at bytes >>= λ c. body_at c.0 c.1
+
+-- the number that a fault goes by; running out of memory is none of the bytes' and has 0
+abbrev pub refusal_number : ImageErr → ℕ
+refusal_number Short = 1
+refusal_number Magic = 2
+refusal_number Count = 3
+refusal_number Entry = 4
+refusal_number Trailing = 5
+refusal_number NoMem = 0
+
+-- the number of a fault of the bytes
+abbrev pub number_of : ImageErr → Option ℕ
+number_of NoMem = None
+number_of Short = Some (refusal_number Short)
+number_of Magic = Some (refusal_number Magic)
+number_of Count = Some (refusal_number Count)
+number_of Entry = Some (refusal_number Entry)
+number_of Trailing = Some (refusal_number Trailing)

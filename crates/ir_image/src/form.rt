@@ -1,7 +1,7 @@
 //! The forms of images.
 
 ghost use Rattle.std.specs.Prelude.{◌≡◌, ◌*◌, ◌<◌, ◌≤◌};
-ghost use Rattle.ir_image.specs.Forms.{limits_of, magic_number, form_of, most_object_words};
+ghost use Rattle.ir_image.specs.Guest.{limits_of, magic_number, form_of, most_object_words};
 
 /// The form of an image, which says how many threads and objects it may have, and how many words each object has.
 #[derive(Clone, Copy, Debug, PartialEq, Eq)]

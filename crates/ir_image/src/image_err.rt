@@ -2,7 +2,7 @@
 
 ghost use Rattle.std.specs.Prelude.{◌≡◌};
 ghost use Rattle.ir_image.specs.declared.image_err.ImageErr.TheVariants.{NoMem};
-ghost use Rattle.ir_image.specs.Refusal.{number_of};
+ghost use Rattle.ir_image.specs.Reading.{number_of};
 
 use std::alloc::{AllocError, AllocFailed};
 use thiserror::Error;

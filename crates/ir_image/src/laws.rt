@@ -2,7 +2,8 @@
 
 ghost use Rattle.std.specs.Prelude.{◌≡◌, List, ℕ, Ok};
 ghost use Rattle.std.specs.List.{AllByRecursion};
-ghost use Rattle.ir_image.specs.Guest.{Guest, IsGuest, IsByte};
+ghost use Rattle.ir_image.specs.Guest.{Guest, IsByte};
+ghost use Rattle.ir_image.specs.Within.{IsGuest};
 ghost use Rattle.ir_image.specs.Encoding.{encoding};
 ghost use Rattle.ir_image.specs.Reading.{guest_at};
 ghost use Rattle.ir_image.specs.Fields.{image_fault};

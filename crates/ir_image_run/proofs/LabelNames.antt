@@ -4,8 +4,7 @@ use Rattle.std.specs.Prelude.{nat_le, nat_lt, slice_index}
 use Rattle.std.specs.List.{All, AllByRecursion, list_all}
 use Rattle.std.proofs.lemmas.List.Elements.{All-from_recursion}
 use Rattle.std.proofs.lemmas.Grind.{common_steps}
-use Rattle.ir_image.specs.Forms.{limits_of}
-use Rattle.ir_image.specs.Guest.{memory_size, most_code_words}
+use Rattle.ir_image.specs.Guest.{limits_of, memory_size, most_code_words}
 use Rattle.ir_asm.specs.declared.cause.Cause.{Cause}
 use Rattle.ir_asm.specs.declared.cause.Cause.TheVariants.{BadByte, BadCount, BadLabel, BadSize, LabelTwice}
 use Rattle.ir_asm.specs.declared.form.Section.{Section}

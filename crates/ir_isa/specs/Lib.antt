@@ -3,4 +3,3 @@ pub mod Code
 pub mod Rows
 pub mod Decoded
 pub mod Words
-pub mod Names

@@ -1,14 +1,9 @@
 -- The word of an instruction, as the sum of its fields.
-use Rattle.std.specs.Prelude.{ℕ, ◌+◌, ◌-◌, ◌*◌, ◌/◌, ◌%◌, ◌^◌, ℤ, pos, negsuc}
-use Rattle.ir_isa.specs.Fields.{bits}
+use Rattle.std.specs.Prelude.{ℕ, ◌+◌, ◌*◌, ◌/◌, ◌^◌, ℤ}
+use Rattle.ir_isa.specs.Fields.{bits, low_bits}
 use Rattle.ir_isa.specs.Code.{branch_funct, load_funct, store_funct, imm_funct, shift_functs, reg_functs}
 use Rattle.ir_isa.specs.declared.inst.Inst.{Inst}
 use Rattle.ir_isa.specs.declared.inst.Inst.TheVariants.{Lui, Auipc, Jal, Jalr, Branch, Load, Store, OpImm, Shift, Op, Fence, Ecall, Ebreak}
-
--- a signed number modulo 2 ^ w
-abbrev pub low_bits : ℕ → ℤ → ℕ
-low_bits w (pos n) = n % 2 ^ w
-low_bits w (negsuc n) = 2 ^ w - 1 - n % 2 ^ w
 
 -- two registers and a destination
 abbrev pub r_word : ℕ → ℕ → ℕ → ℕ → ℕ → ℕ → ℕ

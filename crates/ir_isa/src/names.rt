@@ -1,7 +1,7 @@
 //! The names of registers.
 
 ghost use Rattle.std.specs.Prelude.{◌≡◌, ◌<◌};
-ghost use Rattle.ir_isa.specs.Names.{register_name};
+ghost use Rattle.ir_isa.specs.Fields.{register_name};
 
 /// The name of register x0 to x31 in the standard calling convention, as `zero` or `a0`.
 pub fn reg_name(number: u8) -> &'static str

@@ -3,7 +3,7 @@ use Rattle.std.specs.Prelude.{ℕ, ◌+◌, ◌*◌, ◌%◌, ◌^◌, List, [],
 use Rattle.ir_isa.specs.declared.inst.Inst.{Inst}
 use Rattle.ir_isa.specs.declared.inst.Inst.TheVariants.{Jal, Branch}
 use Rattle.ir_isa.specs.Decoded.{instruction_of}
-use Rattle.ir_isa.specs.Words.{low_bits}
+use Rattle.ir_isa.specs.Fields.{low_bits}
 use Rattle.ir_image.specs.Guest.{Guest, code_start}
 use Rattle.ir_disasm.specs.Printed.{text_of}
 use Rattle.ir_symbols.specs.Symbols.{Symbol}

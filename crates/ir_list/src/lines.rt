@@ -2,7 +2,7 @@
 
 ghost use Rattle.std.specs.Prelude.{◌≡◌, ◌+◌, ◌%◌, ◌^◌, ◌<◌, IfOk};
 ghost use Rattle.std.specs.String.{string_bytes};
-ghost use Rattle.ir_isa.specs.Words.{low_bits};
+ghost use Rattle.ir_isa.specs.Fields.{low_bits};
 ghost use Rattle.ir_list.specs.Listing.{address_name, thread_line, distance_of, address_after, target_of, target_name, word_line, symbol_line, word_lines};
 
 use ir_disasm::disassemble;

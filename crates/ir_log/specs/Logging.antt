@@ -1,33 +1,13 @@
 -- The label that an event denotes.
-use Rattle.std.specs.Prelude.{◌≡◌, ◌⊎◌, Option, Some, None}
-use Rattle.ir_runs.specs.Labels.{Label}
-use Rattle.ir_runs.specs.Labels as labels
+use Rattle.ir_runs.specs.Machine.{Label}
+use Rattle.ir_runs.specs.Machine as machine
 use Rattle.ir_runs.specs.declared.access.Access.TheVariants.{Reading, Writing}
-use Rattle.ir_thread.specs.declared.ask.Ask.{Ask}
-use Rattle.ir_thread.specs.declared.ask.Ask.TheVariants as ask
 use Rattle.ir_log.specs.declared.event.Event.{Event}
 use Rattle.ir_log.specs.declared.event.Event.TheVariants.{Answer, Read, Write, Try}
 
 -- the label of the step that the event is logged of; at an entry for reading its count of leaves is 0
 abbrev pub label_of : Event → Label
-label_of (Answer kind value) = labels.Answer kind value
-label_of (Read object version) = labels.In object Reading version 0
-label_of (Write object version readers) = labels.In object Writing version readers
-label_of (Try object) = labels.Refused object
-
--- what a thread asks for at the step that the event is logged of, where it isn't a try that got in
-abbrev pub ask_of : Event → Ask
-ask_of (Answer kind value) = ask.Env kind
-ask_of (Read object version) = ask.Enter object Reading
-ask_of (Write object version readers) = ask.Enter object Writing
-ask_of (Try object) = ask.Try object
-
--- the try that the event may be logged of, where it got in
-abbrev pub try_of : Event → Option Ask
-try_of (Write object version readers) = Some (ask.Try object)
-try_of _ = None
-
--- the event may be logged of a step that asks so: the kinds agree, or the objects and what they are entered for; a try that got in is
--- logged as an entry for writing
-abbrev pub Suits : Ask → Event → Type 0
-Suits asked event = (ask_of event ≡ asked) ⊎ (try_of event ≡ Some asked)
+label_of (Answer kind value) = machine.Answer kind value
+label_of (Read object version) = machine.In object Reading version 0
+label_of (Write object version readers) = machine.In object Writing version readers
+label_of (Try object) = machine.Refused object

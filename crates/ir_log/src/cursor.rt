@@ -2,7 +2,7 @@
 
 ghost use Rattle.std.specs.Prelude.{◌≡◌, ◌<◌, ◌≤◌, ◌+◌, ℕ, slice_get, Some, IfOk, OnOk, OnErr};
 ghost use Rattle.ir_thread.specs.Calls.{most_events};
-ghost use Rattle.ir_log.specs.Logging.{Suits};
+ghost use Rattle.ir_log.specs.Asked.{Suits};
 ghost use Rattle.ir_log.specs.declared.event.Event.{Event};
 
 use crate::event::Event;

@@ -29,7 +29,7 @@ pub enum Event {
 const _: () = prove!(size_of::<Event>() == 12);
 
 impl Event {
-    ghost use Rattle.ir_log.specs.Logging.{Suits, ask_of};
+    ghost use Rattle.ir_log.specs.Asked.{Suits, ask_of};
     ghost use Rattle.std.specs.Prelude.{◌≡◌, ◌↔◌, IsTrue};
 
     /// What a thread asks for at the step that this event is logged of. An entry for writing may be logged of a try too.

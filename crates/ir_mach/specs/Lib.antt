@@ -8,3 +8,5 @@ pub mod Marks
 pub mod Run
 pub mod Performing
 pub mod Deeds
+pub mod Within
+pub mod Steps

@@ -3,7 +3,8 @@
 ghost use Rattle.std.specs.Prelude.{◌≡◌, ◌<◌, ◌≤◌, ℕ, List, Bool, length, slice_index, take, IfOk, Some, true};
 ghost use Rattle.ir_isa.specs.declared.inst.LoadOp.TheVariants.{Lw};
 ghost use Rattle.ir_image.specs.Guest.{IsByte, IsWord};
-ghost use Rattle.ir_mach.specs.Core.{Core, IsCore, memory_size, register, start_core, start_memory};
+ghost use Rattle.ir_mach.specs.Core.{Core, memory_size, register, start_core, start_memory};
+ghost use Rattle.ir_mach.specs.Within.{IsCore};
 ghost use Rattle.ir_mach.specs.Memory.{IsMemoryWord, memory_word, loaded};
 
 use crate::effect::Effect;
@@ -79,7 +80,8 @@ fn bytes_fit(memory: &[u8])
 
 impl Mach {
     ghost use Rattle.ir_mach.specs.Effects.{applied, IsPossible};
-    ghost use Rattle.ir_mach.specs.Execution.{outcome_of, ran_of, IsStep, past_call};
+    ghost use Rattle.ir_mach.specs.Execution.{outcome_of, past_call};
+    ghost use Rattle.ir_mach.specs.Steps.{ran_of, IsStep};
     ghost use Rattle.ir_mach.specs.Marks.{AreUnmarked};
     ghost use Rattle.ir_mach.specs.Run.{unmarked_after, IsAtCall};
 

@@ -3,7 +3,7 @@
 ghost use Rattle.std.specs.Prelude.{◌≡◌, ◌≤◌, ◌<◌, ◌+◌, ◌%◌, ◌^◌, length};
 ghost use Rattle.ir_isa.specs.Fields.{sign_extended};
 ghost use Rattle.ir_mach.specs.Arithmetic.{low_32};
-ghost use Rattle.ir_image.specs.Fetch.{word_at};
+ghost use Rattle.ir_image.specs.Guest.{word_at};
 ghost use Rattle.ir_mach.specs.Core.{memory_start, memory_size};
 ghost use Rattle.ir_mach.specs.Memory.{number_at, extended, loaded, overwritten, store_width};
 ghost use Rattle.ir_mach.specs.Effects.{offset_in_memory};

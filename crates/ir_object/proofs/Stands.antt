@@ -3,14 +3,13 @@ use Rattle.std.proofs.Common.{◌≡◌, ◌≢◌, ℕ, zero, suc, ◌+◌, ◌
 use Rattle.std.specs.Prelude.{◌||◌, slice_index, slice_set}
 use Rattle.std.proofs.lemmas.Bool.{cases_eq, cases_lt}
 use Rattle.ir_image.specs.Guest.{most_object_words}
-use Rattle.ir_runs.specs.Machine.{upd}
+use Rattle.ir_runs.specs.Machine.{upd, Entry, Exit, Store, Object, acted}
 use Rattle.ir_runs.specs.declared.access.Access.{Access}
 use Rattle.ir_runs.specs.declared.access.Access.TheVariants.{Reading, Writing}
 use Rattle.ir_object.specs.declared.fields.Fields.{Fields}
-use Rattle.ir_object.specs.Cell.{Cell, Admitted, CanLeave, one_if_reading, is_writing, readers, has_writer, Counts, StandsFor, WordsStand}
+use Rattle.ir_object.specs.Cell.{Cell, one_if_reading, is_writing, readers, has_writer, Counts}
+use Rattle.ir_object.specs.Standing.{Admitted, CanLeave, StandsFor, WordsStand}
 use Rattle.ir_object.specs.Word.{entered, left_by}
-use Rattle.ir_runs.specs.Object.{Object, acted}
-use Rattle.ir_runs.specs.Machine.{Entry, Exit, Store}
 use Rattle.ir_runs.proofs.CallerLemmas.{upd_same, upd_other, upd_elim}
 
 or_false : (a b : Bool) → (a || b) ≡ false → (a ≡ false) × (b ≡ false)

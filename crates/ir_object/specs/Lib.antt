@@ -2,3 +2,4 @@ pub mod Word
 pub mod Cell
 pub mod Order
 pub mod Layout
+pub mod Standing

@@ -1,22 +1,9 @@
 -- Object steps of several threads in one order.
 use Rattle.std.specs.Prelude.{◌≡◌, ◌≢◌, ℕ, ◌^◌, ◌<◌, Bool, true, false, eqb, List, [], ◌∷◌, Option, Some, None}
 use Rattle.ir_image.specs.Guest.{most_object_words}
-use Rattle.ir_runs.specs.Machine.{Act, Silent, Result, Entry, Refusal, Exit, Load, Store, Never, Machine, upd}
-use Rattle.ir_runs.specs.Labels.{Label}
+use Rattle.ir_runs.specs.Machine.{Act, Silent, Result, Entry, Refusal, Exit, Load, Store, Never, Machine, upd, Object, target, Admits, acted, reply, emitted, Label}
 use Rattle.ir_runs.specs.declared.access.Access.{Access}
 use Rattle.ir_runs.specs.declared.access.Access.TheVariants.{Writing}
-use Rattle.ir_runs.specs.Object.{Object, target, Admits, acted, reply, emitted}
-
--- whether the act is about an object
-abbrev pub is_shared : Act → Bool
-is_shared Silent = false
-is_shared (Result k v) = false
-is_shared (Entry o a v) = true
-is_shared (Refusal o) = false
-is_shared (Exit o a) = true
-is_shared (Load o i) = true
-is_shared (Store o i w) = true
-is_shared Never = false
 
 -- an object step: what is done, and the answer
 abbrev pub Shared : Type 0

@@ -1,6 +1,6 @@
 //! Laws of words, each the contract of a function without parameters.
 
-ghost use Rattle.ir_object.specs.Cell.{WordsStand};
+ghost use Rattle.ir_object.specs.Standing.{WordsStand};
 ghost use Rattle.ir_object.specs.Word.{OneWordEach, StepsOfWords};
 
 /// Each word says one thing, and each thing is said by one word.

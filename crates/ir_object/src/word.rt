@@ -1,6 +1,6 @@
 //! The word of an object.
 
-ghost use Rattle.ir_object.specs.Cell.{Admitted};
+ghost use Rattle.ir_object.specs.Standing.{Admitted};
 ghost use Rattle.ir_object.specs.Word.{IsFields, word_of, fields_of, left_by};
 ghost use Rattle.ir_runs.specs.declared.access.Access.TheVariants.{Reading, Writing};
 ghost use Rattle.std.specs.Prelude.{◌≡◌, ◌↔◌, ◌+◌, ◌<◌, ◌^◌, IsTrue};

@@ -1,9 +1,7 @@
 -- Runs that are the same, step by step.
 use Rattle.std.proofs.Common.{◌≡◌, ℕ, eqb, List, ◌∷◌, length, ap, ◌∙◌}
 use Rattle.std.proofs.Math.Path.{fun_ext}
-use Rattle.ir_runs.specs.Machine.{Act, Machine}
-use Rattle.ir_runs.specs.Labels.{Label, Trace}
-use Rattle.ir_runs.specs.Object.{target, emitted}
+use Rattle.ir_runs.specs.Machine.{Act, Machine, target, emitted, Label, Trace}
 use Rattle.ir_runs.specs.Run.{State, Step, act, after, moved, end, join_if, trail, events}
 use Rattle.ir_order.specs.OneRun.{acts, AreSame}
 

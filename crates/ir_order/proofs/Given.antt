@@ -1,9 +1,7 @@
 -- What the world of a thread answers next.
 use Rattle.std.proofs.Common.{◌≡◌, ◌<◌, ℕ, zero, suc, List, ◌∷◌, refl, sym, ap, ◌∙◌, subst}
-use Rattle.ir_runs.specs.Machine.{Ask, Private, Env, Enter, Try, Leave, Get, Put, Done, Act, act_of, Silent, Result, Entry, Refusal, Exit, Load, Store, Never, Machine, upd}
-use Rattle.ir_runs.specs.Labels.{Label, logged}
+use Rattle.ir_runs.specs.Machine.{Ask, Private, Env, Enter, Try, Leave, Get, Put, Done, Act, act_of, Silent, Result, Entry, Refusal, Exit, Load, Store, Never, Machine, upd, Object, target, Admits, emitted, Label, logged}
 use Rattle.ir_runs.specs.declared.access.Access.TheVariants.{Reading, Writing}
-use Rattle.ir_runs.specs.Object.{Object, target, Admits, emitted}
 use Rattle.ir_runs.specs.Run.{State, Step, act, after, events, log}
 use Rattle.ir_runs.proofs.CallerLemmas.{upd_elim, trail_same, trail_other}
 use Rattle.ir_record.specs.Worlds.{answers_in}

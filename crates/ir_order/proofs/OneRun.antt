@@ -2,9 +2,9 @@
 use Rattle.std.proofs.Common.{◌≡◌, ℕ, zero, suc, ◌+◌, ◌-◌, ◌<◌, ◌≤◌, Bool, true, List, [], ◌∷◌, ◌++◌, length, sym, ap, ◌∙◌, subst, arith, inl, inr, append_assoc}
 use Rattle.std.specs.List.{range_with_len}
 use Rattle.std.proofs.lemmas.Bool.{cases_lt}
-use Rattle.ir_runs.specs.Machine.{Act, act_of, Machine, upd}
-use Rattle.ir_runs.specs.Object.{target, Admits}
-use Rattle.ir_runs.specs.Run.{State, Step, asked, act, after, end, log, IsDone, IsIdle}
+use Rattle.ir_runs.specs.Machine.{Act, act_of, Machine, upd, target, Admits}
+use Rattle.ir_runs.specs.Run.{State, Step, asked, act, after, end, log, IsDone}
+use Rattle.ir_runs.specs.Bounds.{IsIdle}
 use Rattle.ir_runs.specs.InOrder.{InTurn, rounds, IsByOrder}
 use Rattle.ir_runs.proofs.CallerLemmas.{below_idle}
 use Rattle.ir_flat.specs.Flat.{start_flat, tables, machine}

@@ -4,15 +4,13 @@ use Rattle.std.specs.Option.{is_some}
 use Rattle.std.proofs.lemmas.List.{get_or-replicate}
 use Rattle.std.proofs.lemmas.Option.{get_or_from_slice_get}
 use Rattle.ir_image.specs.Guest.{Guest}
-use Rattle.ir_runs.specs.Machine.{Machine}
-use Rattle.ir_runs.specs.Labels.{Trace}
+use Rattle.ir_runs.specs.Machine.{Machine, Trace}
 use Rattle.ir_runs.specs.Run.{State, Step, IsRun, IsDone, end, events, log}
 use Rattle.ir_runs.specs.Verdicts.{IsWhole}
 use Rattle.ir_runs.proofs.CallerLemmas.{turns_run}
 use Rattle.ir_thread.specs.declared.profile.Profile.{Profile}
 use Rattle.ir_flat.specs.Flat.{start_flat, tables, machine}
-use Rattle.ir_trace.specs.Recorded.{Recorded}
-use Rattle.ir_trace.specs.TraceOf.{trace_of}
+use Rattle.ir_trace.specs.Recorded.{Recorded, trace_of}
 use Rattle.ir_record.specs.Recording.{AreAnswers, IsRecording, IsRecordingOf}
 use Rattle.ir_record.specs.Worlds.{Answered, answers_in}
 use Rattle.ir_record_run.specs.Order.{order_of}

@@ -6,15 +6,14 @@ use Rattle.ir_image.specs.Guest.{Guest}
 use Rattle.ir_log.specs.Logging.{label_of}
 use Rattle.ir_log.specs.declared.event.Event.{Event}
 use Rattle.ir_log.specs.declared.event.Event.TheVariants as event
-use Rattle.ir_runs.specs.Labels.{Label, Quiet, Answer, In, Refused, Out}
+use Rattle.ir_runs.specs.Machine.{Label, Quiet, Answer, In, Refused, Out}
 use Rattle.ir_runs.specs.declared.access.Access.TheVariants.{Reading, Writing}
 use Rattle.ir_runs.specs.Run.{Step}
-use Rattle.ir_thread.specs.Ends.{end_number, end_code, end_of}
+use Rattle.ir_thread.specs.State.{end_number, end_code, end_of}
 use Rattle.ir_thread.specs.declared.end.End.{End}
 use Rattle.ir_thread.specs.declared.end.End.TheVariants.{Exit, Breakpoint, IllegalWord, TargetMisaligned, OutsideCode, BadLoad, BadStore, UnknownCall, NoSuchObject, EntryOutOfOrder, NotHeld, OutputFull, BudgetSpent, LogFull}
 use Rattle.ir_thread.specs.declared.profile.Profile.{Profile}
-use Rattle.ir_trace.specs.Recorded.{RecordedThread, Recorded}
-use Rattle.ir_trace.specs.TraceOf.{absent, recorded_thread}
+use Rattle.ir_trace.specs.Recorded.{RecordedThread, Recorded, absent, recorded_thread}
 use Rattle.ir_record.specs.Recording.{IsTraceOf, AreOutputs}
 use Rattle.ir_order.specs.Recording.{IsOfRun}
 

@@ -2,7 +2,7 @@
 
 ghost use Rattle.std.specs.Prelude.{◌≡◌, ◌≢◌, ℕ, List, [], ◌++◌, IfOk, OnOk, replicate};
 ghost use Rattle.std.specs.String.{string_bytes};
-ghost use Rattle.ir_record.specs.Turns.{order_of_turns};
+ghost use Rattle.ir_record.specs.Recording.{order_of_turns};
 ghost use Rattle.ir_order.specs.Spelling.{item_text, with_item, Spells, IsListOf};
 
 use ir_record::Turns;

@@ -15,7 +15,7 @@ use Rattle.ir_graph.specs.Reached.{IsQuietRun, beginning}
 use Rattle.ir_graph.specs.Turn.{GoesAlone}
 use Rattle.ir_graph.proofs.CallerLemmas.{like_same, like_more, alone_like, quiet_append}
 use Rattle.ir_explore.proofs.CallerLemmas.{turn_switches, alone_switches}
-use Rattle.ir_record.specs.Turns.{order_of_turns}
+use Rattle.ir_record.specs.Recording.{order_of_turns}
 use Rattle.ir_record.specs.declared.turns.Turns.{Turns}
 use Rattle.std.proofs.lemmas.List.{flat_map_more, append-nil}
 use Rattle.ir_outcomes.specs.Again.{steps_of, IsAgain, IsAgainWithin}

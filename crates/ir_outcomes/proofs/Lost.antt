@@ -8,7 +8,7 @@ use Rattle.ir_explore.specs.declared.origin.Origin.{Origin}
 use Rattle.ir_explore.specs.Following.{IsOpen}
 use Rattle.ir_explore.specs.Origins.{AreRising}
 use Rattle.ir_explore.specs.Ways.{shut}
-use Rattle.ir_record.specs.Turns.{order_of_turns}
+use Rattle.ir_record.specs.Recording.{order_of_turns}
 use Rattle.ir_runs.specs.Run.{Step}
 use Rattle.ir_states.specs.Outcomes.{switches}
 use Rattle.ir_thread.specs.Calls.{most_budget}

@@ -13,7 +13,7 @@ ghost use Rattle.ir_graph.specs.Reached.{AllReached};
 ghost use Rattle.ir_graph.specs.Searched.{AreSearched};
 ghost use Rattle.ir_outcomes.specs.Hang.{IsOrder};
 ghost use Rattle.ir_outcomes.specs.Explored.{AreExplored, AreAll, AreHangs, AreShown};
-ghost use Rattle.ir_thread.specs.Allowed.{IsAllowed};
+ghost use Rattle.ir_thread.specs.State.{IsAllowed};
 ghost use Rattle.ir_thread.specs.declared.profile.Profile.TheVariants.{One};
 
 use crate::hang::{count_lost, find_hang};

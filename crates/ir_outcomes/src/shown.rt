@@ -5,8 +5,8 @@ ghost use Rattle.ir_explore.specs.declared.stop.Stop.TheVariants.{Memory, Order}
 ghost use Rattle.ir_explore.specs.declared.origin.Origin.{Origin};
 ghost use Rattle.ir_flat.specs.Flat.{Flat};
 ghost use Rattle.ir_graph.specs.Reached.{AllReached};
-ghost use Rattle.ir_record.specs.Turns.{order_of_turns};
-ghost use Rattle.ir_thread.specs.Allowed.{IsAllowed};
+ghost use Rattle.ir_record.specs.Recording.{order_of_turns};
+ghost use Rattle.ir_thread.specs.State.{IsAllowed};
 ghost use Rattle.ir_thread.specs.declared.profile.Profile.TheVariants.{One};
 ghost use Rattle.ir_outcomes.specs.Shown.{IsShown};
 

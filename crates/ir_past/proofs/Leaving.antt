@@ -2,12 +2,12 @@
 use Rattle.std.proofs.Common.{◌≡◌, ◌≢◌, ℕ, suc, zero, ◌<◌, ◌≤◌, inl, inr, List, [], ◌∷◌, Some, None, sym, ap, ◌∙◌, subst, arith}
 use Rattle.std.proofs.lemmas.Bool.{cases_eq}
 use Rattle.std.proofs.lemmas.Option.{same_Some, none-some}
-use Rattle.ir_runs.specs.Machine.{Act, Done, Silent, Result, Entry, Refusal, Exit, Load, Store, Never, Machine, upd, Holds, IsLawful}
-use Rattle.ir_runs.specs.Labels.{Label, In, Out}
+use Rattle.ir_runs.specs.Machine.{Act, Done, Silent, Result, Entry, Refusal, Exit, Load, Store, Never, Machine, upd, Object, target, acted, emitted, Label, In, Out}
+use Rattle.ir_runs.specs.Lawful.{Holds, IsLawful}
 use Rattle.ir_runs.specs.declared.access.Access.{Access}
 use Rattle.ir_runs.specs.declared.access.Access.TheVariants.{Reading, Writing}
-use Rattle.ir_runs.specs.Object.{Object, target, acted, emitted}
-use Rattle.ir_runs.specs.Run.{act, State, Step, after, label, trail, IsRun, IsDone, IsComplete, IsStart, end}
+use Rattle.ir_runs.specs.Run.{act, State, Step, after, label, trail, IsRun, IsDone, end}
+use Rattle.ir_runs.specs.Bounds.{IsComplete, IsStart}
 use Rattle.ir_runs.specs.Cuts.{At, Emits}
 use Rattle.ir_runs.proofs.CallerLemmas.{upd_same, Good, stays_good, start_good, trail_same, trail_other}
 use Rattle.ir_thread.specs.Instance.{thread_machine}

@@ -1,14 +1,12 @@
 -- What is answered where a trace is asked about, and what is left where not all of an answer was written.
 use Rattle.std.specs.Prelude.{◌≡◌, ◌⊎◌, ℕ, List, [], ◌∷◌, ◌++◌, codes, decimal, length, Some, Result, Ok, Err, false}
 use Rattle.std.specs.Io.KnownBytes.{Appends}
-use Rattle.ir_stream.specs.Devices.{AppendsPrefix}
+use Rattle.ir_stream.specs.Answers.{AppendsPrefix}
 use Rattle.ir_runs.specs.Coherent.{IsCoherent}
-use Rattle.ir_trace.specs.Recorded.{Recorded}
-use Rattle.ir_trace.specs.Refusal.{number_of}
-use Rattle.ir_trace.specs.TraceOf.{trace_of}
+use Rattle.ir_trace.specs.Recorded.{Recorded, trace_of}
+use Rattle.ir_trace.specs.Reading.{number_of}
 use Rattle.ir_trace.specs.declared.trace_err.TraceErr.{TraceErr}
-use Rattle.ir_coherence.specs.Breaking.{IsFirstBreak}
-use Rattle.ir_coherence.specs.Numbers.{cause_number}
+use Rattle.ir_coherence.specs.Breaking.{IsFirstBreak, cause_number}
 use Rattle.ir_coherence.specs.declared.incoherence.Incoherence.{Incoherence}
 use Rattle.ir_files.specs.Writers.{Writer, Failed, Took}
 use Rattle.ir_files.specs.declared.exit_status.ExitStatus.{ExitStatus}

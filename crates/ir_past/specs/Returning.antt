@@ -1,10 +1,10 @@
 -- What a stale read and write are in the runs with a trace: how often others write between.
 use Rattle.std.specs.Prelude.{◌≡◌, ℕ, ◌+◌, ◌<◌, cond, eqb, List, [], ◌∷◌, ◌++◌, map, length, Some}
 use Rattle.std.specs.List.{slice_get}
-use Rattle.ir_runs.specs.Machine.{Machine}
-use Rattle.ir_runs.specs.Labels.{Label, Quiet, Answer, In, Refused, Out}
+use Rattle.ir_runs.specs.Machine.{Machine, Label, Quiet, Answer, In, Refused, Out}
 use Rattle.ir_runs.specs.declared.access.Access.TheVariants.{Reading, Writing}
-use Rattle.ir_runs.specs.Run.{State, Step, after, label, IsRun, end, log, IsStart}
+use Rattle.ir_runs.specs.Run.{State, Step, after, label, IsRun, end, log}
+use Rattle.ir_runs.specs.Bounds.{IsStart}
 use Rattle.ir_thread.specs.Instance.{thread_machine}
 use Rattle.ir_thread.specs.State as thread
 use Rattle.ir_log.specs.Logging.{label_of}

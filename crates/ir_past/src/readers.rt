@@ -2,7 +2,7 @@
 
 ghost use Rattle.std.specs.Prelude.{◌≡◌, ◌+◌, ◌<◌, true, false, length, IfOk, OnOk};
 ghost use Rattle.ir_log.specs.declared.event.Event.TheVariants.{Read};
-ghost use Rattle.ir_trace.specs.TraceOf.{recorded_thread};
+ghost use Rattle.ir_trace.specs.Recorded.{recorded_thread};
 ghost use Rattle.ir_past.specs.Past.{AreReaders};
 ghost use Rattle.ir_past.specs.Progress.{ReadBefore};
 

@@ -2,7 +2,7 @@
 
 ghost use Rattle.std.specs.Prelude.{◌≡◌, ◌+◌, ◌<◌, ◌≤◌, ◌==◌, ◌&&◌, ◌++◌, ◌∷◌, ℕ, [], if◌then◌else◌, length, vec_len, OnOk, IfOk};
 ghost use Rattle.ir_log.specs.declared.event.Event.TheVariants.{Read};
-ghost use Rattle.ir_trace.specs.TraceOf.{recorded_thread};
+ghost use Rattle.ir_trace.specs.Recorded.{recorded_thread};
 ghost use Rattle.ir_past.specs.Past.{AreReaders};
 ghost use Rattle.ir_past.specs.Progress.{HasReads};
 ghost use Rattle.ir_past.specs.Tables.{read_at, read_in};

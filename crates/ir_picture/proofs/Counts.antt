@@ -9,8 +9,8 @@ use Rattle.ir_log.specs.Logging.{label_of}
 use Rattle.ir_log.specs.declared.event.Event.{Event}
 use Rattle.ir_log.specs.declared.event.Event.TheVariants.{Answer, Read, Write, Try}
 use Rattle.ir_thread.specs.Calls.{most_events}
-use Rattle.ir_trace.specs.Recorded.{Recorded, IsRecorded}
-use Rattle.ir_trace.specs.TraceOf.{recorded_thread, trace_of}
+use Rattle.ir_trace.specs.Recorded.{Recorded, recorded_thread, trace_of}
+use Rattle.ir_trace.specs.Within.{IsRecorded}
 use Rattle.ir_coherence.proofs.CallerLemmas.{thread_fits}
 use Rattle.ir_past.specs.Past.{event_at, IsReadAt}
 use Rattle.ir_past.proofs.CallerLemmas.{of_thread}

@@ -3,8 +3,7 @@ use Rattle.std.proofs.Common.{◌≡◌, ℕ, suc, zero, ◌+◌, ◌<◌, ◌�
 use Rattle.std.specs.Prelude.{slice_get}
 use Rattle.std.proofs.lemmas.Bool.{cases_eq, cases_lt}
 use Rattle.std.proofs.lemmas.Option.{same_Some, none-some}
-use Rattle.ir_trace.specs.Recorded.{Recorded}
-use Rattle.ir_trace.specs.TraceOf.{recorded_thread}
+use Rattle.ir_trace.specs.Recorded.{Recorded, recorded_thread}
 use Rattle.ir_picture.specs.Boxes.{IsInBox, IsBox, AreBoxes}
 use Rattle.ir_picture.specs.Boxing.{AreApart}
 use Rattle.ir_picture.specs.Placing.{IsCut}

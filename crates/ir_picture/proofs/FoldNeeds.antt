@@ -3,8 +3,7 @@ use Rattle.std.proofs.Common.{◌≡◌, ℕ, suc, zero, ◌+◌, ◌<◌, ◌�
 use Rattle.std.specs.Prelude.{slice_get}
 use Rattle.std.proofs.lemmas.Bool.{cases_eq, cases_lt}
 use Rattle.ir_log.specs.declared.event.Event.TheVariants.{Read, Try}
-use Rattle.ir_trace.specs.Recorded.{Recorded}
-use Rattle.ir_trace.specs.TraceOf.{recorded_thread}
+use Rattle.ir_trace.specs.Recorded.{Recorded, recorded_thread}
 use Rattle.ir_picture.specs.Needs.{Needs}
 use Rattle.ir_picture.specs.Boxes.{ReadsAgain, TriesAgain, IsBox}
 use Rattle.ir_picture.specs.declared.event_box.EventBox.{EventBox}

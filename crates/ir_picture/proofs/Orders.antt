@@ -1,8 +1,7 @@
 -- Orders of events, each after all that it needs.
 use Rattle.std.proofs.Common.{◌≡◌, ℕ, suc, ◌<◌, ◌≤◌, inl, inr, cond, List, [], ◌∷◌, length, refl, sym, ap, subst, arith, eq-eqb, ne_eqb}
 use Rattle.std.proofs.lemmas.Bool.{cases_eq, cases_lt}
-use Rattle.ir_trace.specs.Recorded.{Recorded}
-use Rattle.ir_trace.specs.TraceOf.{recorded_thread}
+use Rattle.ir_trace.specs.Recorded.{Recorded, recorded_thread}
 use Rattle.ir_picture.specs.Needs.{Needs, placed, CanFollow, IsOrder, IsFullOrder}
 
 pub placed_here : (t : ℕ) (ts : List ℕ) → placed (t ∷ ts) t ≡ suc (placed ts t)

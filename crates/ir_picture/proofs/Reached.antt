@@ -5,8 +5,7 @@ use Rattle.std.proofs.lemmas.Option.{same_Some, slice_get_within, slice_get_read
 use Rattle.std.proofs.lemmas.Nat.{mul-le}
 use Rattle.ir_log.specs.declared.event.Event.{Event}
 use Rattle.ir_thread.specs.Calls.{most_events}
-use Rattle.ir_trace.specs.Recorded.{Recorded}
-use Rattle.ir_trace.specs.TraceOf.{recorded_thread}
+use Rattle.ir_trace.specs.Recorded.{Recorded, recorded_thread}
 use Rattle.ir_trace.proofs.CallerLemmas.{most_recorded_threads}
 use Rattle.ir_coherence.proofs.CallerLemmas.{thread_fits}
 use Rattle.ir_past.specs.Past.{event_at}

@@ -2,12 +2,12 @@
 use Rattle.std.proofs.Common.{◌≡◌, ℕ, suc, zero, ◌+◌, ◌-◌, ◌<◌, ◌≤◌, ◌⊎◌, inl, inr, Bool, cond, eqb, List, [], ◌∷◌, map, length, drop, Some, None, refl, sym, ap, ◌∙◌, subst, arith, eq-eqb, ne_eqb}
 use Rattle.std.proofs.lemmas.Bool.{cases_eq, cases_lt}
 use Rattle.std.proofs.lemmas.Option.{same_Some, none-some}
-use Rattle.ir_runs.specs.Machine.{Act, Silent, Result, Entry, Refusal, Exit, Load, Store, Never, Machine, IsLawful}
-use Rattle.ir_runs.specs.Labels.{Label, Quiet, Answer, In, Refused, Out, logged}
+use Rattle.ir_runs.specs.Machine.{Act, Silent, Result, Entry, Refusal, Exit, Load, Store, Never, Machine, Object, target, Admits, acted, Label, Quiet, Answer, In, Refused, Out, logged}
+use Rattle.ir_runs.specs.Lawful.{IsLawful}
 use Rattle.ir_runs.specs.declared.access.Access.{Access}
 use Rattle.ir_runs.specs.declared.access.Access.TheVariants.{Reading, Writing}
-use Rattle.ir_runs.specs.Object.{Object, target, Admits, acted}
-use Rattle.ir_runs.specs.Run.{act, State, Step, Can, after, label, IsRun, log, IsStart}
+use Rattle.ir_runs.specs.Run.{act, State, Step, Can, after, label, IsRun, log}
+use Rattle.ir_runs.specs.Bounds.{IsStart}
 use Rattle.ir_runs.specs.Cuts.{At}
 use Rattle.ir_runs.proofs.CallerLemmas.{upd_same, Good, stays_good, start_good}
 use Rattle.ir_thread.specs.Instance.{thread_machine}
@@ -16,8 +16,7 @@ use Rattle.ir_thread.proofs.CallerLemmas.{lawful}
 use Rattle.ir_log.specs.Logging.{label_of}
 use Rattle.ir_log.specs.declared.event.Event.{Event}
 use Rattle.ir_log.specs.declared.event.Event.TheVariants as variant
-use Rattle.ir_trace.specs.Recorded.{Recorded}
-use Rattle.ir_trace.specs.TraceOf.{recorded_thread}
+use Rattle.ir_trace.specs.Recorded.{Recorded, recorded_thread}
 use Rattle.ir_past.specs.Past.{event_at}
 use Rattle.ir_past.specs.Returning.{leaves_one}
 use Rattle.ir_past.proofs.CallerLemmas.{at_label, Enters, log_own, log_other, object_after, object_stays, entering, exit_inside, entry_inside, own_step, other_step}

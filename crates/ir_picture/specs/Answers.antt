@@ -1,8 +1,7 @@
 -- What `ir view` writes.
 use Rattle.std.specs.Prelude.{◌≡◌, ℕ, ◌<◌, ◌≤◌, ◌⊎◌, ⊤, List, [], ◌∷◌, ◌++◌, codes, decimal, length, Option, Some, None, Result, Ok, false}
 use Rattle.std.specs.Io.KnownBytes.{Appends}
-use Rattle.ir_trace.specs.Recorded.{Recorded}
-use Rattle.ir_trace.specs.TraceOf.{recorded_thread}
+use Rattle.ir_trace.specs.Recorded.{Recorded, recorded_thread}
 use Rattle.ir_trace.specs.declared.trace_err.TraceErr.{TraceErr}
 use Rattle.ir_files.specs.Writers.{Writer}
 use Rattle.ir_files.specs.declared.exit_status.ExitStatus.{ExitStatus}

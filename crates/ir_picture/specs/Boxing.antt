@@ -4,8 +4,7 @@ use Rattle.std.specs.List.{slice_get, slice_index_or}
 use Rattle.ir_thread.specs.Calls.{most_events}
 use Rattle.ir_log.specs.declared.event.Event.{Event}
 use Rattle.ir_log.specs.declared.event.Event.TheVariants.{Try}
-use Rattle.ir_trace.specs.Recorded.{Recorded}
-use Rattle.ir_trace.specs.TraceOf.{recorded_thread}
+use Rattle.ir_trace.specs.Recorded.{Recorded, recorded_thread}
 use Rattle.ir_coherence.specs.Breaking.{IsBefore}
 use Rattle.ir_past.specs.Progress.{IsOpen}
 use Rattle.ir_picture.specs.Boxes.{ReadsAgain, TriesAgain, AreFolded, IsInBox, HasBox, IsBox}

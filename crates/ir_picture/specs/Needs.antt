@@ -1,7 +1,6 @@
 -- What an event needs, and where a trace goes in a circle.
 use Rattle.std.specs.Prelude.{◌≡◌, ℕ, suc, ◌<◌, ◌≤◌, ◌⊎◌, ⊤, cond, eqb, ◌+◌, List, [], ◌∷◌, length}
-use Rattle.ir_trace.specs.Recorded.{Recorded}
-use Rattle.ir_trace.specs.TraceOf.{recorded_thread}
+use Rattle.ir_trace.specs.Recorded.{Recorded, recorded_thread}
 use Rattle.ir_past.specs.Past.{IsReadAt, IsWriteAt}
 
 -- event i of thread t enters object o at version v

@@ -1,7 +1,7 @@
 //! What the boxes of a picture see of other threads.
 
 ghost use Rattle.std.specs.Prelude.{◌≡◌, ◌+◌, ◌<◌, ℕ, Some, None, true, false, length, slice_set, IfSome, IfNone, OnOk, IfOk};
-ghost use Rattle.ir_trace.specs.TraceOf.{recorded_thread};
+ghost use Rattle.ir_trace.specs.Recorded.{recorded_thread};
 ghost use Rattle.ir_past.specs.Past.{entered};
 ghost use Rattle.ir_past.specs.Progress.{Fits, Makes};
 ghost use Rattle.ir_past.specs.Answers.{AreCoherent};

@@ -6,7 +6,7 @@ use Rattle.std.proofs.lemmas.Option.{none-some, same_Some, slice_get-get_or, sli
 use Rattle.ir_log.specs.declared.event.Event.{Event}
 use Rattle.ir_log.specs.declared.event.Event.TheVariants.{Try}
 use Rattle.ir_fit.specs.Fit.{FittedTrace, HasRun}
-use Rattle.ir_trace.specs.TraceOf.{recorded_thread}
+use Rattle.ir_trace.specs.Recorded.{recorded_thread}
 use Rattle.ir_fit_run.specs.Positions.{IsInside}
 use Rattle.ir_fit_run.proofs.CallerLemmas.{inside}
 use Rattle.ir_picture.specs.Boxes.{IsBox}

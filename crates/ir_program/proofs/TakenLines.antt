@@ -5,7 +5,7 @@ use Rattle.std.specs.Io.KnownBytes.{Consumes, IsAtEnd, Keeps}
 use Rattle.std.proofs.KnownBytes.{Consumes-kept}
 use Rattle.std.proofs.lemmas.List.{append-nil, length-append, length-take}
 use Rattle.std.proofs.lemmas.Bool.{lt-leb}
-use Rattle.ir_command.specs.Words.{without_return}
+use Rattle.ir_command.specs.Commands.{without_return}
 use Rattle.ir_program.specs.Bundle.{is_feed, line_of, after_line, bytes_of_line, most_digits, bundle_by, bundle_of, Bundled}
 use Rattle.ir_debug.specs.Session.{Session, IfServed, most_input}
 use Rattle.ir_debug.specs.declared.ended.Ended.{Ended}
@@ -16,7 +16,7 @@ use Rattle.ir_files.specs.Writers.{Writer}
 use Rattle.ir_program.specs.Leaving.{Serves, CameWhole, CameInPart, Comes, Leaves, fault_of}
 use Rattle.ir_program.specs.declared.fault.BundleErr.{BundleErr}
 use Rattle.ir_program.specs.declared.fault.BundleErr.TheVariants as fault
-use Rattle.ir_stream.specs.Devices.{Reads}
+use Rattle.ir_stream.specs.Answers.{Reads}
 
 line-plain : (line rest : List ℕ) → IsPlain line → line_of (line ++ rest) ≡ line ++ line_of rest
 unfolding line_of

@@ -1,7 +1,7 @@
 -- What a connection of gdb leaves of its reader and its writer, and of where faults are reported.
 use Rattle.std.specs.Prelude.{◌≡◌, ℕ, true, false, List, IfSome, Result, Ok, Err}
 use Rattle.std.specs.Io.KnownBytes.{Appends}
-use Rattle.ir_stream.specs.Devices.{Reads, AppendsPrefix}
+use Rattle.ir_stream.specs.Answers.{Reads, AppendsPrefix}
 use Rattle.ir_debug.specs.Session.{most_input, IfRefused}
 use Rattle.ir_debug.specs.declared.ended.Ended.{Ended}
 use Rattle.ir_debug.specs.declared.ended.SessionErr.{SessionErr}

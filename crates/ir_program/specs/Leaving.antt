@@ -1,6 +1,6 @@
 -- What a bundled session leaves of its reader and its writer.
 use Rattle.std.specs.Prelude.{◌≡◌, ◌⊎◌, ℕ, true, false, List, Option, IfSome, Result, Err, None}
-use Rattle.ir_stream.specs.Devices.{Reads}
+use Rattle.ir_stream.specs.Answers.{Reads}
 use Rattle.ir_debug.specs.Session.{Session, AnsweredWhole, AnsweredInPart, most_input}
 use Rattle.ir_debug.specs.declared.ended.Ended.{Ended}
 use Rattle.ir_debug.specs.declared.ended.SessionErr.{SessionErr}

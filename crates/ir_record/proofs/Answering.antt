@@ -1,20 +1,19 @@
 -- Calls of the environment that are recorded.
 use Rattle.std.proofs.Common.{◌≡◌, ℕ, ◌<◌, true, List, [], ◌∷◌, ◌++◌, length, set, sym, ap, ◌∙◌, subst, arith, get_or-set_same, get_or-set_other}
-use Rattle.ir_thread.specs.Calls.{ask_of, Permits, most_events}
+use Rattle.ir_thread.specs.Calls.{ask_of, most_events}
+use Rattle.ir_thread.specs.Permitted.{Permits}
 use Rattle.ir_thread.specs.Instance.{shared_ask, is_result}
-use Rattle.ir_runs.specs.Machine.{act_of}
-use Rattle.ir_runs.specs.Labels.{Answer}
+use Rattle.ir_runs.specs.Machine.{act_of, target, emitted, Admits, Answer}
 use Rattle.ir_thread.specs.declared.ask.Ask.TheVariants.{Env}
 use Rattle.ir_runs.specs.declared.env_kind.EnvKind.{EnvKind}
 use Rattle.ir_thread.proofs.CallerLemmas.{ask_permits}
-use Rattle.ir_runs.specs.Object.{target, emitted, Admits}
 use Rattle.ir_flat.specs.Flat.{Flat, thread_of, tables, machine, IsFlat}
 use Rattle.ir_runs.specs.Run.{Can, after}
 use Rattle.ir_flat.proofs.CallerLemmas.{added}
 use Rattle.ir_log.specs.Logged.{Logged}
 use Rattle.ir_log.specs.declared.event.Event.TheVariants as event
-use Rattle.ir_record.specs.Progress.{TookIf, IsTape, log_at, answers_at, labels_at}
-use Rattle.ir_record.specs.Worlds.{Answered}
+use Rattle.ir_record.specs.Progress.{TookIf, IsTape, log_at, labels_at}
+use Rattle.ir_record.specs.Worlds.{answers_at, Answered}
 use Rattle.ir_record.proofs.Steps.{took_one, no_try}
 use Rattle.ir_record.proofs.Running.{flat_few}
 use Rattle.ir_record.proofs.Logs.{tape_pushed, labels_pushed, labels_other, result_fits}

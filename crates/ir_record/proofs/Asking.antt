@@ -2,8 +2,7 @@
 use Rattle.std.proofs.Common.{◌≡◌, ℕ, ◌<◌, true, false, Bool, List, [], ◌∷◌, ◌++◌, length, map, set, get_or, refl, sym, ap, ◌∙◌, subst, arith, inl, inr, get_or-set_same, get_or-set_other, length-append, ◌+◌, zero, suc}
 use Rattle.std.proofs.lemmas.Bool.{cases_eq}
 use Rattle.std.proofs.lemmas.List.{get_or-map, map-set, length-map}
-use Rattle.ir_record.specs.Worlds.{Answered, NoneFailed, IsFirstFailed}
-use Rattle.ir_record.specs.Progress.{answers_at}
+use Rattle.ir_record.specs.Worlds.{Answered, NoneFailed, IsFirstFailed, answers_at}
 
 -- a world that is asked has not failed
 pub works_at : {W : Type 0} (broken : W → Bool) (worlds : List W) (t : ℕ) (w : W) → NoneFailed (map broken worlds) → t < length worlds

@@ -7,8 +7,8 @@ use Rattle.std.proofs.lemmas.List.{length-map, get_or_past}
 use Rattle.std.proofs.lemmas.Option.{slice_get-get_or, slice_get-map}
 use Rattle.std.specs.List.{slice_get}
 use Rattle.std.specs.Prelude.{option_map}
-use Rattle.ir_image.specs.Forms.{limits_of}
-use Rattle.ir_image.specs.Guest.{Guest, IsGuest, object_count, object_words, first_words}
+use Rattle.ir_image.specs.Guest.{limits_of, Guest, object_count, object_words, first_words}
+use Rattle.ir_image.specs.Within.{IsGuest}
 use Rattle.ir_image.specs.declared.form.ImageForm.{ImageForm}
 use Rattle.ir_image.specs.declared.form.ImageForm.TheVariants.{Small, Large}
 use Rattle.ir_thread.specs.Calls.{ask_of}
@@ -26,17 +26,17 @@ use Rattle.ir_crew.specs.Plays.{M}
 use Rattle.ir_crew.specs.Rule.{View, IsTrack, start_objects}
 use Rattle.ir_flat.specs.Flat.{Flat, thread_of, cell_of, tables, idle, empty, start_flat, start_threads, start_cells}
 use Rattle.ir_runs.specs.Run.{State, Step, events, log}
-use Rattle.ir_flat.specs.Splice.{MayRun, alone_after, shared_steps, alone_trail, splice}
+use Rattle.ir_flat.specs.Splice.{shared_steps, splice}
+use Rattle.ir_flat.specs.Lone.{MayRun, alone_after, alone_trail}
 use Rattle.ir_flat.proofs.CallerLemmas.{cells_length, fields_at, words_at, start_none, start_idle, spliced}
 use Rattle.ir_log.specs.Logged.{Logged}
 use Rattle.ir_log.specs.Logging as logging
-use Rattle.ir_trace.specs.Recorded.{Recorded}
-use Rattle.ir_trace.specs.TraceOf.{absent}
+use Rattle.ir_trace.specs.Recorded.{Recorded, absent}
 use Rattle.ir_record.specs.Gathered.{IsThreadTrace}
-use Rattle.ir_record.specs.Progress.{no_log, answers_at}
+use Rattle.ir_record.specs.Progress.{no_log}
+use Rattle.ir_record.specs.Worlds.{answers_at, Answered, answers_in}
 use Rattle.ir_record.specs.Recording.{IsRecordingOfSome}
 use Rattle.ir_record.specs.Working.{Work, IsWorking}
-use Rattle.ir_record.specs.Worlds.{Answered, answers_in}
 use Rattle.ir_record.proofs.Telling.{StandAtEnd, emitted_there, printed_there, answered_there}
 
 -- ---- the start

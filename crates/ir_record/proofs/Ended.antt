@@ -7,24 +7,26 @@ use Rattle.std.proofs.lemmas.Option.{slice_get-get_or, slice_get-map}
 use Rattle.std.specs.List.{slice_get, AllByRecursion}
 use Rattle.std.specs.Prelude.{option_map}
 use Rattle.ir_image.specs.Guest.{Guest, object_count}
-use Rattle.ir_thread.specs.Calls.{ask_of, Permits, most_events}
+use Rattle.ir_thread.specs.Calls.{ask_of, most_events}
+use Rattle.ir_thread.specs.Permitted.{Permits}
 use Rattle.ir_thread.specs.Instance.{shared_ask, thread_machine}
 use Rattle.ir_runs.specs.Machine as machine
 use Rattle.ir_thread.specs.State as thread
 use Rattle.ir_thread.proofs.CallerLemmas.{ask_permits}
-use Rattle.ir_runs.specs.Object.{Admits, target}
+use Rattle.ir_runs.specs.Machine.{Admits, target}
 use Rattle.ir_flat.specs.Flat.{Flat, thread_of, tables, machine, idle, start_flat, start_threads}
 use Rattle.ir_runs.specs.Run.{State, Step, asked, Can, IsRun, end, log, IsDone}
 use Rattle.ir_flat.proofs.CallerLemmas.{fresh, threads_length, cells_length, nothing_is_stuck, start_idle, really_done}
 use Rattle.ir_runs.proofs.CallerLemmas.{run_idle, turns_run}
 use Rattle.ir_log.specs.Logged.{Logged}
 use Rattle.ir_log.specs.Logging.{label_of}
-use Rattle.ir_trace.specs.Recorded.{Recorded, IsEvent}
+use Rattle.ir_trace.specs.Recorded.{Recorded}
+use Rattle.ir_trace.specs.Within.{IsEvent}
 use Rattle.ir_record.specs.Gathered.{AreThreadTraces}
 use Rattle.ir_runs.specs.InOrder.{HasNone, rounds}
-use Rattle.ir_record.specs.Progress.{Progress, Took, IsReady, log_at, answers_at, no_log}
+use Rattle.ir_record.specs.Progress.{Progress, Took, IsReady, log_at, no_log}
+use Rattle.ir_record.specs.Worlds.{answers_at, Answered, NoneFailed}
 use Rattle.ir_record.specs.Recording.{IsRecording}
-use Rattle.ir_record.specs.Worlds.{Answered, NoneFailed}
 use Rattle.ir_record.proofs.Profiles.{run_profile, start_profile}
 use Rattle.ir_record.proofs.Telling.{StandAtEnd, emitted_there, printed_there, answered_there}
 

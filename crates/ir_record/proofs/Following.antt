@@ -4,13 +4,12 @@ use Rattle.std.proofs.lemmas.List.{get_or_past, replicate-append-replicate, take
 use Rattle.std.proofs.lemmas.List.Concat.{flat_map-append}
 use Rattle.ir_thread.specs.Calls.{ask_of}
 use Rattle.ir_thread.specs.Instance.{shared_ask}
-use Rattle.ir_runs.specs.Machine.{act_of}
-use Rattle.ir_runs.specs.Object.{target, Admits}
+use Rattle.ir_runs.specs.Machine.{act_of, target, Admits}
 use Rattle.ir_flat.specs.Flat.{Flat, tables, machine, idle}
 use Rattle.ir_runs.specs.Run.{end}
 use Rattle.ir_runs.specs.InOrder.{HasNone, InTurn}
 use Rattle.ir_record.specs.Progress.{Progress, Took, TookIf}
-use Rattle.ir_record.specs.Turns.{order_of_turns}
+use Rattle.ir_record.specs.Recording.{order_of_turns}
 use Rattle.ir_record.specs.declared.turns.Turns.{Turns}
 use Rattle.ir_record.proofs.Steps.{took_nothing, took_both, took_none}
 

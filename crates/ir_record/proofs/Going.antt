@@ -4,8 +4,7 @@ use Rattle.std.proofs.lemmas.Bool.{cases_eq, cases_lt}
 use Rattle.std.proofs.lemmas.List.{get_or-replicate, get_or_past, length-replicate}
 use Rattle.std.specs.List.{range_with_len}
 use Rattle.ir_thread.specs.Instance.{shared_ask, thread_machine}
-use Rattle.ir_runs.specs.Machine.{Machine, Private}
-use Rattle.ir_runs.specs.Labels.{Quiet}
+use Rattle.ir_runs.specs.Machine.{Machine, Private, Quiet}
 use Rattle.ir_thread.specs.State as thread
 use Rattle.ir_flat.specs.Alone.{WentAlone}
 use Rattle.ir_flat.specs.Flat.{Flat, tables, machine, IsFlat}
@@ -13,8 +12,8 @@ use Rattle.ir_runs.specs.Run.{State, Step, Can, after, label, end, join_if, even
 use Rattle.ir_runs.proofs.CallerLemmas.{log_append, end_append, turns_append}
 use Rattle.ir_record.specs.Ahead.{lead, IsAhead, all_ahead, NoneAhead, Went, WentIf}
 use Rattle.ir_runs.specs.InOrder.{HasNone, EntersIfFree, InTurn, rounds}
-use Rattle.ir_record.specs.Progress.{Progress, Took, TookIf, all_left, labels_at, answers_at}
-use Rattle.ir_record.specs.Worlds.{answers_in}
+use Rattle.ir_record.specs.Progress.{Progress, Took, TookIf, all_left, labels_at}
+use Rattle.ir_record.specs.Worlds.{answers_at, answers_in}
 use Rattle.ir_record.proofs.Joining.{range_more, rounds_more, some_run, some_after, none_in_turn}
 use Rattle.ir_record.proofs.Leading.{can_alone, quiet_alone, spent, can_there, enters_there, alone_enters, none_there, label_there, stepped, gone_ahead, level, caught_up}
 use Rattle.ir_record.proofs.Running.{flat_few}

@@ -2,9 +2,7 @@
 use Rattle.std.proofs.Common.{◌≡◌, ◌≢◌, ℕ, zero, suc, ◌<◌, List, length, set, replicate, refl, sym, ap, ◌∙◌, subst, arith, inl, inr, get_or-set_same, get_or-set_other}
 use Rattle.std.proofs.Math.Path.{fun_ext}
 use Rattle.std.proofs.lemmas.Bool.{cases_eq}
-use Rattle.ir_runs.specs.Machine.{Machine, Private, act_of, upd}
-use Rattle.ir_runs.specs.Labels.{Quiet}
-use Rattle.ir_runs.specs.Object.{Object, target, Admits, acted, reply, emitted}
+use Rattle.ir_runs.specs.Machine.{Machine, Private, act_of, upd, Object, target, Admits, acted, reply, emitted, Quiet}
 use Rattle.ir_runs.proofs.CallerLemmas.{upd_same, upd_other, upd_id}
 use Rattle.ir_runs.specs.Run.{State, Can, after, label, end}
 use Rattle.ir_record.specs.Ahead.{alone, lead, IsAhead}

@@ -16,7 +16,7 @@ use Rattle.ir_flat.proofs.CallerLemmas.{added, events_added, moved_thread, now_a
 use Rattle.ir_log.specs.Logged.{Logged}
 use Rattle.ir_log.specs.Logging.{label_of}
 use Rattle.ir_log.specs.declared.event.Event.{Event}
-use Rattle.ir_trace.specs.Recorded.{IsEvent, IsResult}
+use Rattle.ir_trace.specs.Within.{IsEvent, IsResult}
 use Rattle.ir_record.specs.Progress.{IsTape, no_log, log_at, labels_at}
 use Rattle.ir_record.proofs.Profiles.{fits_on, same_profile}
 

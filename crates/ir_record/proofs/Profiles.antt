@@ -9,13 +9,13 @@ use Rattle.ir_thread.specs.declared.ask.Ask.{Ask}
 use Rattle.ir_thread.specs.declared.ask.Ask.TheVariants.{Private, Env, Enter, Try, Leave, Get, Put, Print, End, Done}
 use Rattle.ir_thread.specs.declared.ask.Reply.{Reply}
 use Rattle.ir_thread.specs.declared.profile.Profile.{Profile}
-use Rattle.ir_runs.specs.Object.{target, reply}
+use Rattle.ir_runs.specs.Machine.{target, reply}
 use Rattle.ir_runs.proofs.CallerLemmas.{upd_elim}
 use Rattle.ir_runs.specs.Run.{State, Step, act, after, end}
 use Rattle.ir_flat.specs.Flat.{Flat, thread_of, tables, machine, idle, start_threads}
 use Rattle.ir_flat.proofs.CallerLemmas.{moved_thread, now_after}
 use Rattle.ir_log.specs.declared.event.Event.{Event}
-use Rattle.ir_trace.specs.Recorded.{IsEvent}
+use Rattle.ir_trace.specs.Within.{IsEvent}
 
 -- whatever a thread asks
 pub asks_profile : (code : List ℕ) (x : thread.State) (q : Ask) (r : Reply) → (after_ask code x q r).profile ≡ x.profile

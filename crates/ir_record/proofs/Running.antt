@@ -9,8 +9,8 @@ use Rattle.ir_flat.specs.Flat.{Flat, thread_of, tables, machine, idle, IsFlat}
 use Rattle.ir_runs.specs.Run.{State, Step, after, IsRun, end}
 use Rattle.ir_log.specs.Logged.{Logged}
 use Rattle.ir_runs.specs.InOrder.{InTurn}
-use Rattle.ir_record.specs.Progress.{Took, IsTape, log_at, labels_at, answers_at, all_left}
-use Rattle.ir_record.specs.Worlds.{Answered, answers_in}
+use Rattle.ir_record.specs.Progress.{Took, IsTape, log_at, labels_at, all_left}
+use Rattle.ir_record.specs.Worlds.{answers_at, Answered, answers_in}
 use Rattle.ir_flat.proofs.CallerLemmas.{tally}
 use Rattle.ir_record.proofs.Profiles.{fits_on, run_profile}
 use Rattle.ir_record.proofs.Tally.{Few, alone_less}

@@ -5,13 +5,13 @@ use Rattle.ir_thread.specs.Calls.{ask_of}
 use Rattle.ir_thread.specs.Instance.{shared_ask, thread_machine}
 use Rattle.ir_thread.specs.declared.ask.Ask.{Ask}
 use Rattle.ir_runs.specs.Machine as machine
-use Rattle.ir_runs.specs.Labels.{Label, Quiet, Answer, In, Out, Refused, logged}
+use Rattle.ir_runs.specs.Machine.{Label, Quiet, Answer, In, Out, Refused, logged}
 use Rattle.ir_flat.specs.Flat.{Flat, thread_of, tables, machine}
 use Rattle.ir_runs.specs.Run.{Step, Can, after, label, end, join_if, events, log}
 use Rattle.ir_runs.proofs.CallerLemmas.{log_append, end_append, turns_append}
 use Rattle.ir_runs.specs.InOrder.{HasNone, EntersIfFree, InTurn}
-use Rattle.ir_record.specs.Progress.{Progress, Took, TookIf, all_left, labels_at, answers_at}
-use Rattle.ir_record.specs.Worlds.{answers_in}
+use Rattle.ir_record.specs.Progress.{Progress, Took, TookIf, all_left, labels_at}
+use Rattle.ir_record.specs.Worlds.{answers_at, answers_in}
 use Rattle.ir_record.proofs.Tally.{Few, step_less}
 
 -- ---- what a step logs

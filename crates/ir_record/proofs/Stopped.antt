@@ -17,9 +17,9 @@ use Rattle.ir_runs.proofs.CallerLemmas.{log_append, end_append, turns_append}
 use Rattle.ir_log.specs.Logged.{Logged}
 use Rattle.ir_record.specs.Ahead.{Went}
 use Rattle.ir_record.specs.Failures.{IsUnanswered, StoppedAt}
-use Rattle.ir_record.specs.Progress.{Progress, Took, IsReady, answers_at}
+use Rattle.ir_record.specs.Progress.{Progress, Took, IsReady}
+use Rattle.ir_record.specs.Worlds.{answers_at, Answered, answers_in}
 use Rattle.ir_record.specs.Recording.{StoppedInOrder}
-use Rattle.ir_record.specs.Worlds.{Answered, answers_in}
 use Rattle.ir_record.proofs.Ended.{start, started, new_log}
 use Rattle.ir_record.proofs.Going.{reached, range_last}
 use Rattle.ir_record.proofs.Steps.{answers_append}

@@ -5,7 +5,7 @@ use Rattle.ir_thread.specs.Calls.{ask_of}
 use Rattle.ir_thread.specs.Instance.{reply_of, thread_machine}
 use Rattle.ir_thread.specs.State as thread
 use Rattle.ir_thread.proofs.CallerLemmas.{ask_permits}
-use Rattle.ir_runs.specs.Object.{target, reply}
+use Rattle.ir_runs.specs.Machine.{target, reply}
 use Rattle.ir_runs.proofs.CallerLemmas.{upd_elim}
 use Rattle.ir_runs.specs.Run.{State, Step, act, Can, after, IsRun, end}
 use Rattle.ir_flat.proofs.CallerLemmas.{moved_thread, now_after, never_done, held_length}

@@ -1,15 +1,14 @@
 -- Tries that are recorded.
 use Rattle.std.proofs.Common.{◌≡◌, ℕ, ◌<◌, List, [], ◌∷◌, ◌++◌, length, set, refl, sym, ap, subst}
-use Rattle.ir_thread.specs.Calls.{ask_of, Permits, most_events}
+use Rattle.ir_thread.specs.Calls.{ask_of, most_events}
+use Rattle.ir_thread.specs.Permitted.{Permits}
 use Rattle.ir_thread.specs.Instance.{shared_ask}
 use Rattle.ir_thread.specs.declared.ask.Ask.TheVariants.{Try}
 use Rattle.ir_thread.specs.declared.profile.Profile.{Profile}
 use Rattle.ir_thread.proofs.CallerLemmas.{ask_permits}
 use Rattle.ir_runs.specs.Machine as machine
-use Rattle.ir_runs.specs.Machine.{act_of}
-use Rattle.ir_runs.specs.Labels.{Label, Refused}
+use Rattle.ir_runs.specs.Machine.{act_of, target, emitted, Admits, Label, Refused}
 use Rattle.ir_runs.specs.declared.access.Access.TheVariants.{Writing}
-use Rattle.ir_runs.specs.Object.{target, emitted, Admits}
 use Rattle.ir_runs.specs.Run.{Can, after}
 use Rattle.ir_flat.specs.Flat.{Flat, thread_of, tables, machine as machine_of, IsFlat}
 use Rattle.ir_flat.proofs.CallerLemmas.{added, try_object}
@@ -17,7 +16,7 @@ use Rattle.ir_log.specs.Logged.{Logged}
 use Rattle.ir_log.specs.Logging.{label_of}
 use Rattle.ir_log.specs.declared.event.Event.{Event}
 use Rattle.ir_log.specs.declared.event.Event.TheVariants as event
-use Rattle.ir_trace.specs.Recorded.{IsEvent}
+use Rattle.ir_trace.specs.Within.{IsEvent}
 use Rattle.ir_record.specs.Progress.{IsTape, log_at}
 use Rattle.ir_record.proofs.Entering.{OneEvent, emits_asked, entry_logged, entry_unanswered}
 

@@ -5,12 +5,14 @@ use Rattle.std.proofs.lemmas.List.{length-map}
 use Rattle.std.specs.List.{AllByRecursion}
 use Rattle.atomic_table.specs.Seated.{TableId}
 use Rattle.ir_image.specs.Guest.{Guest, object_count, most_object_words}
-use Rattle.ir_thread.specs.Calls.{ask_of, after_ask, after_reply, run_of, step_of, Permits, most_events}
-use Rattle.ir_thread.specs.Held.{held_at}
+use Rattle.ir_thread.specs.Calls.{ask_of, after_ask, after_reply, most_events}
+use Rattle.ir_thread.specs.Permitted.{run_of, step_of, Permits}
+use Rattle.ir_thread.specs.State.{held_at}
 use Rattle.ir_thread.specs.Instance.{shared_ask, reply_of, thread_machine}
 use Rattle.ir_runs.specs.Machine as machine
-use Rattle.ir_runs.specs.Machine.{Act, act_of, Machine, held_after}
-use Rattle.ir_runs.specs.Labels.{Label, Quiet, Answer, In, Out, logged}
+use Rattle.ir_runs.specs.Lawful as lawful
+use Rattle.ir_runs.specs.Machine.{Act, act_of, Machine, is_shared, Label, Quiet, Answer, In, Out, logged}
+use Rattle.ir_runs.specs.Lawful.{held_after}
 use Rattle.ir_thread.specs.Private.{PrivateSteps}
 use Rattle.ir_thread.specs.State as thread
 use Rattle.ir_runs.specs.declared.access.Access.{Access}
@@ -21,15 +23,15 @@ use Rattle.ir_runs.specs.declared.env_kind.EnvKind.{EnvKind}
 use Rattle.ir_thread.specs.declared.ask.Reply.TheVariants.{Go}
 use Rattle.ir_thread.specs.declared.profile.Profile.TheVariants.{Two}
 use Rattle.ir_thread.proofs.CallerLemmas.{ask_permits, lawful}
-use Rattle.ir_object.specs.Order.{is_shared, Shared, keep_if, inside_if, inside_after}
+use Rattle.ir_object.specs.Order.{Shared, keep_if, inside_if, inside_after}
 use Rattle.ir_object.proofs.CallerLemmas.{inside_more}
-use Rattle.ir_flat.specs.Splice.{MayReply, alone_label}
+use Rattle.ir_flat.specs.Lone.{MayReply, alone_label}
 use Rattle.ir_flat.proofs.CallerLemmas.{added, events_added, held_length}
 use Rattle.ir_log.specs.Logged.{Logged}
 use Rattle.ir_log.specs.Logging as logging
 use Rattle.ir_log.specs.declared.event.Event.{Event}
 use Rattle.ir_log.specs.declared.event.Event.TheVariants as event
-use Rattle.ir_trace.specs.Recorded.{IsEvent}
+use Rattle.ir_trace.specs.Within.{IsEvent}
 use Rattle.ir_crew.specs.Plays.{M, IsAlone, history, did, inside_by}
 use Rattle.ir_crew.specs.Rule.{shared_by, shared_of, label_of, one_if_entry, entries}
 use Rattle.ir_crew.specs.declared.deed.Deed.{Deed}
@@ -51,7 +53,7 @@ answers_join [] ys = refl
 answers_join (Quiet ∷ xs) ys = answers_join xs ys
 answers_join (Answer k v ∷ xs) ys = ap (λ z. (k, v) ∷ z) (answers_join xs ys)
 answers_join (In o a v l ∷ xs) ys = answers_join xs ys
-answers_join (Rattle.ir_runs.specs.Labels.Refused o ∷ xs) ys = answers_join xs ys
+answers_join (Rattle.ir_runs.specs.Machine.Refused o ∷ xs) ys = answers_join xs ys
 answers_join (Out o a v ∷ xs) ys = answers_join xs ys
 
 all_join : {X : Type 0} (P : X → Type 0) (xs ys : List X) → AllByRecursion P xs → AllByRecursion P ys → AllByRecursion P (xs ++ ys)
@@ -62,7 +64,7 @@ all_join P (x ∷ xs) ys p q = (p.0, all_join P xs ys p.1 q)
 inside_keep : (q : Act) (v o : ℕ) (h : ℕ → Option Access) (xs : List Shared) (b : Bool) → is_shared q ≡ b → inside_after o None xs ≡ h o
     → inside_after o None (xs ++ keep_if b (q, v) []) ≡ held_after q h o
 inside_keep q v o h xs false is e = ap (inside_after o None) (append-nil xs) ∙ e ∙ sym (held_own q h o is)
-inside_keep q v o h xs true is e = inside_more o None xs (q, v) ∙ ap (inside_if (eqb o (Rattle.ir_runs.specs.Object.target q)) q) e
+inside_keep q v o h xs true is e = inside_more o None xs (q, v) ∙ ap (inside_if (eqb o (Rattle.ir_runs.specs.Machine.target q)) q) e
     ∙ sym (held_inside q h o is)
 
 entries_keep : (q : Act) (v : ℕ) (xs : List Shared) (b : Bool) → entries (xs ++ keep_if b (q, v) []) ≤ entries xs + one_if_entry q
@@ -134,7 +136,7 @@ works_on g budget profile t before w w' q v es evs i s view =
         now = more.now ∙ next;
         steps_are = more.steps_are ∙ ap (λ z. map shared_of i.track ++ keep_if (is_shared z) (z, v) []) is ∙ sym steps;
         logged = ap (λ z. Rattle.ir_runs.specs.Run.events
-            (Rattle.ir_flat.specs.Splice.alone_trail m (thread.start_state g t budget profile) more.replies z))
+            (Rattle.ir_flat.specs.Lone.alone_trail m (thread.start_state g t budget profile) more.replies z))
             (map_join label_of i.track es) ∙ more.logged ∙ ap (λ z. map logging.label_of w.log.events ++ logged (alone_label z (map label_of es)) []) is
             ∙ ap (λ (z : List Shared × List Label × ℕ). map logging.label_of w.log.events ++ z.1) (sym s.of) ∙ sym labels;
       };
@@ -316,7 +318,7 @@ module _ {W : Type 0} {answers : W → List Answered} {g : Guest} {id : TableId}
   try_in_two asked = (permits asked).4
 
   pub outside : {o : ℕ} {a : Access} → ask_of code w.thread ≡ ask.Enter o a → inside_by o (history w.seat.me.0) ≡ None
-  outside {o} {a} asked = inside_view o ∙ subst (λ q. machine.Holds (shared_ask q) (held_at w.thread.held)) asked
+  outside {o} {a} asked = inside_view o ∙ subst (λ q. lawful.Holds (shared_ask q) (held_at w.thread.held)) asked
       ((lawful code).holds w.thread) o (omega arith)
 
   pub inside_leave : {o : ℕ} {a : Access} → ask_of code w.thread ≡ ask.Leave o a → inside_by o (history w.seat.me.0) ≡ Some a

@@ -8,8 +8,8 @@ use Rattle.ir_runs.specs.declared.env_kind.EnvKind.{EnvKind}
 use Rattle.ir_flat.specs.Flat.{thread_of, machine}
 use Rattle.ir_runs.specs.Run.{State, Step, asked, end, log}
 use Rattle.ir_runs.specs.InOrder.{InTurn}
-use Rattle.ir_record.specs.Progress.{Progress, answers_at}
-use Rattle.ir_record.specs.Worlds.{Answered, answers_in}
+use Rattle.ir_record.specs.Progress.{Progress}
+use Rattle.ir_record.specs.Worlds.{answers_at, Answered, answers_in}
 
 -- thread t asks its world, which fails: the thread that is named is t, and no world has answered more
 pub record IsUnanswered (t : ℕ) (p : Progress) (named : ℕ) (answers : List (List Answered)) : Type 0 where

@@ -7,5 +7,4 @@ pub mod Ahead
 pub mod Noting
 pub mod Working
 pub mod Threads
-pub mod Turns
 pub mod Failures

@@ -1,9 +1,10 @@
 -- A recording in progress.
 use Rattle.std.specs.Prelude.{◌≡◌, ◌<◌, ◌≤◌, ◌+◌, ◌-◌, ℕ, zero, suc, List, [], ◌++◌, length, map, Option, Some, None, Bool, true, false, ⊤}
 use Rattle.std.specs.List.{slice_index_or, AllByRecursion}
-use Rattle.ir_thread.specs.Calls.{most_events, most_closing}
-use Rattle.ir_thread.specs.Held.{held_count}
-use Rattle.ir_runs.specs.Labels.{Label}
+use Rattle.ir_thread.specs.Calls.{most_events}
+use Rattle.ir_thread.specs.Permitted.{most_closing}
+use Rattle.ir_thread.specs.State.{held_count}
+use Rattle.ir_runs.specs.Machine.{Label}
 use Rattle.ir_thread.specs.State as thread
 use Rattle.ir_thread.specs.declared.end.End.{End}
 use Rattle.ir_thread.specs.declared.ask.Ask as ask
@@ -12,9 +13,9 @@ use Rattle.ir_flat.specs.Flat.{Flat, thread_of, tables, machine}
 use Rattle.ir_runs.specs.Run.{Step, end, log}
 use Rattle.ir_log.specs.Logged.{Logged}
 use Rattle.ir_log.specs.Logging.{label_of}
-use Rattle.ir_trace.specs.Recorded.{IsEvent}
+use Rattle.ir_trace.specs.Within.{IsEvent}
 use Rattle.ir_runs.specs.InOrder.{InTurn}
-use Rattle.ir_record.specs.Worlds.{Answered, answers_in, NoneFailed}
+use Rattle.ir_record.specs.Worlds.{Answered, answers_in, NoneFailed, answers_at}
 use Rattle.ir_record.specs.declared.tape.Tape.{Tape}
 
 -- a guest that is recorded: its threads and objects, the threads' logs, and the answers of their worlds
@@ -38,10 +39,6 @@ log_at logs t = slice_index_or logs t no_log
 -- what thread t has logged, as labels of its steps
 abbrev pub labels_at : List Logged → ℕ → List Label
 labels_at logs t = map label_of (log_at logs t).events
-
--- what the world of thread t has answered
-abbrev pub answers_at : List (List Answered) → ℕ → List Answered
-answers_at answers t = slice_index_or answers t []
 
 -- how many steps a thread may still take at most, by how it ended
 abbrev pub steps_left : Option End → thread.State → ℕ

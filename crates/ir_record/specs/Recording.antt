@@ -1,25 +1,24 @@
 -- What a recording of a run holds.
 use Rattle.ir_thread.specs.declared.profile.Profile.{Profile}
-use Rattle.std.specs.Prelude.{◌≡◌, ℕ, ◌<◌, ◌++◌, List, [], ◌∷◌, length, map, slice_get, slice_index_or, Some, Bool, true, false, ⊤}
+use Rattle.std.specs.Prelude.{◌≡◌, ℕ, ◌<◌, ◌++◌, List, [], ◌∷◌, length, map, slice_get, slice_index_or, Some, Bool, true, false, ⊤, flat_map, replicate}
 use Rattle.ir_image.specs.Guest.{Guest, object_count}
 use Rattle.ir_thread.specs.Calls.{ask_of}
 use Rattle.ir_thread.specs.Instance.{thread_machine}
 use Rattle.ir_thread.specs.State.{start_state}
 use Rattle.ir_thread.specs.declared.ask.Ask.TheVariants as ask
 use Rattle.ir_flat.specs.Flat.{start_flat, tables, machine}
-use Rattle.ir_flat.specs.Splice.{MayRun, alone_after, alone_trail}
+use Rattle.ir_flat.specs.Lone.{MayRun, alone_after, alone_trail}
 use Rattle.ir_runs.specs.Machine.{Env}
 use Rattle.ir_runs.specs.Run.{Step, asked, events, log, end}
 use Rattle.ir_runs.specs.declared.env_kind.EnvKind.{EnvKind}
 use Rattle.ir_runs.specs.Verdicts.{IsWhole}
-use Rattle.ir_trace.specs.Recorded.{Recorded}
-use Rattle.ir_trace.specs.TraceOf.{trace_of}
+use Rattle.ir_trace.specs.Recorded.{Recorded, trace_of}
 use Rattle.ir_runs.specs.InOrder.{InTurn, IsByOrder, rounds}
-use Rattle.ir_record.specs.Progress.{answers_at}
-use Rattle.ir_record.specs.Worlds.{Answered, answers_in, NoneFailed, IsFirstFailed, AreSameWorlds}
+use Rattle.ir_record.specs.Worlds.{answers_at, Answered, answers_in, NoneFailed, IsFirstFailed, AreSameWorlds}
 use Rattle.ir_record.specs.declared.outputs.Outputs.{Outputs}
 use Rattle.ir_record.specs.declared.record_err.RecordErr.{RecordErr}
 use Rattle.ir_record.specs.declared.record_err.RecordErr.TheVariants.{NoMem, World}
+use Rattle.ir_record.specs.declared.turns.Turns.{Turns}
 
 -- the trace of a complete run of the guest: its header, and of each thread its steps, its log, its end and its code
 pub record IsTraceOf (guest : Guest) (budget : ℕ) (profile : Profile) (run : List Step) (recorded : Recorded) : Type 0 where
@@ -135,3 +134,7 @@ abbrev pub IsFailure : {W O : Type 0} → (W → List Answered) → (W → Bool)
 IsFailure answers broken origin guest budget profile before NoMem = ⊤
 IsFailure answers broken origin guest budget profile before (World thread worlds) = IsFirstFailed (map broken worlds.items) thread
     × AreSameWorlds origin before worlds.items × EachWentOn answers broken guest budget profile before worlds.items
+
+-- the threads in the order of their turns
+abbrev pub order_of_turns : List Turns → List ℕ
+order_of_turns turns = flat_map (λ t. replicate t.count t.thread) turns

@@ -6,10 +6,9 @@ use Rattle.atomic_table.specs.Seated.{TableId}
 use Rattle.atomic_table.specs.declared.shared.Seat.{Seat}
 use Rattle.ir_image.specs.Guest.{Guest, object_count}
 use Rattle.ir_thread.specs.Calls.{ask_of, most_events}
-use Rattle.ir_thread.specs.Held.{held_at}
+use Rattle.ir_thread.specs.State.{held_at}
 use Rattle.ir_thread.specs.Instance.{thread_machine}
-use Rattle.ir_runs.specs.Machine.{Machine}
-use Rattle.ir_runs.specs.Labels.{Label}
+use Rattle.ir_runs.specs.Machine.{Machine, Label}
 use Rattle.ir_runs.specs.declared.env_kind.EnvKind.{EnvKind}
 use Rattle.ir_thread.specs.State as thread
 use Rattle.ir_thread.specs.declared.ask.Ask.{Ask}
@@ -21,10 +20,11 @@ use Rattle.ir_crew.specs.Rule.{View, shared_of, entries}
 use Rattle.ir_crew.specs.declared.deed.ObjectStep.{ObjectStep}
 use Rattle.ir_crew.specs.declared.table.Crew.{Crew}
 use Rattle.ir_runs.specs.Run.{events}
-use Rattle.ir_flat.specs.Splice.{MayRun, alone_after, shared_steps, alone_trail}
+use Rattle.ir_flat.specs.Splice.{shared_steps}
+use Rattle.ir_flat.specs.Lone.{MayRun, alone_after, alone_trail}
 use Rattle.ir_log.specs.Logged.{Logged}
 use Rattle.ir_log.specs.Logging.{label_of}
-use Rattle.ir_trace.specs.Recorded.{IsEvent}
+use Rattle.ir_trace.specs.Within.{IsEvent}
 use Rattle.ir_record.specs.Worlds.{Answered, answers_in}
 use Rattle.ir_record.specs.declared.worker.Worker.{Worker}
 

@@ -1,7 +1,7 @@
 -- What the world outside has answered.
 use Rattle.std.specs.Prelude.{◌≡◌, ◌<◌, ℕ, List, [], ◌∷◌, map, Bool, true, false}
 use Rattle.std.specs.List.{slice_index_or}
-use Rattle.ir_runs.specs.Labels.{Label, Answer}
+use Rattle.ir_runs.specs.Machine.{Label, Answer}
 use Rattle.ir_runs.specs.declared.env_kind.EnvKind.{EnvKind}
 
 -- a call of the environment, and what it was answered
@@ -25,3 +25,7 @@ IsFirstFailed failed t = (slice_index_or failed t false ≡ true) × ((u : ℕ) 
 -- the worlds are those that they were
 abbrev pub AreSameWorlds : {W O : Type 0} → (W → O) → List W → List W → Type 0
 AreSameWorlds origin old new = map origin new ≡ map origin old
+
+-- what the world of thread t has answered
+abbrev pub answers_at : List (List Answered) → ℕ → List Answered
+answers_at answers t = slice_index_or answers t []

@@ -4,7 +4,7 @@ ghost use Rattle.std.specs.Prelude.{replicate, OnOk, IfErr};
 ghost use Rattle.ir_flat.specs.Flat.{tables};
 ghost use Rattle.ir_record.specs.Progress.{Took};
 ghost use Rattle.ir_record.specs.Recorders.{progress_of, CanGoOn, NamesFirst, StopsIn};
-ghost use Rattle.ir_record.specs.Turns.{order_of_turns};
+ghost use Rattle.ir_record.specs.Recording.{order_of_turns};
 ghost use Rattle.ir_record.specs.Worlds.{AreSameWorlds};
 
 use crate::recorder::Recorder;

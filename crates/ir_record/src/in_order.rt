@@ -1,14 +1,13 @@
 //! Recording on one thread, in a given order.
 
 ghost use Rattle.std.specs.Prelude.{◌≡◌, ◌<◌, ◌≤◌, ◌++◌, ℕ, length, map, replicate, vec_len, IfOk, OnOk, IfErr};
-ghost use Rattle.ir_thread.specs.Allowed.{IsAllowed};
+ghost use Rattle.ir_thread.specs.State.{IsAllowed};
 ghost use Rattle.ir_thread.specs.Calls.{most_budget};
 ghost use Rattle.ir_flat.specs.Flat.{tables, machine};
 ghost use Rattle.ir_runs.specs.InOrder.{HasNone, rounds};
 ghost use Rattle.ir_record.specs.Progress.{Took};
 ghost use Rattle.ir_record.specs.Recorders.{progress_of, CanGoOn, NamesFirst, StopsIn};
-ghost use Rattle.ir_record.specs.Recording.{IsRecordedInOrder, AllWork, AreHandedBack, IsFailureInOrder};
-ghost use Rattle.ir_record.specs.Turns.{order_of_turns};
+ghost use Rattle.ir_record.specs.Recording.{IsRecordedInOrder, AllWork, AreHandedBack, IsFailureInOrder, order_of_turns};
 ghost use Rattle.ir_record.specs.Worlds.{NoneFailed, AreSameWorlds};
 
 use crate::gather::outputs;

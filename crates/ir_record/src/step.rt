@@ -2,18 +2,18 @@
 
 ghost use Rattle.std.specs.Prelude.{◌≡◌, ◌≢◌, ◌<◌, [], ◌∷◌, ◌++◌, ◌≤◌, true, false, List, length, slice_set, replicate};
 ghost use Rattle.ir_flat.specs.Alone.{WentAlone};
-ghost use Rattle.ir_flat.specs.Flat.{thread_of, IsFlat};
-ghost use Rattle.ir_thread.specs.Calls.{ask_of, Permits};
+ghost use Rattle.ir_flat.specs.Flat.{thread_of, IsFlat, tables};
+ghost use Rattle.ir_thread.specs.Calls.{ask_of};
+ghost use Rattle.ir_thread.specs.Permitted.{Permits};
 ghost use Rattle.ir_thread.specs.Instance.{is_result};
 ghost use Rattle.ir_thread.specs.declared.ask.Ask.TheVariants.{Env, Enter, Try};
 ghost use Rattle.ir_thread.specs.declared.profile.Profile.{Profile};
-ghost use Rattle.ir_flat.specs.Flat.{tables};
 ghost use Rattle.ir_log.specs.Logging.{label_of};
-ghost use Rattle.ir_runs.specs.Object.{emitted};
+ghost use Rattle.ir_runs.specs.Machine.{emitted};
 ghost use Rattle.ir_runs.specs.Machine as act;
-ghost use Rattle.ir_trace.specs.Recorded.{IsEvent};
-ghost use Rattle.ir_record.specs.Progress.{progress, Took, TookIf, IsTape, IsQuiet, answers_at};
-ghost use Rattle.ir_record.specs.Worlds.{Answered};
+ghost use Rattle.ir_trace.specs.Within.{IsEvent};
+ghost use Rattle.ir_record.specs.Progress.{progress, Took, TookIf, IsTape, IsQuiet};
+ghost use Rattle.ir_record.specs.Worlds.{answers_at, Answered};
 
 use crate::tape::Tape;
 use ir_log::Event;

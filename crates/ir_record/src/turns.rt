@@ -1,7 +1,7 @@
 //! Orders as turns.
 
 ghost use Rattle.std.specs.Prelude.{◌≡◌, ◌≤◌, IfOk, length, take, replicate};
-ghost use Rattle.ir_record.specs.Turns.{order_of_turns};
+ghost use Rattle.ir_record.specs.Recording.{order_of_turns};
 
 use std::alloc::{AllocError, Global};
 

@@ -5,7 +5,7 @@ use Rattle.ir_image.specs.Guest.{Guest}
 use Rattle.ir_image.specs.Reading.{guest_at}
 use Rattle.ir_image.specs.declared.image_err.ImageErr.{ImageErr}
 use Rattle.ir_image.specs.declared.image_err.ImageErr.TheVariants as image
-use Rattle.ir_thread.specs.Allowed.{IsAllowed}
+use Rattle.ir_thread.specs.State.{IsAllowed}
 use Rattle.ir_trace.specs.Recorded.{Recorded}
 use Rattle.ir_trace.specs.Encoding.{encoding}
 use Rattle.ir_record_run.specs.Order.{order_of, first_bad, IsItemFault}

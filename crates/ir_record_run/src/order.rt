@@ -4,7 +4,7 @@ ghost use Rattle.std.specs.Prelude.{◌≡◌, ◌<◌, ◌-◌, ◌≤◌, [], 
 ghost use Rattle.std.specs.List.{slice_split};
 ghost use Rattle.std.specs.Option.{is_some};
 ghost use Rattle.ir_image.specs.Guest.{most_threads};
-ghost use Rattle.ir_record.specs.Turns.{order_of_turns};
+ghost use Rattle.ir_record.specs.Recording.{order_of_turns};
 ghost use Rattle.ir_record_run.specs.Order.{item_of, order_of, first_bad, IsItemFault};
 ghost use Rattle.ir_record_run.specs.Numerals.{number_within};
 ghost use Rattle.ir_record_run.specs.declared.order.OrderErr.TheVariants.{Bad, NoMem};

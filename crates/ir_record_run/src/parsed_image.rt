@@ -1,8 +1,9 @@
 //! An image that is parsed once.
 
 ghost use Rattle.std.specs.Prelude.{◌≡◌, ◌≢◌, ℕ, List, Ok, IfOk, IfErr, IfSome, OnOk};
-ghost use Rattle.ir_image.specs.Reading.{guest_at, Gives};
-ghost use Rattle.ir_thread.specs.Allowed.{IsAllowed};
+ghost use Rattle.ir_image.specs.Reading.{guest_at};
+ghost use Rattle.ir_image.specs.Results.{Gives};
+ghost use Rattle.ir_thread.specs.State.{IsAllowed};
 ghost use Rattle.ir_record_run.specs.Faults.{Allows, Refuses};
 ghost use Rattle.ir_record_run.specs.Images.{thread_count};
 ghost use Rattle.ir_record_run.specs.declared.record_fault.RecordFault.TheVariants.{Clock, Order};

@@ -13,11 +13,10 @@ use Rattle.ir_fit.specs.Fit.{FittedTrace, HasRun}
 use Rattle.ir_runs.proofs.CallerLemmas.{sum_less}
 use Rattle.ir_cut.specs.Positions.{cut_of, IsConsistentCut}
 use Rattle.ir_weave.specs.Ahead.{IsAhead}
-use Rattle.ir_weave.specs.Standing.{Standing, StandsAt, flat_in}
-use Rattle.ir_weave.specs.States.{positions}
+use Rattle.ir_weave.specs.Standing.{Standing, StandsAt, flat_in, IsBetween, positions}
 use Rattle.ir_weave.specs.Woven.{View, M, trace_in, opened_in, opened_at, AreSeats, IsSeated, WasStopped, IsClosed, AreAt}
 use Rattle.ir_weave.specs.declared.plan.Plan.{Plan}
-use Rattle.ir_replay.specs.Rounds.{IsBetween, Goes, backwards, threads_of, seats_of, views_of, IsOfTable}
+use Rattle.ir_replay.specs.Rounds.{Goes, backwards, threads_of, seats_of, views_of, IsOfTable}
 use Rattle.ir_replay.specs.Workers.{IsReady, HasWorked, Pairs}
 use Rattle.ir_replay.specs.declared.worker.Worker.{Worker}
 use Rattle.ir_replay.proofs.Down.{Down, down_map, down_both, down_all, down_at, down_pairs, back_threads, down_threads, down_seats, IsFirst}

@@ -4,7 +4,7 @@ use Rattle.std.proofs.lemmas.Bool.{cases_lt, cases_eq}
 use Rattle.std.proofs.lemmas.List.{get_or_past}
 use Rattle.ir_runs.specs.Cuts.{Cut}
 use Rattle.ir_cut.specs.Positions.{cut_of}
-use Rattle.ir_replay.specs.Rounds.{OneIsBelow}
+use Rattle.ir_weave.specs.Standing.{OneIsBelow}
 
 -- below is the number of the first n threads that are below their targets
 pub record Counts (target : List ℕ) (p : Cut) (n below : ℕ) : Type 0 where

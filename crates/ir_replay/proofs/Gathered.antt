@@ -11,8 +11,7 @@ use Rattle.ir_fit.specs.Fit.{FittedTrace, HasRun, IsRunOf}
 use Rattle.ir_cut.specs.Positions.{machine_of, start_of, cut_of, IsConsistentCut}
 use Rattle.ir_runs.proofs.CallerLemmas.{Progress, progress, persists}
 use Rattle.ir_weave.specs.Ahead.{IsAhead, AreAlone, thread_at}
-use Rattle.ir_weave.specs.Standing.{StandsAt, flat_in}
-use Rattle.ir_weave.specs.States.{IsStateAt, positions}
+use Rattle.ir_weave.specs.Standing.{StandsAt, flat_in, IsStateAt, positions}
 use Rattle.ir_weave.specs.Woven.{trace_in, opened_in, opened_at, WasStopped}
 use Rattle.ir_weave.specs.declared.plan.Plan.{Plan}
 use Rattle.ir_weave.proofs.CallerLemmas.{law, good, CaughtUp, catch_up}

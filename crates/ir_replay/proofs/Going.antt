@@ -6,7 +6,7 @@ use Rattle.ir_flat.specs.Flat.{Flat}
 use Rattle.ir_fit.specs.Fit.{FittedTrace}
 use Rattle.ir_runs.proofs.CallerLemmas.{sum_le, sum_less}
 use Rattle.ir_cut.specs.Positions.{cut_of}
-use Rattle.ir_weave.specs.States.{positions}
+use Rattle.ir_weave.specs.Standing.{positions}
 use Rattle.ir_weave.specs.Stepping.{IsTarget, IsUnder, HasGone, IsSame, Rests, steps_left}
 use Rattle.ir_weave.proofs.CallerLemmas.{alone_own, alone_others}
 use Rattle.ir_replay.specs.Passes.{IsPass}

@@ -7,15 +7,15 @@ use Rattle.std.specs.List.{slice_index_or}
 use Rattle.ir_flat.specs.Flat.{Flat, IsFlat, idle}
 use Rattle.ir_runs.specs.Run.{Step}
 use Rattle.ir_fit.specs.Ahead.{steps_ahead}
-use Rattle.ir_runs.specs.Cuts.{Cut, Admitted}
+use Rattle.ir_runs.specs.Cuts.{Cut}
+use Rattle.ir_runs.specs.Admitted.{Admitted}
 use Rattle.ir_fit.specs.Fit.{FittedTrace, HasRun, IsRunOf}
 use Rattle.ir_cut.specs.Positions.{machine_of, start_of, cut_of, IsConsistentCut}
 use Rattle.ir_runs.proofs.CallerLemmas.{Progress, progress}
-use Rattle.ir_weave.specs.Standing.{Standing, StandsAt, flat_in}
-use Rattle.ir_weave.specs.States.{IsAt, IsStateAt, positions}
+use Rattle.ir_weave.specs.Standing.{Standing, StandsAt, flat_in, IsBetween, IsAt, IsStateAt, positions}
 use Rattle.ir_weave.specs.Stepping.{LogsNext, IsTarget, IsUnder, HasGone, IsSame, Rests, steps_left}
 use Rattle.ir_weave.proofs.CallerLemmas.{law, good, admitted_next}
-use Rattle.ir_replay.specs.Rounds.{IsBetween, Goes}
+use Rattle.ir_replay.specs.Rounds.{Goes}
 
 -- a thread below its target is below its last step
 pub steps_there : (f : FittedTrace) (target : List ℕ) (s : Flat) (t n : ℕ) → IsTarget f target → t < length target

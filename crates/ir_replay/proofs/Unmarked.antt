@@ -7,8 +7,7 @@ use Rattle.ir_flat.specs.Alone.{WentAlone}
 use Rattle.ir_flat.specs.Flat.{Flat, thread_of}
 use Rattle.ir_fit.specs.Fit.{FittedTrace, HasRun}
 use Rattle.ir_cut.specs.Positions.{cut_of, IsConsistentCut}
-use Rattle.ir_weave.specs.Standing.{Standing, StandsAt, flat_in}
-use Rattle.ir_weave.specs.States.{positions}
+use Rattle.ir_weave.specs.Standing.{Standing, StandsAt, flat_in, positions}
 use Rattle.ir_weave.specs.Stepping.{IsUnder, HasGone}
 use Rattle.ir_weave.proofs.CallerLemmas.{alone_under, alone_own}
 use Rattle.ir_replay.specs.Alone.{RestsUnmarked}

@@ -2,7 +2,7 @@
 use Rattle.std.specs.Prelude.{◌≡◌, ℕ, ◌<◌, ◌≤◌, List}
 use Rattle.ir_flat.specs.Flat.{Flat}
 use Rattle.ir_fit.specs.Fit.{FittedTrace}
-use Rattle.ir_weave.specs.States.{positions}
+use Rattle.ir_weave.specs.Standing.{positions}
 use Rattle.ir_weave.specs.Stepping.{IsUnder, IsSame, Rests, steps_left}
 
 -- in a pass that began at old and may take most steps, after the first n threads, which took taken steps: they rest if they took none

@@ -1,26 +1,14 @@
 -- States on the way to a target.
-use Rattle.std.specs.Prelude.{◌≡◌, ℕ, ◌<◌, ◌≤◌, List, [], ◌∷◌, ◌++◌}
+use Rattle.std.specs.Prelude.{◌≡◌, ℕ, ◌<◌, List, [], ◌∷◌, ◌++◌}
 use Rattle.atomic_table.specs.Seated.{TableId}
 use Rattle.atomic_table.specs.declared.shared.Seat.{Seat}
 use Rattle.ir_thread.specs.State as thread
 use Rattle.ir_weave.specs.Woven.{View}
 use Rattle.ir_replay.specs.declared.worker.Worker.{Worker}
 use Rattle.ir_cut.specs.Positions.{cut_of}
-use Rattle.ir_runs.specs.Cuts.{Cut}
 use Rattle.ir_fit.specs.Fit.{FittedTrace}
-use Rattle.ir_weave.specs.Standing.{Standing, StandsAt, flat_in}
-use Rattle.ir_weave.specs.States.{positions}
+use Rattle.ir_weave.specs.Standing.{Standing, flat_in, positions}
 use Rattle.ir_weave.specs.Stepping.{steps_left}
-
--- the guest at a consistent cut between the old one and the target
-pub record IsBetween (f : FittedTrace) (target : List ℕ) (old new : Standing) : Type 0 where
-  pub stands : StandsAt f (positions (flat_in f new)) new
-  pub above : (t : ℕ) → positions (flat_in f old) t ≤ positions (flat_in f new) t
-  pub below : (t : ℕ) → positions (flat_in f new) t ≤ cut_of target t
-
--- at these positions at most one thread is below its target
-abbrev pub OneIsBelow : List ℕ → Cut → Type 0
-OneIsBelow target p = (t u : ℕ) → p t < cut_of target t → p u < cut_of target u → t ≡ u
 
 -- fewer steps are left, if any were
 abbrev pub Goes : FittedTrace → List ℕ → Standing → Standing → Type 0

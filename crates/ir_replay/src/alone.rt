@@ -4,8 +4,7 @@ ghost use Rattle.ir_flat.specs.Flat.{thread_of};
 ghost use Rattle.ir_thread.specs.Private.{UnmarkedSteps};
 ghost use Rattle.std.specs.Prelude.{◌≡◌, ◌<◌, ◌≤◌, ℕ, length};
 ghost use Rattle.ir_cut.specs.Positions.{IsConsistentCut, cut_of};
-ghost use Rattle.ir_weave.specs.Standing.{StandsAt, flat_in};
-ghost use Rattle.ir_weave.specs.States.{positions};
+ghost use Rattle.ir_weave.specs.Standing.{StandsAt, flat_in, positions};
 ghost use Rattle.ir_weave.specs.Stepping.{HasGone, Rests};
 ghost use Rattle.ir_replay.specs.Alone.{RestsUnmarked};
 

@@ -3,10 +3,9 @@
 ghost use Rattle.std.specs.Prelude.{◌≡◌, ◌<◌, ◌≤◌, ◌↔◌, ℕ, true, false, length, slice_index_or, IfOk, IfErr, IsOk, IsTrue};
 ghost use Rattle.ir_flat.specs.Flat.{idle};
 ghost use Rattle.ir_cut.specs.Positions.{IsConsistentCut, cut_of};
-ghost use Rattle.ir_weave.specs.Standing.{StandsAt, flat_in};
-ghost use Rattle.ir_weave.specs.States.{positions};
+ghost use Rattle.ir_weave.specs.Standing.{StandsAt, flat_in, IsBetween, OneIsBelow, positions};
 ghost use Rattle.ir_weave.specs.Stepping.{steps_left};
-ghost use Rattle.ir_replay.specs.Rounds.{IsBetween, OneIsBelow, Goes};
+ghost use Rattle.ir_replay.specs.Rounds.{Goes};
 
 use crate::meter::Meter;
 use crate::pace::{LONGEST_STRETCH, Pace};

@@ -4,11 +4,10 @@ ghost use Rattle.std.specs.Prelude.{◌≡◌, ◌<◌, ◌≤◌, ℕ, true, fa
 ghost use Rattle.std.specs.List.{AllByRecursion};
 ghost use Rattle.ir_flat.specs.Flat.{idle};
 ghost use Rattle.ir_cut.specs.Positions.{IsConsistentCut, cut_of};
-ghost use Rattle.ir_weave.specs.Standing.{StandsAt, flat_in};
-ghost use Rattle.ir_weave.specs.States.{positions};
+ghost use Rattle.ir_weave.specs.Standing.{StandsAt, flat_in, IsBetween, positions};
 ghost use Rattle.ir_weave.specs.Stepping.{steps_left};
 ghost use Rattle.ir_weave.specs.Woven.{IsFor, AreSeats};
-ghost use Rattle.ir_replay.specs.Rounds.{IsBetween, Goes, backwards, threads_of, seats_of, views_of, IsOfTable};
+ghost use Rattle.ir_replay.specs.Rounds.{Goes, backwards, threads_of, seats_of, views_of, IsOfTable};
 ghost use Rattle.ir_replay.specs.Workers.{IsReady, HasWorked, Pairs};
 
 use crate::worker::{Worker, work_all};

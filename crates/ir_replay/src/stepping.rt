@@ -4,7 +4,7 @@ ghost use Rattle.std.specs.Prelude.{◌≡◌, ◌<◌, ◌≤◌, ◌-◌, true
 ghost use Rattle.ir_thread.specs.Calls.{ask_of};
 ghost use Rattle.ir_flat.specs.Flat.{thread_of};
 ghost use Rattle.ir_cut.specs.Positions.{cut_of};
-ghost use Rattle.ir_weave.specs.States.{positions};
+ghost use Rattle.ir_weave.specs.Standing.{positions};
 ghost use Rattle.ir_weave.specs.Stepping.{IsTarget, IsUnder, HasGone, IsSame, Rests};
 
 use crate::admission::next_result;

@@ -4,9 +4,8 @@ ghost use Rattle.std.specs.Prelude.{◌≡◌, ◌<◌, ◌≤◌, ℕ, length};
 ghost use Rattle.ir_flat.specs.Flat.{IsFlat};
 ghost use Rattle.ir_fit.specs.Fit.{HasRun};
 ghost use Rattle.ir_cut.specs.Positions.{IsConsistentCut, cut_of};
-ghost use Rattle.ir_weave.specs.Standing.{StandsAt, flat_in};
-ghost use Rattle.ir_weave.specs.States.{positions};
-ghost use Rattle.ir_replay.specs.Rounds.{IsBetween, Goes};
+ghost use Rattle.ir_weave.specs.Standing.{StandsAt, flat_in, IsBetween, positions};
+ghost use Rattle.ir_replay.specs.Rounds.{Goes};
 
 use crate::passes::go_on;
 use ir_cut::Cut;

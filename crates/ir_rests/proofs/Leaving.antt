@@ -1,7 +1,8 @@
 -- Where the threads of the rows read, write and leave.
 use Rattle.std.proofs.Common.{◌+◌, ◌<◌, ℕ, length, refl, arith}
 use Rattle.ir_log.specs.declared.event.Event.TheVariants.{Read, Write}
-use Rattle.ir_fit.specs.Fit.{FittedTrace, HasRun, IsFitted}
+use Rattle.ir_fit.specs.Fit.{FittedTrace, HasRun}
+use Rattle.ir_fit.specs.Within.{IsFitted}
 use Rattle.ir_fit.proofs.CallerLemmas.{entries_rise}
 use Rattle.ir_past.specs.Past.{IsRow}
 use Rattle.ir_past.specs.declared.stale_write.StaleWrite.{StaleWrite}

@@ -1,6 +1,6 @@
 -- Where two calls are the same, what fits one fits the other.
 use Rattle.std.proofs.Common.{◌≡◌, true}
-use Rattle.ir_thread.specs.Calls.{Suits}
+use Rattle.ir_thread.specs.Permitted.{Suits}
 use Rattle.ir_thread.specs.declared.ask.Ask.{Ask}
 use Rattle.ir_thread.specs.declared.ask.Ask.TheVariants as ask
 use Rattle.ir_thread.specs.declared.ask.Reply.{Reply}

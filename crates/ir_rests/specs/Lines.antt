@@ -6,7 +6,7 @@ use Rattle.ir_past.specs.Past.{AreStaleWrites, write_count}
 use Rattle.ir_past.specs.Lines.{count_line}
 use Rattle.ir_past.specs.declared.place.Place.{Place}
 use Rattle.ir_past.specs.declared.stale_write.StaleWrite.{StaleWrite}
-use Rattle.ir_text.specs.Answers.{hex_word}
+use Rattle.ir_text.specs.Texts.{hex_word}
 use Rattle.ir_events.specs.Events.{entry_of}
 use Rattle.ir_rests.specs.Rests.{AreRests}
 use Rattle.ir_rests.specs.declared.reason.Reason.{Reason}

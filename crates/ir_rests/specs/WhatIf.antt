@@ -1,13 +1,13 @@
 -- What a thread would have done, had it read other words.
 use Rattle.std.specs.Prelude.{ℕ, zero, suc, ◌==◌, ◌&&◌, ◌||◌, Bool, true, false, not, List, [], ◌∷◌, slice_index, if◌then◌else◌, Option, Some, None}
-use Rattle.ir_image.specs.Forms.{most_object_words}
+use Rattle.ir_image.specs.Guest.{most_object_words}
 use Rattle.ir_runs.specs.declared.access.Access.{Access}
 use Rattle.ir_runs.specs.declared.access.Access.TheVariants as access
 use Rattle.ir_runs.specs.declared.env_kind.EnvKind.{EnvKind}
 use Rattle.ir_runs.specs.declared.env_kind.EnvKind.TheVariants.{Clock, Random, Input}
-use Rattle.ir_thread.specs.State.{State}
-use Rattle.ir_thread.specs.Calls.{ask_of, after_reply, step_of}
-use Rattle.ir_thread.specs.Ends.{end_number, end_code}
+use Rattle.ir_thread.specs.State.{State, end_number, end_code}
+use Rattle.ir_thread.specs.Calls.{ask_of, after_reply}
+use Rattle.ir_thread.specs.Permitted.{step_of}
 use Rattle.ir_thread.specs.declared.ask.Ask.{Ask}
 use Rattle.ir_thread.specs.declared.ask.Ask.TheVariants as ask
 use Rattle.ir_thread.specs.declared.ask.Reply.{Reply}

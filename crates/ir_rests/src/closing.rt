@@ -1,7 +1,7 @@
 //! Rows that a thread has passed.
 
 ghost use Rattle.std.specs.Prelude.{◌≡◌, ◌≢◌, ◌⊎◌, ◌<◌, ◌≤◌, ℕ, true, false, IfSome, IfNone, length, slice_get, slice_set, slice_index_or, Some};
-ghost use Rattle.ir_thread.specs.Calls.{most_steps};
+ghost use Rattle.ir_thread.specs.Permitted.{most_steps};
 ghost use Rattle.ir_past.specs.declared.stale_write.StaleWrite.{StaleWrite};
 ghost use Rattle.ir_rests.specs.declared.kept.Open.{Open};
 ghost use Rattle.ir_rests.specs.declared.found.Found.TheVariants.{Unknown};

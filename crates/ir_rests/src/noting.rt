@@ -1,8 +1,7 @@
 //! The calls of a thread, as its open rows keep them.
 
 ghost use Rattle.std.specs.Prelude.{◌≡◌, ◌-◌, ◌<◌, ◌≤◌, ℕ, length, slice_index_or, option_to_list, OnOk};
-ghost use Rattle.ir_weave.specs.Standing.{flat_in};
-ghost use Rattle.ir_weave.specs.States.{positions};
+ghost use Rattle.ir_weave.specs.Standing.{flat_in, positions};
 ghost use Rattle.ir_events.specs.Walk.{IsOnWay};
 ghost use Rattle.ir_walk.specs.Calls.{AreCalls};
 ghost use Rattle.ir_rests.specs.Watch.{IsGuide, IsOpenAt, IsCallMore};

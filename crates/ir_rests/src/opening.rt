@@ -1,8 +1,7 @@
 //! Rows whose read entry a thread has passed.
 
 ghost use Rattle.std.specs.Prelude.{◌≡◌, ◌≢◌, ◌<◌, ℕ, true, false, length, slice_index_or, if◌then◌else◌, Some, None, OnOk, IfOk};
-ghost use Rattle.ir_weave.specs.Standing.{flat_in};
-ghost use Rattle.ir_weave.specs.States.{positions};
+ghost use Rattle.ir_weave.specs.Standing.{flat_in, positions};
 ghost use Rattle.ir_events.specs.Walk.{IsOnWay};
 ghost use Rattle.ir_rests.specs.declared.span.Span.{Span};
 ghost use Rattle.ir_rests.specs.Watch.{IsGuide, IsSpanOf, IsOpenAt, IsWatch, IsWatched, NoneDue};

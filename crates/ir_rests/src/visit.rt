@@ -1,8 +1,7 @@
 //! A thread that goes on by itself, and its rows on the way.
 
 ghost use Rattle.std.specs.Prelude.{◌≡◌, ◌⊎◌, ◌<◌, ◌≤◌, ℕ, true, false, length, slice_get, slice_index_or, Some, IfOk, OnOk};
-ghost use Rattle.ir_weave.specs.Standing.{flat_in};
-ghost use Rattle.ir_weave.specs.States.{positions};
+ghost use Rattle.ir_weave.specs.Standing.{flat_in, positions};
 ghost use Rattle.ir_weave.specs.Stepping.{Rests};
 ghost use Rattle.ir_rests.specs.declared.found.Found.TheVariants.{Unknown};
 ghost use Rattle.ir_past.specs.declared.stale_write.StaleWrite.{StaleWrite};

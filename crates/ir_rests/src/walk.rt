@@ -1,9 +1,8 @@
 //! The walk over a run that finds which rows rest on their reads.
 
 ghost use Rattle.std.specs.Prelude.{◌≡◌, ◌<◌, ◌≤◌, ℕ, true, false, length, IfOk, OnOk};
-ghost use Rattle.ir_trace.specs.TraceOf.{recorded_thread};
-ghost use Rattle.ir_weave.specs.Standing.{flat_in};
-ghost use Rattle.ir_weave.specs.States.{positions};
+ghost use Rattle.ir_trace.specs.Recorded.{recorded_thread};
+ghost use Rattle.ir_weave.specs.Standing.{flat_in, positions};
 ghost use Rattle.ir_past.specs.Past.{AreStaleWrites};
 ghost use Rattle.ir_events.specs.Walk.{IsOnWay, IsPass};
 ghost use Rattle.ir_rests.specs.Rests.{AreRests};

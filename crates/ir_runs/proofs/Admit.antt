@@ -1,8 +1,8 @@
 -- A step that follows the run's log at a cut is admitted there.
 use Rattle.std.proofs.Common.{◌≡◌, ◌≢◌, ℕ, suc, zero, ◌<◌, ◌≤◌, cond, eqb, List, [], ◌∷◌, ◌++◌, length, take, drop, refl, sym, ap, ◌∙◌, subst, arith, inl, inr, append-nil, append_assoc, eq-eqb, ne_eqb, take-append-drop, length-take, length-append}
 use Rattle.std.proofs.lemmas.Bool.{cases_eq}
-use Rattle.ir_runs.specs.Machine.{Machine, IsLawful}
-use Rattle.ir_runs.specs.Labels.{Label, Quiet, Answer, In, Refused, Out, logged}
+use Rattle.ir_runs.specs.Machine.{Machine, Label, Quiet, Answer, In, Refused, Out, logged}
+use Rattle.ir_runs.specs.Lawful.{IsLawful}
 use Rattle.ir_runs.specs.Run.{State, Step, Can, IsRun, end, join_if, trail, events, log, count, label}
 use Rattle.ir_runs.proofs.Good.{Good}
 use Rattle.ir_runs.proofs.Append.{trail_append, run_append, events_append}
@@ -12,7 +12,8 @@ use Rattle.ir_runs.proofs.Early.{early}
 use Rattle.ir_runs.proofs.Order.{whole, consistent_same}
 use Rattle.ir_runs.proofs.Same.{Goes, goes}
 use Rattle.ir_runs.proofs.Sort.{Sorted, sort}
-use Rattle.ir_runs.specs.Cuts.{At, Emits, Cut, IsCut, Consistent, part, further, Admitted}
+use Rattle.ir_runs.specs.Cuts.{At, Emits, Cut, IsCut, Consistent, part}
+use Rattle.ir_runs.specs.Admitted.{further, Admitted}
 
 logged_any : (k : Label) (es : List Label) → logged k es ≡ logged k [] ++ es
 logged_any Quiet es = refl

@@ -1,7 +1,6 @@
 -- Runs one after the other.
 use Rattle.std.proofs.Common.{◌≡◌, ℕ, Bool, true, false, eqb, List, [], ◌∷◌, ◌++◌, refl, ap, ◌∙◌}
-use Rattle.ir_runs.specs.Machine.{Machine}
-use Rattle.ir_runs.specs.Labels.{Label, Quiet, Answer, In, Refused, Out, logged}
+use Rattle.ir_runs.specs.Machine.{Machine, Label, Quiet, Answer, In, Refused, Out, logged}
 use Rattle.ir_runs.specs.Run.{State, Step, after, label, IsRun, end, join_if, trail, events, log}
 
 pub join_append : {A : Type 0} (b : Bool) (x : A) (xs ys : List A) → join_if b x (xs ++ ys) ≡ join_if b x xs ++ ys

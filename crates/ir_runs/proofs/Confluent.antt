@@ -2,11 +2,11 @@
 -- what is left to each thread after a step
 use Rattle.std.proofs.Common.{◌≡◌, ◌≢◌, ℕ, suc, pred, ◌+◌, ◌<◌, ◌≤◌, Bool, true, false, cond, eqb, List, [], ◌∷◌, ◌++◌, None, refl, sym, ap, ◌∙◌, subst, arith, inl, inr, ◌⊎◌, eq-eqb, ne_eqb, append-nil, append_assoc}
 use Rattle.std.proofs.lemmas.Bool.{cases_eq, eqb-true, cases_lt}
-use Rattle.ir_runs.specs.Machine.{Act, act_of, Entry, Done, Machine, IsLawful}
-use Rattle.ir_runs.specs.Labels.{Label, Quiet, Answer, In, Refused, Out, logged, Trace}
+use Rattle.ir_runs.specs.Machine.{Act, act_of, Entry, Done, Machine, Object, target, Admits, emitted, Label, Quiet, Answer, In, Refused, Out, logged, Trace}
+use Rattle.ir_runs.specs.Lawful.{IsLawful}
 use Rattle.ir_runs.specs.declared.access.Access.TheVariants.{Reading, Writing}
-use Rattle.ir_runs.specs.Object.{Object, target, Admits, emitted}
-use Rattle.ir_runs.specs.Run.{act, State, Step, asked, Can, after, label, IsRun, end, join_if, trail, IsStart, IsIdle}
+use Rattle.ir_runs.specs.Run.{act, State, Step, asked, Can, after, label, IsRun, end, join_if, trail}
+use Rattle.ir_runs.specs.Bounds.{IsStart, IsIdle}
 use Rattle.ir_runs.proofs.Good.{Good, stays_good}
 use Rattle.ir_runs.proofs.Append.{trail_append, run_append}
 use Rattle.ir_runs.proofs.Follow.{fits_part}

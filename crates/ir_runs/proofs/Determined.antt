@@ -1,15 +1,17 @@
 -- The state at a consistent cut, and that the trace determines it.
 use Rattle.std.proofs.Common.{◌≡◌, ◌≢◌, ℕ, suc, zero, min, ◌+◌, ◌≤◌, Bool, true, false, cond, eqb, List, [], ◌∷◌, ◌++◌, length, take, drop, refl, sym, ap, ◌∙◌, subst, arith, inl, inr, eq-eqb, ne_eqb, le_refl, length-append, length-take, take-append-drop}
 use Rattle.std.proofs.lemmas.Bool.{cases_eq}
-use Rattle.ir_runs.specs.Machine.{Machine, IsLawful}
-use Rattle.ir_runs.specs.Labels.{Label}
-use Rattle.ir_runs.specs.Run.{State, Step, Can, after, label, IsRun, end, join_if, trail, count, events, th, thread_in, IsStart}
+use Rattle.ir_runs.specs.Machine.{Machine, Label}
+use Rattle.ir_runs.specs.Lawful.{IsLawful}
+use Rattle.ir_runs.specs.Run.{State, Step, Can, after, label, IsRun, end, join_if, trail, count, events, th, thread_in}
+use Rattle.ir_runs.specs.Bounds.{IsStart}
 use Rattle.ir_runs.proofs.Good.{Good}
 use Rattle.ir_runs.proofs.Append.{events_append}
 use Rattle.ir_runs.proofs.Same.{Goes, goes, Alike, alike, now_other, no_steps}
 use Rattle.ir_runs.proofs.Sort.{Sorted, sort}
 use Rattle.ir_runs.specs.Alike.{SameTrace, SameRun}
-use Rattle.ir_runs.specs.Cuts.{AtCut, At, Emits, Cut, IsCut, Consistent, part, further, Admitted}
+use Rattle.ir_runs.specs.Cuts.{At, Emits, Cut, IsCut, Consistent, part}
+use Rattle.ir_runs.specs.Admitted.{AtCut, further, Admitted}
 
 -- the cuts of two runs with the same trails
 pub trails_cut : {T : Type 0} (m : Machine T) (s : State T) (run run' : List Step) → ((u : ℕ) → trail m s run u ≡ trail m s run' u)

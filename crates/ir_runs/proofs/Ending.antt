@@ -1,11 +1,11 @@
 -- A complete run follows its own trace, its ends too.
 use Rattle.std.proofs.Common.{◌≡◌, ◌≢◌, ℕ, suc, List, [], ◌∷◌, ◌++◌, length, Option, Some, None, refl, sym, ap, ◌∙◌, subst, inl, inr, eq-eqb, ne_eqb}
 use Rattle.std.proofs.lemmas.Bool.{cases_eq}
-use Rattle.ir_runs.specs.Machine.{Private, Done, act_of, Machine, IsClosing}
-use Rattle.ir_runs.specs.Labels.{Quiet, Out, logged}
-use Rattle.ir_runs.specs.Object.{target, Admits, reply, emitted}
+use Rattle.ir_runs.specs.Machine.{Private, Done, act_of, Machine, target, Admits, reply, emitted, Quiet, Out, logged}
+use Rattle.ir_runs.specs.Lawful.{IsClosing}
 use Rattle.ir_runs.proofs.Tables.{upd_same}
-use Rattle.ir_runs.specs.Run.{act, State, Step, asked, Can, after, label, IsRun, end, join_if, trail, IsDone, events, trace}
+use Rattle.ir_runs.specs.Run.{act, State, Step, asked, Can, after, label, IsRun, end, join_if, trail, IsDone, events}
+use Rattle.ir_runs.specs.Bounds.{trace}
 use Rattle.ir_runs.proofs.Follow.{fits_own}
 use Rattle.ir_runs.proofs.Same.{now_other}
 use Rattle.ir_runs.specs.Following.{Ends, Follows, IsMaximal, ends_at, ends_now, Meets, closing}

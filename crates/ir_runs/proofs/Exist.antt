@@ -1,16 +1,16 @@
 -- The least consistent cut above a cut.
 use Rattle.std.proofs.Common.{◌≡◌, ℕ, suc, pred, max, ◌<◌, ◌≤◌, Bool, true, false, cond, eqb, List, [], ◌∷◌, refl, sym, ap, ◌∙◌, subst, arith, inl, inr, ◌⊎◌, eq-eqb, ne_eqb, le_refl}
 use Rattle.std.proofs.lemmas.Bool.{cases_eq, eqb-true, cases_lt}
-use Rattle.ir_runs.specs.Machine.{Machine, IsLawful}
-use Rattle.ir_runs.specs.Labels.{Label, In, Out}
+use Rattle.ir_runs.specs.Machine.{Machine, Label, In, Out}
+use Rattle.ir_runs.specs.Lawful.{IsLawful}
 use Rattle.ir_runs.specs.declared.access.Access.TheVariants.{Reading, Writing}
 use Rattle.ir_runs.specs.Run.{act, State, Step, after, label, IsRun, count}
 use Rattle.ir_runs.proofs.Good.{Good, stays_good}
-use Rattle.ir_runs.specs.Extremes.{IsLeast}
+use Rattle.ir_runs.specs.Cuts.{IsLeast, Emits, Needs, Cut, IsCut, Consistent, lower}
 use Rattle.ir_runs.proofs.Determined.{count_head}
 use Rattle.ir_runs.proofs.Early.{placed, no_later}
 use Rattle.ir_runs.proofs.Sort.{later, foremost, consistent_later, lower_up}
-use Rattle.ir_runs.specs.Cuts.{Emits, Needs, Cut, IsCut, Consistent, lower, further}
+use Rattle.ir_runs.specs.Admitted.{further}
 
 pub needs_or : (a b : Label) → Needs a b ⊎ (Needs a b → ⊥)
 needs_or (Out o Writing w) (In p c v l) = elim (cases_eq o p)

@@ -1,8 +1,9 @@
 -- A maximal run that follows a run's own trace goes all the way.
 use Rattle.std.proofs.Common.{◌≡◌, ℕ, pred, ◌≤◌, eqb, List, [], ◌∷◌, ◌++◌, length, refl, sym, ap, ◌∙◌, subst, arith, append-nil, append_assoc}
-use Rattle.ir_runs.specs.Machine.{Machine, IsLawful}
-use Rattle.ir_runs.specs.Labels.{Label, logged}
-use Rattle.ir_runs.specs.Run.{State, Step, after, IsRun, end, trail, events, log, count, label, trace}
+use Rattle.ir_runs.specs.Machine.{Machine, Label, logged}
+use Rattle.ir_runs.specs.Lawful.{IsLawful}
+use Rattle.ir_runs.specs.Run.{State, Step, after, IsRun, end, trail, events, log, count, label}
+use Rattle.ir_runs.specs.Bounds.{trace}
 use Rattle.ir_runs.proofs.Good.{Good}
 use Rattle.ir_runs.proofs.Append.{join_append, trail_append, run_append}
 use Rattle.ir_runs.proofs.Same.{Goes, goes}

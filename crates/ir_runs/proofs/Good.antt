@@ -1,12 +1,13 @@
 -- What holds in each state that a run reaches.
 use Rattle.std.proofs.Common.{◌≡◌, ◌≢◌, ℕ, suc, zero, List, [], ◌∷◌, Option, Some, None, refl, sym, ap, ◌∙◌, subst, arith, le_refl}
 use Rattle.std.proofs.lemmas.Bool.Decides.{nat_tests}
-use Rattle.ir_runs.specs.Machine.{Ask, Private, Env, Enter, Try, Leave, Get, Put, Done, Act, act_of, Silent, Result, Entry, Refusal, Exit, Load, Store, Never, Machine, upd, Holds, held_after, IsLawful}
+use Rattle.ir_runs.specs.Machine.{Ask, Private, Env, Enter, Try, Leave, Get, Put, Done, Act, act_of, Silent, Result, Entry, Refusal, Exit, Load, Store, Never, Machine, upd, Object, target, Admits, acted, reply}
+use Rattle.ir_runs.specs.Lawful.{Holds, held_after, IsLawful}
 use Rattle.ir_runs.specs.declared.access.Access.{Access}
 use Rattle.ir_runs.specs.declared.access.Access.TheVariants.{Reading, Writing}
-use Rattle.ir_runs.specs.Object.{Object, target, Admits, acted, reply}
 use Rattle.ir_runs.proofs.Tables.{upd_same, upd_other, upd_elim}
-use Rattle.ir_runs.specs.Run.{State, Step, asked, act, Can, after, IsRun, end, IsStart}
+use Rattle.ir_runs.specs.Run.{State, Step, asked, act, Can, after, IsRun, end}
+use Rattle.ir_runs.specs.Bounds.{IsStart}
 
 -- only one thread is inside, if it is there for writing
 abbrev pub Exclusive : Object → Type 0

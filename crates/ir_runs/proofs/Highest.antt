@@ -2,16 +2,16 @@
 -- the labels that are left out
 use Rattle.std.proofs.Common.{◌≡◌, ℕ, suc, pred, min, ◌<◌, ◌≤◌, Bool, true, false, cond, eqb, List, [], ◌∷◌, refl, sym, ap, ◌∙◌, subst, arith, inl, inr, ◌⊎◌, eq-eqb, ne_eqb, le_refl}
 use Rattle.std.proofs.lemmas.Bool.{cases_eq, eqb-true, cases_lt}
-use Rattle.ir_runs.specs.Machine.{Machine, IsLawful}
-use Rattle.ir_runs.specs.Labels.{Label}
+use Rattle.ir_runs.specs.Machine.{Machine, Label}
+use Rattle.ir_runs.specs.Lawful.{IsLawful}
 use Rattle.ir_runs.specs.Run.{act, State, Step, after, label, IsRun, count}
 use Rattle.ir_runs.proofs.Good.{Good, stays_good}
-use Rattle.ir_runs.specs.Extremes.{IsGreatest}
+use Rattle.ir_runs.specs.Cuts.{IsGreatest, Emits, Needs, Cut, IsCut, Consistent, lower}
 use Rattle.ir_runs.proofs.Determined.{count_head}
 use Rattle.ir_runs.proofs.Early.{placed, no_later, both_up, both_down}
 use Rattle.ir_runs.proofs.Exist.{needs_or}
 use Rattle.ir_runs.proofs.Sort.{later, foremost, consistent_later, lower_up}
-use Rattle.ir_runs.specs.Cuts.{Emits, Needs, Cut, IsCut, Consistent, lower, further}
+use Rattle.ir_runs.specs.Admitted.{further}
 
 abbrev pub Among : Label → List Label → Type 0
 Among k [] = ⊥

@@ -1,14 +1,14 @@
 -- Each thread has one verdict, which doesn't depend on the run, and all are the same exactly where there is a complete run with the trace.
 use Rattle.std.proofs.Common.{◌≡◌, ◌≢◌, ℕ, suc, zero, pred, ◌<◌, true, List, [], ◌∷◌, ◌++◌, length, Option, Some, None, refl, sym, ap, ◌∙◌, subst, arith, inl, inr, ◌⊎◌, append-nil, length-append}
 use Rattle.std.proofs.lemmas.Bool.{cases_eq, cases_lt}
-use Rattle.ir_runs.specs.Machine.{Ask, Private, Env, Enter, Try, Leave, Get, Put, Done, act_of, Machine, IsLawful, IsClosing}
-use Rattle.ir_runs.specs.Labels.{Label, Quiet, Answer, In, Refused, Out, logged, Trace}
+use Rattle.ir_runs.specs.Machine.{Ask, Private, Env, Enter, Try, Leave, Get, Put, Done, act_of, Machine, Object, target, Admits, reply, emitted, Label, Quiet, Answer, In, Refused, Out, logged, Trace}
+use Rattle.ir_runs.specs.Lawful.{IsLawful, IsClosing}
 use Rattle.ir_runs.specs.declared.access.Access.{Access}
 use Rattle.ir_runs.specs.declared.env_kind.EnvKind.{EnvKind}
 use Rattle.ir_runs.specs.declared.env_kind.EnvKind.TheVariants.{Clock, Random, Input}
 use Rattle.ir_runs.specs.declared.access.Access.TheVariants.{Reading, Writing}
-use Rattle.ir_runs.specs.Object.{Object, target, Admits, reply, emitted}
-use Rattle.ir_runs.specs.Run.{act, State, Step, Can, after, label, IsRun, end, trail, IsStart, IsIdle, IsDone, events, log, count}
+use Rattle.ir_runs.specs.Run.{act, State, Step, Can, after, label, IsRun, end, trail, IsDone, events, log, count}
+use Rattle.ir_runs.specs.Bounds.{IsStart, IsIdle}
 use Rattle.ir_runs.proofs.Good.{Good}
 use Rattle.ir_runs.proofs.Append.{trail_append, run_append}
 use Rattle.ir_runs.proofs.Confluent.{confluent, start_sofar, one_maximal}
@@ -21,7 +21,8 @@ use Rattle.ir_runs.specs.Cuts.{At}
 use Rattle.ir_runs.specs.Following.{Check, unlogged, Fits, Follows, IsMaximal, left_log, left_steps, ends_at, ends_now, Meets, closing}
 use Rattle.ir_runs.specs.declared.thread_verdict.ThreadVerdict.{ThreadVerdict}
 use Rattle.ir_runs.specs.declared.thread_verdict.ThreadVerdict.TheVariants.{Same, Disagrees, Starves}
-use Rattle.ir_runs.specs.Verdicts.{Suits, Agrees, Awaits, Judged, NoneTakes, IsVerdict, IsEvent, HoldsEvents, IsLive, IsWhole}
+use Rattle.ir_runs.specs.Verdicts.{Suits, Agrees, Awaits, Judged, NoneTakes, IsVerdict, IsWhole}
+use Rattle.ir_runs.specs.Events.{IsEvent, HoldsEvents, IsLive}
 
 pub is_done : (q : Ask) → (q ≡ Done) ⊎ (q ≢ Done)
 is_done Private = inr (λ h. cc h)

@@ -1,16 +1,14 @@
 -- One step of each thread is enough to see that a run is maximal.
 -- the act of a step that follows is that of the one result
 use Rattle.std.proofs.Common.{◌≡◌, ℕ, suc, zero, pred, ◌<◌, List, [], ◌∷◌, ◌++◌, refl, ap, ◌∙◌, subst}
-use Rattle.ir_runs.specs.Machine.{Ask, Private, Env, Enter, Try, Leave, Get, Put, Done, act_of, Machine}
-use Rattle.ir_runs.specs.Labels.{Label, Quiet, Answer, In, Refused, Out, logged, Trace}
-use Rattle.ir_runs.specs.Object.{Object, target, Admits, emitted}
+use Rattle.ir_runs.specs.Machine.{Ask, Private, Env, Enter, Try, Leave, Get, Put, Done, act_of, Machine, Object, target, Admits, emitted, Label, Quiet, Answer, In, Refused, Out, logged, Trace}
 use Rattle.ir_runs.specs.Run.{act, State, Step, asked, Can, after, label, IsRun, end, trail}
 use Rattle.ir_runs.proofs.Append.{trail_append}
 use Rattle.ir_runs.proofs.Ending.{trail_same, run_last}
 use Rattle.ir_runs.proofs.Follow.{fits_part}
 use Rattle.ir_runs.proofs.Judge.{goes_further}
 use Rattle.ir_runs.specs.Following.{Check, unlogged, Fits, Follows, IsMaximal, left_log, left_steps, closing}
-use Rattle.ir_runs.specs.Verdicts.{result_of}
+use Rattle.ir_runs.specs.Events.{result_of}
 
 pub one_act : {T : Type 0} (m : Machine T) (q : Ask) (r : ℕ) (b : Object) (es : List Label) → Admits m (act_of q r) b
     → logged (emitted (act_of q r) b) (unlogged (emitted (act_of q r) b) es) ≡ es → act_of q r ≡ act_of q (result_of q es)

@@ -1,10 +1,9 @@
 -- There is a maximal run that follows a trace.
 use Rattle.std.proofs.Common.{◌≡◌, ◌≢◌, ℕ, suc, zero, pred, ◌<◌, ◌≤◌, Bool, true, false, cond, eqb, List, [], ◌∷◌, ◌++◌, Some, None, refl, sym, subst, arith, inl, inr, ◌⊎◌, eq-eqb}
 use Rattle.std.proofs.lemmas.Bool.{cases_eq, cases_lt, eqb-true}
-use Rattle.ir_runs.specs.Machine.{Done, Act, Silent, Result, Entry, Refusal, Exit, Load, Store, Never, Machine, IsLawful}
-use Rattle.ir_runs.specs.Labels.{Label, Quiet, Answer, In, Refused, Out, logged, Trace}
+use Rattle.ir_runs.specs.Machine.{Done, Act, Silent, Result, Entry, Refusal, Exit, Load, Store, Never, Machine, target, Admits, emitted, Label, Quiet, Answer, In, Refused, Out, logged, Trace}
+use Rattle.ir_runs.specs.Lawful.{IsLawful}
 use Rattle.ir_runs.specs.declared.access.Access.TheVariants.{Reading, Writing}
-use Rattle.ir_runs.specs.Object.{target, Admits, emitted}
 use Rattle.ir_runs.specs.Run.{act, State, Step, asked, Can, after, label, trail}
 use Rattle.ir_runs.proofs.Good.{Good, stays_good}
 use Rattle.ir_runs.proofs.Stuck.{search_below, is_writing, is_inside, not_inside}
@@ -15,7 +14,7 @@ use Rattle.ir_runs.proofs.Own.{below_idle}
 use Rattle.ir_runs.proofs.Tally.{sum_less}
 use Rattle.ir_runs.specs.Coherent.{sum_below}
 use Rattle.ir_runs.specs.Following.{unlogged, ends_now, closing}
-use Rattle.ir_runs.specs.Verdicts.{result_of}
+use Rattle.ir_runs.specs.Events.{result_of}
 
 is_logged : (k : Label) (es : List Label) → (logged k (unlogged k es) ≡ es) ⊎ ((logged k (unlogged k es) ≡ es) → ⊥)
 is_logged Quiet es = inl refl

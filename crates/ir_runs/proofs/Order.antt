@@ -1,14 +1,14 @@
 -- Consistent cuts: the larger and the smaller of two, persistence, progress, least and greatest.
 use Rattle.std.proofs.Common.{◌≡◌, ◌≢◌, ℕ, suc, zero, min, max, ◌<◌, ◌≤◌, Bool, true, false, cond, eqb, List, [], ◌∷◌, length, refl, sym, ap, ◌∙◌, subst, arith, inl, inr, ◌⊎◌, eq-eqb, ne_eqb}
 use Rattle.std.proofs.lemmas.Bool.{cases_eq, cases_lt}
-use Rattle.ir_runs.specs.Machine.{Machine, IsLawful}
-use Rattle.ir_runs.specs.Labels.{Label}
+use Rattle.ir_runs.specs.Machine.{Machine, Label}
+use Rattle.ir_runs.specs.Lawful.{IsLawful}
 use Rattle.ir_runs.specs.Run.{State, Step, after, label, IsRun, join_if, trail, count}
 use Rattle.ir_runs.proofs.Good.{Good}
 use Rattle.ir_runs.proofs.Early.{moment}
-use Rattle.ir_runs.specs.Extremes.{IsLeast, IsGreatest}
+use Rattle.ir_runs.specs.Cuts.{IsLeast, IsGreatest, Cut, IsCut, Consistent}
 use Rattle.ir_runs.proofs.Early.{early}
-use Rattle.ir_runs.specs.Cuts.{Cut, IsCut, Consistent, further, Admitted}
+use Rattle.ir_runs.specs.Admitted.{further, Admitted}
 use Rattle.ir_runs.proofs.Determined.{further_same, further_other}
 
 pub consistent_max : {T : Type 0} (m : Machine T) (s : State T) (run : List Step) (p q : Cut) → Consistent m s run p → Consistent m s run q

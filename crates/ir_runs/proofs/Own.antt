@@ -2,13 +2,13 @@
 -- an event of a run is the first step's, or a later one
 use Rattle.std.proofs.Common.{◌≡◌, ℕ, suc, zero, ◌+◌, ◌<◌, ◌≤◌, Bool, true, false, cond, eqb, List, [], ◌∷◌, Some, None, refl, sym, ap, ◌∙◌, subst, arith, inl, inr, ◌⊎◌, eq-eqb, ne_eqb}
 use Rattle.std.proofs.lemmas.Bool.{cases_eq, eqb-true, cases_lt}
-use Rattle.ir_runs.specs.Machine.{Done, Act, act_of, Silent, Result, Entry, Refusal, Exit, Load, Store, Never, Machine, upd, IsLawful}
-use Rattle.ir_runs.specs.Labels.{Label, Quiet, Answer, In, Refused, Out, logged}
+use Rattle.ir_runs.specs.Machine.{Done, Act, act_of, Silent, Result, Entry, Refusal, Exit, Load, Store, Never, Machine, upd, Object, target, Admits, acted, emitted, Label, Quiet, Answer, In, Refused, Out, logged}
+use Rattle.ir_runs.specs.Lawful.{IsLawful}
 use Rattle.ir_runs.specs.declared.access.Access.{Access}
 use Rattle.ir_runs.specs.declared.access.Access.TheVariants.{Reading, Writing}
-use Rattle.ir_runs.specs.Object.{Object, target, Admits, acted, emitted}
 use Rattle.ir_runs.proofs.Tables.{upd_same, upd_elim}
-use Rattle.ir_runs.specs.Run.{act, State, Step, asked, Can, after, label, IsRun, join_if, trail, IsStart, IsIdle, events, log, trace}
+use Rattle.ir_runs.specs.Run.{act, State, Step, asked, Can, after, label, IsRun, join_if, trail, events, log}
+use Rattle.ir_runs.specs.Bounds.{IsStart, IsIdle, trace}
 use Rattle.ir_runs.proofs.Good.{Exclusive, Inside, Good, stays_good, inside_now}
 use Rattle.ir_runs.proofs.Pull.{entered, past_writer, objects_after}
 use Rattle.ir_runs.proofs.Ratchet.{taken, Writes, Writes_kept, emitted_in, Entering}

@@ -1,8 +1,8 @@
 -- A run that logs the first events of another's threads leads to one of the other's consistent cuts.
 use Rattle.std.proofs.Common.{◌≡◌, ℕ, suc, ◌≤◌, cond, eqb, List, [], ◌∷◌, ◌++◌, length, take, sym, ap, ◌∙◌, refl, arith}
 use Rattle.std.proofs.Math.Seq.{take-append_seam}
-use Rattle.ir_runs.specs.Machine.{Machine, IsLawful}
-use Rattle.ir_runs.specs.Labels.{Label}
+use Rattle.ir_runs.specs.Machine.{Machine, Label}
+use Rattle.ir_runs.specs.Lawful.{IsLawful}
 use Rattle.ir_runs.specs.Run.{State, Step, IsRun, end, trail, events, log, count}
 use Rattle.ir_runs.proofs.Append.{trail_append, run_append}
 use Rattle.ir_runs.proofs.Good.{Good}

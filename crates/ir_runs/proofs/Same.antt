@@ -2,10 +2,9 @@
 -- the first step of a thread is what the thread asks now
 use Rattle.std.proofs.Common.{◌≡◌, ◌≢◌, ℕ, ◌<◌, ◌≤◌, Bool, true, false, eqb, List, [], ◌∷◌, ◌++◌, length, refl, sym, ap, ◌∙◌, subst, arith, inl, inr, eq-eqb, ne_eqb, append-nil, length-append}
 use Rattle.std.proofs.lemmas.Bool.{cases_eq}
-use Rattle.ir_runs.specs.Machine.{Ask, Act, act_of, Silent, Result, Entry, Refusal, Exit, Load, Store, Never, Machine, IsLawful}
-use Rattle.ir_runs.specs.Labels.{Label, Quiet, Answer, In, Refused, Out, logged}
+use Rattle.ir_runs.specs.Machine.{Ask, Act, act_of, Silent, Result, Entry, Refusal, Exit, Load, Store, Never, Machine, Object, Admits, target, emitted, Label, Quiet, Answer, In, Refused, Out, logged}
+use Rattle.ir_runs.specs.Lawful.{IsLawful}
 use Rattle.ir_runs.specs.declared.access.Access.TheVariants.{Reading, Writing}
-use Rattle.ir_runs.specs.Object.{Object, Admits, target, emitted}
 use Rattle.ir_runs.proofs.Tables.{upd_other}
 use Rattle.ir_runs.specs.Run.{act, State, Can, Step, asked, after, label, IsRun, end, join_if, trail, events, log, count}
 use Rattle.ir_runs.proofs.Good.{Good, stays_good}

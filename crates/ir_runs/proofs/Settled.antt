@@ -1,11 +1,11 @@
 -- What follows from where the threads are at the end of a run.
 use Rattle.std.proofs.Common.{◌≡◌, ◌≢◌, ℕ, suc, zero, ◌<◌, List, [], ◌∷◌, refl, inl, inr}
 use Rattle.std.proofs.lemmas.Bool.{cases_lt}
-use Rattle.ir_runs.specs.Machine.{Ask, Private, Env, Enter, Try, Leave, Get, Put, Done, act_of, Machine, IsLawful}
-use Rattle.ir_runs.specs.Labels.{Label, Quiet, Answer, In, Refused, Out, logged, Trace}
+use Rattle.ir_runs.specs.Machine.{Ask, Private, Env, Enter, Try, Leave, Get, Put, Done, act_of, Machine, Object, target, Admits, emitted, Label, Quiet, Answer, In, Refused, Out, logged, Trace}
+use Rattle.ir_runs.specs.Lawful.{IsLawful}
 use Rattle.ir_runs.specs.declared.access.Access.TheVariants.{Reading, Writing}
-use Rattle.ir_runs.specs.Object.{Object, target, Admits, emitted}
-use Rattle.ir_runs.specs.Run.{State, Step, asked, end, IsStart, IsIdle, IsDone}
+use Rattle.ir_runs.specs.Run.{State, Step, asked, end, IsDone}
+use Rattle.ir_runs.specs.Bounds.{IsStart, IsIdle}
 use Rattle.ir_runs.proofs.Good.{Good}
 use Rattle.ir_runs.proofs.Stuck.{run_idle}
 use Rattle.ir_runs.proofs.Ending.{not_done}
@@ -14,7 +14,8 @@ use Rattle.ir_runs.proofs.OneResult.{Last, last_of, one_step_each}
 use Rattle.ir_runs.specs.Coherent.{IsCoherent}
 use Rattle.ir_runs.specs.Following.{unlogged, Follows, IsMaximal, closing}
 use Rattle.ir_runs.specs.Standing.{GoesOn, AgreesNow, StandsAs}
-use Rattle.ir_runs.specs.Verdicts.{Suits, IsVerdict, HoldsEvents}
+use Rattle.ir_runs.specs.Verdicts.{Suits, IsVerdict}
+use Rattle.ir_runs.specs.Events.{HoldsEvents}
 use Rattle.ir_runs.specs.declared.thread_verdict.ThreadVerdict.{ThreadVerdict}
 use Rattle.ir_runs.specs.declared.thread_verdict.ThreadVerdict.TheVariants.{Same, Disagrees, Starves}
 

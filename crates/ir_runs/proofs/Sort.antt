@@ -1,8 +1,8 @@
 -- The part of a run that is in a consistent cut is a run, with the same threads.
 use Rattle.std.proofs.Common.{◌≡◌, ℕ, suc, zero, pred, ◌<◌, Bool, true, false, cond, eqb, List, [], ◌∷◌, take, refl, sym, ap, ◌∙◌, subst, arith, inl, inr, eq-eqb}
 use Rattle.std.proofs.lemmas.Bool.{eqb-true, cases_lt, lt-ltb, le-ltb}
-use Rattle.ir_runs.specs.Machine.{Machine, IsLawful}
-use Rattle.ir_runs.specs.Labels.{Label}
+use Rattle.ir_runs.specs.Machine.{Machine, Label}
+use Rattle.ir_runs.specs.Lawful.{IsLawful}
 use Rattle.ir_runs.specs.Run.{State, Step, Can, after, label, IsRun, join_if, trail}
 use Rattle.ir_runs.proofs.Good.{Good, stays_good}
 use Rattle.ir_runs.proofs.Back.{Skipped, skip}

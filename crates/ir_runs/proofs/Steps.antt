@@ -2,8 +2,8 @@
 -- two changes of a table, each of one place
 use Rattle.std.proofs.Common.{◌≡◌, ◌≢◌, ℕ, sym, ap, ◌∙◌, subst, inl, inr}
 use Rattle.std.proofs.lemmas.Bool.{cases_eq}
-use Rattle.ir_runs.specs.Machine.{Act, act_of, Machine, upd, IsLawful}
-use Rattle.ir_runs.specs.Object.{Object, target, Admits, acted, reply, emitted}
+use Rattle.ir_runs.specs.Machine.{Act, act_of, Machine, upd, Object, target, Admits, acted, reply, emitted}
+use Rattle.ir_runs.specs.Lawful.{IsLawful}
 use Rattle.ir_runs.proofs.Tables.{upd_same, upd_other}
 use Rattle.ir_runs.specs.Run.{act, State, moved, Step, Can, after, label}
 use Rattle.ir_runs.proofs.Good.{Inside, Good, inside_now}

@@ -1,13 +1,14 @@
 -- Nothing is stuck: who waits for an object waits for a thread that holds it, and that waits for a greater object at most.
 use Rattle.std.proofs.Common.{true, ◌≡◌, ◌≢◌, ℕ, suc, zero, ◌+◌, ◌<◌, ◌≤◌, List, [], ◌∷◌, Option, Some, None, refl, sym, ap, ◌∙◌, subst, arith, inl, inr, ◌⊎◌}
 use Rattle.std.proofs.lemmas.Bool.{cases_eq, cases_lt}
-use Rattle.ir_runs.specs.Machine.{Ask, Private, Env, Enter, Try, Leave, Get, Put, Done, act_of, Machine, Holds, IsLawful}
+use Rattle.ir_runs.specs.Machine.{Ask, Private, Env, Enter, Try, Leave, Get, Put, Done, act_of, Machine, target, Admits}
+use Rattle.ir_runs.specs.Lawful.{Holds, IsLawful}
 use Rattle.ir_runs.specs.declared.access.Access.{Access}
 use Rattle.ir_runs.specs.declared.env_kind.EnvKind.{EnvKind}
 use Rattle.ir_runs.specs.declared.access.Access.TheVariants.{Reading, Writing}
-use Rattle.ir_runs.specs.Object.{target, Admits}
 use Rattle.ir_runs.proofs.Tables.{upd_other}
-use Rattle.ir_runs.specs.Run.{State, Step, asked, Can, after, IsRun, end, IsIdle, IsBounded}
+use Rattle.ir_runs.specs.Run.{State, Step, asked, Can, after, IsRun, end}
+use Rattle.ir_runs.specs.Bounds.{IsIdle, IsBounded}
 use Rattle.ir_runs.proofs.Good.{Good}
 
 pub search_below : (P Q : Option Access → Type 0) → ((x : Option Access) → P x ⊎ Q x) → (f : ℕ → Option Access) (n : ℕ)

@@ -2,11 +2,10 @@
 use Rattle.std.proofs.Common.{◌≡◌, ◌≢◌, ℕ, Option, Some, None, refl, sym, arith}
 use Rattle.std.proofs.Math.Path.{fun_ext}
 use Rattle.std.proofs.lemmas.Bool.Decides.{nat_tests}
-use Rattle.ir_runs.specs.Machine.{Act, Silent, Result, Entry, Refusal, Exit, Load, Store, Never, Machine, upd}
+use Rattle.ir_runs.specs.Machine.{Act, Silent, Result, Entry, Refusal, Exit, Load, Store, Never, Machine, upd, Object, Admits, acted, reply, emitted}
 use Rattle.ir_runs.specs.declared.access.Access.{Access}
 use Rattle.ir_runs.specs.declared.access.Access.TheVariants.{Reading, Writing}
 use Rattle.ir_runs.proofs.Good.{Exclusive, Inside}
-use Rattle.ir_runs.specs.Object.{Object, Admits, acted, reply, emitted}
 
 pub upd_comm : {A : Type 0} (f : ℕ → A) (i j : ℕ) (v w : A) → i ≢ j → upd (upd f i v) j w ≡ upd (upd f j w) i v
 unfolding upd

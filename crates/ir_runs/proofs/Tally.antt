@@ -1,13 +1,13 @@
 -- How many have entered an object for reading at its version.
 use Rattle.std.proofs.Common.{◌≡◌, ◌≢◌, ℕ, suc, zero, ◌+◌, ◌<◌, ◌≤◌, Bool, true, false, cond, eqb, Option, Some, None, refl, sym, ap, ◌∙◌, subst, arith, inl, inr, eq-eqb, ne_eqb}
 use Rattle.std.proofs.lemmas.Bool.{cases_eq}
-use Rattle.ir_runs.specs.Machine.{Act, Silent, Result, Entry, Refusal, Exit, Load, Store, Never, Machine, upd, IsLawful}
-use Rattle.ir_runs.specs.Labels.{Label, In}
+use Rattle.ir_runs.specs.Machine.{Act, Silent, Result, Entry, Refusal, Exit, Load, Store, Never, Machine, upd, Object, target, Admits, acted, emitted, Label, In}
+use Rattle.ir_runs.specs.Lawful.{IsLawful}
 use Rattle.ir_runs.specs.declared.access.Access.{Access}
 use Rattle.ir_runs.specs.declared.access.Access.TheVariants.{Reading, Writing}
-use Rattle.ir_runs.specs.Object.{Object, target, Admits, acted, emitted}
 use Rattle.ir_runs.proofs.Tables.{upd_same, upd_other, upd_elim}
-use Rattle.ir_runs.specs.Run.{act, State, Step, Can, after, label, IsStart}
+use Rattle.ir_runs.specs.Run.{act, State, Step, Can, after, label}
+use Rattle.ir_runs.specs.Bounds.{IsStart}
 use Rattle.ir_runs.proofs.Good.{Exclusive, Inside, Good, inside_now}
 use Rattle.ir_runs.specs.Coherent.{reads_one, sum_below}
 

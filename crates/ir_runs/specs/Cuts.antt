@@ -1,10 +1,8 @@
 -- Cuts of a run: a position for each thread.
 use Rattle.std.specs.Prelude.{◌≡◌, ℕ, suc, zero, pred, ◌<◌, ◌≤◌, cond, eqb, ltb, List, [], ◌∷◌}
-use Rattle.ir_runs.specs.Machine.{Machine}
-use Rattle.ir_runs.specs.Labels.{Label, In, Out}
+use Rattle.ir_runs.specs.Machine.{Machine, Object, Label, In, Out}
 use Rattle.ir_runs.specs.declared.access.Access.TheVariants.{Reading, Writing}
-use Rattle.ir_runs.specs.Object.{Object}
-use Rattle.ir_runs.specs.Run.{State, Step, Can, after, label, IsRun, end, join_if, trail, count, th}
+use Rattle.ir_runs.specs.Run.{State, Step, end, join_if, trail, count}
 
 -- x is at place k of the list
 abbrev pub At : {A : Type 0} → List A → ℕ → A → Type 0
@@ -49,19 +47,18 @@ part (e ∷ run) p = join_if (ltb 0 (p e.0)) e (part run (lower p e.0))
 abbrev pub object_at : {T : Type 0} → Machine T → State T → List Step → Cut → ℕ → Object
 object_at m s run p o = (end m s (part run p)).objects o
 
--- p, and one more step of thread t
-abbrev pub further : Cut → ℕ → Cut
-further p t u = cond (eqb u t) (suc (p u)) (p u)
+-- the consistent cut at or above p with t at k or more that lies below every other such
+pub record IsLeast {T : Type 0} (m : Machine T) (s : State T) (run : List Step) (p : Cut) (t k : ℕ) (q : Cut) : Type 0 where
+  pub cut : IsCut m s run q
+  pub consistent : Consistent m s run q
+  pub above : (u : ℕ) → p u ≤ q u
+  pub reaches : k ≤ q t
+  pub least : (c : Cut) → IsCut m s run c → Consistent m s run c → ((u : ℕ) → p u ≤ c u) → k ≤ c t → (u : ℕ) → q u ≤ c u
 
--- thread t has a step left, and what that step needs is in the cut
-abbrev pub Admitted : {T : Type 0} → Machine T → State T → List Step → Cut → ℕ → Type 0
-Admitted m s run p t = (p t < count m s run t) × Consistent m s run (further p t)
-
--- the part of the run in a consistent cut is a run, at whose end each thread is as it was at its position, and a step of a thread that is
--- admitted leads to the cut one further
-pub record AtCut {T : Type 0} (m : Machine T) (s : State T) (run : List Step) (p : Cut) : Type 0 where
-  pub runs : IsRun m s (part run p)
-  pub threads : (t : ℕ) → (end m s (part run p)).now t ≡ th m s run t (p t)
-  pub steps : (t : ℕ) → Admitted m s run p t → (r : ℕ) × Can m (end m s (part run p)) (t, r)
-      × (after m (end m s (part run p)) (t, r) ≡ end m s (part run (further p t)))
-      × Emits m s run t (p t) (label m (end m s (part run p)) (t, r))
+-- the consistent cut at or below p with t at k or less that lies above every other such
+pub record IsGreatest {T : Type 0} (m : Machine T) (s : State T) (run : List Step) (p : Cut) (t k : ℕ) (q : Cut) : Type 0 where
+  pub cut : IsCut m s run q
+  pub consistent : Consistent m s run q
+  pub below : (u : ℕ) → q u ≤ p u
+  pub reaches : q t ≤ k
+  pub greatest : (c : Cut) → IsCut m s run c → Consistent m s run c → ((u : ℕ) → c u ≤ p u) → c t ≤ k → (u : ℕ) → c u ≤ q u

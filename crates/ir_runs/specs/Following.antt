@@ -1,7 +1,6 @@
 -- Runs that follow a trace.
 use Rattle.std.specs.Prelude.{Option, Some, None, length, suc, ◌≡◌, ℕ, pred, ◌<◌, List, [], ◌∷◌, ◌++◌}
-use Rattle.ir_runs.specs.Machine.{Machine}
-use Rattle.ir_runs.specs.Labels.{Label, Quiet, Answer, In, Refused, Out, logged, Trace}
+use Rattle.ir_runs.specs.Machine.{Machine, Label, Quiet, Answer, In, Refused, Out, logged, Trace}
 use Rattle.ir_runs.specs.Run.{State, Step, IsRun, trail, events}
 
 -- what a step of one thread needs of the trace beside its event, as where it ends: by the thread before it and by the steps and the log

@@ -1,6 +1,4 @@
 pub mod Machine
-pub mod Labels
-pub mod Object
 pub mod Run
 pub mod Cuts
 pub mod Coherent
@@ -8,5 +6,8 @@ pub mod Following
 pub mod Alike
 pub mod Verdicts
 pub mod Standing
-pub mod Extremes
 pub mod InOrder
+pub mod Admitted
+pub mod Lawful
+pub mod Bounds
+pub mod Events

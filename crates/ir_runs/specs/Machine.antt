@@ -1,7 +1,7 @@
 -- A thread as a machine that asks and is answered, whatever it computes.
-use Rattle.std.specs.Prelude.{◌≡◌, ◌≢◌, ℕ, suc, zero, ◌≤◌, Bool, cond, eqb, Option, Some, None}
+use Rattle.std.specs.Prelude.{ℕ, suc, zero, Bool, cond, eqb, Option, ◌≡◌, ◌≢◌, true, Some, None, false, List, ◌∷◌}
 use Rattle.ir_runs.specs.declared.access.Access.{Access}
-use Rattle.ir_runs.specs.declared.access.Access.TheVariants.{Reading, Writing}
+use Rattle.ir_runs.specs.declared.access.Access.TheVariants.{Writing, Reading}
 use Rattle.ir_runs.specs.declared.env_kind.EnvKind.{EnvKind}
 
 -- what a thread asks for next; a try enters for writing if no thread is inside, and never waits
@@ -53,38 +53,103 @@ pub record Machine (T : Type 0) : Type 0 where
 unfoldable pub upd : {A : Type 0} → (ℕ → A) → ℕ → A → ℕ → A
 upd f i v j = cond (eqb j i) v (f j)
 
--- what is held after an act
-abbrev pub held_after : Act → (ℕ → Option Access) → ℕ → Option Access
-held_after Silent h o = h o
-held_after (Result k v) h o = h o
-held_after (Entry i a v) h o = upd h i (Some a) o
-held_after (Refusal i) h o = h o
-held_after (Exit i a) h o = upd h i None o
-held_after (Load i j) h o = h o
-held_after (Store i j w) h o = h o
-held_after Never h o = h o
+-- an object at one moment
+pub record Object : Type 0 where
+  -- how many times a writer has left it
+  pub version : ℕ
+  -- how many readers have left this version
+  pub left : ℕ
+  -- what each thread is inside for, if it is inside
+  pub inside : ℕ → Option Access
+  pub words : ℕ → ℕ
 
--- what the asks say of the objects that are held
-abbrev pub Holds : Ask → (ℕ → Option Access) → Type 0
-Holds Private h = Unit {0}
-Holds (Env k) h = Unit {0}
-Holds (Enter o a) h = (i : ℕ) → o ≤ i → h i ≡ None
-Holds (Try o) h = (i : ℕ) → o ≤ i → h i ≡ None
-Holds (Leave o a) h = h o ≡ Some a
-Holds (Get o i) h = h o ≢ None
-Holds (Put o i w) h = h o ≡ Some Writing
-Holds Done h = (i : ℕ) → h i ≡ None
+-- which object an act is about; an act about none leaves object 0 as it is
+abbrev pub target : Act → ℕ
+target Silent = 0
+target (Result k v) = 0
+target (Entry o a v) = o
+target (Refusal o) = 0
+target (Exit o a) = o
+target (Load o i) = o
+target (Store o i w) = o
+target Never = 0
 
--- a machine that enters in order, uses what it holds, and is done when it holds nothing
-pub record IsLawful {T : Type 0} (m : Machine T) : Type 0 where
-  pub holds : (x : T) → Holds (m.ask x) (m.held x)
-  pub takes : (x : T) (r o : ℕ) → m.held (m.take x r) o ≡ held_after (act_of (m.ask x) r) (m.held x) o
+-- whether the act can be taken now: a reader waits while a writer is inside, a writer while anyone is, and a result suits its call
+abbrev pub Admits : {T : Type 0} → Machine T → Act → Object → Type 0
+Admits m Silent b = Unit {0}
+Admits m (Result k v) b = m.fits k v ≡ true
+Admits m (Entry o Reading v) b = (u : ℕ) → b.inside u ≢ Some Writing
+Admits m (Entry o Writing v) b = (u : ℕ) → b.inside u ≡ None
+Admits m (Refusal o) b = Unit {0}
+Admits m (Exit o a) b = Unit {0}
+Admits m (Load o i) b = Unit {0}
+Admits m (Store o i w) b = Unit {0}
+Admits m Never b = ⊥
 
--- a machine that ends by a private step, then leaves what it holds, one object a step, and then is done
-pub record IsClosing {T : Type 0} (m : Machine T) : Type 0 where
-  pub ends : (x : T) (r : ℕ) (e : ℕ × ℕ) → m.ended x ≡ None → m.ended (m.take x r) ≡ Some e → (m.ask x ≡ Private)
-      × (m.size (m.take x r) ≡ m.size x)
-  pub stays : (x : T) (r : ℕ) (e : ℕ × ℕ) → m.ended x ≡ Some e → m.ended (m.take x r) ≡ Some e
-  pub leaves : (x : T) (r : ℕ) (e : ℕ × ℕ) → m.ended x ≡ Some e → m.ask x ≢ Done → (o : ℕ) × (a : Access) × (m.ask x ≡ Leave o a)
-      × (m.size x ≡ suc (m.size (m.take x r)))
-  pub done : (x : T) → m.ask x ≡ Done → (e : ℕ × ℕ) × (m.ended x ≡ Some e) × (m.size x ≡ 0)
+-- the object after the act of thread t: a reader's leave adds 1 to left, a writer's leave makes a new version that no reader has left
+abbrev pub acted : Act → ℕ → Object → Object
+acted Silent t b = b
+acted (Result k v) t b = b
+acted (Entry o a v) t b = record b { inside = upd b.inside t (Some a) }
+acted (Refusal o) t b = b
+acted (Exit o Reading) t b = record b { left = suc b.left; inside = upd b.inside t None }
+acted (Exit o Writing) t b = record b { version = suc b.version; left = 0; inside = upd b.inside t None }
+acted (Load o i) t b = b
+acted (Store o i w) t b = record b { words = upd b.words i w }
+acted Never t b = b
+
+-- what the thread is answered
+abbrev pub reply : Act → Object → ℕ
+reply Silent b = 0
+reply (Result k v) b = v
+reply (Entry o a v) b = v
+reply (Refusal o) b = 0
+reply (Exit o a) b = 0
+reply (Load o i) b = b.words i
+reply (Store o i w) b = 0
+reply Never b = 0
+
+-- what a step emits: nothing, the result of a call of the environment, an entry, a refused try, or a leave
+pub data Label : Type 0 where
+  Quiet : Label
+  Answer : (kind : EnvKind) → (value : ℕ) → Label
+  In : (object : ℕ) → (access : Access) → (version left : ℕ) → Label
+  Refused : (object : ℕ) → Label
+  Out : (object : ℕ) → (access : Access) → (version : ℕ) → Label
+
+-- what the act emits: an entry emits the version that it finds and, for writing, how many readers have left it
+abbrev pub emitted : Act → Object → Label
+emitted Silent b = Quiet
+emitted (Result k v) b = Answer k v
+emitted (Entry o Reading v) b = In o Reading b.version 0
+emitted (Entry o Writing v) b = In o Writing b.version b.left
+emitted (Refusal o) b = Refused o
+emitted (Exit o a) b = Out o a b.version
+emitted (Load o i) b = Quiet
+emitted (Store o i w) b = Quiet
+emitted Never b = Quiet
+
+-- whether the act is about an object
+abbrev pub is_shared : Act → Bool
+is_shared Silent = false
+is_shared (Result k v) = false
+is_shared (Entry o a v) = true
+is_shared (Refusal o) = false
+is_shared (Exit o a) = true
+is_shared (Load o i) = true
+is_shared (Store o i w) = true
+is_shared Never = false
+
+-- es, with what is logged of the label before it: results, entries and refused tries
+abbrev pub logged : Label → List Label → List Label
+logged Quiet es = es
+logged (Answer k v) es = Answer k v ∷ es
+logged (In o a v l) es = In o a v l ∷ es
+logged (Refused o) es = Refused o ∷ es
+logged (Out o a v) es = es
+
+-- the trace of a run: of each thread how many steps it takes, its log, and its end and code
+pub record Trace : Type 0 where
+  pub steps : ℕ → ℕ
+  pub logs : ℕ → List Label
+  pub ends : ℕ → Option (ℕ × ℕ)

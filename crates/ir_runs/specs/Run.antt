@@ -1,9 +1,6 @@
 -- Threads and objects, one step at a time.
-use Rattle.std.specs.Prelude.{◌≡◌, ℕ, zero, suc, ◌<◌, ◌≤◌, Bool, true, false, eqb, List, [], ◌∷◌, length, None}
-use Rattle.ir_runs.specs.Machine.{Ask, Done, Enter, Act, act_of, Machine, upd}
-use Rattle.ir_runs.specs.declared.access.Access.{Access}
-use Rattle.ir_runs.specs.Labels.{Label, logged, Trace}
-use Rattle.ir_runs.specs.Object.{Object, target, Admits, acted, reply, emitted}
+use Rattle.std.specs.Prelude.{◌≡◌, ℕ, zero, suc, Bool, true, false, eqb, List, [], ◌∷◌, length}
+use Rattle.ir_runs.specs.Machine.{Ask, Done, Act, act_of, Machine, upd, Object, target, Admits, acted, reply, emitted, Label, logged}
 
 -- all threads, of any kind, and all objects at one moment
 pub record State (T : Type 0) : Type 0 where
@@ -80,33 +77,10 @@ thread_in [] k last = last
 thread_in (x ∷ xs) zero last = x.0
 thread_in (x ∷ xs) (suc k) last = thread_in xs k last
 
--- the trace of the run
-abbrev pub trace : {T : Type 0} → Machine T → State T → List Step → Trace
-trace m s run = record { steps = count m s run; logs = log m s run; ends = λ t. m.ended ((end m s run).now t) }
-
 -- thread t just after its k-th own step
 abbrev pub th : {T : Type 0} → Machine T → State T → List Step → ℕ → ℕ → T
 th m s run t k = thread_in (trail m s run t) k ((end m s run).now t)
 
--- no thread is inside, and nothing has happened
-pub record IsStart {T : Type 0} (m : Machine T) (s : State T) : Type 0 where
-  pub version : (o : ℕ) → (s.objects o).version ≡ 0
-  pub left : (o : ℕ) → (s.objects o).left ≡ 0
-  pub inside : (o t : ℕ) → (s.objects o).inside t ≡ None
-  pub held : (t o : ℕ) → m.held (s.now t) o ≡ None
-
 -- every thread is done
 abbrev pub IsDone : {T : Type 0} → Machine T → State T → Type 0
 IsDone m s = (t : ℕ) → asked m s t ≡ Done
-
--- a run after which every thread is done
-abbrev pub IsComplete : {T : Type 0} → Machine T → State T → List Step → Type 0
-IsComplete m s run = IsRun m s run × IsDone m (end m s run)
-
--- the threads from n on are done
-abbrev pub IsIdle : {T : Type 0} → Machine T → State T → ℕ → Type 0
-IsIdle m s n = (t : ℕ) → n ≤ t → asked m s t ≡ Done
-
--- the threads enter objects below the count
-abbrev pub IsBounded : {T : Type 0} → Machine T → State T → ℕ → Type 0
-IsBounded m s count = (t o : ℕ) (a : Access) → asked m s t ≡ Enter o a → o < count

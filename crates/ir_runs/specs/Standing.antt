@@ -1,10 +1,10 @@
 -- Where the threads are at the end of a run that follows a trace.
 use Rattle.std.specs.Prelude.{◌≡◌, ◌≢◌, ℕ, List, [], ◌∷◌, ◌++◌, length}
-use Rattle.ir_runs.specs.Machine.{Machine, Done}
-use Rattle.ir_runs.specs.Labels.{Label, Trace}
+use Rattle.ir_runs.specs.Machine.{Machine, Done, Label, Trace}
 use Rattle.ir_runs.specs.Run.{State, Step, asked, end, trail, log, count}
 use Rattle.ir_runs.specs.Following.{Follows, left_log, left_steps, closing}
-use Rattle.ir_runs.specs.Verdicts.{Agrees, result_of}
+use Rattle.ir_runs.specs.Verdicts.{Agrees}
+use Rattle.ir_runs.specs.Events.{result_of}
 use Rattle.ir_runs.specs.declared.thread_verdict.ThreadVerdict.{ThreadVerdict}
 use Rattle.ir_runs.specs.declared.thread_verdict.ThreadVerdict.TheVariants.{Same, Disagrees, Starves}
 

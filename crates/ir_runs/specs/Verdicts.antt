@@ -1,10 +1,8 @@
 -- What is said of each thread where a run that follows a trace has gone as far as any can.
-use Rattle.std.specs.Prelude.{◌≡◌, ◌≢◌, ℕ, ◌<◌, ◌≤◌, true, List, ◌∷◌, Option, None, length}
-use Rattle.ir_runs.specs.Machine.{Ask, Private, Env, Enter, Try, Leave, Get, Put, Done, Machine}
-use Rattle.ir_runs.specs.Labels.{Label, Quiet, Answer, In, Refused, Out, Trace}
-use Rattle.ir_runs.specs.declared.access.Access.TheVariants.{Reading, Writing}
+use Rattle.std.specs.Prelude.{◌≡◌, ◌≢◌, ℕ, ◌<◌, ◌≤◌, List, ◌∷◌, Option, length}
+use Rattle.ir_runs.specs.Machine.{Ask, Private, Env, Enter, Try, Leave, Get, Put, Done, Machine, Label, Answer, In, Refused, Trace}
+use Rattle.ir_runs.specs.declared.access.Access.TheVariants.{Writing}
 use Rattle.ir_runs.specs.Run.{State, Step, IsRun, IsDone, end, trail, log, count}
-use Rattle.ir_runs.specs.Cuts.{At}
 use Rattle.ir_runs.specs.declared.thread_verdict.ThreadVerdict.{ThreadVerdict}
 use Rattle.ir_runs.specs.declared.thread_verdict.ThreadVerdict.TheVariants.{Same, Disagrees, Starves}
 use Rattle.ir_runs.specs.Following.{Follows, left_log, left_steps, ends_now, Meets, closing}
@@ -51,23 +49,6 @@ abbrev pub IsVerdict : {T : Type 0} → Machine T → State T → Trace → List
 IsVerdict m s tr run t v = Judged m (tr.ends t) (NoneTakes m s tr t (count m s run t)) ((end m s run).now t)
     (left_steps (trail m s run t) (tr.steps t)) (left_log (trail m s run t) (tr.logs t)) (length (log m s run t)) (count m s run t) v
 
--- what a trace may hold: results that fit, entries and refused tries
-abbrev pub IsEvent : {T : Type 0} → Machine T → Label → Type 0
-IsEvent m Quiet = ⊥
-IsEvent m (Answer k v) = m.fits k v ≡ true
-IsEvent m (In o Reading v l) = l ≡ 0
-IsEvent m (In o Writing v l) = Unit {0}
-IsEvent m (Refused o) = Unit {0}
-IsEvent m (Out o a v) = ⊥
-
--- each log of the trace holds such
-abbrev pub HoldsEvents : {T : Type 0} → Machine T → Trace → Type 0
-HoldsEvents m tr = (t i : ℕ) (k : Label) → At (tr.logs t) i k → IsEvent m k
-
--- none of the first n threads has ended
-abbrev pub IsLive : {T : Type 0} → Machine T → State T → ℕ → Type 0
-IsLive m s n = (t : ℕ) → t < n → m.ended (s.now t) ≡ None
-
 -- a complete run of n threads with this trace
 pub record IsWhole {T : Type 0} (m : Machine T) (s : State T) (n : ℕ) (tr : Trace) (run : List Step) : Type 0 where
   pub runs : IsRun m s run
@@ -75,9 +56,3 @@ pub record IsWhole {T : Type 0} (m : Machine T) (s : State T) (n : ℕ) (tr : Tr
   pub steps : (t : ℕ) → t < n → count m s run t ≡ tr.steps t
   pub logs : (t : ℕ) → t < n → log m s run t ≡ tr.logs t
   pub ends : (t : ℕ) → t < n → m.ended ((end m s run).now t) ≡ tr.ends t
-
--- the one result with which a step that asks so can follow this log
-abbrev pub result_of : Ask → List Label → ℕ
-result_of (Env k) (Answer j v ∷ es) = v
-result_of (Try o) (In p c v l ∷ es) = 1
-result_of _ _ = 0

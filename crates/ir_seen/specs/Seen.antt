@@ -2,13 +2,12 @@
 use Rattle.std.specs.Prelude.{◌≡◌, ℕ, List, ◌⊎◌, Some, option_map}
 use Rattle.ir_runs.specs.Machine.{Machine, Done}
 use Rattle.ir_thread.specs.Calls.{ask_of, after_reply}
-use Rattle.ir_thread.specs.Ends.{end_number, end_code}
-use Rattle.ir_thread.specs.Held.{held_at, held_count}
+use Rattle.ir_thread.specs.State.{end_number, end_code, State, held_at, held_count}
 use Rattle.ir_thread.specs.Instance.{shared_ask, reply_of, is_result, thread_machine}
-use Rattle.ir_thread.specs.State.{State}
 use Rattle.ir_thread.specs.declared.profile.Profile.{Profile}
 use Rattle.ir_image.specs.Guest.{Guest}
 use Rattle.ir_runs.specs.Run as run
+use Rattle.ir_runs.specs.Bounds as bounds
 use Rattle.ir_flat.specs.Flat.{start_flat, tables}
 use Rattle.ir_states.specs.Sources.{Giving, Gives}
 use Rattle.ir_states.specs.Views.{viewed, beside, IsUnspoilt}
@@ -48,6 +47,6 @@ seen_start guest profile sources = beside (viewed view (tables (start_flat guest
 -- a complete run of a guest that counts: each thread is answered by its own source, in turn, and no end is a spent budget's or a full log's
 pub record IsCounted {S : Type 0} (guest : Guest) (budget : ℕ) (profile : Profile) (given : Giving S) (sources : ℕ → S) (steps : List run.Step)
     : Type 0 where
-  pub complete : run.IsComplete (thread_machine guest.code) (tables (start_flat guest budget profile)) steps
+  pub complete : bounds.IsComplete (thread_machine guest.code) (tables (start_flat guest budget profile)) steps
   pub answered : (t : ℕ) → Gives given (sources t) (run.log (thread_machine guest.code) (tables (start_flat guest budget profile)) steps t)
   pub unspoilt : IsUnspoilt (IsSpoilt guest.code) (run.end (thread_machine guest.code) (tables (start_flat guest budget profile)) steps)

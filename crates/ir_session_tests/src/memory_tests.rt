@@ -2,10 +2,9 @@
 
 ghost use Rattle.std.specs.Prelude.{◌≡◌, ◌≤◌, ℕ, length, map, IfOk};
 ghost use Rattle.ir_cut.specs.Positions.{IsConsistentCut, cut_of};
-ghost use Rattle.ir_weave.specs.Standing.{StandsAt, flat_in};
-ghost use Rattle.ir_weave.specs.States.{positions};
+ghost use Rattle.ir_weave.specs.Standing.{StandsAt, flat_in, positions};
 ghost use Rattle.ir_record.specs.Worlds.{NoneFailed};
-ghost use Rattle.ir_thread.specs.Allowed.{IsAllowed};
+ghost use Rattle.ir_thread.specs.State.{IsAllowed};
 ghost use Rattle.ir_thread.specs.declared.profile.Profile.TheVariants.{One};
 
 use crate::sessions::{Files, answer_of};

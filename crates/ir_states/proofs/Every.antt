@@ -1,6 +1,7 @@
 -- Where all threads always come to rest, the states at rest that can be reached are a finished search.
 use Rattle.std.proofs.Common.{◌≡◌, ℕ, List, [], ◌∷◌, ◌++◌, refl, sym, ap, ◌∙◌, subst}
-use Rattle.ir_runs.specs.Machine.{Machine, IsLawful}
+use Rattle.ir_runs.specs.Machine.{Machine}
+use Rattle.ir_runs.specs.Lawful.{IsLawful}
 use Rattle.ir_runs.specs.Run.{State, Step, asked, Can, after, end}
 use Rattle.ir_runs.proofs.CallerLemmas.{Good}
 use Rattle.ir_states.specs.Counting.{Answers, IsAtRest, GoesAhead, entering, Brought}

@@ -1,6 +1,7 @@
 -- The outcomes of a finished search are those of the complete runs that count.
 use Rattle.std.proofs.Common.{◌≡◌, ◌↔◌, ℕ, List, [], ◌∷◌, ◌++◌, refl, sym, ap, ◌∙◌, subst}
-use Rattle.ir_runs.specs.Machine.{Machine, IsLawful}
+use Rattle.ir_runs.specs.Machine.{Machine}
+use Rattle.ir_runs.specs.Lawful.{IsLawful}
 use Rattle.ir_runs.specs.Run.{State, Step, end, IsDone}
 use Rattle.ir_runs.proofs.CallerLemmas.{Good, end_append}
 use Rattle.ir_states.specs.Counting.{Answers, Counts, GoesAhead, entering, Brought}

@@ -1,8 +1,7 @@
 -- A run is the run by the order of its threads, and the only one.
 use Rattle.std.proofs.Common.{◌≡◌, ◌≢◌, ℕ, suc, zero, false, List, [], ◌∷◌, ◌++◌, refl, sym, ap, ◌∙◌, subst, inl, inr, ◌⊎◌, append-nil}
 use Rattle.std.proofs.lemmas.Bool.{cases_eq}
-use Rattle.ir_runs.specs.Machine.{Ask, Private, Env, Enter, Try, Leave, Get, Put, Done, act_of, Machine}
-use Rattle.ir_runs.specs.Object.{Object, target, Admits}
+use Rattle.ir_runs.specs.Machine.{Ask, Private, Env, Enter, Try, Leave, Get, Put, Done, act_of, Machine, Object, target, Admits}
 use Rattle.ir_runs.specs.Run.{State, Step, asked, act, after, IsRun, end, IsDone}
 use Rattle.ir_runs.specs.InOrder.{InTurn, IsByOrder}
 use Rattle.ir_runs.proofs.CallerLemmas.{same_after, now_other}

@@ -1,10 +1,11 @@
 -- What threads do between their entries, brought before a run.
 use Rattle.std.proofs.Common.{◌≡◌, ℕ, suc, zero, ◌+◌, ◌<◌, ◌≤◌, ◌⊎◌, inl, inr, Bool, true, false, cond, List, [], ◌∷◌, ◌++◌, length, refl, sym, ap, ◌∙◌, subst, arith, eqb, append-nil, append_assoc, length-append}
 use Rattle.std.proofs.lemmas.Bool.{cases_eq, cases_lt}
-use Rattle.ir_runs.specs.Machine.{Ask, Private, Env, Enter, Try, Leave, Get, Put, Done, act_of, Machine, IsLawful}
+use Rattle.ir_runs.specs.Machine.{Ask, Private, Env, Enter, Try, Leave, Get, Put, Done, act_of, Machine, target, Admits}
+use Rattle.ir_runs.specs.Lawful.{IsLawful}
 use Rattle.ir_runs.specs.declared.env_kind.EnvKind.{EnvKind}
-use Rattle.ir_runs.specs.Object.{target, Admits}
-use Rattle.ir_runs.specs.Run.{State, Step, asked, after, label, IsRun, end, join_if, trail, IsDone, IsIdle}
+use Rattle.ir_runs.specs.Run.{State, Step, asked, after, label, IsRun, end, join_if, trail, IsDone}
+use Rattle.ir_runs.specs.Bounds.{IsIdle}
 use Rattle.ir_runs.proofs.CallerLemmas.{Good, stays_good, stays_idle, end_append, trail_append}
 use Rattle.ir_states.specs.Counting.{Answers, IsAnswered, Takes, Counts, is_own, IsAtRest, GoesAhead, entering, Brought}
 use Rattle.ir_states.proofs.First.{first}

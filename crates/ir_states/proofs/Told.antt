@@ -1,6 +1,7 @@
 -- Where no thread tries, a run whose entries are those of a path leads to what is alike to the path's end, before the search is finished too.
 use Rattle.std.proofs.Common.{◌≡◌, ◌≢◌, ℕ, false, List, [], ◌∷◌, refl, subst}
-use Rattle.ir_runs.specs.Machine.{Ask, Private, Env, Enter, Try, Leave, Get, Put, Done, act_of, Machine, IsLawful}
+use Rattle.ir_runs.specs.Machine.{Ask, Private, Env, Enter, Try, Leave, Get, Put, Done, act_of, Machine}
+use Rattle.ir_runs.specs.Lawful.{IsLawful}
 use Rattle.ir_runs.specs.Run.{State, Step, asked, end}
 use Rattle.ir_runs.proofs.CallerLemmas.{Good}
 use Rattle.ir_states.specs.Counting.{Answers, Counts, is_own, IsAtRest, entering}

@@ -1,6 +1,6 @@
 -- Lines of bytes that are joined.
 use Rattle.std.proofs.Common.{◌≡◌, ℕ, suc, zero, Bool, true, false, cond, eqb, List, [], ◌∷◌, ◌++◌, take, refl, ap, ◌∙◌}
-use Rattle.ir_stream.specs.Lines.{Cut, cut_of, onto, cut}
+use Rattle.ir_stream.specs.Answers.{Cut, cut_of, onto, cut}
 
 abbrev by_test : Bool → ℕ → Cut → Cut
 by_test t x k = cond t (cut_of ([] ∷ k.whole) k.rest) (onto x k.whole k.rest)

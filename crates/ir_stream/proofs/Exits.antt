@@ -8,9 +8,7 @@ use Rattle.ir_stream.specs.declared.serving.Served.{Served}
 use Rattle.ir_stream.specs.declared.serving.Served.TheVariants.{Quit}
 use Rattle.ir_stream.specs.declared.serving.Fault.{Fault}
 use Rattle.ir_stream.specs.declared.serving.Fault.TheVariants.{Read, Write, TooLong}
-use Rattle.ir_stream.specs.Lines.{most_kept_bytes, Cut, cut, last_line, lines_of}
-use Rattle.ir_stream.specs.Answers.{Replying, Answered, Wrote, WroteInPart, Replied, RepliedPrefix, through, some_quits}
-use Rattle.ir_stream.specs.Devices.{Reads}
+use Rattle.ir_stream.specs.Answers.{most_kept_bytes, Cut, cut, last_line, lines_of, Replying, Answered, Wrote, WroteInPart, Replied, RepliedPrefix, through, some_quits, Reads}
 use Rattle.ir_stream.specs.Endings.{served_after, IfEnded, LeadsTo}
 use Rattle.ir_stream.proofs.Cuts.{cut-feed, cut-other, take-again}
 use Rattle.ir_stream.proofs.Replies.{last_some, answered-append, answered-nil, answered-one, answered_prefix, some_quits-append, some_quits-one, some_quits-nil, through-append, through-last, through-one, some_quits_prefix}

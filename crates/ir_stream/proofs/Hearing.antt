@@ -8,8 +8,7 @@ use Rattle.ir_stream.specs.declared.serving.Served.{Served}
 use Rattle.ir_stream.specs.declared.serving.Served.TheVariants.{Quit, InputEnd}
 use Rattle.ir_stream.specs.declared.serving.Fault.{Fault}
 use Rattle.ir_stream.specs.declared.serving.Fault.TheVariants.{TooLong}
-use Rattle.ir_stream.specs.Lines.{Cut, cut, last_line, lines_of, heard}
-use Rattle.ir_stream.specs.Answers.{Replying, Wrote, through, some_quits}
+use Rattle.ir_stream.specs.Answers.{Cut, cut, last_line, lines_of, heard, Replying, Wrote, through, some_quits}
 use Rattle.ir_stream.specs.Endings.{served_after, LeadsTo}
 use Rattle.ir_stream.proofs.Cuts.{cut-feed}
 use Rattle.ir_stream.proofs.Replies.{some_quits-append, some_quits-first, through-append, through-first, through-last, through-none}

@@ -4,9 +4,7 @@ use Rattle.std.specs.Prelude.{Option}
 use Rattle.std.proofs.lemmas.List.{append-nil}
 use Rattle.std.proofs.KnownBytes.{Appends-nil, Appends-trans}
 use Rattle.std.specs.Io.KnownBytes.{Appends}
-use Rattle.ir_stream.specs.Lines.{most_kept_bytes, last_line}
-use Rattle.ir_stream.specs.Devices.{AppendsPrefix}
-use Rattle.ir_stream.specs.Answers.{Replying, Answered, Wrote, Replied, through, some_quits}
+use Rattle.ir_stream.specs.Answers.{most_kept_bytes, last_line, AppendsPrefix, Replying, Answered, Wrote, Replied, through, some_quits}
 
 -- a prefix of a text is one of a longer text
 pub prefix_longer : (a b : Option (List ℕ)) (text more : List ℕ) → AppendsPrefix a b text → AppendsPrefix a b (text ++ more)

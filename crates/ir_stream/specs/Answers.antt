@@ -1,8 +1,12 @@
 -- A machine that answers lines, one after the other.
-use Rattle.std.specs.Prelude.{◌≡◌, ℕ, Bool, true, false, List, [], ◌∷◌, ◌++◌, if◌then◌else◌}
+use Rattle.std.specs.Prelude.{◌≡◌, ℕ, Bool, true, false, List, [], ◌∷◌, ◌++◌, if◌then◌else◌, length, nat_lt, Ok, Err, ◌≤◌, ◌==◌, take}
 use Rattle.std.specs.declared.option.Option.{Option}
-use Rattle.std.specs.Io.KnownBytes.{Appends}
-use Rattle.ir_stream.specs.Devices.{AppendsPrefix}
+use Rattle.std.specs.Io.KnownBytes.{Appends, Consumes}
+use Rattle.std.specs.declared.result.Result.{Result}
+use Rattle.ir_stream.specs.declared.serving.Served.{Served}
+use Rattle.ir_stream.specs.declared.serving.Served.TheVariants.{Quit, InputEnd}
+use Rattle.ir_stream.specs.declared.serving.Fault.{Fault}
+use Rattle.ir_stream.specs.declared.serving.Fault.TheVariants.{TooLong}
 
 -- what a machine may do: as the first it answers a line by a text, and is then the second
 abbrev pub Replying : Type 0 → Type 1
@@ -26,6 +30,13 @@ pub record Replied {S : Type 0} (R : Replying S) (s : S) (line : List ℕ) (next
   pub text : List ℕ
   pub is : R s line text next
   pub grown : Appends old new text
+
+-- known bytes grow by a prefix of the text
+pub record AppendsPrefix (old new : Option (List ℕ)) (text : List ℕ) : Type 0 where
+  pub part : List ℕ
+  pub more : List ℕ
+  pub splits : text ≡ part ++ more
+  pub grown : Appends old new part
 
 -- the machine may answer a line so that the writer took a prefix of the answer
 pub record RepliedPrefix {S : Type 0} (R : Replying S) (s : S) (line : List ℕ) (old new : Option (List ℕ)) : Type 0 where
@@ -52,3 +63,50 @@ through quits (l ∷ ls) = l ∷ (if quits l then [] else through quits ls)
 unfoldable pub some_quits : (List ℕ → Bool) → List (List ℕ) → Bool
 some_quits quits [] = false
 some_quits quits (l ∷ ls) = if quits l then true else some_quits quits ls
+
+-- whole lines, without their line feeds, and the bytes after the last line feed
+pub record Cut : Type 0 where
+  pub whole : List (List ℕ)
+  pub rest : List ℕ
+
+abbrev pub cut_of : List (List ℕ) → List ℕ → Cut
+cut_of lines bytes = record { whole = lines; rest = bytes }
+
+-- a byte put before the first line
+abbrev pub onto : ℕ → List (List ℕ) → List ℕ → Cut
+onto b [] r = cut_of [] (b ∷ r)
+onto b (l ∷ ls) r = cut_of ((b ∷ l) ∷ ls) r
+
+-- the whole lines of the bytes, and what comes after the last line feed
+unfoldable pub cut : List ℕ → Cut
+cut [] = cut_of [] []
+cut (b ∷ bytes) = if b == 10 then cut_of ([] ∷ (cut bytes).whole) (cut bytes).rest else onto b (cut bytes).whole (cut bytes).rest
+
+-- what an input ends in is a line if it isn't empty
+abbrev pub last_line : List ℕ → List (List ℕ)
+last_line [] = []
+last_line (b ∷ bytes) = (b ∷ bytes) ∷ []
+
+-- the lines of a whole input
+abbrev pub lines_of : List ℕ → List (List ℕ)
+lines_of input = (cut input).whole ++ last_line (cut input).rest
+
+-- the lines that count: all where the input is shorter than the limit, else those that are whole within it
+abbrev pub heard : ℕ → List ℕ → List (List ℕ)
+heard limit input = if nat_lt (length input) limit then lines_of input else (cut (take limit input)).whole
+
+-- how a session over the input ends where no device fails
+abbrev pub ends : (List ℕ → Bool) → ℕ → List ℕ → Result Served Fault
+ends quits limit input = if some_quits quits (heard limit input) then Ok Quit else if nat_lt (length input) limit then Ok InputEnd else Err
+    TooLong
+
+-- the bytes that were read, at most limit, and what holds of them
+pub record Reads (limit : ℕ) (old new : Option (List ℕ)) (P : List ℕ → Type 0) : Type 0 where
+  pub consumed : List ℕ
+  pub taken : Consumes old new consumed
+  pub within : length consumed ≤ limit
+  pub holds : P consumed
+
+-- how many bytes of a line are kept: one more than the longest line that is answered as one
+abbrev pub most_kept_bytes : ℕ
+most_kept_bytes = 1025

@@ -1,5 +1,5 @@
 -- How a session over lines ends.
-use Rattle.std.specs.Prelude.{◌≡◌, ℕ, Bool, true, false, ⊤, List, length, nat_lt, if◌then◌else◌, Ok, Err}
+use Rattle.std.specs.Prelude.{◌≡◌, ℕ, Bool, true, false, ⊤, List, Ok, Err}
 use Rattle.std.specs.declared.option.Option.{Option}
 use Rattle.std.specs.declared.result.Result.{Result}
 use Rattle.ir_stream.specs.declared.serving.Served.{Served}
@@ -8,8 +8,7 @@ use Rattle.ir_stream.specs.declared.serving.Fault.{Fault}
 use Rattle.ir_stream.specs.declared.serving.Fault.TheVariants.{Read, Write, TooLong}
 use Rattle.ir_stream.specs.declared.serving.Flow.{Flow}
 use Rattle.ir_stream.specs.declared.serving.Flow.TheVariants.{Goes, Quits}
-use Rattle.ir_stream.specs.Lines.{heard}
-use Rattle.ir_stream.specs.Answers.{Replying, Wrote, through, some_quits}
+use Rattle.ir_stream.specs.Answers.{heard, Replying, Wrote, through, ends}
 
 -- whether a line that quits was answered
 abbrev pub flow_after : Bool → Flow
@@ -20,11 +19,6 @@ flow_after false = Goes
 abbrev pub served_after : Bool → Served
 served_after true = Quit
 served_after false = InputEnd
-
--- how a session over the input ends where no device fails
-abbrev pub ends : (List ℕ → Bool) → ℕ → List ℕ → Result Served Fault
-ends quits limit input = if some_quits quits (heard limit input) then Ok Quit else if nat_lt (length input) limit then Ok InputEnd else Err
-    TooLong
 
 -- unless a device failed
 abbrev pub IfEnded : Result Served Fault → Type 0 → Type 0

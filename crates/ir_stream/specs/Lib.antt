@@ -1,5 +1,3 @@
-pub mod Lines
-pub mod Devices
 pub mod Answers
 pub mod Nexts
 pub mod Endings

@@ -4,8 +4,7 @@ use Rattle.ir_image.specs.Guest.{Guest}
 use Rattle.ir_thread.specs.declared.profile.Profile.{Profile}
 use Rattle.ir_flat.specs.Flat.{start_flat, tables, machine}
 use Rattle.ir_runs.specs.Run.{Step}
-use Rattle.ir_trace.specs.Recorded.{Recorded}
-use Rattle.ir_trace.specs.TraceOf.{trace_of}
+use Rattle.ir_trace.specs.Recorded.{Recorded, trace_of}
 use Rattle.ir_record.specs.Recording.{IsTraceOf}
 use Rattle.ir_fit.specs.Fit.{IsRunOf}
 use Rattle.ir_runs.specs.Verdicts.{IsWhole}

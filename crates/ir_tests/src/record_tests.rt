@@ -1,6 +1,6 @@
 //! Guests of a few instructions, recorded in an order, with worlds that answer from a list.
 
-ghost use Rattle.ir_thread.specs.Allowed.{IsAllowed};
+ghost use Rattle.ir_thread.specs.State.{IsAllowed};
 ghost use Rattle.ir_thread.specs.declared.profile.Profile.TheVariants.{One};
 
 use crate::guests::{BROKEN_INSIDE, DOUBLED, READ_THEN_WRITE, Source, TWO_COUNTERS};

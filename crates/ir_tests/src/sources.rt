@@ -1,7 +1,7 @@
 //! Sources in parts.
 
 ghost use Rattle.std.specs.Prelude.{IfOk};
-ghost use Rattle.ir_thread.specs.Allowed.{IsAllowed};
+ghost use Rattle.ir_thread.specs.State.{IsAllowed};
 ghost use Rattle.ir_thread.specs.declared.profile.Profile.TheVariants.{One};
 
 use ir_asm::assemble;

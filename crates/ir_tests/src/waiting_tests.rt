@@ -1,6 +1,6 @@
 //! Guests whose threads wait for one object, recorded as a plain round robin takes their steps one by one.
 
-ghost use Rattle.ir_thread.specs.Allowed.{IsAllowed};
+ghost use Rattle.ir_thread.specs.State.{IsAllowed};
 ghost use Rattle.ir_thread.specs.declared.profile.Profile.TheVariants.{One};
 
 use crate::guests::Source;

@@ -3,8 +3,7 @@ use Rattle.std.proofs.Common.{◌≡◌, ◌≢◌, ◌+◌, ℕ, suc, List, [],
 use Rattle.std.specs.Prelude.{codes}
 use Rattle.ir_runs.specs.declared.access.Access.{Access}
 use Rattle.ir_runs.specs.declared.access.Access.TheVariants.{Reading, Writing}
-use Rattle.ir_text.specs.Answers.{hex_word}
-use Rattle.ir_text.specs.Texts.{if_inside, inside_for, words_text}
+use Rattle.ir_text.specs.Texts.{hex_word, if_inside, inside_for, words_text}
 
 is_inside : (a : Access) (n : ℕ) → if_inside a (Some a) n ≡ n ∷ []
 is_inside Reading n = refl

@@ -3,9 +3,9 @@ use Rattle.std.proofs.Common.{◌≡◌, ◌≤◌, ◌+◌, ◌++◌, add-one, 
 use Rattle.std.specs.Prelude.{slice_index_or}
 use Rattle.std.specs.List.{list_all}
 use Rattle.std.proofs.lemmas.Bool.{and_parts, leb-true}
-use Rattle.ir_isa.specs.Names.{register_name, register_names}
+use Rattle.ir_isa.specs.Fields.{register_name, register_names}
 use Rattle.ir_mach.specs.Core.{Core}
-use Rattle.ir_text.specs.Answers.{registers_text, register_text}
+use Rattle.ir_text.specs.Texts.{registers_text, register_text}
 
 short_at : (names : List (List ℕ)) (i : ℕ) → list_all (λ name. leb (length name) 4) names ≡ true → length (slice_index_or names i []) ≤ 4
 short_at [] i e = omega arith

@@ -3,16 +3,15 @@ use Rattle.std.proofs.Common.{◌≡◌, zero, suc, [], ◌∷◌, refl, Some, N
 use Rattle.std.specs.Prelude.{codes}
 use Rattle.std.specs.Fmt.{digits}
 use Rattle.hex.specs.Hex.{encode_with}
-use Rattle.ir_runs.specs.Labels.{In, Answer, Refused}
-use Rattle.ir_runs.specs.Object as objects
+use Rattle.ir_runs.specs.Machine.{In, Answer, Refused}
+use Rattle.ir_runs.specs.Machine as machine
 use Rattle.ir_runs.specs.declared.access.Access.TheVariants.{Reading, Writing}
 use Rattle.ir_runs.specs.declared.env_kind.EnvKind.TheVariants.{Clock}
 use Rattle.ir_runs.specs.declared.thread_verdict.ThreadVerdict.TheVariants.{Same, Disagrees, Starves}
 use Rattle.ir_coherence.specs.declared.cause.Cause.TheVariants.{Twice}
 use Rattle.ir_fit.specs.declared.header_cause.HeaderCause.TheVariants as header
 use Rattle.ir_fit.specs.declared.verdict.Verdict.TheVariants.{Header, Incoherent}
-use Rattle.ir_text.specs.Texts.{positions_text, memory_text, memory_lines, output_text, output_lines, object_text, inside_for, log_text, event_lines}
-use Rattle.ir_text.specs.Verdicts.{verdict_text, threads_text}
+use Rattle.ir_text.specs.Texts.{positions_text, memory_text, memory_lines, output_text, output_lines, object_text, inside_for, log_text, event_lines, verdict_text, threads_text}
 
 at_two : positions_text (3 ∷ 15 ∷ []) ≡ codes "at 3 15"
 unfolding digits
@@ -35,7 +34,7 @@ unfolding output_lines digits encode_with
 output_none = refl
 
 -- thread 0 is inside for writing
-abbrev written : objects.Object
+abbrev written : machine.Object
 written = record { version = 1; left = 0; inside = elim [ zero ↦ Some Writing | (suc t) ↦ None ]; words = elim [ zero ↦ 1 | (suc i) ↦ 0 ] }
 
 object_p : object_text 2 8 written ≡ codes "version 1 left 0 readers - writer 0\nwords 00000001 00000000 00000000 00000000 00000000 00000000 00000000 00000000\n"
@@ -43,7 +42,7 @@ unfolding inside_for digits encode_with
 object_p = refl
 
 -- threads 0, 1 and 2 are inside for reading
-abbrev read : objects.Object
+abbrev read : machine.Object
 read = record { version = 7; left = 2; inside = λ t. Some Reading; words = λ i. 0xabcdef01 }
 
 object_read : object_text 3 8 read ≡ codes "version 7 left 2 readers 0,1,2 writer -\nwords abcdef01 abcdef01 abcdef01 abcdef01 abcdef01 abcdef01 abcdef01 abcdef01\n"

@@ -3,7 +3,7 @@ use Rattle.std.proofs.Common.{◌≡◌, ◌<◌, ◌+◌, ℕ, zero, suc, List,
 use Rattle.std.proofs.lemmas.List.{at_drop_more}
 use Rattle.std.specs.Prelude.{slice_index_or}
 use Rattle.ir_runs.specs.declared.thread_verdict.ThreadVerdict.{ThreadVerdict}
-use Rattle.ir_text.specs.Verdicts.{thread_line, threads_text}
+use Rattle.ir_text.specs.Texts.{thread_line, threads_text}
 
 -- the first line and the others
 split : (t : ℕ) (vs : List ThreadVerdict) (d : ThreadVerdict) → t < length vs

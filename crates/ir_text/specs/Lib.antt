@@ -1,4 +1,3 @@
-pub mod Answers
 pub mod Texts
-pub mod Verdicts
 pub mod Buffered
+pub mod Held

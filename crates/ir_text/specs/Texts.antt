@@ -1,23 +1,33 @@
 -- The texts of answers, by what is at the cut.
-use Rattle.std.specs.Prelude.{◌==◌, ℕ, zero, suc, ◌+◌, ◌/◌, List, [], ◌∷◌, ◌++◌, take, drop, length, flat_map, codes, decimal, Option, Some, None, if◌then◌else◌}
-use Rattle.std.specs.List.{slice_index_or}
+use Rattle.std.specs.Prelude.{◌==◌, ℕ, zero, suc, ◌+◌, ◌/◌, List, [], ◌∷◌, ◌++◌, take, drop, length, flat_map, codes, decimal, Option, Some, None, if◌then◌else◌, ◌%◌}
 use Rattle.hex.specs.Hex.{encode_lower}
-use Rattle.ir_image.specs.Fetch.{word_at}
+use Rattle.ir_image.specs.Guest.{word_at}
 use Rattle.ir_mach.specs.Memory.{byte_at}
-use Rattle.ir_flat.specs.Flat.{idle}
-use Rattle.ir_thread.specs.Held.{held_at, highest}
-use Rattle.ir_runs.specs.Labels.{Label, Quiet, Answer, In, Out}
-use Rattle.ir_runs.specs.Labels as labels
+use Rattle.ir_thread.specs.State.{highest}
+use Rattle.ir_runs.specs.Machine.{Label, Quiet, Answer, In, Out, Object}
+use Rattle.ir_runs.specs.Machine as machine
 use Rattle.ir_thread.specs.State as thread
 use Rattle.ir_runs.specs.declared.access.Access.{Access}
 use Rattle.ir_runs.specs.declared.access.Access.TheVariants.{Reading, Writing}
 use Rattle.ir_runs.specs.declared.env_kind.EnvKind.{EnvKind}
 use Rattle.ir_runs.specs.declared.env_kind.EnvKind.TheVariants.{Clock, Random, Input}
 use Rattle.ir_thread.specs.declared.end.End.{End}
-use Rattle.ir_runs.specs.Object.{Object}
 use Rattle.ir_disasm.specs.Printed.{text_of}
 use Rattle.ir_command.specs.declared.hit.Hit.{Hit}
-use Rattle.ir_text.specs.Answers.{hex_word}
+use Rattle.ir_coherence.specs.Breaking.{cause_number}
+use Rattle.ir_coherence.specs.declared.cause.Cause.{Cause}
+use Rattle.ir_fit.specs.Fit.{header_cause_number}
+use Rattle.ir_fit.specs.declared.header_cause.HeaderCause.{HeaderCause}
+use Rattle.ir_runs.specs.declared.thread_verdict.ThreadVerdict.{ThreadVerdict}
+use Rattle.ir_runs.specs.declared.thread_verdict.ThreadVerdict.TheVariants.{Same, Disagrees, Starves}
+use Rattle.ir_fit.specs.declared.verdict.Verdict.{Verdict}
+use Rattle.ir_fit.specs.declared.verdict.Verdict.TheVariants.{Header, Incoherent, Threads}
+use Rattle.std.specs.Int.{bytes_high_first}
+use Rattle.ir_isa.specs.Fields.{register_name}
+use Rattle.ir_mach.specs.Core.{Core, register}
+use Rattle.ir_command.specs.declared.refusal.Refusal.{Refusal}
+use Rattle.ir_command.specs.declared.refusal.Refusal.TheVariants.{UnknownCommand, BadArgument, NoSuchThread, NoSuchObject, NoSuchNumber, BadAddress, LineTooLong, NoMemory, Full}
+use Rattle.ir_command.specs.Commands.{refusal_number}
 
 -- words and a number in a line
 abbrev pub number_line : List ℕ → ℕ → List ℕ
@@ -44,6 +54,10 @@ stop_text last at = if at == last then codes " end" else if at == 0 then codes "
 abbrev pub lines_for : ℕ → ℕ → ℕ
 lines_for zero count = 0
 lines_for (suc width) count = (count + width) / suc width
+
+-- a word in eight lower-case hexadecimal digits, the highest first
+abbrev pub hex_word : ℕ → List ℕ
+hex_word n = encode_lower (bytes_high_first 4 n)
 
 -- n lines of 16 bytes, each with the address of its first
 unfoldable pub memory_lines : ℕ → ℕ → List ℕ → List ℕ
@@ -105,19 +119,6 @@ object_text threads words o =
     ++ codes "\n"
     ++ codes "words" ++ words_text o.words words ++ codes "\n"
 
--- what a thread is inside an object for, if it is inside
-abbrev pub held_by : List thread.State → ℕ → ℕ → Option Access
-held_by threads o t = held_at (slice_index_or threads t idle).held o
-
--- the first line of an object by the number of threads
-abbrev pub state_line : ℕ → Object → List ℕ
-state_line threads o =
-    codes "version " ++ decimal o.version ++ codes " left " ++ decimal o.left
-    ++ codes " readers " ++ joined (inside_for Reading o.inside threads) ++ codes " writer " ++ joined (inside_for Writing o.inside threads)
-    ++ codes "\n"
-
--- ---- events
-
 abbrev pub kind_text : EnvKind → List ℕ
 kind_text Clock = codes "clock"
 kind_text Random = codes "random"
@@ -130,7 +131,7 @@ event_text (In object Reading version left) = codes "read " ++ decimal object ++
 event_text (In object Writing version left) = codes "write " ++ decimal object ++ codes " version " ++ decimal version ++ codes " readers "
     ++ decimal left
 event_text Quiet = []
-event_text (labels.Refused object) = codes "try " ++ decimal object
+event_text (machine.Refused object) = codes "try " ++ decimal object
 event_text (Out object access version) = []
 
 -- the events from a number on
@@ -159,3 +160,64 @@ next_by (Some e) code s = released (highest s.held)
 -- the next step of a thread: at its pc, or what it releases after its end
 abbrev pub next_text : List ℕ → thread.State → List ℕ
 next_text code s = next_by s.ended code s
+
+abbrev pub thread_verdict_text : ThreadVerdict → List ℕ
+thread_verdict_text Same = codes " same"
+thread_verdict_text (Disagrees event step) = codes " disagrees event " ++ decimal event ++ codes " step " ++ decimal step
+thread_verdict_text (Starves event) = codes " starves event " ++ decimal event
+
+abbrev pub thread_line : ℕ → ThreadVerdict → List ℕ
+thread_line t v = codes "thread " ++ decimal t ++ thread_verdict_text v ++ codes "\n"
+
+-- a line for each thread, from this one on
+unfoldable pub threads_text : ℕ → List ThreadVerdict → List ℕ
+threads_text t [] = []
+threads_text t (v ∷ vs) = thread_line t v ++ threads_text (t + 1) vs
+
+abbrev pub header_text : HeaderCause → List ℕ
+header_text cause = codes "header differs " ++ decimal (header_cause_number cause)
+
+abbrev pub incoherent_text : ℕ → ℕ → Cause → List ℕ
+incoherent_text thread event cause = codes "incoherent thread " ++ decimal thread ++ codes " event " ++ decimal event ++ codes " cause " ++
+    decimal (cause_number cause)
+
+-- the lines of a verdict
+abbrev pub verdict_text : Verdict → List ℕ
+verdict_text (Header cause) = header_text cause ++ codes "\n"
+verdict_text (Incoherent thread event cause) = incoherent_text thread event cause ++ codes "\n"
+verdict_text (Threads vs) = threads_text 0 vs.items
+
+-- the number of a fault of the bytes; there is none for running out of memory
+abbrev pub number_or_zero : Option ℕ → ℕ
+number_or_zero (Some n) = n
+number_or_zero None = 0
+
+abbrev pub reason_text : Refusal → List ℕ
+reason_text UnknownCommand = codes "unknown command"
+reason_text BadArgument = codes "bad argument"
+reason_text NoSuchThread = codes "no such thread"
+reason_text NoSuchObject = codes "no such object"
+reason_text NoSuchNumber = codes "no such number"
+reason_text BadAddress = codes "bad address"
+reason_text LineTooLong = codes "line too long"
+reason_text NoMemory = codes "no memory"
+reason_text Full = codes "full"
+
+abbrev pub refusal_text : Refusal → List ℕ
+refusal_text r = codes "refused " ++ decimal (refusal_number r) ++ codes " " ++ reason_text r ++ codes "\n"
+
+-- a line has four registers
+abbrev pub after_register : ℕ → List ℕ
+after_register n = if n % 4 == 3 then codes "\n" else codes " "
+
+abbrev pub register_text : Core → ℕ → List ℕ
+register_text m n = register_name n ++ codes "=" ++ hex_word (register m n) ++ after_register n
+
+-- the first n registers
+unfoldable pub registers_text : Core → ℕ → List ℕ
+registers_text m zero = []
+registers_text m (suc n) = registers_text m n ++ register_text m n
+
+-- pc and all registers
+abbrev pub machine_text : Core → List ℕ
+machine_text m = codes "pc " ++ hex_word m.pc ++ codes "\n" ++ registers_text m 32

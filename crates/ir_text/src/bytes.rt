@@ -6,9 +6,8 @@ ghost use Rattle.arrayvec.specs.ArrayVec.{array_vec_len};
 ghost use Rattle.hex.specs.Hex.{encode_lower};
 ghost use Rattle.ir_mach.specs.Core.{memory_size};
 ghost use Rattle.ir_mach.specs.Memory.{byte_at};
-ghost use Rattle.ir_stream.specs.Devices.{AppendsPrefix};
-ghost use Rattle.ir_text.specs.Answers.{hex_word};
-ghost use Rattle.ir_text.specs.Texts.{byte_or_zero, bytes_from, number_line, memory_text, output_text};
+ghost use Rattle.ir_stream.specs.Answers.{AppendsPrefix};
+ghost use Rattle.ir_text.specs.Texts.{hex_word, byte_or_zero, bytes_from, number_line, memory_text, output_text};
 
 use crate::next::code_word;
 use crate::room::{FULL, make_room};

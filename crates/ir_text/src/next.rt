@@ -1,10 +1,9 @@
 //! The next step of a thread.
 
 ghost use Rattle.std.specs.Prelude.{◌≡◌, ◌++◌, IfOk, codes};
-ghost use Rattle.ir_image.specs.Fetch.{word_at};
+ghost use Rattle.ir_image.specs.Guest.{word_at};
 ghost use Rattle.ir_thread.specs.declared.ask.Ask.{Ask};
-ghost use Rattle.ir_text.specs.Answers.{hex_word};
-ghost use Rattle.ir_text.specs.Texts.{number_line, disassembled, next_text};
+ghost use Rattle.ir_text.specs.Texts.{hex_word, number_line, disassembled, next_text};
 
 use crate::text::{Text, put_number, put_word};
 use ir_disasm::disassemble;

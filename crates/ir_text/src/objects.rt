@@ -4,10 +4,11 @@ ghost use Rattle.std.specs.Prelude.{◌≡◌, ◌≢◌, ◌≤◌, ◌<◌, �
 ghost use Rattle.std.specs.Io.KnownBytes.{Appends};
 ghost use Rattle.arrayvec.specs.ArrayVec.{array_vec_len};
 ghost use Rattle.ir_image.specs.Guest.{most_threads, most_object_words};
-ghost use Rattle.ir_thread.specs.Held.{held_at};
+ghost use Rattle.ir_thread.specs.State.{held_at};
 ghost use Rattle.ir_flat.specs.Flat.{idle, object_with};
-ghost use Rattle.ir_stream.specs.Devices.{AppendsPrefix};
-ghost use Rattle.ir_text.specs.Texts.{held_by, state_line, joined, inside_for, words_text, object_text};
+ghost use Rattle.ir_stream.specs.Answers.{AppendsPrefix};
+ghost use Rattle.ir_text.specs.Texts.{joined, inside_for, words_text, object_text};
+ghost use Rattle.ir_text.specs.Held.{held_by, state_line};
 
 use crate::text::{Text, put_number, put_word};
 use arrayvec::ArrayVec;

@@ -3,8 +3,8 @@
 ghost use Rattle.std.specs.Prelude.{◌≡◌, ◌≤◌, ◌+◌, ◌++◌, OnOk, OnErr, length, codes, decimal, true};
 ghost use Rattle.std.specs.Io.KnownBytes.{Appends};
 ghost use Rattle.arrayvec.specs.ArrayVec.{array_vec_len};
-ghost use Rattle.ir_text.specs.Verdicts.{thread_verdict_text, thread_line, header_text, incoherent_text, number_or_zero, threads_text, verdict_text};
-ghost use Rattle.ir_stream.specs.Devices.{AppendsPrefix};
+ghost use Rattle.ir_text.specs.Texts.{thread_verdict_text, thread_line, header_text, incoherent_text, number_or_zero, threads_text, verdict_text};
+ghost use Rattle.ir_stream.specs.Answers.{AppendsPrefix};
 
 use crate::text::{Text, put_number};
 use ir_fit::{Cause, HeaderCause, Verdict};

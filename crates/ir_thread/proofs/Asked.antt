@@ -3,13 +3,13 @@ use Rattle.std.proofs.Common.{◌≡◌, ◌≢◌, ℕ, ◌+◌, ◌<◌, ◌�
 use Rattle.std.proofs.lemmas.Bool.{cond_both}
 use Rattle.std.proofs.lemmas.Bool.Decides.{nat_tests}
 use Rattle.std.specs.Prelude.{nat_le, ◌&&◌, ◌==◌}
-use Rattle.ir_image.specs.Forms.{limits_of, most_object_words}
+use Rattle.ir_image.specs.Guest.{limits_of, most_object_words}
 use Rattle.ir_image.proofs.CallerLemmas.{most_words}
 use Rattle.ir_mach.specs.Core.{Outcome, Goes, Calls, Ends}
 use Rattle.ir_mach.specs.Execution.{outcome_of}
-use Rattle.ir_thread.specs.Calls.{a0, a1, a2, a7, call_of, call_at, byte_text, number_text, printed, printed_by, print_ask, logged_ask, is_object, has_word, entry_ask, leave_ask, leave_held, get_ask, get_held, put_ask, put_held, call_ask, outcome_ask, release_ask, ask_by, ask_of, IsRunning, CanLog, Permits, most_output, most_events}
-use Rattle.ir_thread.specs.Held.{held_at, highest, is_above}
-use Rattle.ir_thread.specs.State.{State}
+use Rattle.ir_thread.specs.Calls.{a0, a1, a2, a7, call_of, call_at, byte_text, number_text, printed, printed_by, print_ask, logged_ask, is_object, has_word, entry_ask, leave_ask, leave_held, get_ask, get_held, put_ask, put_held, call_ask, outcome_ask, release_ask, ask_by, ask_of, most_output, most_events}
+use Rattle.ir_thread.specs.Permitted.{IsRunning, CanLog, Permits}
+use Rattle.ir_thread.specs.State.{held_at, highest, is_above, State}
 use Rattle.ir_runs.specs.declared.access.Access.{Access}
 use Rattle.ir_runs.specs.declared.access.Access.TheVariants.{Reading, Writing}
 use Rattle.ir_thread.specs.declared.ask.Ask.{Ask}

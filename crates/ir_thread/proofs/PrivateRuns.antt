@@ -4,15 +4,16 @@ use Rattle.std.specs.Prelude.{nat_lt, is_some, Option, MatchOption}
 use Rattle.std.proofs.lemmas.Bool.{lt-leb, ltb-true, ltb-false}
 use Rattle.std.proofs.lemmas.Option.{option_and_then_some}
 use Rattle.ir_mach.specs.Core.{Core, Outcome, Goes, Calls, Ends}
-use Rattle.ir_mach.specs.Execution.{outcome_of, ran_of, past_call}
+use Rattle.ir_mach.specs.Execution.{outcome_of, past_call}
+use Rattle.ir_mach.specs.Steps.{ran_of}
 use Rattle.ir_mach.specs.Run.{core_after as machine_after, core_of}
-use Rattle.ir_thread.specs.State.{State}
-use Rattle.ir_thread.specs.Calls.{ask_of, after_ask, after_reply, core_after, step_of, run_of, IsRunning, Permits}
+use Rattle.ir_thread.specs.State.{State, end_of_fault}
+use Rattle.ir_thread.specs.Calls.{ask_of, after_ask, after_reply, core_after}
+use Rattle.ir_thread.specs.Permitted.{step_of, run_of, IsRunning, Permits}
 use Rattle.ir_thread.specs.Private.{PrivateSteps, NoInstruction}
 use Rattle.ir_thread.specs.declared.ask.Ask.TheVariants as ask
 use Rattle.ir_thread.specs.declared.ask.Reply.TheVariants.{Go}
 use Rattle.ir_thread.specs.declared.end.End.{End}
-use Rattle.ir_thread.specs.Ends.{end_of_fault}
 use Rattle.ir_thread.proofs.Asked.{ask_permits}
 
 -- a thread that hasn't ended has a step for each that its budget leaves

@@ -7,7 +7,8 @@ use Rattle.ir_mach.specs.Marks.{Marked, is_marked, AreStoresMarked}
 use Rattle.ir_mach.specs.Run.{unmarked_after, unmarked_next}
 use Rattle.ir_mach.proofs.CallerLemmas.{Begun, unmarked_are_steps, unmarked_begun, unmarked_free, unmarked_keep, unmarked_step}
 use Rattle.ir_thread.specs.State.{State}
-use Rattle.ir_thread.specs.Calls.{ask_of, after_ask, after_reply, core_after, step_of, run_of}
+use Rattle.ir_thread.specs.Calls.{ask_of, after_ask, after_reply, core_after}
+use Rattle.ir_thread.specs.Permitted.{step_of, run_of}
 use Rattle.ir_thread.specs.Private.{PrivateSteps, UnmarkedSteps}
 use Rattle.ir_thread.specs.declared.ask.Ask.TheVariants as ask
 use Rattle.ir_thread.specs.declared.ask.Reply.TheVariants.{Go}

@@ -1,13 +1,11 @@
 -- What a thread asks, and what comes after it.
-use Rattle.std.specs.Prelude.{◌≡◌, ◌⊎◌, ◌==◌, ◌&&◌, ℕ, zero, suc, ◌+◌, ◌≢◌, ◌<◌, ◌≤◌, ◌%◌, ◌^◌, Bool, true, List, [], ◌∷◌, ◌++◌, length, slice_set, nat_le, nat_lt, if◌then◌else◌, Option, Some, None, ⊤}
+use Rattle.std.specs.Prelude.{◌==◌, ◌&&◌, ℕ, ◌+◌, ◌%◌, ◌^◌, Bool, List, [], ◌∷◌, ◌++◌, length, slice_set, nat_le, nat_lt, if◌then◌else◌, Option, Some, None}
 use Rattle.std.specs.Fmt.{signed_decimal}
-use Rattle.ir_image.specs.Forms.{limits_of, most_objects, most_object_words}
+use Rattle.ir_image.specs.Guest.{limits_of}
 use Rattle.ir_mach.specs.Arithmetic.{signed}
 use Rattle.ir_mach.specs.Core.{Core, Outcome, Goes, Calls, Ends, register}
 use Rattle.ir_mach.specs.Execution.{outcome_of, past_call}
-use Rattle.ir_thread.specs.Ends.{end_of_fault}
-use Rattle.ir_thread.specs.Held.{held_at, highest, is_above}
-use Rattle.ir_thread.specs.State.{State}
+use Rattle.ir_thread.specs.State.{end_of_fault, State, held_at, highest, is_above}
 use Rattle.ir_runs.specs.declared.access.Access.{Access}
 use Rattle.ir_runs.specs.declared.access.Access.TheVariants.{Reading, Writing}
 use Rattle.ir_thread.specs.declared.ask.Ask.{Ask}
@@ -75,16 +73,6 @@ most_events = 1048576
 -- the most steps that a thread's budget may be
 abbrev pub most_budget : ℕ
 most_budget = 1000000000000
-
--- the most steps that a thread takes once its budget is spent: its end, and a leave for each object
-abbrev pub most_closing : ℕ
-most_closing = 1 + most_objects
-
--- the most steps that a thread takes
-abbrev pub most_steps : ℕ
-most_steps = most_budget + most_closing
-
--- ---- what a thread asks
 
 -- the low byte of a0
 abbrev pub byte_text : State → List ℕ
@@ -193,46 +181,6 @@ ask_by code None s = running_ask code s
 abbrev pub ask_of : List ℕ → State → Ask
 ask_of code s = ask_by code s.ended s
 
--- a thread that hasn't ended, and has a step left
-pub record IsRunning (s : State) : Type 0 where
-  pub lives : s.ended ≡ None
-  pub has_budget : s.steps < s.budget
-
--- there is room for an event
-abbrev pub CanLog : State → Type 0
-CanLog s = s.events < most_events
-
--- where a thread asks so: what it holds and has room for, and that its profile has the call
-abbrev pub Permits : State → Ask → Type 0
-Permits s ask.Private = IsRunning s
-Permits s (ask.Env kind) = IsRunning s × CanLog s
-Permits s (ask.Enter object access) = IsRunning s × CanLog s × (object < length s.held) × (is_above (highest s.held) object ≡ true)
-Permits s (ask.Try object) = IsRunning s × CanLog s × (object < length s.held) × (is_above (highest s.held) object ≡ true)
-    × (s.profile ≡ Two)
-Permits s (ask.Leave object access) = (s.ended ≡ None → s.steps < s.budget) × (object < length s.held)
-    × (held_at s.held object ≡ Some access)
-Permits s (ask.Get object index) = IsRunning s × (object < length s.held) × (index < most_object_words) × (held_at s.held object ≢ None)
-Permits s (ask.Put object index value) = IsRunning s × (object < length s.held) × (index < most_object_words)
-    × (held_at s.held object ≡ Some Writing)
-Permits s ask.Print = IsRunning s × (length s.output + length (printed s) ≤ most_output)
-Permits s (ask.End e) = s.ended ≡ None
-Permits s ask.Done = (s.ended ≢ None) × (highest s.held ≡ None)
-
--- ---- what comes after it
-
--- the reply brings a value
-abbrev pub IsValue : Reply → Type 0
-IsValue Go = ⊥
-IsValue (Value value) = ⊤
-
--- the reply fits what is asked: a value where one is wanted, 1 or 0 to a try, leave to go elsewhere, and nothing where there is no step
-abbrev pub Suits : Ask → Reply → Type 0
-Suits (ask.Env kind) reply = IsValue reply
-Suits (ask.Try object) reply = (reply ≡ Value 1) ⊎ (reply ≡ Value 0)
-Suits (ask.Get object index) reply = IsValue reply
-Suits ask.Done reply = ⊥
-Suits _ reply = reply ≡ Go
-
 -- what goes into a0
 abbrev pub answer_of : Reply → Option ℕ
 answer_of Go = None
@@ -273,12 +221,3 @@ after_ask code s ask.Done reply = s
 -- the thread after its next step and the reply to what it asked; one that is done stays
 unfoldable pub after_reply : List ℕ → State → Reply → State
 after_reply code s reply = after_ask code s (ask_of code s) reply
-
--- the thread after a step that is answered no value
-unfoldable pub step_of : List ℕ → State → State
-step_of code s = after_reply code s Go
-
--- the thread after n steps that are answered no value
-unfoldable pub run_of : List ℕ → ℕ → State → State
-run_of code zero s = s
-run_of code (suc k) s = step_of code (run_of code k s)

@@ -1,11 +1,10 @@
 -- The thread of a guest as a machine that asks and is answered.
 use Rattle.std.specs.Prelude.{ℕ, ◌^◌, ◌==◌, Bool, ◌||◌, List, nat_lt, option_map}
 use Rattle.ir_thread.specs.Calls.{ask_of, after_reply}
-use Rattle.ir_thread.specs.Ends.{end_number, end_code}
-use Rattle.ir_thread.specs.Held.{held_at, held_count}
-use Rattle.ir_runs.specs.Machine.{Machine, IsLawful, IsClosing}
+use Rattle.ir_thread.specs.State.{end_number, end_code, State, held_at, held_count}
+use Rattle.ir_runs.specs.Machine.{Machine}
+use Rattle.ir_runs.specs.Lawful.{IsLawful, IsClosing}
 use Rattle.ir_runs.specs.Machine as machine
-use Rattle.ir_thread.specs.State.{State}
 use Rattle.ir_thread.specs.declared.ask.Ask.{Ask}
 use Rattle.ir_thread.specs.declared.ask.Ask.TheVariants as ask
 use Rattle.ir_runs.specs.declared.env_kind.EnvKind.{EnvKind}

@@ -1,10 +1,8 @@
-pub mod Ends
-pub mod Held
 pub mod State
 pub mod Frames
 pub mod Calls
 pub mod Instance
-pub mod Allowed
 pub mod Alone
 pub mod Private
 pub mod Conditions
+pub mod Permitted

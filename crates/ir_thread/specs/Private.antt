@@ -1,11 +1,13 @@
 -- Steps of a thread that are its own alone.
 use Rattle.std.specs.Prelude.{◌≡◌, ◌≢◌, ℕ, ◌<◌, List, Some, None, false}
-use Rattle.ir_mach.specs.Execution.{outcome_of, ran_of}
+use Rattle.ir_mach.specs.Execution.{outcome_of}
+use Rattle.ir_mach.specs.Steps.{ran_of}
 use Rattle.ir_mach.specs.Marks.{Marked, is_marked}
 use Rattle.ir_mach.specs.Run.{unmarked_after}
 use Rattle.ir_mach.specs.declared.outcome.Ran.TheVariants as ran
 use Rattle.ir_thread.specs.State.{State}
-use Rattle.ir_thread.specs.Calls.{ask_of, run_of}
+use Rattle.ir_thread.specs.Calls.{ask_of}
+use Rattle.ir_thread.specs.Permitted.{run_of}
 use Rattle.ir_thread.specs.declared.ask.Ask.TheVariants as ask
 
 -- new is old after `count` of its steps, each of which is private

@@ -4,7 +4,7 @@ ghost use Rattle.std.specs.Prelude.{◌≡◌, ◌+◌, ◌<◌, ◌≤◌, leng
 ghost use Rattle.ir_image.specs.Guest.{most_objects};
 ghost use Rattle.ir_thread.specs.Calls.{most_budget, most_events, most_output};
 ghost use Rattle.ir_thread.specs.Frames.{ThreadFrame};
-ghost use Rattle.ir_thread.specs.Held.{held_count};
+ghost use Rattle.ir_thread.specs.State.{held_count};
 
 use crate::end::End;
 use crate::profile::Profile;

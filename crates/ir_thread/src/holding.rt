@@ -1,6 +1,6 @@
 //! What a thread holds: a table with a place for each object.
 
-ghost use Rattle.ir_thread.specs.Held.{highest};
+ghost use Rattle.ir_thread.specs.State.{highest};
 ghost use Rattle.std.specs.Prelude.{◌≡◌, ◌≤◌, length};
 
 use ir_runs::Access;

@@ -1,7 +1,7 @@
 //! Which system calls a guest may make.
 
 ghost use Rattle.std.specs.Prelude.{◌≡◌, ◌↔◌, IsTrue};
-ghost use Rattle.ir_thread.specs.Allowed.{largest, IsAllowed};
+ghost use Rattle.ir_thread.specs.State.{largest, IsAllowed};
 
 use ir_image::{Image, ImageForm};
 

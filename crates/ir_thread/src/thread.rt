@@ -2,9 +2,9 @@
 
 ghost use Rattle.std.specs.Prelude.{◌≡◌, ◌≢◌, ℕ, ◌+◌, ◌<◌, ◌≤◌, ◌^◌, ◌%◌, List, length, IfOk, MatchOption, vec_capacity, slice_index};
 ghost use Rattle.ir_image.specs.Guest.{most_objects, object_count};
-ghost use Rattle.ir_thread.specs.Calls.{most_budget, most_events, most_output, most_steps};
-ghost use Rattle.ir_thread.specs.Held.{held_count};
-ghost use Rattle.ir_thread.specs.State.{State, start_state};
+ghost use Rattle.ir_thread.specs.Calls.{most_budget, most_events, most_output};
+ghost use Rattle.ir_thread.specs.Permitted.{most_steps};
+ghost use Rattle.ir_thread.specs.State.{held_count, State, start_state};
 
 use crate::end::End;
 use crate::limits::MOST_OUTPUT;

@@ -1,7 +1,7 @@
 -- Positions of the threads of a guest with a trace.
 use Rattle.std.specs.Prelude.{◌≡◌, ℕ, zero, suc, ◌+◌, List, [], ◌∷◌, length, replicate, Option}
 use Rattle.ir_runs.specs.Run.{Step}
-use Rattle.ir_trace.specs.TraceOf.{recorded_thread}
+use Rattle.ir_trace.specs.Recorded.{recorded_thread}
 use Rattle.ir_fit.specs.Fit.{FittedTrace}
 use Rattle.ir_cut.specs.Positions.{IsConsistentCut}
 use Rattle.ir_command.specs.declared.command.Direction.{Direction}

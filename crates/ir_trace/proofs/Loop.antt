@@ -4,7 +4,7 @@ use Rattle.ir_bytes.specs.Reading.{Reader, fields_at}
 use Rattle.ir_bytes.proofs.CallerLemmas.{with_prefix, stops}
 use Rattle.ir_trace.specs.declared.trace_err.TraceErr.{TraceErr}
 use Rattle.ir_trace.specs.declared.trace_err.TraceErr.TheVariants.{Short, Magic, Count, Tag, Reserved, Range, Trailing, NoMem}
-use Rattle.ir_trace.specs.Reading.{Fails}
+use Rattle.ir_trace.specs.Results.{Fails}
 
 pub ends : {X : Type 0} (e : TraceErr) (one : Reader X TraceErr) (prefix : List X) (count i : ℕ) (bytes : List ℕ)
     (total : Result (List X × List ℕ) TraceErr) → i < count → Fails e (one bytes)

@@ -7,7 +7,7 @@ use Rattle.ir_bytes.specs.Format.{Format, finished, next, before, repeated, firs
 use Rattle.ir_bytes.proofs.CallerLemmas.{after_reading, Follows, Begins, Refuses, field_follows, field_begins, number_begins, then_follows, then_begins, both_begin, then_refuses, before_refuses, end_refuses, fields_begin}
 use Rattle.ir_runs.specs.declared.env_kind.EnvKind.{EnvKind}
 use Rattle.ir_runs.specs.declared.env_kind.EnvKind.TheVariants.{Clock, Random, Input}
-use Rattle.ir_thread.specs.Ends.{end_of}
+use Rattle.ir_thread.specs.State.{end_of}
 use Rattle.ir_thread.specs.declared.end.End.{End}
 use Rattle.ir_thread.specs.declared.profile.Profile.{Profile}
 use Rattle.ir_thread.specs.declared.profile.Profile.TheVariants.{One, Two}
@@ -17,7 +17,8 @@ use Rattle.ir_trace.specs.declared.header.Header.{Header}
 use Rattle.ir_trace.specs.declared.trace_err.TraceErr.{TraceErr}
 use Rattle.ir_trace.specs.declared.trace_err.TraceErr.TheVariants.{Short, Range, Trailing}
 use Rattle.ir_trace.specs.Recorded.{RecordedThread, Recorded}
-use Rattle.ir_trace.specs.Reading.{magic_field, profile_of, threads_field, objects_field, reserved_field, budget_field, end_field, code_field, events_field, tag_field, input_field, object_field, profile_at, header_at, end_by, end_at, answer_at, input_at, read_at, write_at, try_at, try_by, event_by, event_at, thread_at, recorded_at, last_tag}
+use Rattle.ir_trace.specs.Reading.{magic_field, profile_of, threads_field, objects_field, reserved_field, budget_field, end_field, events_field, input_field, object_field, profile_at, header_at, end_by, end_at, answer_at, input_at, read_at, write_at, try_at, try_by, event_by, event_at, thread_at, recorded_at}
+use Rattle.ir_trace.specs.Results.{code_field, tag_field, last_tag}
 use Rattle.ir_trace.specs.Fields.{tagged_fields, event_fields, thread_fields, trace_fault}
 
 -- ---- what comes before the threads

@@ -2,7 +2,7 @@
 use Rattle.std.proofs.Common.{ℕ, ◌+◌, ◌*◌, ◌/◌, ◌<◌, ◌≤◌, min, arith}
 use Rattle.ir_thread.specs.declared.profile.Profile.{Profile}
 use Rattle.ir_thread.specs.declared.profile.Profile.TheVariants.{One, Two}
-use Rattle.ir_trace.specs.Reading.{shortest}
+use Rattle.ir_trace.specs.Results.{shortest}
 
 -- after one event more
 pub one_more : (p : Profile) (i bytes rest after : ℕ) → i * shortest p + rest ≤ bytes → after + shortest p ≤ rest

@@ -5,7 +5,7 @@ use Rattle.std.proofs.lemmas.Bool.{eqb-true, eq-eqb, and_parts}
 use Rattle.byteorder.specs.Endian.{little_bytes}
 use Rattle.ir_bytes.specs.Reading.{number_at, field_at}
 use Rattle.ir_bytes.proofs.CallerLemmas.{two_ok, three_ok, ok_is, passed, passes, fixed_ok, fixed_again, IsBytes, Takes, Takes-then, number_takes, number_again, field_takes, field_again, byte_taken, byte_field_again}
-use Rattle.ir_thread.specs.Ends.{end_number, end_code, end_of, ends_with}
+use Rattle.ir_thread.specs.State.{end_number, end_code, end_of, ends_with}
 use Rattle.ir_thread.specs.declared.end.End.{End}
 use Rattle.ir_thread.specs.declared.end.End.TheVariants as end
 use Rattle.ir_thread.specs.declared.profile.Profile.{Profile}
@@ -13,8 +13,8 @@ use Rattle.ir_thread.specs.declared.profile.Profile.TheVariants.{One, Two}
 use Rattle.ir_trace.specs.declared.trace_err.TraceErr.{TraceErr}
 use Rattle.ir_trace.specs.declared.trace_err.TraceErr.TheVariants.{Short, Magic, Reserved}
 use Rattle.ir_trace.specs.Recorded.{IsWord}
-use Rattle.ir_trace.specs.Encoding.{magic, end_encoding}
-use Rattle.ir_trace.specs.Reading.{is_magic, magic_field, profile_of, profile_at, reserved_field, end_field, end_by, end_at}
+use Rattle.ir_trace.specs.Encoding.{end_encoding}
+use Rattle.ir_trace.specs.Reading.{magic, is_magic, magic_field, profile_of, profile_at, reserved_field, end_field, end_by, end_at}
 
 magic_by : (n : ℕ) (one two : Bool) → eqb n 0x31545249 ≡ one → eqb n 0x32545249 ≡ two → (one || two) ≡ true
     → little_bytes 4 n ≡ magic (cond one One Two)

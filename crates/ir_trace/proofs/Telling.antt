@@ -1,13 +1,12 @@
 -- Recordings that say the same are equal.
 use Rattle.std.proofs.Common.{◌≡◌, ℕ, zero, suc, List, [], ◌∷◌, length, map, Option, Some, refl, sym, ap, ◌∙◌, arith}
 use Rattle.std.specs.List.{slice_index_or}
-use Rattle.ir_thread.specs.Ends.{end_number, end_code, end_of}
+use Rattle.ir_thread.specs.State.{end_number, end_code, end_of}
 use Rattle.ir_thread.specs.declared.end.End.{End}
-use Rattle.ir_runs.specs.Labels.{Label, Trace}
+use Rattle.ir_runs.specs.Machine.{Label, Trace}
 use Rattle.ir_log.specs.Logging.{label_of}
 use Rattle.ir_log.specs.declared.event.Event.{Event}
-use Rattle.ir_trace.specs.Recorded.{RecordedThread, Recorded}
-use Rattle.ir_trace.specs.TraceOf.{absent, trace_of}
+use Rattle.ir_trace.specs.Recorded.{RecordedThread, Recorded, absent, trace_of}
 use Rattle.ir_trace.proofs.Taken.{end_again_by}
 
 -- different events are different labels

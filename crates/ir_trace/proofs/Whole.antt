@@ -6,8 +6,8 @@ use Rattle.std.proofs.lemmas.List.{append-nil, nil_from_length}
 use Rattle.byteorder.specs.Endian.{little_bytes}
 use Rattle.ir_bytes.specs.Reading.{number_at, field_at, fields_at}
 use Rattle.ir_bytes.proofs.CallerLemmas.{three_ok, five_ok, six_ok, pass_ok, ok_is, within_ok, within_again, IsBytes, bytes_fit, Takes, Takes-then, number_takes, number_again, TakesField, field_takes, field_again, byte_taken, byte_field_again, TakesFields, fields_take, fields_again}
-use Rattle.ir_image.specs.Forms.{limits_of}
-use Rattle.ir_thread.specs.Allowed.{largest}
+use Rattle.ir_image.specs.Guest.{limits_of}
+use Rattle.ir_thread.specs.State.{largest}
 use Rattle.ir_thread.specs.Calls.{most_budget, most_events}
 use Rattle.ir_thread.specs.declared.end.End.{End}
 use Rattle.ir_thread.specs.declared.profile.Profile.{Profile}
@@ -15,9 +15,10 @@ use Rattle.ir_log.specs.declared.event.Event.{Event}
 use Rattle.ir_trace.specs.declared.header.Header.{Header}
 use Rattle.ir_trace.specs.declared.trace_err.TraceErr.{TraceErr}
 use Rattle.ir_trace.specs.declared.trace_err.TraceErr.TheVariants.{Short, Count, Trailing}
-use Rattle.ir_trace.specs.Recorded.{RecordedThread, Recorded, IsEvent, IsRecordedThread, IsRecorded}
-use Rattle.ir_trace.specs.Encoding.{magic, event_encoding, end_encoding, thread_encoding, header_of, header_encoding, encoding}
-use Rattle.ir_trace.specs.Reading.{profile_at, threads_field, objects_field, reserved_field, budget_field, events_field, header_at, end_at, event_at, thread_at, recorded_at}
+use Rattle.ir_trace.specs.Recorded.{RecordedThread, Recorded}
+use Rattle.ir_trace.specs.Within.{IsEvent, IsRecordedThread, IsRecorded}
+use Rattle.ir_trace.specs.Encoding.{event_encoding, end_encoding, thread_encoding, header_of, header_encoding, encoding}
+use Rattle.ir_trace.specs.Reading.{magic, profile_at, threads_field, objects_field, reserved_field, budget_field, events_field, header_at, end_at, event_at, thread_at, recorded_at}
 use Rattle.ir_trace.proofs.EventLaws.{event_takes, event_again}
 use Rattle.ir_trace.proofs.Taken.{profile_takes, profile_again, reserved_takes, reserved_again, end_takes, end_again}
 

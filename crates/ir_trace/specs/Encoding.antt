@@ -2,21 +2,15 @@
 use Rattle.std.specs.Prelude.{ℕ, List, [], ◌∷◌, ◌++◌, length}
 use Rattle.std.specs.List.{flat_map}
 use Rattle.byteorder.specs.Endian.{little_bytes}
-use Rattle.ir_thread.specs.Ends.{end_number, end_code}
+use Rattle.ir_thread.specs.State.{end_number, end_code}
 use Rattle.ir_runs.specs.declared.env_kind.EnvKind.{EnvKind}
 use Rattle.ir_runs.specs.declared.env_kind.EnvKind.TheVariants.{Clock, Random, Input}
 use Rattle.ir_thread.specs.declared.end.End.{End}
-use Rattle.ir_thread.specs.declared.profile.Profile.{Profile}
-use Rattle.ir_thread.specs.declared.profile.Profile.TheVariants.{One, Two}
 use Rattle.ir_log.specs.declared.event.Event.{Event}
 use Rattle.ir_log.specs.declared.event.Event.TheVariants.{Answer, Read, Write, Try}
 use Rattle.ir_trace.specs.Recorded.{RecordedThread, Recorded}
 use Rattle.ir_trace.specs.declared.header.Header.{Header}
-
--- `IRT1`, and in the second profile `IRT2`
-abbrev pub magic : Profile → List ℕ
-magic One = 0x49 ∷ 0x52 ∷ 0x54 ∷ 0x31 ∷ []
-magic Two = 0x49 ∷ 0x52 ∷ 0x54 ∷ 0x32 ∷ []
+use Rattle.ir_trace.specs.Reading.{magic}
 
 -- the byte that a call of the environment begins with
 abbrev pub kind_tag : EnvKind → ℕ

@@ -5,7 +5,8 @@ use Rattle.ir_bytes.specs.Format.{Format, finished, next, before, repeated, firs
 use Rattle.ir_thread.specs.declared.profile.Profile.{Profile}
 use Rattle.ir_trace.specs.declared.trace_err.TraceErr.{TraceErr}
 use Rattle.ir_trace.specs.declared.trace_err.TraceErr.TheVariants.{Short, Trailing}
-use Rattle.ir_trace.specs.Reading.{magic_field, profile_of, threads_field, objects_field, reserved_field, budget_field, end_field, code_field, events_field, tag_field, input_field, object_field}
+use Rattle.ir_trace.specs.Reading.{magic_field, profile_of, threads_field, objects_field, reserved_field, budget_field, end_field, events_field, input_field, object_field}
+use Rattle.ir_trace.specs.Results.{code_field, tag_field}
 
 -- after the tag: an input's value; an entry's object and version, and, if it is for writing, its readers; a refused try's object;
 -- another answer's value

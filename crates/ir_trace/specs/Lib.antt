@@ -1,6 +1,6 @@
 pub mod Recorded
-pub mod Refusal
 pub mod Encoding
 pub mod Reading
 pub mod Fields
-pub mod TraceOf
+pub mod Results
+pub mod Within

@@ -1,11 +1,10 @@
 -- Reading a trace from the left: each field is read whole and then tested, and the first fault is named.
-use Rattle.std.specs.Prelude.{◌≡◌, ℕ, Bool, List, length, Option, Some, None, Result, Ok, Err, nat_lt, ◌==◌, ◌||◌, if◌then◌else◌, is_some}
+use Rattle.std.specs.Prelude.{ℕ, Bool, List, length, Option, Some, None, Result, Ok, Err, nat_lt, ◌==◌, ◌||◌, if◌then◌else◌, [], ◌∷◌}
 use Rattle.byteorder.specs.Endian.{little_number}
 use Rattle.ir_bytes.specs.Reading.{◌>>=◌, Reader, Field, tested, within, fixed, number_at, field_at, fields_at}
-use Rattle.ir_image.specs.Forms.{limits_of}
-use Rattle.ir_thread.specs.Allowed.{largest}
+use Rattle.ir_image.specs.Guest.{limits_of}
+use Rattle.ir_thread.specs.State.{largest, end_of}
 use Rattle.ir_thread.specs.Calls.{most_budget, most_events}
-use Rattle.ir_thread.specs.Ends.{end_of}
 use Rattle.ir_runs.specs.declared.env_kind.EnvKind.{EnvKind}
 use Rattle.ir_runs.specs.declared.env_kind.EnvKind.TheVariants.{Clock, Random, Input}
 use Rattle.ir_thread.specs.declared.end.End.{End}
@@ -14,28 +13,14 @@ use Rattle.ir_thread.specs.declared.profile.Profile.TheVariants.{One, Two}
 use Rattle.ir_log.specs.declared.event.Event.{Event}
 use Rattle.ir_log.specs.declared.event.Event.TheVariants.{Answer, Read, Write, Try}
 use Rattle.ir_trace.specs.Recorded.{RecordedThread, Recorded, input_end}
-use Rattle.ir_trace.specs.Encoding.{magic}
 use Rattle.ir_trace.specs.declared.header.Header.{Header}
 use Rattle.ir_trace.specs.declared.trace_err.TraceErr.{TraceErr}
 use Rattle.ir_trace.specs.declared.trace_err.TraceErr.TheVariants.{Short, Magic, Count, Tag, Reserved, Range, Trailing, NoMem}
 
--- reading meets this fault, or memory ran out
-abbrev pub Fails : {Y : Type 0} → TraceErr → Result Y TraceErr → Type 0
-Fails NoMem read = Unit {0}
-Fails Short read = read ≡ Err Short
-Fails Magic read = read ≡ Err Magic
-Fails Count read = read ≡ Err Count
-Fails Tag read = read ≡ Err Tag
-Fails Reserved read = read ≡ Err Reserved
-Fails Range read = read ≡ Err Range
-Fails Trailing read = read ≡ Err Trailing
-
--- an answer, seen by a view, is what reading gives, unless memory ran out
-abbrev pub Gives : {X Y : Type 0} → (X → Y) → Result X TraceErr → Result Y TraceErr → Type 0
-Gives view (Ok x) read = read ≡ Ok (view x)
-Gives view (Err e) read = Fails e read
-
--- ---- the fields that are tested
+-- `IRT1`, and in the second profile `IRT2`
+abbrev pub magic : Profile → List ℕ
+magic One = 0x49 ∷ 0x52 ∷ 0x54 ∷ 0x31 ∷ []
+magic Two = 0x49 ∷ 0x52 ∷ 0x54 ∷ 0x32 ∷ []
 
 -- whether a number is the magic of a profile
 abbrev pub is_magic : ℕ → Bool
@@ -65,27 +50,9 @@ budget_field = within 8 0 most_budget Count
 abbrev pub end_field : Field TraceErr
 end_field = within 1 1 14 Range
 
--- the code of the end of this number, which is 0 unless the number is 1
-abbrev pub code_field : ℕ → Field TraceErr
-code_field end = tested 4 (λ code. is_some (end_of end code)) Range
-
 -- the number of events
 abbrev pub events_field : Field TraceErr
 events_field = within 4 0 most_events Count
-
--- the greatest number of a kind of events
-abbrev pub last_tag : Profile → ℕ
-last_tag One = 5
-last_tag Two = 6
-
--- how many bytes the shortest event has
-abbrev pub shortest : Profile → ℕ
-shortest One = 5
-shortest Two = 2
-
--- what kind an event is of
-abbrev pub tag_field : Profile → Field TraceErr
-tag_field profile = within 1 1 (last_tag profile) Tag
 
 -- a byte, or the end of the input
 abbrev pub is_input : ℕ → Bool
@@ -189,3 +156,14 @@ recorded_at bytes = do
   if length threads.1 == 0
       then Ok (record { objects = header.0.objects; budget = header.0.budget; profile = header.0.profile; threads = threads.0 })
       else Err Trailing
+
+-- the number that a fault of the bytes goes by; running out of memory is no fault of theirs
+abbrev pub number_of : TraceErr → Option ℕ
+number_of Short = Some 1
+number_of Magic = Some 2
+number_of Count = Some 3
+number_of Tag = Some 4
+number_of Reserved = Some 5
+number_of Range = Some 6
+number_of Trailing = Some 7
+number_of NoMem = None

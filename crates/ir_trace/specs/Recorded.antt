@@ -1,18 +1,14 @@
 -- What was recorded of a run, apart from where it lies in memory.
-use Rattle.std.specs.Prelude.{◌≡◌, ℕ, ◌^◌, ◌<◌, ◌≤◌, ◌⊎◌, List, length}
-use Rattle.std.specs.List.{AllByRecursion}
+use Rattle.std.specs.Prelude.{ℕ, List, [], map, Some}
 pub use Rattle.ir_bytes.specs.Numbers.{IsWord}
-use Rattle.ir_image.specs.Forms.{limits_of}
-use Rattle.ir_thread.specs.Allowed.{largest}
-use Rattle.ir_thread.specs.Calls.{most_budget, most_events}
-use Rattle.ir_thread.specs.Ends.{end_code}
-use Rattle.ir_runs.specs.declared.env_kind.EnvKind.{EnvKind}
-use Rattle.ir_runs.specs.declared.env_kind.EnvKind.TheVariants.{Clock, Random, Input}
 use Rattle.ir_thread.specs.declared.end.End.{End}
 use Rattle.ir_thread.specs.declared.profile.Profile.{Profile}
-use Rattle.ir_thread.specs.declared.profile.Profile.TheVariants.{Two}
 use Rattle.ir_log.specs.declared.event.Event.{Event}
-use Rattle.ir_log.specs.declared.event.Event.TheVariants.{Answer, Read, Write, Try}
+use Rattle.std.specs.List.{slice_index_or}
+use Rattle.ir_thread.specs.State.{end_number, end_code}
+use Rattle.ir_runs.specs.Machine.{Trace}
+use Rattle.ir_thread.specs.declared.end.End.TheVariants.{Breakpoint}
+use Rattle.ir_log.specs.Logging.{label_of}
 
 -- what was recorded of one thread
 pub record RecordedThread : Type 0 where
@@ -37,30 +33,18 @@ pub record Recorded : Type 0 where
 abbrev pub input_end : ℕ
 input_end = 0xFFFFFFFF
 
--- the values that a call of the environment may have: an input gives a byte, or its end
-abbrev pub IsResult : EnvKind → ℕ → Type 0
-IsResult Clock value = IsWord value
-IsResult Random value = IsWord value
-IsResult Input value = (value < 256) ⊎ (value ≡ input_end)
+-- a thread that is none of the guest's: it took no step and logged nothing, and counts as one that has ended
+abbrev pub absent : RecordedThread
+absent = record { steps = 0; end = Breakpoint; events = [] }
 
--- the limits of an event of a guest with `objects` objects; a refused try is in the second profile alone
-abbrev pub IsEvent : Profile → ℕ → Event → Type 0
-IsEvent profile objects (Answer kind value) = IsResult kind value
-IsEvent profile objects (Read object version) = (object < objects) × IsWord version
-IsEvent profile objects (Write object version readers) = (object < objects) × IsWord version × IsWord readers
-IsEvent profile objects (Try object) = (profile ≡ Two) × (object < objects)
+-- the thread of a number
+abbrev pub recorded_thread : Recorded → ℕ → RecordedThread
+recorded_thread r t = slice_index_or r.threads t absent
 
--- the limits of what is recorded of a thread of a guest with `objects` objects
-pub record IsRecordedThread (profile : Profile) (objects : ℕ) (t : RecordedThread) : Type 0 where
-  pub steps_fit : t.steps < 2 ^ 64
-  pub code_fits : IsWord (end_code t.end)
-  pub few_events : length t.events ≤ most_events
-  pub events_fit : AllByRecursion (IsEvent profile objects) t.events
-
--- the limits of what is recorded, the threads and objects by the profile
-pub record IsRecorded (r : Recorded) : Type 0 where
-  pub some_thread : 1 ≤ length r.threads
-  pub few_threads : length r.threads ≤ (limits_of (largest r.profile)).threads
-  pub few_objects : r.objects ≤ (limits_of (largest r.profile)).objects
-  pub budget_fits : r.budget ≤ most_budget
-  pub threads_fit : AllByRecursion (IsRecordedThread r.profile r.objects) r.threads
+-- it, in tables by the numbers of the threads
+abbrev pub trace_of : Recorded → Trace
+trace_of r = record {
+  steps = λ t. (recorded_thread r t).steps;
+  logs = λ t. map label_of (recorded_thread r t).events;
+  ends = λ t. let e = (recorded_thread r t).end in Some (end_number e, end_code e);
+}

@@ -5,11 +5,11 @@ ghost use Rattle.std.specs.List.{AllByRecursion};
 ghost use Rattle.byteorder.specs.Endian.{little_number, little_bytes};
 ghost use Rattle.ir_bytes.specs.Numbers.{IsByte};
 ghost use Rattle.ir_bytes.specs.Format.{fault_of};
-ghost use Rattle.ir_trace.specs.Recorded.{Recorded, IsRecorded};
+ghost use Rattle.ir_trace.specs.Recorded.{Recorded, trace_of};
+ghost use Rattle.ir_trace.specs.Within.{IsRecorded};
 ghost use Rattle.ir_trace.specs.Encoding.{encoding};
 ghost use Rattle.ir_trace.specs.Reading.{recorded_at};
 ghost use Rattle.ir_trace.specs.Fields.{trace_fault};
-ghost use Rattle.ir_trace.specs.TraceOf.{trace_of};
 
 use ir_log::one_label_each;
 

@@ -1,10 +1,12 @@
 //! The reader of traces.
 
 ghost use Rattle.std.specs.Prelude.{◌≡◌, List, ℕ, IfOk, Ok};
-ghost use Rattle.ir_trace.specs.Recorded.{Recorded, IsRecorded};
+ghost use Rattle.ir_trace.specs.Recorded.{Recorded};
+ghost use Rattle.ir_trace.specs.Within.{IsRecorded};
 ghost use Rattle.ir_trace.specs.Encoding.{encoding};
 ghost use Rattle.ir_bytes.specs.Reading.{fields_at};
-ghost use Rattle.ir_trace.specs.Reading.{Gives, profile_at, header_at, end_at, thread_at, recorded_at};
+ghost use Rattle.ir_trace.specs.Reading.{profile_at, header_at, end_at, thread_at, recorded_at};
+ghost use Rattle.ir_trace.specs.Results.{Gives};
 
 use crate::event_reader::events;
 use crate::header::Header;

@@ -1,11 +1,11 @@
 //! A trace in memory.
 
 ghost use Rattle.std.specs.Prelude.{◌≡◌, ◌<◌, ◌≤◌, length, slice_get, Some, IfOk, OnErr};
-ghost use Rattle.ir_log.specs.Logging.{Suits};
+ghost use Rattle.ir_log.specs.Asked.{Suits};
 ghost use Rattle.ir_log.specs.declared.event.Event.{Event};
 ghost use Rattle.ir_thread.specs.Calls.{most_events};
-ghost use Rattle.ir_trace.specs.Recorded.{Recorded, IsRecorded, IsRecordedThread};
-ghost use Rattle.ir_trace.specs.TraceOf.{recorded_thread};
+ghost use Rattle.ir_trace.specs.Recorded.{Recorded, recorded_thread};
+ghost use Rattle.ir_trace.specs.Within.{IsRecorded, IsRecordedThread};
 
 use crate::thread_trace::ThreadTrace;
 use ir_log::{Cursor, Disagree, Event};

@@ -2,7 +2,7 @@
 
 ghost use Rattle.std.specs.Prelude.{◌≡◌};
 ghost use Rattle.ir_trace.specs.declared.trace_err.TraceErr.TheVariants.{NoMem};
-ghost use Rattle.ir_trace.specs.Refusal.{number_of};
+ghost use Rattle.ir_trace.specs.Reading.{number_of};
 
 use std::alloc::{AllocError, AllocFailed};
 use thiserror::Error;

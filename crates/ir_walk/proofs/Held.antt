@@ -2,9 +2,8 @@
 use Rattle.std.proofs.Common.{◌≡◌, ◌+◌, ℕ, zero, suc, List, sym, ap, ◌∙◌, subst, arith}
 use Rattle.std.specs.Prelude.{Option, Some, None, slice_index}
 use Rattle.std.specs.List.{slice_index_or}
-use Rattle.ir_runs.specs.Machine.{Ask, Private, Env, Enter, Try, Leave, Get, Put, Done, Holds, act_of, held_after, upd}
-use Rattle.ir_runs.specs.Labels.{Label, Quiet, Answer, In, Refused, Out}
-use Rattle.ir_runs.specs.Object.{Object, emitted, reply}
+use Rattle.ir_runs.specs.Machine.{Ask, Private, Env, Enter, Try, Leave, Get, Put, Done, act_of, upd, Object, emitted, reply, Label, Quiet, Answer, In, Refused, Out}
+use Rattle.ir_runs.specs.Lawful.{Holds, held_after}
 use Rattle.ir_runs.specs.declared.access.Access.{Access}
 use Rattle.ir_runs.specs.declared.access.Access.TheVariants.{Reading, Writing}
 use Rattle.ir_runs.specs.Run.{Step}
@@ -15,8 +14,7 @@ use Rattle.ir_thread.specs.State as thread
 use Rattle.ir_fit.specs.Fit.{FittedTrace, IsRunOf}
 use Rattle.ir_cut.specs.Positions.{EachRun, machine_of, start_of}
 use Rattle.ir_weave.specs.Ahead.{thread_at}
-use Rattle.ir_weave.specs.Standing.{Standing, StandsAt, flat_in}
-use Rattle.ir_weave.specs.States.{positions}
+use Rattle.ir_weave.specs.Standing.{Standing, StandsAt, flat_in, positions}
 use Rattle.ir_weave.proofs.CallerLemmas.{law, StepOf, step_at}
 use Rattle.ir_walk.specs.Words.{AreWordsAt}
 use Rattle.ir_walk.proofs.Still.{still}

@@ -2,13 +2,14 @@
 use Rattle.std.proofs.Common.{◌≡◌, ◌≢◌, ℕ, suc, zero, ◌-◌, ◌<◌, ◌≤◌, List, [], ◌∷◌, length, cond, refl, sym, ap, ◌∙◌, subst, arith, inl, inr, eq-eqb, ne_eqb, min}
 use Rattle.std.specs.Prelude.{◌⊎◌, Option, Some, None}
 use Rattle.std.proofs.lemmas.Bool.{cases_eq, cases_lt}
-use Rattle.ir_runs.specs.Machine.{Ask, Private, Env, Enter, Try, Leave, Get, Put, Done, act_of, Machine, Holds, IsLawful}
+use Rattle.ir_runs.specs.Machine.{Ask, Private, Env, Enter, Try, Leave, Get, Put, Done, act_of, Machine, Object, target, acted}
+use Rattle.ir_runs.specs.Lawful.{Holds, IsLawful}
 use Rattle.ir_runs.specs.declared.access.Access.{Access}
 use Rattle.ir_runs.specs.declared.access.Access.TheVariants.{Reading, Writing}
-use Rattle.ir_runs.specs.Object.{Object, target, acted}
 use Rattle.ir_thread.specs.State as thread
 use Rattle.ir_runs.specs.Run.{State, Step, asked, act, after, IsRun, end, count}
-use Rattle.ir_runs.specs.Cuts.{Cut, IsCut, Consistent, part, object_at, further, Admitted, AtCut}
+use Rattle.ir_runs.specs.Cuts.{Cut, IsCut, Consistent, part, object_at}
+use Rattle.ir_runs.specs.Admitted.{further, Admitted, AtCut}
 use Rattle.ir_runs.specs.Coherent.{sum_below}
 use Rattle.ir_runs.proofs.CallerLemmas.{upd_elim, Good, stays_good, at_cut, progress, consistent_min, sum_less}
 use Rattle.ir_fit.specs.Fit.{FittedTrace, IsRunOf}

@@ -4,26 +4,24 @@ use Rattle.std.specs.Prelude.{slice_index, slice_set}
 use Rattle.std.proofs.lemmas.Bool.{cases_lt}
 use Rattle.std.proofs.lemmas.List.{get_or_past}
 use Rattle.ir_thread.specs.State as thread
-use Rattle.ir_thread.specs.Calls.{ask_of, a0, after_ask, after_reply, step_of, run_of, Suits}
+use Rattle.ir_thread.specs.Calls.{ask_of, a0, after_ask, after_reply}
+use Rattle.ir_thread.specs.Permitted.{step_of, run_of, Suits}
 use Rattle.ir_thread.specs.Instance.{shared_ask, reply_of}
 use Rattle.ir_thread.specs.Private.{PrivateSteps}
 use Rattle.ir_thread.specs.declared.ask.Ask.{Ask}
 use Rattle.ir_thread.specs.declared.ask.Ask.TheVariants as ask
 use Rattle.ir_thread.specs.declared.ask.Reply.{Reply}
 use Rattle.ir_thread.specs.declared.ask.Reply.TheVariants.{Go, Value}
-use Rattle.ir_runs.specs.Machine.{act_of}
-use Rattle.ir_runs.specs.Object.{Object, Admits, reply}
+use Rattle.ir_runs.specs.Machine.{act_of, Object, Admits, reply}
 use Rattle.ir_runs.specs.Run.{Step, count}
 use Rattle.ir_flat.specs.Flat.{thread_of}
 use Rattle.ir_fit.specs.Fit.{FittedTrace, IsRunOf}
 use Rattle.ir_cut.specs.Positions.{machine_of, start_of}
 use Rattle.ir_weave.specs.Ahead.{thread_at, ask_at}
-use Rattle.ir_weave.specs.Standing.{Standing, StandsAt, flat_in}
-use Rattle.ir_weave.specs.States.{positions}
+use Rattle.ir_weave.specs.Standing.{Standing, StandsAt, flat_in, positions}
 use Rattle.ir_weave.specs.Stepping.{HasGone}
 use Rattle.ir_weave.proofs.CallerLemmas.{StepOf, step_at, step_there}
-use Rattle.ir_walk.specs.Calls.{reply_between, call_by, call_at, calls_in, AllSuit}
-use Rattle.ir_walk.specs.Calls.{AreCalls}
+use Rattle.ir_walk.specs.Calls.{reply_between, call_by, call_at, calls_in, AllSuit, AreCalls}
 use Rattle.ir_walk.specs.declared.exchange.Exchange.{Exchange}
 
 -- ---- a step

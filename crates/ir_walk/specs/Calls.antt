@@ -2,7 +2,8 @@
 use Rattle.std.specs.Prelude.{◌≡◌, ℕ, zero, suc, ◌+◌, List, [], ◌∷◌, ◌++◌}
 use Rattle.std.specs.List.{AllByRecursion}
 use Rattle.ir_thread.specs.State.{State}
-use Rattle.ir_thread.specs.Calls.{ask_of, a0, Suits}
+use Rattle.ir_thread.specs.Calls.{ask_of, a0}
+use Rattle.ir_thread.specs.Permitted.{Suits}
 use Rattle.ir_thread.specs.Instance.{reply_of}
 use Rattle.ir_thread.specs.declared.ask.Ask.{Ask}
 use Rattle.ir_thread.specs.declared.ask.Ask.TheVariants as ask

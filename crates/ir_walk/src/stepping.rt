@@ -3,8 +3,7 @@
 ghost use Rattle.std.specs.Prelude.{◌≡◌, ◌<◌, ◌≤◌, [], true, length, option_to_list, Some, None, false};
 ghost use Rattle.ir_thread.specs.Calls.{a0};
 ghost use Rattle.ir_thread.specs.Instance.{reply_of};
-ghost use Rattle.ir_weave.specs.Standing.{flat_in};
-ghost use Rattle.ir_weave.specs.States.{positions};
+ghost use Rattle.ir_weave.specs.Standing.{flat_in, positions};
 ghost use Rattle.ir_weave.specs.Stepping.{HasGone, Rests};
 ghost use Rattle.ir_events.specs.Walk.{IsOnWay};
 ghost use Rattle.ir_walk.specs.Calls.{call_by, AreCalls};

@@ -7,36 +7,36 @@ use lib.ListN.{get_elem?}
 use Rattle.atomic_table.specs.Table.{State, step, keeps, Allows}
 use Rattle.atomic_table.proofs.Lists.{set_again}
 use Rattle.ir_image.specs.Guest.{object_count, most_object_words}
-use Rattle.ir_thread.specs.Calls.{ask_of, after_ask, Permits}
+use Rattle.ir_thread.specs.Calls.{ask_of, after_ask}
+use Rattle.ir_thread.specs.Permitted.{Permits}
 use Rattle.ir_thread.proofs.CallerLemmas.{ask_permits}
 use Rattle.ir_thread.specs.Instance.{shared_ask}
-use Rattle.ir_runs.specs.Machine.{act_of}
-use Rattle.ir_runs.specs.Labels.{Out}
+use Rattle.ir_runs.specs.Machine.{act_of, target, emitted, Out}
 use Rattle.ir_thread.specs.State as thread
 use Rattle.ir_runs.specs.declared.access.Access.{Access}
 use Rattle.ir_runs.specs.declared.access.Access.TheVariants.{Reading, Writing}
 use Rattle.ir_thread.specs.declared.ask.Ask.{Ask}
 use Rattle.ir_thread.specs.declared.ask.Ask.TheVariants.{Enter, Try, Leave, Get, Put}
 use Rattle.ir_thread.specs.declared.ask.Reply.TheVariants.{Value}
-use Rattle.ir_object.specs.Cell.{Cell, Admitted as Enters}
-use Rattle.ir_runs.specs.Object.{target, emitted}
+use Rattle.ir_object.specs.Cell.{Cell, bit_of}
+use Rattle.ir_object.specs.Standing.{Admitted as Enters}
 use Rattle.ir_object.specs.declared.fields.Fields.{Fields}
-use Rattle.ir_object.specs.Word.{reader_unit, left_unit, version_unit, inside_limit, left_limit, reader_leaves, IsFields, word_of, fields_of, entered, left_by, bit_of}
+use Rattle.ir_object.specs.Word.{reader_unit, left_unit, version_unit, inside_limit, left_limit, reader_leaves, IsFields, word_of, fields_of, entered, left_by}
 use Rattle.ir_flat.specs.Flat.{Flat, IsFlat, idle, thread_of, cell_of, inside_of, tables}
 use Rattle.ir_flat.specs.Next.{next}
 use Rattle.ir_runs.specs.Run.{count, label, end, trail}
 use Rattle.ir_flat.proofs.CallerLemmas.{logged_fits, few_inside, enter_fits, leave_fits, leave_allowed, thread_count}
-use Rattle.ir_log.specs.Logging.{ask_of as event_ask, Suits}
+use Rattle.ir_log.specs.Asked.{ask_of as event_ask, Suits}
 use Rattle.ir_log.proofs.CallerLemmas.{entering_by}
 use Rattle.ir_log.specs.declared.event.Event.{Event}
 use Rattle.ir_log.specs.declared.event.Event.TheVariants.{Answer as Answered, Read, Write, Try as Refused}
-use Rattle.ir_trace.specs.TraceOf.{recorded_thread}
+use Rattle.ir_trace.specs.Recorded.{recorded_thread}
 use Rattle.ir_runs.specs.Cuts.{At, Emits, part}
 use Rattle.ir_fit.specs.Fit.{FittedTrace, HasRun}
 use Rattle.ir_cut.specs.Positions.{machine_of, start_of, EachRun}
 use Rattle.ir_runs.proofs.CallerLemmas.{persists}
 use Rattle.ir_weave.specs.Ahead.{IsRefused, IsAlone, GoesAlone, event_of, HasStep, IsAhead, IsEntering, IsNextObject, thread_at, AreAlone}
-use Rattle.ir_weave.specs.States.{IsStateAt, positions}
+use Rattle.ir_weave.specs.Standing.{IsStateAt, positions}
 use Rattle.ir_object.specs.Layout.{word_place, content_place}
 use Rattle.ir_weave.specs.Table.{IsTable, object_in}
 use Rattle.ir_weave.specs.Woven.{View, trace_in, Met, progress, met_in, stood, AdmittedAt, Woven, Answers, IsEventAt, looked, stepped_on, read_version}

@@ -2,16 +2,16 @@
 use Rattle.std.proofs.Common.{◌≡◌, ℕ, ◌+◌, ◌<◌, ◌≤◌, List, ◌++◌, length, map, take, sym, ap, ◌∙◌, arith, length-append}
 use Rattle.std.proofs.Math.Seq.{take-append_seam}
 use Rattle.std.proofs.lemmas.List.{length-map, take-map}
-use Rattle.ir_runs.specs.Labels.{Label}
+use Rattle.ir_runs.specs.Machine.{Label}
 use Rattle.ir_runs.specs.Run.{Step, trail, events, log}
 use Rattle.ir_runs.specs.Cuts.{Cut, part}
 use Rattle.ir_flat.specs.Flat.{Flat, thread_of}
 use Rattle.ir_log.specs.Logging.{label_of}
 use Rattle.ir_log.specs.declared.event.Event.{Event}
-use Rattle.ir_trace.specs.TraceOf.{recorded_thread}
+use Rattle.ir_trace.specs.Recorded.{recorded_thread}
 use Rattle.ir_fit.specs.Fit.{FittedTrace, IsRunOf}
 use Rattle.ir_cut.specs.Positions.{machine_of, start_of}
-use Rattle.ir_weave.specs.States.{IsAt}
+use Rattle.ir_weave.specs.Standing.{IsAt}
 use Rattle.ir_weave.proofs.Behind.{sorted, tables_at, events_counted, behind, log_parts}
 
 -- thread t of s has logged the first of its events

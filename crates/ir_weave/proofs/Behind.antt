@@ -2,9 +2,9 @@
 use Rattle.std.proofs.Common.{◌≡◌, ℕ, suc, zero, ◌+◌, ◌<◌, List, [], ◌∷◌, ◌++◌, length, map, take, drop, refl, sym, ap, ◌∙◌, subst, arith, take-append-drop}
 use Rattle.std.proofs.Math.Path.{fun_ext}
 use Rattle.std.proofs.Math.Seq.{drop-append_seam}
-use Rattle.ir_runs.specs.Machine.{Machine, IsLawful}
+use Rattle.ir_runs.specs.Machine.{Machine, Label, Quiet, Answer, In, Refused, Out, logged}
+use Rattle.ir_runs.specs.Lawful.{IsLawful}
 use Rattle.ir_thread.specs.Instance.{thread_machine}
-use Rattle.ir_runs.specs.Labels.{Label, Quiet, Answer, In, Refused, Out, logged}
 use Rattle.ir_thread.specs.State as thread
 use Rattle.ir_thread.proofs.CallerLemmas.{lawful}
 use Rattle.ir_flat.specs.Flat.{Flat, tables, machine}
@@ -12,14 +12,15 @@ use Rattle.ir_runs.specs.Run.{State, Step, Can, label, IsRun, end, trail, events
 use Rattle.ir_runs.proofs.CallerLemmas.{events_append, Good, start_good, at_cut, Sorted, sort}
 use Rattle.ir_flat.proofs.CallerLemmas.{tally, fresh, no_steps, state_eq}
 use Rattle.ir_log.specs.Logging.{label_of}
-use Rattle.ir_trace.specs.TraceOf.{recorded_thread}
+use Rattle.ir_trace.specs.Recorded.{recorded_thread}
 use Rattle.ir_fit.specs.Ahead.{log_ahead}
-use Rattle.ir_runs.specs.Cuts.{Cut, AtCut, At, IsCut, Consistent, Admitted, part}
+use Rattle.ir_runs.specs.Cuts.{Cut, At, IsCut, Consistent, part}
+use Rattle.ir_runs.specs.Admitted.{AtCut, Admitted}
 use Rattle.ir_fit.specs.Fit.{FittedTrace, IsRunOf}
 use Rattle.ir_runs.specs.Following.{unlogged}
 use Rattle.ir_fit.proofs.CallerLemmas.{starts}
 use Rattle.ir_cut.specs.Positions.{machine_of, start_of}
-use Rattle.ir_weave.specs.States.{IsAt, IsStateAt, positions}
+use Rattle.ir_weave.specs.Standing.{IsAt, IsStateAt, positions}
 use Rattle.ir_weave.specs.Stepping.{LogsNext}
 
 -- ---- the guest's machine

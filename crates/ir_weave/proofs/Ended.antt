@@ -4,7 +4,7 @@ use Rattle.std.proofs.lemmas.Bool.{cases_lt}
 use Rattle.ir_thread.specs.Calls.{ask_of}
 use Rattle.ir_thread.specs.State as thread
 use Rattle.ir_thread.specs.declared.ask.Ask.TheVariants.{Done}
-use Rattle.ir_runs.specs.Labels.{Label}
+use Rattle.ir_runs.specs.Machine.{Label}
 use Rattle.ir_runs.specs.Run.{Step, IsRun, trail, thread_in, count, end}
 use Rattle.ir_flat.proofs.CallerLemmas.{start_idle, really_done}
 use Rattle.ir_fit.specs.Fit.{FittedTrace, IsRunOf}

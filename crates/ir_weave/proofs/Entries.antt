@@ -9,18 +9,18 @@ use Rattle.ir_thread.specs.declared.ask.Ask.TheVariants.{Enter, Try}
 use Rattle.ir_object.specs.Cell.{Cell}
 use Rattle.ir_flat.specs.Flat.{Flat, IsFlat, thread_of, cell_of}
 use Rattle.ir_flat.specs.Next.{next}
-use Rattle.ir_log.specs.Logging.{ask_of as event_ask, Suits}
+use Rattle.ir_log.specs.Asked.{ask_of as event_ask, Suits}
 use Rattle.ir_log.proofs.CallerLemmas.{entering_by}
 use Rattle.ir_log.specs.declared.event.Event.{Event}
 use Rattle.ir_log.specs.declared.event.Event.TheVariants.{Answer, Read, Write, Try as Refused}
-use Rattle.ir_trace.specs.TraceOf.{recorded_thread}
+use Rattle.ir_trace.specs.Recorded.{recorded_thread}
 use Rattle.ir_fit.specs.Ahead.{steps_ahead, IsOpen}
-use Rattle.ir_runs.specs.Cuts.{Admitted, further}
+use Rattle.ir_runs.specs.Admitted.{Admitted, further}
 use Rattle.ir_fit.specs.Fit.{FittedTrace, HasRun}
 use Rattle.ir_cut.specs.Positions.{machine_of, start_of, EachRun}
 use Rattle.ir_runs.proofs.CallerLemmas.{consistent_same}
 use Rattle.ir_weave.specs.Ahead.{HasStep}
-use Rattle.ir_weave.specs.States.{IsStateAt, positions}
+use Rattle.ir_weave.specs.Standing.{IsStateAt, positions}
 use Rattle.ir_weave.specs.Woven.{AdmittedAt}
 use Rattle.ir_weave.proofs.Behind.{admitted_next}
 use Rattle.ir_weave.proofs.Forth.{Goes, logs_on, guest_thread, further_here, further_there}

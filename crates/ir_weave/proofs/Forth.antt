@@ -4,10 +4,9 @@ use Rattle.std.proofs.lemmas.Bool.{cases_eq, cases_lt}
 use Rattle.std.specs.Prelude.{slice_get, ⊤}
 use Rattle.ir_thread.specs.Calls.{ask_of}
 use Rattle.ir_thread.specs.Instance.{shared_ask}
-use Rattle.ir_runs.specs.Machine.{act_of}
+use Rattle.ir_runs.specs.Machine.{act_of, Object, target, Admits, emitted, Label, logged}
 use Rattle.ir_runs.specs.Machine as machine
-use Rattle.ir_runs.specs.Labels.{Label, logged}
-use Rattle.ir_runs.specs.Labels as labels
+use Rattle.ir_runs.specs.Machine as machine_labels
 use Rattle.ir_thread.specs.State as thread
 use Rattle.ir_runs.specs.declared.access.Access.{Access}
 use Rattle.ir_runs.specs.declared.access.Access.TheVariants.{Reading, Writing}
@@ -16,20 +15,19 @@ use Rattle.ir_thread.specs.declared.ask.Ask.TheVariants.{Private, Env, Enter, Tr
 use Rattle.ir_flat.specs.Flat.{Flat, IsFlat, thread_of, tables, machine as machine_in}
 use Rattle.ir_flat.specs.Next.{next, MayStep}
 use Rattle.ir_runs.specs.Run.{Step, after, label, count, th, trail}
-use Rattle.ir_runs.specs.Object.{Object, target, Admits, emitted}
 use Rattle.ir_log.specs.Logging.{label_of}
 use Rattle.ir_log.specs.declared.event.Event.{Event}
 use Rattle.ir_log.specs.declared.event.Event.TheVariants.{Answer as Answered, Read, Write, Try as Refused}
-use Rattle.ir_trace.specs.Recorded.{Recorded}
-use Rattle.ir_trace.specs.TraceOf.{recorded_thread}
+use Rattle.ir_trace.specs.Recorded.{Recorded, recorded_thread}
 use Rattle.ir_fit.specs.Ahead.{log_ahead}
 use Rattle.ir_flat.proofs.CallerLemmas.{added, can_by_may, taken_by, next_flat, thread_count, object_count}
-use Rattle.ir_runs.specs.Cuts.{At, Emits, Needs, Cut, further}
+use Rattle.ir_runs.specs.Cuts.{At, Emits, Needs, Cut}
+use Rattle.ir_runs.specs.Admitted.{further}
 use Rattle.ir_fit.specs.Fit.{FittedTrace, HasRun, IsRunOf}
 use Rattle.ir_runs.specs.Following.{unlogged}
 use Rattle.ir_cut.specs.Positions.{machine_of, start_of}
 use Rattle.ir_weave.specs.Ahead.{IsRefused, IsAlone, GoesAlone, HasStep, ask_at, event_of, thread_at, IsThreadAt, AreAlone}
-use Rattle.ir_weave.specs.States.{IsStateAt, positions}
+use Rattle.ir_weave.specs.Standing.{IsStateAt, positions}
 use Rattle.ir_weave.specs.Stepping.{LogsNext}
 use Rattle.ir_weave.specs.Woven.{AdmittedAt}
 use Rattle.ir_weave.proofs.Behind.{behind, log_behind, admitted_next}
@@ -152,13 +150,13 @@ try_or (End x) = inr (λ o h. cc h)
 try_or Done = inr (λ o h. cc h)
 
 -- a refused try needs nothing
-needs_refused : (b : Label) (o : ℕ) → Needs b (labels.Refused o) → ⊥
-needs_refused labels.Quiet o h = h
-needs_refused (labels.Answer k v) o h = h
-needs_refused (labels.In p a v l) o h = h
-needs_refused (labels.Refused p) o h = h
-needs_refused (labels.Out p Reading v) o h = h
-needs_refused (labels.Out p Writing v) o h = h
+needs_refused : (b : Label) (o : ℕ) → Needs b (machine_labels.Refused o) → ⊥
+needs_refused machine_labels.Quiet o h = h
+needs_refused (machine_labels.Answer k v) o h = h
+needs_refused (machine_labels.In p a v l) o h = h
+needs_refused (machine_labels.Refused p) o h = h
+needs_refused (machine_labels.Out p Reading v) o h = h
+needs_refused (machine_labels.Out p Writing v) o h = h
 
 -- the event of a refused try
 refused_event : (x : Option Event) → IsRefused x → (o : ℕ) × (x ≡ Some (Refused o))

@@ -9,7 +9,7 @@ use Rattle.ir_flat.specs.Flat.{Flat, IsFlat}
 use Rattle.ir_cut.specs.Positions.{machine_of, start_of}
 use Rattle.ir_runs.proofs.CallerLemmas.{persists}
 use Rattle.ir_fit.specs.Fit.{FittedTrace}
-use Rattle.ir_weave.specs.States.{IsStateAt, positions}
+use Rattle.ir_weave.specs.Standing.{IsStateAt, positions}
 use Rattle.ir_weave.specs.Table.{IsTable}
 use Rattle.ir_weave.specs.Woven.{View, trace_in, Met, progress, stood, AdmittedAt, IsTrack, AreTracks, Woven}
 use Rattle.ir_weave.specs.declared.plan.Plan.{Plan}

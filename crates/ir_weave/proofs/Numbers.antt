@@ -4,16 +4,15 @@ use Rattle.std.specs.List.{slice_index_or}
 use Rattle.ir_image.specs.Guest.{Guest}
 use Rattle.ir_thread.specs.Calls.{ask_of, after_ask, after_reply}
 use Rattle.ir_thread.specs.Instance.{shared_ask, reply_of, thread_machine}
-use Rattle.ir_runs.specs.Machine.{act_of}
+use Rattle.ir_runs.specs.Machine.{act_of, reply}
 use Rattle.ir_thread.specs.State as thread
 use Rattle.ir_thread.specs.declared.profile.Profile.{Profile}
 use Rattle.ir_flat.specs.Flat.{Flat, IsFlat, idle, thread_of, start_threads}
-use Rattle.ir_runs.specs.Object.{reply}
 use Rattle.ir_runs.specs.Run.{Step, count}
 use Rattle.ir_fit.specs.Fit.{FittedTrace, HasRun, IsRunOf}
 use Rattle.ir_cut.specs.Positions.{machine_of, start_of}
 use Rattle.ir_weave.specs.Ahead.{IsAhead, thread_at, ask_at}
-use Rattle.ir_weave.specs.States.{IsStateAt, positions}
+use Rattle.ir_weave.specs.Standing.{IsStateAt, positions}
 use Rattle.ir_weave.proofs.Lone.{same_number, step_there}
 use Rattle.ir_weave.proofs.Trails.{StepOf, step_at, first_thread}
 

@@ -2,8 +2,7 @@
 use Rattle.std.proofs.Common.{◌≡◌, ◌≢◌, ℕ, suc, zero, ◌+◌, ◌-◌, ◌<◌, ◌≤◌, List, [], ◌∷◌, ◌++◌, length, replicate, Result, Ok, Err, OnOk, OnErr, refl, sym, ap, ◌∙◌, subst, arith, inl, inr, append_assoc, pred}
 use Rattle.std.proofs.lemmas.Bool.{cases_eq, cases_lt}
 use Rattle.ir_image.specs.Guest.{object_count}
-use Rattle.ir_runs.specs.Machine.{Machine}
-use Rattle.ir_runs.specs.Labels.{Label, Quiet, Answer, In, Refused, Out, logged}
+use Rattle.ir_runs.specs.Machine.{Machine, Label, Quiet, Answer, In, Refused, Out, logged}
 use Rattle.ir_thread.specs.State as thread
 use Rattle.ir_flat.specs.Alone.{WentAlone}
 use Rattle.ir_flat.specs.Flat.{Flat, tables, machine, start_flat}
@@ -11,13 +10,13 @@ use Rattle.ir_runs.specs.Run.{State, Step, Can, after, label, IsRun, end, trail,
 use Rattle.ir_runs.proofs.CallerLemmas.{run_append, end_append, log_append, trail_same, trail_other, fits_prefix, IsPrefix, prefix_at}
 use Rattle.ir_flat.proofs.CallerLemmas.{tally, threads_length, cells_length, no_steps, start_idle}
 use Rattle.ir_runs.specs.Cuts.{part}
-use Rattle.ir_trace.specs.TraceOf.{trace_of}
+use Rattle.ir_trace.specs.Recorded.{trace_of}
 use Rattle.ir_fit.specs.Fit.{FittedTrace, IsRunOf}
 use Rattle.ir_fit.specs.Passed.{IsAlong}
 use Rattle.ir_fit.proofs.CallerLemmas.{idle_trail}
 use Rattle.ir_runs.specs.Following.{Check, Fits, Follows, closing, left_log, unlogged}
 use Rattle.ir_cut.specs.Positions.{machine_of, start_of, cut_of}
-use Rattle.ir_weave.specs.States.{IsAt, IsStateAt, positions}
+use Rattle.ir_weave.specs.Standing.{IsAt, IsStateAt, positions}
 use Rattle.ir_weave.specs.Stepping.{LogsNext, IsTarget, IsUnder, HasGone}
 use Rattle.ir_weave.proofs.Behind.{law, good, sorted, at_tables, steps_counted, behind, log_parts, log_behind, there}
 

@@ -9,8 +9,9 @@ use Rattle.atomic_table.specs.Seated.{TableId}
 use Rattle.atomic_table.specs.Table.{Final, Seen, opening, Splits, Joins}
 use Rattle.atomic_table.specs.declared.shared.Seat.{Seat}
 use Rattle.atomic_table.proofs.Lists.{at_set}
-use Rattle.ir_image.specs.Guest.{Guest, IsGuest, object_count, most_object_words}
-use Rattle.ir_thread.specs.Allowed.{IsAllowed}
+use Rattle.ir_image.specs.Guest.{Guest, object_count, most_object_words}
+use Rattle.ir_image.specs.Within.{IsGuest}
+use Rattle.ir_thread.specs.State.{IsAllowed}
 use Rattle.ir_thread.specs.State as thread
 use Rattle.ir_thread.specs.declared.profile.Profile.{Profile}
 use Rattle.ir_object.specs.Cell.{Cell}
@@ -22,10 +23,10 @@ use Rattle.ir_weave.specs.Ahead.{IsAhead}
 use Rattle.std.specs.Prelude.{slice_get, Some}
 use Rattle.std.proofs.lemmas.Option.{slice_get_within, get_or_from_slice_get}
 use Rattle.ir_runs.specs.Cuts.{Cut}
-use Rattle.ir_fit.specs.Fit.{FittedTrace, HasRun, IsFitted}
+use Rattle.ir_fit.specs.Fit.{FittedTrace, HasRun}
+use Rattle.ir_fit.specs.Within.{IsFitted}
 use Rattle.ir_fit.proofs.CallerLemmas.{allowed as header_allowed}
-use Rattle.ir_weave.specs.Standing.{Standing, StandsAt, flat_in}
-use Rattle.ir_weave.specs.States.{IsStateAt, positions}
+use Rattle.ir_weave.specs.Standing.{Standing, StandsAt, flat_in, IsStateAt, positions}
 use Rattle.ir_object.specs.Layout.{line_words, apart, table_length, word_place, content_place}
 use Rattle.ir_weave.specs.Table.{IsTable, IsLaid, laid, word_in, object_in}
 use Rattle.ir_weave.specs.Woven.{View, M, trace_in, opened_in, opened_at, progress, first_met, IsSeated, AreTracks, Woven, tracks_from, all_but_first, first_alone, AreSeats, AreAt, IsClosed, IsEnd, AreRead}

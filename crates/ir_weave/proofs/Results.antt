@@ -2,7 +2,7 @@
 use Rattle.std.proofs.Common.{◌≡◌, ℕ, ◌<◌, List, length, None, Some, refl, sym, ap, ◌∙◌, subst}
 use Rattle.std.specs.Prelude.{slice_get}
 use Rattle.ir_thread.specs.Calls.{ask_of}
-use Rattle.ir_thread.specs.Held.{held_count}
+use Rattle.ir_thread.specs.State.{held_count}
 use Rattle.ir_runs.specs.declared.access.Access.{Access}
 use Rattle.ir_thread.specs.declared.ask.Ask.{Ask}
 use Rattle.ir_thread.specs.declared.ask.Ask.TheVariants.{Env, Enter, Try}
@@ -12,11 +12,11 @@ use Rattle.std.proofs.lemmas.List.{get_or_default}
 use Rattle.ir_object.specs.Cell.{Cell}
 use Rattle.ir_flat.specs.Flat.{Flat, thread_of, cell_of, empty, IsFlat}
 use Rattle.ir_flat.proofs.CallerLemmas.{enter_object}
-use Rattle.ir_log.specs.Logging.{Suits}
+use Rattle.ir_log.specs.Asked.{Suits}
 use Rattle.ir_log.specs.declared.event.Event.{Event}
 use Rattle.ir_log.specs.declared.event.Event.TheVariants.{Answer, Try as Refused}
-use Rattle.ir_trace.specs.Recorded.{Recorded, IsRecordedThread}
-use Rattle.ir_trace.specs.TraceOf.{recorded_thread, trace_of}
+use Rattle.ir_trace.specs.Recorded.{Recorded, recorded_thread, trace_of}
+use Rattle.ir_trace.specs.Within.{IsRecordedThread}
 use Rattle.ir_fit.specs.Ahead.{steps_ahead, log_ahead, CanFollow, IsOpen}
 use Rattle.ir_runs.specs.Following.{Meets}
 use Rattle.ir_fit.specs.declared.follower.look.Look.TheVariants as look

@@ -5,8 +5,9 @@ use Rattle.std.specs.Prelude.{slice_get, IsTrue, ◌↔◌}
 use mathlib.Core.Option.{none}
 use Rattle.atomic_table.specs.Table.{Step as TableStep, step, Allows}
 use Rattle.ir_image.specs.Guest.{object_count, most_object_words}
-use Rattle.ir_thread.specs.Calls.{ask_of, Permits}
-use Rattle.ir_runs.specs.Labels.{Out}
+use Rattle.ir_thread.specs.Calls.{ask_of}
+use Rattle.ir_thread.specs.Permitted.{Permits}
+use Rattle.ir_runs.specs.Machine.{Out}
 use Rattle.ir_thread.specs.State as thread
 use Rattle.ir_runs.specs.declared.access.Access.{Access}
 use Rattle.ir_runs.specs.declared.access.Access.TheVariants.{Reading, Writing}
@@ -15,7 +16,7 @@ use Rattle.ir_thread.specs.declared.ask.Ask.TheVariants.{Enter, Try, Leave, Get,
 use Rattle.ir_thread.proofs.CallerLemmas.{ask_permits}
 use Rattle.ir_log.proofs.CallerLemmas.{entering_by}
 use Rattle.ir_log.specs.declared.event.Event.{Event}
-use Rattle.ir_trace.specs.TraceOf.{recorded_thread}
+use Rattle.ir_trace.specs.Recorded.{recorded_thread}
 use Rattle.ir_runs.specs.Cuts.{Emits}
 use Rattle.ir_fit.specs.Fit.{FittedTrace, HasRun}
 use Rattle.ir_cut.specs.Positions.{machine_of, start_of, EachRun}

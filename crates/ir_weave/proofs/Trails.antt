@@ -1,12 +1,10 @@
 -- What a step of a thread in a run emits, and the thread after it, by the thread before it.
 use Rattle.std.proofs.Common.{◌≡◌, ◌≢◌, ℕ, suc, zero, List, [], ◌∷◌, refl, sym, ap, ◌∙◌, subst, inl, inr, eq-eqb, ne_eqb}
 use Rattle.std.proofs.lemmas.Bool.{cases_eq}
-use Rattle.ir_runs.specs.Machine.{Machine, Ask, act_of, upd}
+use Rattle.ir_runs.specs.Machine.{Machine, Ask, act_of, upd, Object, target, reply, emitted, Admits, Label, Quiet, Answer, In, Refused, Out}
 use Rattle.ir_runs.specs.Machine as machine
-use Rattle.ir_runs.specs.Labels.{Label, Quiet, Answer, In, Refused, Out}
 use Rattle.ir_runs.specs.declared.access.Access.{Access}
 use Rattle.ir_runs.specs.declared.access.Access.TheVariants.{Reading, Writing}
-use Rattle.ir_runs.specs.Object.{Object, target, reply, emitted, Admits}
 use Rattle.ir_runs.proofs.CallerLemmas.{upd_same, now_other}
 use Rattle.ir_runs.specs.Run.{State, Step, act, Can, IsRun, after, label, end, join_if, trail, thread_in, th}
 use Rattle.ir_runs.specs.Cuts.{At, Emits, Needs}

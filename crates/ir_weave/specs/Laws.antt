@@ -3,7 +3,7 @@ use Rattle.std.specs.Prelude.{◌≡◌}
 use Rattle.ir_flat.specs.Flat.{Flat, IsFlat}
 use Rattle.ir_runs.specs.Cuts.{Cut}
 use Rattle.ir_fit.specs.Fit.{FittedTrace, HasRun}
-use Rattle.ir_weave.specs.States.{IsStateAt}
+use Rattle.ir_weave.specs.Standing.{IsStateAt}
 
 -- a guest with a trace has one state at each cut
 abbrev pub OneStateEach : Type 0

@@ -1,4 +1,3 @@
-pub mod States
 pub mod Stepping
 pub mod Laws
 pub mod Standing

@@ -1,16 +1,16 @@
 -- Steps on the way to a cut.
 use Rattle.std.specs.Prelude.{◌≡◌, ◌≢◌, ℕ, ◌+◌, ◌-◌, ◌≤◌, ◌⊎◌, List, length, Option, Some, None}
-use Rattle.ir_runs.specs.Labels.{logged}
+use Rattle.ir_runs.specs.Machine.{logged}
 use Rattle.ir_flat.specs.Flat.{Flat, tables, machine}
 use Rattle.ir_runs.specs.Run.{Can, label}
 use Rattle.ir_trace.specs.Recorded.{Recorded}
 use Rattle.ir_fit.specs.Ahead.{log_ahead}
 use Rattle.ir_runs.specs.Coherent.{sum_below}
-use Rattle.ir_runs.specs.Cuts.{Admitted}
+use Rattle.ir_runs.specs.Admitted.{Admitted}
 use Rattle.ir_fit.specs.Fit.{FittedTrace, HasRun}
 use Rattle.ir_runs.specs.Following.{unlogged}
 use Rattle.ir_cut.specs.Positions.{machine_of, start_of, cut_of, EachRun, IsConsistentCut}
-use Rattle.ir_weave.specs.States.{IsStateAt, positions}
+use Rattle.ir_weave.specs.Standing.{IsStateAt, positions}
 
 -- thread t can take its next step now with this result, and logs by it what the trace emits next
 abbrev pub LogsNext : Recorded → Flat → ℕ → ℕ → Type 0

@@ -7,7 +7,7 @@ use Rattle.atomic_table.specs.Table.{State, Me, Step}
 use Rattle.atomic_table.specs.Seated.{TableId}
 use Rattle.atomic_table.specs.declared.shared.Seat.{Seat}
 use Rattle.ir_thread.specs.Calls.{ask_of, after_ask}
-use Rattle.ir_runs.specs.Labels.{Out}
+use Rattle.ir_runs.specs.Machine.{Out}
 use Rattle.ir_thread.specs.State as thread
 use Rattle.ir_runs.specs.declared.access.Access.TheVariants.{Writing}
 use Rattle.ir_thread.specs.declared.ask.Ask.TheVariants as ask
@@ -17,15 +17,15 @@ use Rattle.ir_object.specs.Cell.{Cell}
 use Rattle.ir_object.specs.Word.{version_unit, fields_of, word_of}
 use Rattle.ir_flat.specs.Flat.{Flat, IsFlat, idle}
 use Rattle.ir_log.specs.declared.event.Event.{Event}
-use Rattle.ir_trace.specs.TraceOf.{recorded_thread}
+use Rattle.ir_trace.specs.Recorded.{recorded_thread}
 use Rattle.ir_fit.specs.Ahead.{IsOpen}
 use Rattle.ir_runs.specs.Run.{count}
-use Rattle.ir_runs.specs.Cuts.{Cut, IsCut, Consistent, Admitted, Emits}
+use Rattle.ir_runs.specs.Cuts.{Cut, IsCut, Consistent, Emits}
+use Rattle.ir_runs.specs.Admitted.{Admitted}
 use Rattle.ir_fit.specs.Fit.{FittedTrace, HasRun}
 use Rattle.ir_cut.specs.Positions.{machine_of, start_of, EachRun}
 use Rattle.ir_weave.specs.Ahead.{thread_at, ask_at, IsNextObject, IsAhead}
-use Rattle.ir_weave.specs.States.{IsStateAt, positions}
-use Rattle.ir_weave.specs.Standing.{Standing, flat_in}
+use Rattle.ir_weave.specs.Standing.{IsStateAt, positions, Standing, flat_in}
 use Rattle.ir_object.specs.Layout.{word_place}
 use Rattle.ir_weave.specs.Table.{IsTable, object_in}
 use Rattle.ir_weave.specs.declared.plan.Plan.{Plan}

@@ -26,8 +26,7 @@ impl Model for State {
 impl State {
     ghost use Rattle.std.specs.Prelude.{◌≤◌, ℕ, IfOk};
     ghost use Rattle.ir_fit.specs.Passed.{IsPassed};
-    ghost use Rattle.ir_weave.specs.Standing.{StandsAt, flat_in};
-    ghost use Rattle.ir_weave.specs.States.{positions};
+    ghost use Rattle.ir_weave.specs.Standing.{StandsAt, flat_in, positions};
 
     /// The guest before its first step.
     ///

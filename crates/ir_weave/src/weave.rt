@@ -9,7 +9,7 @@ ghost use Rattle.ir_fit.specs.Ahead.{IsOpen};
 ghost use Rattle.ir_weave.specs.Ahead.{IsAsking, IsEntering};
 ghost use Rattle.ir_object.specs.Layout.{table_length};
 ghost use Rattle.ir_weave.specs.Woven.{trace_in, progress, met_of, Rises, HasMet, IsOpened, IsSeated, IsGranted, WasStopped, Opens, Answers};
-ghost use Rattle.ir_runs.specs.Labels.{Out};
+ghost use Rattle.ir_runs.specs.Machine.{Out};
 ghost use Rattle.ir_runs.specs.declared.access.Access.TheVariants.{Writing};
 ghost use Rattle.ir_runs.specs.Cuts.{Emits};
 ghost use Rattle.ir_cut.specs.Positions.{machine_of, start_of, EachRun};

@@ -1,8 +1,7 @@
 -- The versions of an object: what made each, and who read it.
 use Rattle.std.specs.Prelude.{◌≡◌, ℕ, suc, ◌<◌, ◌≤◌, List, Some, length}
 use Rattle.std.specs.List.{slice_get}
-use Rattle.ir_trace.specs.Recorded.{Recorded}
-use Rattle.ir_trace.specs.TraceOf.{trace_of}
+use Rattle.ir_trace.specs.Recorded.{Recorded, trace_of}
 use Rattle.ir_coherence.specs.Counting.{reads_in}
 use Rattle.ir_past.specs.Past.{IsReadAt, IsWriteAt, IsMadeBy}
 use Rattle.ir_who.specs.declared.version.Version.{Version}

@@ -6,8 +6,8 @@ use Rattle.std.proofs.lemmas.List.{get_or_past}
 use Rattle.std.proofs.lemmas.Option.{same_Some, slice_get_within}
 use Rattle.ir_runs.proofs.CallerLemmas.{sum_less}
 use Rattle.ir_coherence.proofs.CallerLemmas.{thread_fits}
-use Rattle.ir_trace.specs.Recorded.{Recorded, IsRecorded}
-use Rattle.ir_trace.specs.TraceOf.{recorded_thread}
+use Rattle.ir_trace.specs.Recorded.{Recorded, recorded_thread}
+use Rattle.ir_trace.specs.Within.{IsRecorded}
 use Rattle.ir_past.specs.declared.place.Place.{Place}
 use Rattle.ir_past.proofs.CallerLemmas.{of_thread}
 use Rattle.ir_why.specs.Needed.{NeedsOther, AreNeeds}

@@ -1,8 +1,7 @@
 -- What is before an event.
 use Rattle.std.specs.Prelude.{◌≡◌, ◌<◌, ◌≤◌, ℕ, List, length}
 use Rattle.std.specs.List.{slice_index_or}
-use Rattle.ir_trace.specs.Recorded.{Recorded}
-use Rattle.ir_trace.specs.TraceOf.{recorded_thread}
+use Rattle.ir_trace.specs.Recorded.{Recorded, recorded_thread}
 use Rattle.ir_why.specs.Needed.{NeedsOther}
 
 -- the first d u events of each thread u have all that is before event i of thread t: its thread's events before it, what it needs of other

@@ -5,8 +5,7 @@ use Rattle.ir_log.specs.declared.event.Event.{Event}
 use Rattle.ir_log.specs.declared.event.Event.TheVariants.{Answer, Read, Write, Try}
 use Rattle.ir_runs.specs.Coherent.{sum_below}
 use Rattle.ir_thread.specs.Calls.{most_events}
-use Rattle.ir_trace.specs.Recorded.{Recorded}
-use Rattle.ir_trace.specs.TraceOf.{recorded_thread}
+use Rattle.ir_trace.specs.Recorded.{Recorded, recorded_thread}
 use Rattle.ir_past.specs.Past.{AreReaders}
 use Rattle.ir_past.specs.Progress.{Makes}
 use Rattle.ir_past.specs.Tables.{maker_in, read_in}

@@ -2,7 +2,7 @@
 
 ghost use Rattle.std.specs.Prelude.{◌≡◌, ◌≢◌, ◌≤◌, ◌<◌, ◌+◌, ℕ, true, false, length, slice_get, slice_index_or, IfOk, Some};
 ghost use Rattle.ir_thread.specs.Calls.{most_events};
-ghost use Rattle.ir_trace.specs.TraceOf.{recorded_thread};
+ghost use Rattle.ir_trace.specs.Recorded.{recorded_thread};
 ghost use Rattle.ir_past.specs.Answers.{AreCoherent};
 ghost use Rattle.ir_why.specs.Before.{IsPast};
 ghost use Rattle.ir_why.specs.Tables.{HasTables, AreRaised, IsGathered, HaveRisen, unscanned};

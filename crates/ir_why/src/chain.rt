@@ -2,7 +2,7 @@
 
 ghost use Rattle.std.specs.Prelude.{◌≡◌, ◌<◌, ◌≤◌, ◌⊎◌, ℕ, true, false, [], length, MatchOption, IfOk, Some};
 ghost use Rattle.ir_coherence.specs.Breaking.{IsBefore};
-ghost use Rattle.ir_trace.specs.TraceOf.{recorded_thread};
+ghost use Rattle.ir_trace.specs.Recorded.{recorded_thread};
 ghost use Rattle.ir_past.specs.Answers.{AreCoherent};
 ghost use Rattle.ir_past.specs.declared.place.Place as place;
 ghost use Rattle.ir_picture.specs.Boxes.{AreBoxes};

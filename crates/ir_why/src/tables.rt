@@ -1,7 +1,7 @@
 //! What events need, by tables of a trace.
 
 ghost use Rattle.std.specs.Prelude.{◌≡◌, ◌++◌, ◌<◌, length, OnOk, IfOk};
-ghost use Rattle.ir_trace.specs.TraceOf.{recorded_thread};
+ghost use Rattle.ir_trace.specs.Recorded.{recorded_thread};
 ghost use Rattle.ir_why.specs.Needed.{AreNeeds};
 ghost use Rattle.ir_past.specs.Answers.{AreCoherent};
 ghost use Rattle.ir_why.specs.Tables.{HasTables, AreThere, others, listed, maker_at, needs_in};

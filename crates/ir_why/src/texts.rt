@@ -1,7 +1,7 @@
 //! All lines about an event.
 
 ghost use Rattle.std.specs.Prelude.{◌≡◌, ◌<◌, ◌++◌, List, length, flat_map, IfOk, OnOk};
-ghost use Rattle.ir_trace.specs.TraceOf.{recorded_thread};
+ghost use Rattle.ir_trace.specs.Recorded.{recorded_thread};
 ghost use Rattle.ir_past.specs.Answers.{AreCoherent};
 ghost use Rattle.ir_why.specs.Answers.{IsReason};
 ghost use Rattle.ir_why.specs.Lines.{need_line, link_line};

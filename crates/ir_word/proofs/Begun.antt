@@ -6,7 +6,7 @@ use Rattle.std.proofs.lemmas.Bool.{cases_lt}
 use Rattle.std.proofs.Math.ListN.{get_or-append}
 use Rattle.std.proofs.Math.Seq.{get_or-append_seam}
 use Rattle.ir_image.specs.Guest.{object_count, first_words}
-use Rattle.ir_runs.specs.Object.{Object}
+use Rattle.ir_runs.specs.Machine.{Object}
 use Rattle.ir_runs.specs.Run.{Step, join_if, end}
 use Rattle.ir_runs.specs.Cuts.{Cut, part, lower}
 use Rattle.ir_flat.specs.Flat.{empty}

@@ -7,8 +7,7 @@ use Rattle.std.proofs.lemmas.Option.{slice_get_within}
 use Rattle.ir_runs.specs.declared.access.Access.TheVariants.{Writing}
 use Rattle.ir_flat.specs.Flat.{empty}
 use Rattle.ir_fit.specs.Fit.{FittedTrace}
-use Rattle.ir_weave.specs.Standing.{Standing, StandsAt, flat_in}
-use Rattle.ir_weave.specs.States.{positions}
+use Rattle.ir_weave.specs.Standing.{Standing, StandsAt, flat_in, positions}
 use Rattle.ir_past.specs.declared.place.Place.{Place}
 use Rattle.ir_who.specs.declared.version.Version.{Version}
 use Rattle.ir_walk.proofs.CallerLemmas.{holds_before, words_there}

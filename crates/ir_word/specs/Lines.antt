@@ -10,7 +10,7 @@ use Rattle.ir_files.specs.declared.exit_status.ExitStatus.TheVariants as status
 use Rattle.ir_past.specs.Answers.{NotAnswered, fault_words as unwritten_words}
 use Rattle.ir_past.specs.Naming.{maker_text}
 use Rattle.ir_past.specs.declared.past_err.PastErr.TheVariants.{NoMem}
-use Rattle.ir_text.specs.Answers.{hex_word}
+use Rattle.ir_text.specs.Texts.{hex_word}
 use Rattle.ir_fit_run.specs.Answers.{IsAnswerOf}
 use Rattle.ir_fit_run.specs.Opened.{IsFit}
 use Rattle.ir_fit_run.specs.Paired.{ArePaired}

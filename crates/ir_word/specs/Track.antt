@@ -4,14 +4,13 @@ use Rattle.std.specs.List.{slice_index_or}
 use Rattle.std.specs.List.Sorted.{IsPermutation, IsNonDecreasingBy}
 use Rattle.ir_image.specs.Guest.{object_count}
 use Rattle.ir_mach.specs.Marks.{Marked}
-use Rattle.ir_runs.specs.Labels.{Out}
+use Rattle.ir_runs.specs.Machine.{Out}
 use Rattle.ir_runs.specs.Cuts.{Emits}
 use Rattle.ir_runs.specs.declared.access.Access.TheVariants.{Writing}
-use Rattle.ir_trace.specs.TraceOf.{recorded_thread}
+use Rattle.ir_trace.specs.Recorded.{recorded_thread}
 use Rattle.ir_fit.specs.Fit.{FittedTrace}
 use Rattle.ir_cut.specs.Positions.{EachRun, machine_of, start_of}
-use Rattle.ir_weave.specs.Standing.{Standing, flat_in}
-use Rattle.ir_weave.specs.States.{positions}
+use Rattle.ir_weave.specs.Standing.{Standing, flat_in, positions}
 use Rattle.ir_past.specs.declared.place.Place.{Place}
 use Rattle.ir_events.specs.Events.{entry_of}
 use Rattle.ir_fit_run.specs.Positions.{IsInside, IsLeaveOf}

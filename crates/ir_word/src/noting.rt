@@ -3,8 +3,7 @@
 ghost use Rattle.std.specs.Prelude.{◌≡◌, ◌≢◌, ◌⊎◌, ◌+◌, ◌-◌, ◌<◌, ◌≤◌, ℕ, true, false, length, slice_get, Some, IfSome, IfNone, option_to_list};
 ghost use Rattle.std.specs.List.{slice_index_or};
 ghost use Rattle.ir_fit.specs.Fit.{FittedTrace};
-ghost use Rattle.ir_weave.specs.Standing.{flat_in};
-ghost use Rattle.ir_weave.specs.States.{positions};
+ghost use Rattle.ir_weave.specs.Standing.{flat_in, positions};
 ghost use Rattle.ir_events.specs.Walk.{IsOnWay};
 ghost use Rattle.ir_past.specs.declared.place.Place.{Place};
 ghost use Rattle.ir_who.specs.declared.version.Version.{Version};

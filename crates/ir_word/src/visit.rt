@@ -2,8 +2,7 @@
 
 ghost use Rattle.std.specs.Prelude.{◌≡◌, ◌⊎◌, ◌<◌, ◌≤◌, ℕ, true, false, length, slice_get, Some};
 ghost use Rattle.std.specs.List.{slice_index_or};
-ghost use Rattle.ir_weave.specs.Standing.{flat_in};
-ghost use Rattle.ir_weave.specs.States.{positions};
+ghost use Rattle.ir_weave.specs.Standing.{flat_in, positions};
 ghost use Rattle.ir_weave.specs.Stepping.{Rests};
 ghost use Rattle.ir_events.specs.Walk.{IsOnWay, IsFurther};
 ghost use Rattle.ir_who.specs.declared.version.Version.{Version};

@@ -2,9 +2,8 @@
 
 ghost use Rattle.std.specs.Prelude.{◌≡◌, ◌<◌, ◌≤◌, ℕ, length, IfOk};
 ghost use Rattle.ir_image.specs.Guest.{object_count};
-ghost use Rattle.ir_trace.specs.TraceOf.{recorded_thread};
-ghost use Rattle.ir_weave.specs.Standing.{flat_in};
-ghost use Rattle.ir_weave.specs.States.{positions};
+ghost use Rattle.ir_trace.specs.Recorded.{recorded_thread};
+ghost use Rattle.ir_weave.specs.Standing.{flat_in, positions};
 ghost use Rattle.ir_events.specs.Walk.{IsOnWay, IsPass};
 ghost use Rattle.ir_fit_run.specs.Paired.{ArePaired};
 ghost use Rattle.ir_who.specs.Versions.{AreVersions};

@@ -12,14 +12,13 @@ use Rattle.ir_command.specs.declared.command.Keeping.TheVariants.{Keep, Load, Dr
 use Rattle.ir_command.specs.declared.refusal.Refusal.{Refusal}
 use Rattle.ir_command.specs.declared.refusal.Refusal.TheVariants.{NoMemory}
 use Rattle.ir_command.specs.declared.hit.Hit.{Hit}
-use Rattle.ir_text.specs.Answers.{refusal_text}
+use Rattle.ir_text.specs.Texts.{refusal_text, number_line, positions_text, hit_text, stop_text}
 use Rattle.ir_debug.specs.Machine.Desk as desk
 use Rattle.ir_timeline.specs.Positions.{last_of}
 use Rattle.ir_debug.specs.Machine.Desk.{Desk, spoken, moved, with_point, without_point, kept_cut, with_kept, without_kept}
 use Rattle.ir_debug.specs.Machine.Refusals.{thread_moved, refusal_of, may_lack}
 use Rattle.ir_debug.specs.Machine.Moves.{Leads, Continues}
 use Rattle.ir_debug.specs.Machine.Shown.{shown}
-use Rattle.ir_text.specs.Texts.{number_line, positions_text, hit_text, stop_text}
 
 -- where the thread that a move names has stopped
 abbrev pub stopped_text : FittedTrace → Option ℕ → List ℕ → List ℕ

@@ -1,14 +1,14 @@
 -- What the small machine holds beside the run.
-use Rattle.std.specs.Prelude.{◌≡◌, ◌≤◌, ◌==◌, ℕ, ◌+◌, not, Bool, true, false, List, [], ◌∷◌, ◌++◌, length, find, is_some, Option, option_map}
-use Rattle.std.specs.List.{filter, AllByRecursion}
+use Rattle.std.specs.Prelude.{◌==◌, ℕ, ◌+◌, not, Bool, true, false, List, [], ◌∷◌, ◌++◌, find, is_some, Option, option_map}
+use Rattle.std.specs.List.{filter}
 use Rattle.ir_runs.specs.Run.{Step, th}
 use Rattle.ir_thread.specs.State as thread
-use Rattle.ir_fit.specs.Fit.{FittedTrace, HasRun}
-use Rattle.ir_cut.specs.Positions.{IsConsistentCut, machine_of, start_of, cut_of}
-use Rattle.ir_command.specs.Limits.{most_small}
+use Rattle.ir_fit.specs.Fit.{FittedTrace}
+use Rattle.ir_cut.specs.Positions.{machine_of, start_of, cut_of}
+use Rattle.ir_command.specs.Commands.{most_small}
 use Rattle.ir_command.specs.declared.command.Point.{Point}
-use Rattle.ir_hits.specs.Hits.{Numbered, AreWatchable}
-use Rattle.ir_timeline.specs.Positions.{threads_of, first_cut, Cuts}
+use Rattle.ir_hits.specs.Hits.{Numbered}
+use Rattle.ir_timeline.specs.Positions.{first_cut}
 
 -- a kept cut, and the number by which it is asked for
 pub record Kept : Type 0 where
@@ -103,16 +103,3 @@ position_of d t = cut_of d.at t
 -- thread t of the run just after its k-th own step
 abbrev pub thread_at : FittedTrace → List Step → ℕ → ℕ → thread.State
 thread_at f run t k = th (machine_of f) (start_of f) run t k
-
--- all kept cuts are such
-abbrev pub AllKept : FittedTrace → List Kept → Type 0
-AllKept f kept = AllByRecursion (λ k. Cuts f k.cut) kept
-
--- what the machine always holds
-pub record IsDesk (d : Desk) : Type 0 where
-  pub run : HasRun d.fitted
-  pub size : length d.at ≡ threads_of d.fitted
-  pub at : IsConsistentCut d.fitted d.at
-  pub points : AreWatchable d.points
-  pub kept : AllKept d.fitted d.kept
-  pub few : length d.kept ≤ most_kept + 1

@@ -2,19 +2,19 @@
 use Rattle.std.specs.Prelude.{◌≡◌, ◌≢◌, ℕ, ◌+◌, List, ◌++◌, codes, decimal, Result, Ok, Err}
 use Rattle.ir_image.specs.Guest.{Guest}
 use Rattle.ir_image.specs.Reading.{guest_at}
-use Rattle.ir_image.specs.Refusal as image
+use Rattle.ir_image.specs.Reading as reading
 use Rattle.ir_image.specs.declared.image_err.ImageErr.{ImageErr}
 use Rattle.ir_image.specs.declared.image_err.ImageErr.TheVariants as image_err
 use Rattle.ir_trace.specs.Recorded.{Recorded}
 use Rattle.ir_trace.specs.Reading.{recorded_at}
-use Rattle.ir_trace.specs.Refusal as trace
+use Rattle.ir_trace.specs.Reading as reading_trace
 use Rattle.ir_trace.specs.declared.trace_err.TraceErr.{TraceErr}
 use Rattle.ir_trace.specs.declared.trace_err.TraceErr.TheVariants as trace_err
 use Rattle.ir_fit.specs.Fit.{FittedTrace, HasRun, IsRefused}
 use Rattle.ir_fit.specs.declared.fit_err.FitErr.TheVariants.{Refused}
 use Rattle.ir_fit.specs.declared.verdict.Verdict.{Verdict}
 use Rattle.ir_debug.specs.Machine.Desk.{Desk, desk_of}
-use Rattle.ir_text.specs.Verdicts.{verdict_text, number_or_zero}
+use Rattle.ir_text.specs.Texts.{verdict_text, number_or_zero}
 
 pub data Opening : Type 0 where
   ImageRefused : (error : ImageErr) → Opening
@@ -43,7 +43,7 @@ Opens image_bytes trace_bytes opening = OpensImage (guest_at image_bytes) (recor
 
 -- the lines that a session begins with
 abbrev pub opening_text : Opening → List ℕ
-opening_text (ImageRefused e) = codes "image refused " ++ decimal (number_or_zero (image.number_of e)) ++ codes "\n"
-opening_text (TraceRefused e) = codes "trace refused " ++ decimal (number_or_zero (trace.number_of e)) ++ codes "\n"
+opening_text (ImageRefused e) = codes "image refused " ++ decimal (number_or_zero (reading.number_of e)) ++ codes "\n"
+opening_text (TraceRefused e) = codes "trace refused " ++ decimal (number_or_zero (reading_trace.number_of e)) ++ codes "\n"
 opening_text (Unfit v) = verdict_text v
 opening_text (Ready d) = codes "ready\n"

@@ -1,17 +1,16 @@
 -- What is shown of the guest at the cut.
 use Rattle.std.specs.Prelude.{ℕ, List, length, take}
 use Rattle.ir_image.specs.Guest.{object_words}
-use Rattle.ir_runs.specs.Labels.{Label}
+use Rattle.ir_runs.specs.Machine.{Label}
 use Rattle.ir_thread.specs.State as thread
 use Rattle.ir_runs.specs.Run as run
 use Rattle.ir_runs.specs.Cuts.{object_at}
 use Rattle.ir_cut.specs.Positions.{machine_of, start_of, cut_of}
 use Rattle.ir_command.specs.declared.command.Show.{Show}
 use Rattle.ir_command.specs.declared.command.Show.TheVariants.{Registers, Memory, Object, Output, Log, Next}
-use Rattle.ir_text.specs.Answers.{machine_text}
+use Rattle.ir_text.specs.Texts.{machine_text, memory_text, output_text, object_text, log_text, next_text, bytes_from}
 use Rattle.ir_timeline.specs.Positions.{threads_of}
 use Rattle.ir_debug.specs.Machine.Desk.{Desk, position_of, thread_at}
-use Rattle.ir_text.specs.Texts.{memory_text, output_text, object_text, log_text, next_text, bytes_from}
 
 -- thread t at its position
 abbrev pub current : List run.Step → Desk → ℕ → thread.State

@@ -3,7 +3,7 @@
 ghost use Rattle.std.specs.Prelude.{◌≡◌, ◌<◌, [], length, map, IfOk, OnOk};
 ghost use Rattle.ir_image.specs.Guest.{Guest};
 ghost use Rattle.ir_flat.specs.Flat.{start_flat, tables, machine};
-ghost use Rattle.ir_trace.specs.TraceOf.{trace_of};
+ghost use Rattle.ir_trace.specs.Recorded.{trace_of};
 ghost use Rattle.ir_fit.specs.Ahead.{IsStopped};
 ghost use Rattle.ir_fit.specs.Fit.{HasHeader};
 ghost use Rattle.ir_fit.specs.Follower.{IsFollower, IsFollowed, IsSized};

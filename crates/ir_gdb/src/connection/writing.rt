@@ -2,7 +2,7 @@
 
 ghost use Rattle.std.specs.Prelude.{◌≡◌, ◌≤◌, length, codes, true, OnOk, OnErr, IfErr};
 ghost use Rattle.std.specs.Io.KnownBytes.{Appends};
-ghost use Rattle.ir_stream.specs.Devices.{AppendsPrefix};
+ghost use Rattle.ir_stream.specs.Answers.{AppendsPrefix};
 ghost use Rattle.ir_packet.specs.Packets.{packet_of};
 ghost use Rattle.ir_packet.specs.Replies.{reply_text, output_text};
 ghost use Rattle.ir_gdb.specs.Connection.{sent, sign, answer_text};

@@ -1,6 +1,7 @@
 use Rattle.std.proofs.Common.{List, ℕ, sym, subst}
 use Rattle.std.specs.List.{AllByRecursion}
-use Rattle.ir_image.specs.Guest.{IsGuest, IsWord, IsByte}
+use Rattle.ir_image.specs.Guest.{IsWord, IsByte}
+use Rattle.ir_image.specs.Within.{IsGuest}
 use Rattle.ir_asm.specs.Bounds.{HasLimits}
 use Rattle.ir_asm.proofs.Sound.{guest_fits}
 use Rattle.ir_asm.proofs.assembler.image.Goals as goal

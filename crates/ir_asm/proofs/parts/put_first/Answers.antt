@@ -1,7 +1,6 @@
 use Rattle.std.proofs.Common.{◌≡◌, ◌+◌, ◌-◌, ◌++◌, ◌∙◌, List, ℕ, take, ap, arith}
 use Rattle.std.proofs.lemmas.List.{drop-drop}
-use Rattle.ir_image.specs.Forms.{most_object_words}
-use Rattle.ir_image.specs.Guest.{padded_to}
+use Rattle.ir_image.specs.Guest.{most_object_words, padded_to}
 use Rattle.ir_asm.proofs.Kept.{shorter_words}
 use Rattle.ir_asm.proofs.parts.put_first.Goals as goal
 

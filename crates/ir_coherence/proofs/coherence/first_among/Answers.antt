@@ -1,7 +1,6 @@
 use Rattle.std.proofs.Common.{◌≡◌, ◌<◌, ◌∙◌, List, length, get_or, ap, subst, arith}
 use Rattle.std.proofs.lemmas.List.{get_or_read}
-use Rattle.ir_trace.specs.Recorded.{RecordedThread}
-use Rattle.ir_trace.specs.TraceOf.{absent, recorded_thread}
+use Rattle.ir_trace.specs.Recorded.{RecordedThread, absent, recorded_thread}
 use Rattle.ir_coherence.specs.Counting.{reads_of, writes_of, FirstCause}
 use Rattle.ir_coherence.proofs.Breaks.{all_silent, first_named}
 use Rattle.ir_coherence.proofs.coherence.first_among.Goals as goal

@@ -1,5 +1,5 @@
 use Rattle.std.proofs.Common.{ℕ, ◌<◌}
-use Rattle.ir_trace.specs.TraceOf.{recorded_thread}
+use Rattle.ir_trace.specs.Recorded.{recorded_thread}
 use Rattle.ir_coherence.specs.Counting.{reads_of, writes_of, NoCause}
 use Rattle.ir_coherence.proofs.coherence.first_among.Given as goal
 

@@ -1,8 +1,7 @@
 use Rattle.std.proofs.Common.{◌≡◌, ◌<◌, ◌∙◌, length, get_or, vec_len, sym, ap, subst, arith}
 use Rattle.std.proofs.lemmas.List.{get_or_read}
-use Rattle.ir_trace.specs.Recorded.{RecordedThread}
+use Rattle.ir_trace.specs.Recorded.{RecordedThread, absent, recorded_thread}
 use Rattle.std.specs.List.{AllByRecursion}
-use Rattle.ir_trace.specs.TraceOf.{absent, recorded_thread}
 use Rattle.ir_coherence.specs.Counting.{MayStand, HasRoom}
 use Rattle.ir_coherence.proofs.Breaks.{thread_room, thread_stands}
 use Rattle.ir_coherence.proofs.counting.count_entries.Goals as goal

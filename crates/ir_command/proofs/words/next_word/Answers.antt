@@ -1,7 +1,7 @@
 use Rattle.std.proofs.Common.{◌≡◌, ℕ, false, eqb, List, [], ◌∷◌, length, take, drop, refl, sym, ap, ◌∙◌}
 use Rattle.std.proofs.lemmas.List.{nil_from_length}
 use Rattle.std.proofs.lemmas.Bool.{eqb-true}
-use Rattle.ir_command.specs.Words.{words_of, is_empty}
+use Rattle.ir_command.specs.Commands.{words_of, is_empty}
 use Rattle.ir_command.specs.Cuts.{skip_blanks, word_end}
 use Rattle.ir_command.proofs.FirstWord.{first_word, no_word}
 use Rattle.ir_command.proofs.words.next_word.Goals as goal

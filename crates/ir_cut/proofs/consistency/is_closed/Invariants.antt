@@ -2,7 +2,7 @@ use Rattle.std.proofs.Common.{ℕ, ◌<◌, ◌≡◌, Some}
 use Rattle.std.specs.Prelude.{slice_get}
 use Rattle.ir_log.specs.Logging.{label_of}
 use Rattle.ir_log.specs.declared.event.Event.{Event}
-use Rattle.ir_trace.specs.TraceOf.{recorded_thread}
+use Rattle.ir_trace.specs.Recorded.{recorded_thread}
 use Rattle.ir_cut.specs.Positions.{EachRun, cut_of}
 use Rattle.ir_cut.specs.Searching.{AreInside, NeededBy}
 use Rattle.ir_cut.proofs.consistency.is_closed.Given as goal

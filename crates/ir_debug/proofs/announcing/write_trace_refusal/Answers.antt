@@ -1,7 +1,7 @@
 use Rattle.std.proofs.Common.{ℕ, List, ◌++◌, OnOk, ap, subst, ◌∙◌}
 use Rattle.std.specs.Prelude.{Option, codes, decimal}
 use Rattle.std.specs.Io.KnownBytes.{Appends}
-use Rattle.ir_text.specs.Verdicts.{number_or_zero}
+use Rattle.ir_text.specs.Texts.{number_or_zero}
 use Rattle.ir_debug.proofs.announcing.write_trace_refusal.Goals as goal
 
 pub returns-clause-ok : goal.returns-clause-ok

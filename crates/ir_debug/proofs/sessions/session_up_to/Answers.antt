@@ -1,5 +1,5 @@
 use Rattle.std.proofs.Common.{sym, ◌∙◌}
-use Rattle.ir_stream.specs.Lines.{cut, lines_of}
+use Rattle.ir_stream.specs.Answers.{cut, lines_of}
 use Rattle.ir_debug.specs.Machine.Opening.{Ready}
 use Rattle.ir_debug.specs.Openings.{opening_of}
 use Rattle.ir_debug.proofs.Openings.{none_read, Reads-map, opens_ready, begun_ready, was_read, was_write, served_known, served_ended, writes, writes_in_part}

@@ -1,6 +1,7 @@
 use Rattle.std.proofs.Common.{List, ℕ, map, sym, subst}
 use Rattle.std.specs.List.{AllByRecursion}
-use Rattle.ir_image.specs.Guest.{IsGuest, IsWord, IsByte}
+use Rattle.ir_image.specs.Guest.{IsWord, IsByte}
+use Rattle.ir_image.specs.Within.{IsGuest}
 use Rattle.ir_elf.specs.Segments.{seen}
 use Rattle.ir_elf.proofs.Limits.{guest_limits, guest_fits}
 use Rattle.ir_elf.proofs.reading.image_of.Goals as goal

@@ -3,8 +3,7 @@ use Rattle.std.specs.List.{slice_index_or}
 use Rattle.ir_mach.specs.Core.{Core}
 use Rattle.ir_thread.specs.State as thread
 use Rattle.ir_flat.specs.Flat.{idle}
-use Rattle.ir_weave.specs.Standing.{flat_in}
-use Rattle.ir_weave.specs.States.{positions}
+use Rattle.ir_weave.specs.Standing.{flat_in, positions}
 use Rattle.ir_events.proofs.Listed.{next_within, listed_on, listed_more, one_longer}
 use Rattle.ir_events.proofs.Passes.{further_on}
 use Rattle.ir_events.proofs.visit.visit_thread.Goals as goal

@@ -1,6 +1,5 @@
 use Rattle.std.proofs.Common.{◌≡◌, length}
-use Rattle.ir_weave.specs.Standing.{flat_in}
-use Rattle.ir_weave.specs.States.{positions}
+use Rattle.ir_weave.specs.Standing.{flat_in, positions}
 use Rattle.ir_events.specs.Walk.{IsOnWay, IsFurther, IsListed}
 use Rattle.ir_events.proofs.visit.visit_thread.Given as goal
 

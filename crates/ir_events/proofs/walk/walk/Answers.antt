@@ -2,8 +2,7 @@ use Rattle.std.proofs.Common.{◌<◌, ◌≤◌, ℕ, [], length, subst, sym, �
 use Rattle.std.specs.List.{slice_index_or}
 use Rattle.ir_flat.specs.Flat.{idle}
 use Rattle.ir_cut.specs.Positions.{cut_of}
-use Rattle.ir_weave.specs.Standing.{flat_in}
-use Rattle.ir_weave.specs.States.{positions}
+use Rattle.ir_weave.specs.Standing.{flat_in, positions}
 use Rattle.ir_events.proofs.Listed.{listed_all}
 use Rattle.ir_events.proofs.Passes.{pass_goes}
 use Rattle.ir_events.proofs.walk.walk.Goals as goal

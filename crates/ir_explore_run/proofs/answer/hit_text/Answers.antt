@@ -5,7 +5,7 @@ use Rattle.std.specs.String.{string_bytes}
 use Rattle.std.proofs.lemmas.Option.{same_Some, slice_get-get_or}
 use Rattle.ir_order.specs.Spelling.{Spells}
 use Rattle.ir_outcomes.specs.declared.shown.Shown.{Shown}
-use Rattle.ir_record.specs.Turns.{order_of_turns}
+use Rattle.ir_record.specs.Recording.{order_of_turns}
 use Rattle.ir_record.specs.declared.turns.Turns.{Turns}
 use Rattle.ir_explore_run.specs.Lines.{found_line}
 use Rattle.ir_explore_run.specs.Texts.{Objects, objects_of, AreTexts, known_of}

@@ -1,12 +1,12 @@
 use Rattle.std.proofs.Common.{◌≡◌, ◌∙◌, IfErr, List, length, map, ap, slice_get, Some, sym, subst}
 use Rattle.std.proofs.lemmas.Result.{err_from_is_err_and}
-use Rattle.ir_trace.specs.Recorded.{Recorded, IsRecorded}
+use Rattle.ir_trace.specs.Recorded.{Recorded, trace_of}
+use Rattle.ir_trace.specs.Within.{IsRecorded}
 use Rattle.ir_runs.specs.Coherent.{IsCoherent}
 use Rattle.ir_fit.specs.Fit.{HasRun, IsRefused}
 use Rattle.ir_fit.specs.Growing.{grown}
 use Rattle.ir_fit.specs.Follower.{AreStanding}
 use Rattle.ir_runs.specs.declared.thread_verdict.ThreadVerdict.{ThreadVerdict}
-use Rattle.ir_trace.specs.TraceOf.{trace_of}
 use Rattle.ir_fit.proofs.Furthest.{breaks_refuse, threads_refuse, threads_accept}
 use Rattle.ir_fit.proofs.fitting.fit_with.Goals as goal
 

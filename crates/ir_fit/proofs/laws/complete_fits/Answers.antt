@@ -1,7 +1,7 @@
 use Rattle.ir_thread.specs.Instance.{thread_machine}
 use Rattle.ir_thread.proofs.CallerLemmas.{lawful, closing as closes}
 use Rattle.ir_flat.specs.Flat.{tables, start_flat}
-use Rattle.ir_runs.specs.Run.{trace}
+use Rattle.ir_runs.specs.Bounds.{trace}
 use Rattle.ir_runs.proofs.CallerLemmas.{start_good, own_fits, own_closing}
 use Rattle.ir_runs.specs.Following.{closing}
 use Rattle.ir_fit.proofs.Guests.{starts}

@@ -1,7 +1,6 @@
 use Rattle.std.proofs.Common.{◌≡◌, ◌∙◌, ◌<◌, ℕ, List, length, get_or, ap, subst, arith}
 use Rattle.std.proofs.lemmas.List.{get_or_read}
-use Rattle.ir_trace.specs.Recorded.{Recorded, RecordedThread}
-use Rattle.ir_trace.specs.TraceOf.{absent, recorded_thread}
+use Rattle.ir_trace.specs.Recorded.{Recorded, RecordedThread, absent, recorded_thread}
 use Rattle.ir_fit.specs.Places.{Placed, none_placed, placed_at}
 use Rattle.ir_fit.specs.Visits.{Visit, AddsAll, none_listed, of_threads, entered_by, all_entered}
 use Rattle.ir_fit.proofs.ByVersion.{adds_thread, is_listing}

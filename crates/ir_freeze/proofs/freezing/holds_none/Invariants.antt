@@ -1,6 +1,6 @@
 use Rattle.std.proofs.Common.{◌≡◌, drop}
 use Rattle.std.specs.Prelude.{is_none}
-use Rattle.ir_thread.specs.Held.{highest}
+use Rattle.ir_thread.specs.State.{highest}
 use Rattle.ir_freeze.proofs.freezing.holds_none.Given as goal
 
 abbrev pub invariant-loop-entry : goal.invariant-loop-entry

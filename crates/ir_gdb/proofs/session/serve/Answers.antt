@@ -1,5 +1,5 @@
 use Rattle.std.proofs.Common.{◌≡◌, ◌∙◌, true, false, sym, subst}
-use Rattle.ir_stream.specs.Devices.{Reads}
+use Rattle.ir_stream.specs.Answers.{Reads}
 use Rattle.ir_packet.specs.Stream.{items}
 use Rattle.ir_debug.specs.Session.{most_input}
 use Rattle.ir_gdb.specs.Connection.{Link, Wrote, WroteInPart}

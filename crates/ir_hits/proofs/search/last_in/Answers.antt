@@ -1,6 +1,5 @@
 use Rattle.std.proofs.Common.{◌≡◌, ◌<◌, ◌-◌, ◌∙◌, ap, subst, arith}
-use Rattle.ir_weave.specs.Standing.{flat_in}
-use Rattle.ir_weave.specs.States.{positions}
+use Rattle.ir_weave.specs.Standing.{flat_in, positions}
 use Rattle.ir_hits.specs.Searching.{IsNextHit, reached, window_start}
 use Rattle.ir_hits.proofs.Windows.{at_hit, last_here, last_stays}
 use Rattle.ir_hits.proofs.search.last_in.Goals as goal

@@ -1,7 +1,6 @@
 use Rattle.std.proofs.Common.{◌≡◌, ◌≤◌, ◌-◌, ◌+◌, length}
 use Rattle.ir_cut.specs.Positions.{EachRun}
-use Rattle.ir_weave.specs.Standing.{StandsAt, flat_in}
-use Rattle.ir_weave.specs.States.{positions}
+use Rattle.ir_weave.specs.Standing.{StandsAt, flat_in, positions}
 use Rattle.ir_hits.specs.Searching.{IsLastFrom, window_start}
 use Rattle.ir_hits.proofs.search.last_in.Given as goal
 

@@ -1,6 +1,5 @@
 use Rattle.std.proofs.Common.{◌≡◌, ◌<◌, ◌-◌, arith}
-use Rattle.ir_weave.specs.Standing.{flat_in}
-use Rattle.ir_weave.specs.States.{positions}
+use Rattle.ir_weave.specs.Standing.{flat_in, positions}
 use Rattle.ir_command.specs.declared.hit.Hit.{Hit}
 use Rattle.ir_hits.proofs.Standing.{steps_here}
 use Rattle.ir_hits.proofs.Onward.{is_passage, next_found, next_none}

@@ -1,7 +1,6 @@
 use Rattle.std.proofs.Common.{◌≡◌, ◌≤◌, ◌-◌, suc, length}
 use Rattle.ir_cut.specs.Positions.{EachRun}
-use Rattle.ir_weave.specs.Standing.{StandsAt, flat_in}
-use Rattle.ir_weave.specs.States.{positions}
+use Rattle.ir_weave.specs.Standing.{StandsAt, flat_in, positions}
 use Rattle.ir_hits.specs.Hits.{NoneWithin}
 use Rattle.ir_hits.proofs.search.next_hit.Given as goal
 

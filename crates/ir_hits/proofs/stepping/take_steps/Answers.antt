@@ -1,7 +1,6 @@
 use Rattle.std.proofs.Common.{◌≡◌, ◌<◌, ◌+◌, ap, ◌∙◌, sym, subst, arith}
 use Rattle.std.proofs.lemmas.Result.{on_ok_weaker}
-use Rattle.ir_weave.specs.Standing.{flat_in}
-use Rattle.ir_weave.specs.States.{positions}
+use Rattle.ir_weave.specs.Standing.{flat_in, positions}
 use Rattle.ir_hits.specs.Passing.{HasPassed}
 use Rattle.ir_hits.proofs.Passing.{passed_more, passed_one}
 use Rattle.ir_hits.proofs.Standing.{last_consistent, steps_here}

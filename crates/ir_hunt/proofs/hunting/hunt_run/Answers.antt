@@ -3,7 +3,7 @@ use Rattle.std.specs.String.{string_bytes}
 use Rattle.std.specs.Io.KnownBytes.{Appends}
 use Rattle.std.proofs.KnownBytes.{Appends-trans}
 use Rattle.std.proofs.lemmas.Result.{err_from_is_err_and}
-use Rattle.ir_stream.specs.Devices.{AppendsPrefix}
+use Rattle.ir_stream.specs.Answers.{AppendsPrefix}
 use Rattle.ir_files.proofs.CallerLemmas.{if_err}
 use Rattle.ir_record_run.specs.declared.record_fault.RecordFault.TheVariants.{Lines}
 use Rattle.ir_chaos.specs.Conditions.{as_condition}

@@ -2,7 +2,7 @@ use Rattle.std.proofs.Common.{List, [], length, map, true, ◌∙◌, subst}
 use Rattle.std.specs.Prelude.{◌≢◌}
 use Rattle.std.specs.String.{string_bytes}
 use Rattle.std.proofs.lemmas.List.Folds.{list_all-map}
-use Rattle.ir_record.specs.Turns.{order_of_turns}
+use Rattle.ir_record.specs.Recording.{order_of_turns}
 use Rattle.ir_record.specs.declared.turns.Turns.{Turns}
 use Rattle.ir_sources.specs.Sources.{made_with, origins}
 use Rattle.ir_sources.proofs.CallerLemmas.{answered_by}

@@ -1,5 +1,5 @@
 use Rattle.std.proofs.Common.{◌∙◌}
-use Rattle.ir_record.specs.Turns.{order_of_turns}
+use Rattle.ir_record.specs.Recording.{order_of_turns}
 use Rattle.ir_hunt.proofs.Recorded.{found_by_trace}
 use Rattle.ir_hunt.proofs.stale.has_stale.Goals as goal
 

@@ -1,6 +1,6 @@
 use Rattle.std.proofs.Common.{length, map, true, ◌∙◌, subst}
 use Rattle.std.specs.Prelude.{option_map}
-use Rattle.ir_record.specs.Turns.{order_of_turns}
+use Rattle.ir_record.specs.Recording.{order_of_turns}
 use Rattle.ir_record_run.specs.Plan.{Plan}
 use Rattle.ir_sources.specs.Sources.{made_with}
 use Rattle.ir_sources.proofs.CallerLemmas.{answered_by}

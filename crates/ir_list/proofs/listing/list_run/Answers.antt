@@ -1,7 +1,7 @@
 use Rattle.std.proofs.Common.{◌∙◌, List, ℕ, subst}
 use Rattle.std.specs.Prelude.{OnErr}
 use Rattle.std.specs.Io.KnownBytes.{Appends}
-use Rattle.ir_stream.specs.Devices.{AppendsPrefix}
+use Rattle.ir_stream.specs.Answers.{AppendsPrefix}
 use Rattle.ir_stream.proofs.CallerLemmas.{prefix_longer}
 use Rattle.ir_list.specs.Listing.{threads_text, code_text}
 use Rattle.ir_list.proofs.Written.{on_err, after_first}

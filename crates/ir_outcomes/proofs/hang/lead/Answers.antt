@@ -7,7 +7,7 @@ use Rattle.ir_explore.specs.Origins.{first_origin}
 use Rattle.ir_flat.specs.Flat.{start_flat}
 use Rattle.ir_graph.specs.Nodes.{LookAlike}
 use Rattle.ir_graph.proofs.CallerLemmas.{like_back, like_more}
-use Rattle.ir_record.specs.Turns.{order_of_turns}
+use Rattle.ir_record.specs.Recording.{order_of_turns}
 use Rattle.ir_thread.specs.Calls.{most_budget}
 use Rattle.ir_thread.specs.declared.profile.Profile.TheVariants.{One}
 use Rattle.ir_outcomes.proofs.Lost.{again_at}

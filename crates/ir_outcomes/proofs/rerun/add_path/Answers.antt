@@ -1,5 +1,5 @@
 use Rattle.std.proofs.Common.{[], refl, arith}
-use Rattle.ir_record.specs.Turns.{order_of_turns}
+use Rattle.ir_record.specs.Recording.{order_of_turns}
 use Rattle.ir_outcomes.proofs.Again.{within_next}
 use Rattle.ir_outcomes.proofs.rerun.add_path.Goals as goal
 

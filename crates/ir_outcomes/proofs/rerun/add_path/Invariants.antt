@@ -1,6 +1,6 @@
 use Rattle.std.proofs.Common.{◌≡◌, []}
 use Rattle.ir_image.specs.Guest.{Guest}
-use Rattle.ir_record.specs.Turns.{order_of_turns}
+use Rattle.ir_record.specs.Recording.{order_of_turns}
 use Rattle.ir_outcomes.specs.Again.{IsAgain, IsAgainWithin}
 use Rattle.ir_outcomes.proofs.rerun.add_path.Given as goal
 

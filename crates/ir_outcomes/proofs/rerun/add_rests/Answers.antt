@@ -1,4 +1,4 @@
-use Rattle.ir_record.specs.Turns.{order_of_turns}
+use Rattle.ir_record.specs.Recording.{order_of_turns}
 use Rattle.ir_outcomes.proofs.Again.{within_rest}
 use Rattle.ir_outcomes.proofs.rerun.add_rests.Goals as goal
 

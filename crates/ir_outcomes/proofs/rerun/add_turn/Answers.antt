@@ -1,5 +1,5 @@
 use Rattle.std.proofs.Common.{◌++◌, sym, subst, replicate}
-use Rattle.ir_record.specs.Turns.{order_of_turns}
+use Rattle.ir_record.specs.Recording.{order_of_turns}
 use Rattle.ir_outcomes.specs.Again.{IsAgain}
 use Rattle.ir_outcomes.proofs.Again.{turn_more}
 use Rattle.ir_outcomes.proofs.rerun.add_turn.Goals as goal

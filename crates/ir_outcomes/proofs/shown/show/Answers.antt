@@ -9,7 +9,7 @@ use Rattle.ir_graph.specs.Outcomes.{outcome_of}
 use Rattle.ir_graph.proofs.CallerLemmas.{like_back, like_more}
 use Rattle.ir_thread.specs.Calls.{most_budget}
 use Rattle.ir_thread.specs.declared.profile.Profile.TheVariants.{One}
-use Rattle.ir_record.specs.Turns.{order_of_turns}
+use Rattle.ir_record.specs.Recording.{order_of_turns}
 use Rattle.ir_outcomes.proofs.Showing.{again_shown}
 use Rattle.ir_outcomes.proofs.shown.show.Goals as goal
 

@@ -1,8 +1,7 @@
 use Rattle.std.proofs.Common.{◌≡◌, ◌<◌, ◌∙◌, List, length, get_or, sym, ap, subst, arith}
 use Rattle.std.proofs.lemmas.List.{get_or_read}
 use Rattle.ir_log.specs.declared.event.Event.{Event}
-use Rattle.ir_trace.specs.Recorded.{RecordedThread}
-use Rattle.ir_trace.specs.TraceOf.{absent, recorded_thread}
+use Rattle.ir_trace.specs.Recorded.{RecordedThread, absent, recorded_thread}
 use Rattle.ir_coherence.proofs.CallerLemmas.{thread_fits}
 use Rattle.ir_past.specs.Progress.{Fits}
 use Rattle.ir_past.proofs.Open.{all_fit}

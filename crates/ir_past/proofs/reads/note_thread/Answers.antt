@@ -1,5 +1,5 @@
 use Rattle.std.proofs.Common.{◌≤◌, length, arith}
-use Rattle.ir_trace.specs.TraceOf.{recorded_thread}
+use Rattle.ir_trace.specs.Recorded.{recorded_thread}
 use Rattle.ir_past.proofs.ReadTables.{reads_thread}
 use Rattle.ir_past.proofs.reads.note_thread.Goals as goal
 

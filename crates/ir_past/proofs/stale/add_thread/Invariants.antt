@@ -1,5 +1,5 @@
 use Rattle.std.proofs.Common.{◌≡◌, length}
-use Rattle.ir_trace.specs.TraceOf.{recorded_thread}
+use Rattle.ir_trace.specs.Recorded.{recorded_thread}
 use Rattle.ir_past.specs.Progress.{HoldsOpen, HasRows}
 use Rattle.ir_past.proofs.stale.add_thread.Given as goal
 

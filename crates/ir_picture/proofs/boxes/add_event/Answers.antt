@@ -1,5 +1,5 @@
 use Rattle.std.proofs.Common.{true, false, refl, subst, arith}
-use Rattle.ir_trace.specs.TraceOf.{recorded_thread}
+use Rattle.ir_trace.specs.Recorded.{recorded_thread}
 use Rattle.ir_picture.specs.Boxing.{IsFold}
 use Rattle.ir_picture.proofs.Boxed.{boxed_more, joined_last}
 use Rattle.ir_picture.proofs.boxes.add_event.Goals as goal

@@ -1,6 +1,6 @@
 use Rattle.std.proofs.Common.{◌+◌, ◌∙◌, List, sym, subst, arith, rules}
 use Rattle.ir_log.specs.declared.event.Event.{Event}
-use Rattle.ir_trace.specs.TraceOf.{recorded_thread}
+use Rattle.ir_trace.specs.Recorded.{recorded_thread}
 use Rattle.ir_picture.specs.Boxing.{Notes, IsRepeat, IsFold}
 use Rattle.ir_picture.proofs.Noting.{repeat_before, fold_told}
 use Rattle.ir_picture.proofs.Boxed.{boxed_thread}

@@ -1,5 +1,5 @@
 use Rattle.std.proofs.Common.{◌≡◌, vec_len}
-use Rattle.ir_trace.specs.TraceOf.{recorded_thread}
+use Rattle.ir_trace.specs.Recorded.{recorded_thread}
 use Rattle.ir_picture.specs.Boxing.{Notes, IsRepeatBefore, BoxedBefore}
 use Rattle.ir_picture.proofs.boxes.add_thread.Given as goal
 

@@ -1,5 +1,5 @@
 use Rattle.std.proofs.Common.{◌≤◌, length, arith}
-use Rattle.ir_trace.specs.TraceOf.{recorded_thread}
+use Rattle.ir_trace.specs.Recorded.{recorded_thread}
 use Rattle.ir_picture.proofs.Seen.{sights_thread}
 use Rattle.ir_picture.proofs.sighting.add_thread.Goals as goal
 

@@ -2,7 +2,7 @@ use Rattle.std.proofs.Common.{rules, ◌≡◌, length, map, sym, ap, ◌∙◌,
 use Rattle.std.proofs.lemmas.List.{length-map}
 use Rattle.ir_record.specs.Progress.{IsReady}
 use Rattle.ir_record.specs.Recorders.{progress_of}
-use Rattle.ir_record.specs.Turns.{order_of_turns}
+use Rattle.ir_record.specs.Recording.{order_of_turns}
 use Rattle.ir_record.specs.Worlds.{NoneFailed}
 use Rattle.ir_record.proofs.Ended.{start_ready, Over, over_from, started, threads_there, objects_there, profiles_there, ended_there, recorded_there, mapped_twice}
 use Rattle.ir_record.proofs.in_order.record_in_turns.Given as given

@@ -1,5 +1,5 @@
 use Rattle.std.proofs.Common.{◌≡◌, ◌≤◌, ◌-◌, length, take}
-use Rattle.ir_record.specs.Turns.{order_of_turns}
+use Rattle.ir_record.specs.Recording.{order_of_turns}
 use Rattle.ir_record.proofs.turns.turns_of.Given as goal
 
 abbrev pub invariant-order : goal.invariant-order

@@ -1,5 +1,5 @@
 use Rattle.std.proofs.Common.{◌≡◌, Some}
-use Rattle.ir_record.specs.Turns.{order_of_turns}
+use Rattle.ir_record.specs.Recording.{order_of_turns}
 use Rattle.ir_record_run.specs.Order.{order_of, joined, items_of}
 use Rattle.ir_record_run.proofs.Items.{parts_left, how_long}
 use Rattle.ir_record_run.proofs.order.read_order.Given as goal

@@ -1,10 +1,10 @@
 use Rattle.std.proofs.Common.{◌≡◌, ℕ, subst}
 use Rattle.std.specs.Prelude.{slice_get, Some}
-use Rattle.ir_log.specs.Logging.{Suits}
+use Rattle.ir_log.specs.Asked.{Suits}
 use Rattle.ir_log.specs.declared.event.Event.{Event}
 use Rattle.ir_thread.specs.declared.ask.Ask.TheVariants.{Env}
-use Rattle.ir_trace.specs.Recorded.{Recorded, IsRecordedThread}
-use Rattle.ir_trace.specs.TraceOf.{recorded_thread}
+use Rattle.ir_trace.specs.Recorded.{Recorded, recorded_thread}
+use Rattle.ir_trace.specs.Within.{IsRecordedThread}
 use Rattle.ir_weave.proofs.CallerLemmas.{call_next, call_none}
 use Rattle.ir_replay.proofs.admission.call_result.Goals as goal
 

@@ -1,11 +1,10 @@
 use Rattle.std.proofs.Common.{◌≡◌, ◌<◌, ◌∙◌, ℕ, List, length, get_or, ap, sym, subst}
 use Rattle.std.proofs.lemmas.List.{get_or_default}
 use Rattle.std.specs.Prelude.{slice_get, Some}
-use Rattle.ir_log.specs.Logging.{Suits}
+use Rattle.ir_log.specs.Asked.{Suits}
 use Rattle.ir_log.specs.declared.event.Event.{Event}
 use Rattle.ir_thread.specs.declared.ask.Ask.TheVariants.{Try}
-use Rattle.ir_trace.specs.Recorded.{Recorded}
-use Rattle.ir_trace.specs.TraceOf.{recorded_thread}
+use Rattle.ir_trace.specs.Recorded.{Recorded, recorded_thread}
 use Rattle.ir_thread.specs.Calls.{ask_of}
 use Rattle.ir_object.specs.Cell.{Cell}
 use Rattle.ir_flat.specs.Flat.{Flat, IsFlat, thread_of, cell_of, empty}

@@ -1,6 +1,5 @@
-use Rattle.ir_weave.specs.Standing.{flat_in}
+use Rattle.ir_weave.specs.Standing.{flat_in, IsBetween}
 use Rattle.ir_weave.specs.Stepping.{steps_left}
-use Rattle.ir_replay.specs.Rounds.{IsBetween}
 use Rattle.ir_replay.proofs.moves.advance.Given as goal
 
 abbrev pub invariant-rounds : goal.invariant-rounds

@@ -1,6 +1,6 @@
 use Rattle.std.proofs.Common.{◌<◌, arith}
 use Rattle.ir_cut.specs.Positions.{cut_of}
-use Rattle.ir_weave.specs.States.{positions}
+use Rattle.ir_weave.specs.Standing.{positions}
 use Rattle.ir_weave.proofs.CallerLemmas.{step_taken}
 use Rattle.ir_replay.proofs.Reached.{steps_there, rests_there}
 use Rattle.ir_replay.proofs.stepping.step_asked.Goals as goal

@@ -1,7 +1,6 @@
 use Rattle.std.proofs.Common.{◌≡◌, ◌<◌, ◌≤◌, ℕ, length}
 use Rattle.std.specs.List.{slice_index_or}
-use Rattle.ir_weave.specs.Standing.{flat_in}
-use Rattle.ir_weave.specs.States.{positions}
+use Rattle.ir_weave.specs.Standing.{flat_in, positions}
 use Rattle.ir_rests.specs.Watch.{IsOpenAt}
 use Rattle.ir_rests.specs.declared.kept.Open.{Open}
 use Rattle.ir_rests.proofs.noting.note.Given as goal

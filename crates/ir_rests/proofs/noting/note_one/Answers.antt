@@ -1,7 +1,6 @@
 use Rattle.std.proofs.Common.{◌≡◌, ◌∙◌, refl, sym, ap}
 use Rattle.ir_thread.specs.State as thread
-use Rattle.ir_weave.specs.Standing.{flat_in}
-use Rattle.ir_weave.specs.States.{positions}
+use Rattle.ir_weave.specs.Standing.{flat_in, positions}
 use Rattle.ir_rests.specs.declared.span.Span.{Span}
 use Rattle.ir_rests.proofs.Opened.{opened_on, words_now, words_before}
 use Rattle.ir_rests.proofs.noting.note_one.Goals as goal

@@ -2,8 +2,7 @@ use Rattle.std.proofs.Common.{◌≡◌, ◌+◌, ◌∙◌, ap, sym, refl, subs
 use Rattle.std.specs.List.{slice_index_or}
 use Rattle.std.proofs.lemmas.List.{get_or_default}
 use Rattle.ir_thread.specs.State as thread
-use Rattle.ir_weave.specs.Standing.{flat_in}
-use Rattle.ir_weave.specs.States.{positions}
+use Rattle.ir_weave.specs.Standing.{flat_in, positions}
 use Rattle.ir_rests.specs.Watch.{IsOpenAt}
 use Rattle.ir_rests.specs.declared.span.Span.{Span}
 use Rattle.ir_rests.proofs.OpenRows.{opened_one, opened_watched, none_due}

@@ -2,9 +2,8 @@ use Rattle.std.proofs.Common.{◌≡◌, ◌<◌, ◌≤◌, ◌∙◌, length, 
 use Rattle.std.specs.List.{slice_index_or}
 use Rattle.std.proofs.lemmas.Bool.{cases_lt}
 use Rattle.ir_thread.specs.State as thread
-use Rattle.ir_trace.specs.TraceOf.{recorded_thread}
-use Rattle.ir_weave.specs.Standing.{flat_in}
-use Rattle.ir_weave.specs.States.{positions}
+use Rattle.ir_trace.specs.Recorded.{recorded_thread}
+use Rattle.ir_weave.specs.Standing.{flat_in, positions}
 use Rattle.ir_rests.specs.Watch.{IsWatch, IsFound}
 use Rattle.ir_rests.specs.declared.watch.Watch.{Watch}
 use Rattle.ir_rests.proofs.Leaving.{placed}

@@ -1,8 +1,7 @@
 use Rattle.std.proofs.Common.{◌≡◌, ◌<◌, ◌≤◌, ℕ, length}
 use Rattle.std.specs.Prelude.{Some, slice_get}
 use Rattle.std.specs.List.{slice_index_or}
-use Rattle.ir_weave.specs.Standing.{flat_in}
-use Rattle.ir_weave.specs.States.{positions}
+use Rattle.ir_weave.specs.Standing.{flat_in, positions}
 use Rattle.ir_past.specs.declared.stale_write.StaleWrite.{StaleWrite}
 use Rattle.ir_rests.specs.declared.found.Found.TheVariants.{Unknown}
 use Rattle.ir_rests.specs.Watch.{IsFoundAs, IsWatch, IsFound}

@@ -1,6 +1,5 @@
 use Rattle.std.proofs.Common.{List, sym, subst}
-use Rattle.ir_weave.specs.Standing.{flat_in}
-use Rattle.ir_weave.specs.States.{positions}
+use Rattle.ir_weave.specs.Standing.{flat_in, positions}
 use Rattle.ir_rests.specs.Watch.{AreWatched}
 use Rattle.ir_rests.specs.declared.watch.Watch.{Watch}
 use Rattle.ir_rests.proofs.Built.{watched_first, found_first}

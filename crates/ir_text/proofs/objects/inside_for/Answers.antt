@@ -2,7 +2,8 @@ use Rattle.std.proofs.Common.{rules, ◌∙◌, ◌++◌, List, ℕ, [], ◌∷�
 use Rattle.std.proofs.lemmas.List.{append-nil}
 use Rattle.arrayvec.specs.ArrayVec.{ArrayVec, array_vec_len}
 use Rattle.ir_runs.specs.declared.access.Access.{Access}
-use Rattle.ir_text.specs.Texts.{held_by, inside_for}
+use Rattle.ir_text.specs.Texts.{inside_for}
+use Rattle.ir_text.specs.Held.{held_by}
 use Rattle.ir_text.proofs.Insides.{inside-one, inside-other, inside-none}
 use Rattle.ir_text.proofs.objects.inside_for.Goals as goal
 use Rattle.ir_text.proofs.objects.inside_for.Goals.{then-is_inside, else-is_inside}

@@ -1,6 +1,7 @@
 use Rattle.std.proofs.Common.{◌≡◌, ◌≤◌}
 use Rattle.arrayvec.specs.ArrayVec.{array_vec_len}
-use Rattle.ir_text.specs.Texts.{held_by, inside_for}
+use Rattle.ir_text.specs.Texts.{inside_for}
+use Rattle.ir_text.specs.Held.{held_by}
 use Rattle.ir_text.proofs.objects.inside_for.Given as goal
 
 abbrev pub invariant-loop-thread : goal.invariant-loop-thread

@@ -1,6 +1,6 @@
 use Rattle.std.proofs.Common.{◌≡◌, ◌≤◌, ◌+◌, ◌*◌, ◌++◌}
 use Rattle.arrayvec.specs.ArrayVec.{array_vec_len}
-use Rattle.ir_text.specs.Answers.{registers_text}
+use Rattle.ir_text.specs.Texts.{registers_text}
 use Rattle.ir_text.proofs.text.put_registers.Given as goal
 
 abbrev pub invariant-loop-number : goal.invariant-loop-number

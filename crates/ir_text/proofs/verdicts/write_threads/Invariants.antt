@@ -1,6 +1,6 @@
 use Rattle.std.proofs.Common.{◌≡◌, drop}
 use Rattle.ir_text.specs.Buffered.{Buffered}
-use Rattle.ir_text.specs.Verdicts.{threads_text}
+use Rattle.ir_text.specs.Texts.{threads_text}
 use Rattle.ir_text.proofs.verdicts.write_threads.Given as goal
 
 -- the lines that are written, and those of the other threads

@@ -1,5 +1,5 @@
 use Rattle.std.proofs.Common.{◌≡◌, take}
-use Rattle.ir_thread.specs.Held.{highest}
+use Rattle.ir_thread.specs.State.{highest}
 use Rattle.ir_thread.proofs.holding.highest.Given as goal
 
 abbrev pub invariant-loop-number : goal.invariant-loop-number

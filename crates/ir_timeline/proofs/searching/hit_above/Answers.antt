@@ -1,6 +1,5 @@
 use Rattle.std.proofs.Common.{◌≡◌, ◌≤◌, ◌∙◌, ap, arith}
-use Rattle.ir_weave.specs.Standing.{flat_in}
-use Rattle.ir_weave.specs.States.{positions}
+use Rattle.ir_weave.specs.Standing.{flat_in, positions}
 use Rattle.ir_hits.specs.Searching.{reached}
 use Rattle.ir_timeline.specs.Positions.{last_of}
 use Rattle.ir_timeline.proofs.Searches.{stands_here, hit_next, none_next, none_first}

@@ -1,6 +1,5 @@
 use Rattle.std.proofs.Common.{◌≤◌, ◌-◌}
-use Rattle.ir_weave.specs.Standing.{flat_in}
-use Rattle.ir_weave.specs.States.{positions}
+use Rattle.ir_weave.specs.Standing.{flat_in, positions}
 use Rattle.ir_timeline.specs.Hand.{IsInHand}
 use Rattle.ir_timeline.proofs.Searches.{NoneAbove}
 use Rattle.ir_timeline.proofs.searching.hit_above.Given as goal

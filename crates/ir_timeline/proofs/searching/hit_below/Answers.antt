@@ -1,6 +1,5 @@
 use Rattle.std.proofs.Common.{◌≡◌, ◌<◌, arith}
-use Rattle.ir_weave.specs.Standing.{flat_in}
-use Rattle.ir_weave.specs.States.{positions}
+use Rattle.ir_weave.specs.Standing.{flat_in, positions}
 use Rattle.ir_hits.specs.Searching.{window_start}
 use Rattle.ir_timeline.proofs.Searches.{stands_here, hit_last, none_last, none_below, begins_below}
 use Rattle.ir_timeline.proofs.searching.hit_below.Goals.{then-position-eq0-via-then-position-eq0, then-position-eq0-via-else-position-eq0+then-not-may_hit}

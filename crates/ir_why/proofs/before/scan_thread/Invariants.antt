@@ -1,5 +1,5 @@
 use Rattle.std.proofs.Common.{◌≡◌, ◌<◌, ◌-◌, true, false, length, slice_index_or}
-use Rattle.ir_trace.specs.TraceOf.{recorded_thread}
+use Rattle.ir_trace.specs.Recorded.{recorded_thread}
 use Rattle.ir_why.specs.Tables.{IsGathered, HaveRisen}
 use Rattle.ir_why.proofs.before.scan_thread.Given as goal
 

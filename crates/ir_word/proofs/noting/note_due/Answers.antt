@@ -3,8 +3,7 @@ use Rattle.std.specs.Prelude.{Some, slice_get}
 use Rattle.std.specs.List.{slice_index_or}
 use Rattle.std.proofs.lemmas.Option.{slice_get_within}
 use Rattle.ir_thread.specs.State as thread
-use Rattle.ir_weave.specs.Standing.{flat_in}
-use Rattle.ir_weave.specs.States.{positions}
+use Rattle.ir_weave.specs.Standing.{flat_in, positions}
 use Rattle.ir_word.specs.Words.{IsPutIn, IsWorded, unread}
 use Rattle.ir_word.specs.Track.{IsHoldOf}
 use Rattle.ir_word.specs.declared.hold.Hold.{Hold}

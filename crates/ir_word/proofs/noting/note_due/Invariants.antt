@@ -1,8 +1,7 @@
 use Rattle.std.proofs.Common.{◌≡◌, ◌⊎◌, ◌-◌, ℕ, length}
 use Rattle.std.specs.Prelude.{Some, slice_get}
 use Rattle.std.specs.List.{slice_index_or}
-use Rattle.ir_weave.specs.Standing.{flat_in}
-use Rattle.ir_weave.specs.States.{positions}
+use Rattle.ir_weave.specs.Standing.{flat_in, positions}
 use Rattle.ir_who.specs.declared.version.Version.{Version}
 use Rattle.ir_word.specs.Words.{IsWorded, unread}
 use Rattle.ir_word.specs.Track.{IsTrack, IsPending, AddsWords}

@@ -1,8 +1,7 @@
 use Rattle.std.proofs.Common.{◌≡◌, ◌+◌, ◌≤◌, ◌∙◌, sym, ap, subst, inl, inr, arith}
 use Rattle.std.specs.Prelude.{option_to_list}
 use Rattle.ir_thread.specs.State as thread
-use Rattle.ir_weave.specs.Standing.{flat_in}
-use Rattle.ir_weave.specs.States.{positions}
+use Rattle.ir_weave.specs.Standing.{flat_in, positions}
 use Rattle.ir_walk.specs.Calls.{AreCalls}
 use Rattle.ir_word.specs.Words.{IsPutIn}
 use Rattle.ir_word.specs.Track.{IsTrack}

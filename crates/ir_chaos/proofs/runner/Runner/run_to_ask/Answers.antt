@@ -1,7 +1,7 @@
 use Rattle.std.proofs.Common.{refl, ◌≡◌, ◌++◌, sym, subst, arith, append-nil, replicate}
 use Rattle.ir_chaos.proofs.Runs.{ran_alone, alone_fewer, alone_others}
 use Rattle.ir_chaos.specs.Moments.{moment_of}
-use Rattle.ir_record.specs.Turns.{order_of_turns}
+use Rattle.ir_record.specs.Recording.{order_of_turns}
 use Rattle.ir_chaos.proofs.runner.Runner.run_to_ask.Goals as goal
 
 pub returns-in_ok-note-clause-ran : goal.returns-in_ok-note-clause-ran

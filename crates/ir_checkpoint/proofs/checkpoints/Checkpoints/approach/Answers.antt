@@ -1,6 +1,5 @@
 use Rattle.ir_cut.specs.Positions.{cut_of}
-use Rattle.ir_weave.specs.Standing.{flat_in}
-use Rattle.ir_weave.specs.States.{positions}
+use Rattle.ir_weave.specs.Standing.{flat_in, positions}
 use Rattle.ir_checkpoint.proofs.Brought.{stands_own}
 use Rattle.ir_checkpoint.proofs.Ways.{below_target}
 use Rattle.ir_checkpoint.proofs.checkpoints.Checkpoints.approach.Goals as goal

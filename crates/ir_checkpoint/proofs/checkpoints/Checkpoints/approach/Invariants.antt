@@ -1,7 +1,6 @@
 use Rattle.std.proofs.Common.{◌≤◌, ℕ}
 use Rattle.ir_cut.specs.Positions.{cut_of}
-use Rattle.ir_weave.specs.Standing.{flat_in}
-use Rattle.ir_weave.specs.States.{positions}
+use Rattle.ir_weave.specs.Standing.{flat_in, positions}
 use Rattle.ir_checkpoint.specs.Checkpoints.{AreCheckpoints, Stands}
 use Rattle.ir_checkpoint.proofs.checkpoints.Checkpoints.approach.Given as goal
 

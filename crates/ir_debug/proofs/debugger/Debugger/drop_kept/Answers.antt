@@ -1,6 +1,7 @@
 use Rattle.std.proofs.Common.{length, sym, ap, subst, arith, List}
 use Rattle.ir_timeline.specs.Replaying.{Replaying}
-use Rattle.ir_debug.specs.Machine.Desk.{Kept, AllKept}
+use Rattle.ir_debug.specs.Machine.Desk.{Kept}
+use Rattle.ir_debug.specs.Within.{AllKept}
 use Rattle.ir_debug.proofs.Desks.{desk_over}
 use Rattle.ir_debug.proofs.KeptCuts.{all_without, fewer}
 use Rattle.ir_debug.proofs.debugger.Debugger.drop_kept.Goals as goal

@@ -2,7 +2,8 @@ use Rattle.std.proofs.Common.{◌≡◌, ◌<◌, ◌≤◌, ◌+◌, ◌++◌, 
 use Rattle.ir_timeline.specs.Positions.{Cuts}
 use Rattle.ir_timeline.specs.Replaying.{Replaying}
 use Rattle.ir_debug.specs.Debugging.{Debugging}
-use Rattle.ir_debug.specs.Machine.Desk.{Kept, AllKept, most_kept, most_number}
+use Rattle.ir_debug.specs.Machine.Desk.{Kept, most_kept, most_number}
+use Rattle.ir_debug.specs.Within.{AllKept}
 use Rattle.ir_debug.proofs.Desks.{desk_over, desk_same}
 use Rattle.ir_debug.proofs.KeptCuts.{all_more}
 use Rattle.ir_debug.proofs.Passed.{place_left, number_left}

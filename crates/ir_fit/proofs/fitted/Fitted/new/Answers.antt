@@ -1,5 +1,5 @@
 use Rattle.std.proofs.Common.{◌<◌, ◌≤◌, List, length, sym, ap, subst, arith}
-use Rattle.ir_trace.specs.TraceOf.{recorded_thread}
+use Rattle.ir_trace.specs.Recorded.{recorded_thread}
 use Rattle.ir_fit.specs.Places.{Placed, placed_at}
 use Rattle.ir_fit.proofs.Listed.{entries_long}
 use Rattle.ir_fit.proofs.fitted.Fitted.new.Goals as goal

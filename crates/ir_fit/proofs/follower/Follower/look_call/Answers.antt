@@ -1,9 +1,9 @@
 use Rattle.std.proofs.Common.{refl, sym, subst, ◌≡◌}
 use Rattle.std.specs.Prelude.{slice_get, Some}
 use Rattle.ir_flat.specs.Flat.{thread_of}
-use Rattle.ir_log.specs.Logging.{Suits}
+use Rattle.ir_log.specs.Asked.{Suits}
 use Rattle.ir_thread.specs.declared.ask.Ask.TheVariants.{Env}
-use Rattle.ir_trace.specs.TraceOf.{recorded_thread}
+use Rattle.ir_trace.specs.Recorded.{recorded_thread}
 use Rattle.ir_fit.proofs.Seen.{call_follows, call_disagrees, asks_env}
 use Rattle.ir_fit.proofs.follower.Follower.look_call.Goals as goal
 

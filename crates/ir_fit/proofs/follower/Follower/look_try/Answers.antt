@@ -1,9 +1,9 @@
 use Rattle.std.proofs.Common.{refl, sym, subst, ◌≡◌}
 use Rattle.std.specs.Prelude.{slice_get, Some}
 use Rattle.ir_flat.specs.Flat.{thread_of, cell_of}
-use Rattle.ir_log.specs.Logging.{Suits}
+use Rattle.ir_log.specs.Asked.{Suits}
 use Rattle.ir_thread.specs.declared.ask.Ask.TheVariants.{Try}
-use Rattle.ir_trace.specs.TraceOf.{recorded_thread}
+use Rattle.ir_trace.specs.Recorded.{recorded_thread}
 use Rattle.ir_flat.proofs.CallerLemmas.{try_object}
 use Rattle.ir_fit.proofs.Seen.{refused_follows, try_enters, try_waits, try_agrees, try_awaits, try_disagrees, asks_try, got_in, found_open, found_shut}
 use Rattle.ir_fit.proofs.follower.Follower.look_try.Goals as goal

@@ -1,5 +1,5 @@
 use Rattle.std.proofs.Common.{◌≡◌, sym, ap, subst, ◌∙◌, length, map, arith}
-use Rattle.ir_thread.specs.Allowed.{IsAllowed}
+use Rattle.ir_thread.specs.State.{IsAllowed}
 use Rattle.ir_thread.specs.declared.profile.Profile.{Profile}
 use Rattle.ir_flat.specs.Flat.{start_flat}
 use Rattle.ir_flat.proofs.CallerLemmas.{threads_length}

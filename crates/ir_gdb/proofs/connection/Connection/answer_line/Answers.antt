@@ -1,6 +1,6 @@
 use Rattle.std.proofs.Common.{◌∙◌, ℕ, List, Ok, ap, subst}
 use Rattle.std.specs.Io.KnownBytes.{Appends}
-use Rattle.ir_stream.specs.Devices.{AppendsPrefix}
+use Rattle.ir_stream.specs.Answers.{AppendsPrefix}
 use Rattle.ir_packet.specs.Requests.{console_line}
 use Rattle.ir_debug.specs.Machine.Answers.{quits}
 use Rattle.ir_gdb.specs.Connection.{answer_text}

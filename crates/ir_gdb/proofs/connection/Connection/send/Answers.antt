@@ -1,6 +1,6 @@
 use Rattle.std.proofs.Common.{◌≡◌, ◌∙◌, ◌++◌, ℕ, List, OnOk, OnErr, ap, subst}
 use Rattle.std.specs.Io.KnownBytes.{Appends}
-use Rattle.ir_stream.specs.Devices.{AppendsPrefix}
+use Rattle.ir_stream.specs.Answers.{AppendsPrefix}
 use Rattle.ir_packet.specs.Packets.{packet_of}
 use Rattle.ir_gdb.specs.Connection.{Connecting}
 use Rattle.ir_gdb.proofs.connection.Connection.send.Goals as goal

@@ -2,7 +2,7 @@ use Rattle.std.proofs.Common.{◌+◌, ◌++◌, take, drop, refl, ◌∙◌}
 use Rattle.ir_flat.specs.Flat.{tables}
 use Rattle.ir_record.specs.Progress.{Progress}
 use Rattle.ir_record.specs.Recorders.{progress_of}
-use Rattle.ir_record.specs.Turns.{order_of_turns}
+use Rattle.ir_record.specs.Recording.{order_of_turns}
 use Rattle.ir_record.proofs.Steps.{took_nothing}
 use Rattle.ir_record.proofs.Following.{followed_more, followed_all, followed_end}
 use Rattle.ir_record.proofs.Stopped.{if_error, stopped_within, stopped_after}

@@ -1,7 +1,7 @@
 use Rattle.std.proofs.Common.{take}
 use Rattle.ir_record.specs.Progress.{Took}
 use Rattle.ir_record.specs.Recorders.{progress_of, CanGoOn}
-use Rattle.ir_record.specs.Turns.{order_of_turns}
+use Rattle.ir_record.specs.Recording.{order_of_turns}
 use Rattle.ir_record.specs.Worlds.{AreSameWorlds}
 use Rattle.ir_record.proofs.recorder.Recorder.follow.Given as goal
 

@@ -4,7 +4,7 @@ use Rattle.ir_runs.specs.InOrder.{rounds}
 use Rattle.ir_record.specs.Failures.{StoppedAt}
 use Rattle.ir_record.specs.Progress.{Progress, Took}
 use Rattle.ir_record.specs.Recorders.{progress_of}
-use Rattle.ir_record.specs.Turns.{order_of_turns}
+use Rattle.ir_record.specs.Recording.{order_of_turns}
 use Rattle.ir_record.proofs.Steps.{took_both}
 use Rattle.ir_record.proofs.Stopped.{if_error, stopped_within, stopped_after}
 use Rattle.ir_record.proofs.recorder.Recorder.record.Goals as goal

@@ -1,8 +1,7 @@
 use Rattle.std.proofs.Common.{ap, ◌∙◌, refl, [], ◌∷◌, ◌++◌, set}
 use Rattle.ir_thread.specs.declared.ask.Ask.TheVariants.{Enter}
-use Rattle.ir_runs.specs.Labels.{Label}
+use Rattle.ir_runs.specs.Machine.{Label, emitted}
 use Rattle.ir_runs.specs.Machine as machine
-use Rattle.ir_runs.specs.Object.{emitted}
 use Rattle.ir_flat.specs.Flat.{thread_of, tables}
 use Rattle.ir_flat.proofs.CallerLemmas.{added, enter_object}
 use Rattle.ir_log.specs.Logged.{Logged}

@@ -1,5 +1,5 @@
 use Rattle.std.proofs.Common.{◌≡◌, ◌<◌, ◌≤◌, ℕ, length, None}
-use Rattle.ir_thread.specs.Held.{held_at}
+use Rattle.ir_thread.specs.State.{held_at}
 use Rattle.ir_crew.specs.Plays.{IsAlone, history, inside_by}
 use Rattle.ir_record.proofs.worker.Worker.release_all.Given as goal
 

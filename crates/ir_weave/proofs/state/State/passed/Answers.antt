@@ -1,6 +1,5 @@
 use Rattle.std.proofs.Common.{subst, sym}
-use Rattle.ir_weave.specs.Standing.{Standing, StandsAt, flat_in}
-use Rattle.ir_weave.specs.States.{positions}
+use Rattle.ir_weave.specs.Standing.{Standing, StandsAt, flat_in, positions}
 use Rattle.ir_weave.proofs.Onward.{along_at}
 use Rattle.ir_weave.proofs.state.State.passed.Goals as goal
 

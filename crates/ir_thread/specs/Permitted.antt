@@ -1,0 +1,71 @@
+-- Replies that suit what a thread asks, and steps that are permitted.
+use Rattle.std.specs.Prelude.{◌≡◌, ◌⊎◌, ℕ, zero, suc, ◌+◌, ◌≢◌, ◌<◌, ◌≤◌, true, List, length, Some, None, ⊤}
+use Rattle.ir_image.specs.Guest.{most_objects, most_object_words}
+use Rattle.ir_thread.specs.State.{held_at, highest, is_above, State}
+use Rattle.ir_runs.specs.declared.access.Access.TheVariants.{Writing}
+use Rattle.ir_thread.specs.declared.ask.Ask.{Ask}
+use Rattle.ir_thread.specs.declared.ask.Ask.TheVariants as ask
+use Rattle.ir_thread.specs.declared.ask.Reply.{Reply}
+use Rattle.ir_thread.specs.declared.ask.Reply.TheVariants.{Go, Value}
+use Rattle.ir_thread.specs.declared.end.End.{End}
+use Rattle.ir_thread.specs.declared.profile.Profile.TheVariants.{Two}
+use Rattle.ir_thread.specs.Calls.{most_output, most_events, most_budget, printed, after_reply}
+
+-- the most steps that a thread takes once its budget is spent: its end, and a leave for each object
+abbrev pub most_closing : ℕ
+most_closing = 1 + most_objects
+
+-- the most steps that a thread takes
+abbrev pub most_steps : ℕ
+most_steps = most_budget + most_closing
+
+-- ---- what a thread asks
+
+-- a thread that hasn't ended, and has a step left
+pub record IsRunning (s : State) : Type 0 where
+  pub lives : s.ended ≡ None
+  pub has_budget : s.steps < s.budget
+
+-- there is room for an event
+abbrev pub CanLog : State → Type 0
+CanLog s = s.events < most_events
+
+-- where a thread asks so: what it holds and has room for, and that its profile has the call
+abbrev pub Permits : State → Ask → Type 0
+Permits s ask.Private = IsRunning s
+Permits s (ask.Env kind) = IsRunning s × CanLog s
+Permits s (ask.Enter object access) = IsRunning s × CanLog s × (object < length s.held) × (is_above (highest s.held) object ≡ true)
+Permits s (ask.Try object) = IsRunning s × CanLog s × (object < length s.held) × (is_above (highest s.held) object ≡ true)
+    × (s.profile ≡ Two)
+Permits s (ask.Leave object access) = (s.ended ≡ None → s.steps < s.budget) × (object < length s.held)
+    × (held_at s.held object ≡ Some access)
+Permits s (ask.Get object index) = IsRunning s × (object < length s.held) × (index < most_object_words) × (held_at s.held object ≢ None)
+Permits s (ask.Put object index value) = IsRunning s × (object < length s.held) × (index < most_object_words)
+    × (held_at s.held object ≡ Some Writing)
+Permits s ask.Print = IsRunning s × (length s.output + length (printed s) ≤ most_output)
+Permits s (ask.End e) = s.ended ≡ None
+Permits s ask.Done = (s.ended ≢ None) × (highest s.held ≡ None)
+
+-- ---- what comes after it
+
+-- the reply brings a value
+abbrev pub IsValue : Reply → Type 0
+IsValue Go = ⊥
+IsValue (Value value) = ⊤
+
+-- the reply fits what is asked: a value where one is wanted, 1 or 0 to a try, leave to go elsewhere, and nothing where there is no step
+abbrev pub Suits : Ask → Reply → Type 0
+Suits (ask.Env kind) reply = IsValue reply
+Suits (ask.Try object) reply = (reply ≡ Value 1) ⊎ (reply ≡ Value 0)
+Suits (ask.Get object index) reply = IsValue reply
+Suits ask.Done reply = ⊥
+Suits _ reply = reply ≡ Go
+
+-- the thread after a step that is answered no value
+unfoldable pub step_of : List ℕ → State → State
+step_of code s = after_reply code s Go
+
+-- the thread after n steps that are answered no value
+unfoldable pub run_of : List ℕ → ℕ → State → State
+run_of code zero s = s
+run_of code (suc k) s = step_of code (run_of code k s)
