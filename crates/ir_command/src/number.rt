@@ -32,7 +32,7 @@ fn value(radix: u32, digits: &[u8]) -> Option<u128>
 }
 
 // The number that 1 to `most` digits write.
-#[tactic(auto, unfolding(crate::specs::Numbers::numeral))]
+#[tactic(auto, unfolding(crate::specs::Commands::numeral))]
 fn numeral(radix: u32, most: usize, digits: &[u8]) -> Option<u128>
     requires low { 2 ≤ radix }
     requires high { radix ≤ 16 }
@@ -46,7 +46,7 @@ fn numeral(radix: u32, most: usize, digits: &[u8]) -> Option<u128>
 }
 
 /// The number that a word writes in 1 to 20 decimal digits, or in `0x` and 1 to 16 hexadecimal digits of either case.
-#[tactic(auto, unfolding(crate::specs::Numbers::number_of))]
+#[tactic(auto, unfolding(crate::specs::Commands::number_of))]
 fn number(word: &[u8]) -> Option<u128>
     ensures { result ≡ number_of word.now }
 {

@@ -36,7 +36,7 @@ pub enum End {
 }
 
 impl End {
-    ghost use Rattle.ir_thread.specs.State.{end_number, end_code, end_of, end_of_fault};
+    ghost use Rattle.ir_thread.specs.State.{end_number, end_code, end_of};
     ghost use Rattle.std.specs.Prelude.{◌≡◌};
 
     /// The number of the end, from 1 to 14.
@@ -99,6 +99,7 @@ impl End {
 }
 
 impl From<Fault> for End {
+    ghost use Rattle.ir_thread.specs.State.{end_of_fault};
     ghost use Rattle.std.specs.Prelude.{◌≡◌};
 
     ghost from_gives = { λ fault end. end ≡ end_of_fault fault };

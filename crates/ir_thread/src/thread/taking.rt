@@ -17,7 +17,7 @@ const A0: u8 = 10;
 const LINE_FEED: u8 = 10;
 
 impl Reply {
-    ghost use Rattle.ir_thread.specs.Calls.{answer_of, printed, ask_of, core_after, core_left, held_after_try, after_ask, after_reply, most_output};
+    ghost use Rattle.ir_thread.specs.Calls.{answer_of};
 
     // What goes into a0.
     fn answer(self) -> Option<u32>
@@ -31,6 +31,7 @@ impl Reply {
 }
 
 impl Thread {
+    ghost use Rattle.ir_thread.specs.Calls.{printed, ask_of, core_after, core_left, held_after_try, after_ask, after_reply, most_output};
     ghost use Rattle.ir_thread.specs.Permitted.{Suits, Permits, IsRunning};
     ghost use Rattle.ir_thread.specs.State.{held_at};
     ghost use Rattle.ir_mach.specs.Execution.{outcome_of, past_call};
