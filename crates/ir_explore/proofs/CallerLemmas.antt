@@ -5,3 +5,5 @@ pub use Rattle.ir_explore.proofs.Meant.{turn_switches, alone_switches, node_orde
 pub use Rattle.ir_explore.proofs.Gone.{gone_less}
 -- a list with one more
 pub use Rattle.ir_explore.proofs.Reached.{pushed_cases, pushed_stays, slice_less}
+-- a search with no next level
+pub use Rattle.ir_explore.proofs.Between.{finished_asked}

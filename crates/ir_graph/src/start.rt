@@ -89,11 +89,10 @@ pub fn start_graph<'a>(alloc: Global, image: &'a Image, bounds: Bounds) -> Resul
     let first = flats.by_numbers(&flat)?;
     flats.push(first)?;
     Ok(Graph {
-        alloc,
         image,
         flats,
+        bounds,
         ahead: Ahead::new(alloc),
         rows,
-        bounds,
     })
 }

@@ -1,5 +1,5 @@
-use Rattle.std.proofs.Common.{◌≡◌, ◌+◌, ◌-◌, ◌≤◌, ℕ, true, refl, sym, ap, ◌∙◌, subst, arith}
-use Rattle.ir_graph.specs.Lone.{GoesLone, AreBeside}
+use Rattle.std.proofs.Common.{◌+◌, refl, sym, subst, arith}
+use Rattle.ir_graph.specs.Lone.{GoesLone}
 use Rattle.ir_graph.specs.Plain.{Rests}
 use Rattle.ir_graph.proofs.LoneSteps.{lone_ran, lone_next, lone_more, beside_goes, may_take}
 use Rattle.ir_graph.proofs.lone.go_beside.Goals as goal

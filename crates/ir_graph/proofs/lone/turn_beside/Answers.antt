@@ -1,4 +1,4 @@
-use Rattle.std.proofs.Common.{◌≡◌, true, refl, sym}
+use Rattle.std.proofs.Common.{sym}
 use Rattle.ir_graph.proofs.LoneSteps.{may_enter, beside_entered, takes_turn}
 use Rattle.ir_graph.proofs.lone.turn_beside.Goals as goal
 
