@@ -5,7 +5,7 @@ use Rattle.std.proofs.lemmas.Bool.{cases_lt}
 use Rattle.std.proofs.lemmas.Option.{same_Some}
 use Rattle.ir_image.specs.Guest.{Guest}
 use Rattle.ir_explore.specs.declared.origin.Origin.{Origin}
-use Rattle.ir_explore.proofs.CallerLemmas.{pushed_cases, slice_less}
+use Rattle.ir_explore.proofs.CallerLemmas.{pushed_cases, pushed_stays, slice_less}
 use Rattle.ir_runs.specs.Run.{Step}
 use Rattle.ir_record.specs.Recording.{order_of_turns}
 use Rattle.ir_thread.specs.Calls.{most_budget}
@@ -72,7 +72,7 @@ module _ (guest : Guest) (flats : List Flat) (origins : List Origin) (levels see
       (h.place, x.0, h.state, (x.1, subst (λ z. slice_get flats z ≡ Some h.state) (sym x.2) h.at), h.same)
 
   origin_of : (i v : ℕ) → slice_get listed i ≡ Some v → (n : Origin) × (slice_get origins v ≡ Some n)
-  origin_of i v is = at_place origins v (let a = (has.outcomes.done i v is).0 in omega (arith, a, within))
+  origin_of i v is = at_place origins v (let a = (has.different.done i v is).0 in omega (arith, a, within))
 
   origin_at : (i : ℕ) (x : Shown) → slice_get outcomes i ≡ Some x → (n : Origin) × (slice_get origins x.node ≡ Some n)
   origin_at i x is = origin_of i x.node (has.shown.node i x is)
@@ -90,7 +90,7 @@ module _ (guest : Guest) (flats : List Flat) (origins : List Origin) (levels see
           | inl low ↦ low
           | inr high ↦ absurd (let a = late r.0 r.2 high r.4 in let b = r.5 in omega (arith, a, b, less))
         ] in
-        let h = has.outcomes.all r.0 r.1 near r.3.0 r.3.1 in
+        let h = has.different.all r.0 r.1 near r.3.0 r.3.1 in
         subst (IsIn flats outcomes) r.3.2 (has_in r.1 h.0)
 
     level_least : (i : ℕ) (x : Shown) (f : Flat) → IsAt flats outcomes i x f → (answers : ℕ → List ℕ) (budget : ℕ) (steps : List Step)
@@ -103,15 +103,15 @@ module _ (guest : Guest) (flats : List Flat) (origins : List Origin) (levels see
           let most = searched.most x.node n.0 n.1 in
           let r = searched.within (switches_by guest budget steps) (omega (arith, less, level, most)) answers budget steps counted (omega arith) in
           let low = r.5 in
-          let own = (has.outcomes.done i x.node (has.shown.node i x at.0)).0 in
+          let own = (has.different.done i x.node (has.shown.node i x at.0)).0 in
           let near : r.0 < seen = elim (cases_lt r.0 seen) [
             | inl low ↦ low
             | inr high ↦ absurd (
                 let rise = searched.rising x.node r.0 n.0 r.2 n.1 r.4 (omega (arith, own, high)) in omega (arith, rise, low, less, level))
           ] in
-          let h = has.outcomes.all r.0 r.1 near r.3.0 r.3.1 in
+          let h = has.different.all r.0 r.1 near r.3.0 r.3.1 in
           let one : h.0.place ≡ i =
-          has.outcomes.different h.0.place i h.0.node x.node h.0.state f h.0.stands (has.shown.node i x at.0) h.0.at at.1 (h.0.same ∙ r.3.2 ∙ same) in
+          has.different.different h.0.place i h.0.node x.node h.0.state f h.0.stands (has.shown.node i x at.0) h.0.at at.1 (h.0.same ∙ r.3.2 ∙ same) in
           let node : h.0.node ≡ x.node =
           same_Some h.0.node x.node (sym (subst (λ z. slice_get listed z ≡ Some h.0.node) one h.0.stands) ∙ has.shown.node i x at.0) in
           let before : x.node ≤ r.0 = (let a = h.1 in omega (arith, a, node)) in
@@ -125,23 +125,23 @@ module _ (guest : Guest) (flats : List Flat) (origins : List Origin) (levels see
       shown = has.shown.shown;
       fewest = level_least;
       different = λ i j x y f g at there same.
-          has.outcomes.different i j x.node y.node f g (has.shown.node i x at.0) (has.shown.node j y there.0) at.1 there.1 same;
+          has.different.different i j x.node y.node f g (has.shown.node i x at.0) (has.shown.node j y there.0) at.1 there.1 same;
       rising = λ i j x y is there before.
           let n = origin_at i x is in
           let m = origin_at j y there in
-          let less = has.outcomes.rising i j x.node y.node (has.shown.node i x is) (has.shown.node j y there) before in
+          let less = has.different.rising i j x.node y.node (has.shown.node i x is) (has.shown.node j y there) before in
           let rise = searched.rising x.node y.node n.0 m.0 n.1 m.1 (omega (arith, less)) in
           let a = has.shown.level i x n.0 is n.1 in
           let b = has.shown.level j y m.0 there m.1 in
           omega (arith, rise, a, b);
       nodes = λ i x is.
-          let l = (has.outcomes.done i x.node (has.shown.node i x is)).0 in
+          let l = (has.different.done i x.node (has.shown.node i x is)).0 in
           let few = searched.few in
           omega (arith, l, few, within);
       most = λ i x is.
           let n = origin_at i x is in
           let a = has.shown.level i x n.0 is n.1 in
-          let b = early x.node n.0 (has.outcomes.done i x.node (has.shown.node i x is)).0 n.1 in
+          let b = early x.node n.0 (has.different.done i x.node (has.shown.node i x is)).0 n.1 in
           omega (arith, a, b);
       covered = in_covered;
     }
@@ -164,7 +164,7 @@ module _ (guest : Guest) (flats : List Flat) (origins : List Origin) (levels see
     λ h.
         let r = all h.0 h.1 h.2 h.3 in
         let less : r.0 < seen = (let a = slice_less flats r.0 r.1 r.2.0 in omega (arith, a, nodes, whole)) in
-        let k = has.outcomes.all r.0 r.1 less r.2.0 r.2.1 in
+        let k = has.different.all r.0 r.1 less r.2.0 r.2.1 in
         subst (IsIn flats outcomes) (r.2.2 ∙ h.4) (has_in r.1 k.0),
     λ h.
         let s = has.shown.shown h.0 h.1 h.2 h.3 in
@@ -197,28 +197,29 @@ module _ (guest : Guest) (flats more : List Flat) (origins new : List Origin) (s
   }
 
   pub shown_among : HasShown guest more new seen listed outcomes
+  unfolding kept
   shown_among = record {
-    outcomes = record {
-      done = λ i v is. let d = has.outcomes.done i v is in (d.0, λ f at. d.1 f (old_flat v f d.0 at));
-      all = λ v f low at done. let h = has.outcomes.all v f low (old_flat v f low at) done in (kept f h.0, h.1);
+    different = record {
+      done = λ i v is. let d = has.different.done i v is in (d.0, λ f at. d.1 f (old_flat v f d.0 at));
+      all = λ v f low at done. let h = has.different.all v f low (old_flat v f low at) done in (kept f h.0, h.1);
       different = λ i j v w f g is there at here same.
-          has.outcomes.different i j v w f g is there (old_flat v f (has.outcomes.done i v is).0 at) (old_flat w g (has.outcomes.done j w there).0 here) same;
-      rising = has.outcomes.rising;
+          has.different.different i j v w f g is there (old_flat v f (has.different.done i v is).0 at) (old_flat w g (has.different.done j w there).0 here) same;
+      rising = has.different.rising;
     };
     shown = record {
       count = has.shown.count;
       node = has.shown.node;
       level = λ i x n is at.
-          has.shown.level i x n is (old_origin x.node n (has.outcomes.done i x.node (has.shown.node i x is)).0 at);
+          has.shown.level i x n is (old_origin x.node n (has.different.done i x.node (has.shown.node i x is)).0 at);
       shown = λ i x f at.
-          has.shown.shown i x f (at.0, old_flat x.node f (has.outcomes.done i x.node (has.shown.node i x at.0)).0 at.1);
+          has.shown.shown i x f (at.0, old_flat x.node f (has.different.done i x.node (has.shown.node i x at.0)).0 at.1);
     };
   }
 
 -- no node was looked at
 pub none_shown : (guest : Guest) (flats : List Flat) (origins : List Origin) → HasShown guest flats origins 0 [] []
 none_shown guest flats origins = record {
-  outcomes = record {
+  different = record {
     done = λ i v is. absurd (cc is);
     all = λ v f less at done. absurd (omega (arith, less));
     different = λ i j v w f g is. absurd (cc is);
@@ -230,4 +231,44 @@ none_shown guest flats origins = record {
     level = λ i x n is. absurd (cc is);
     shown = λ i x f at. absurd (cc at.0);
   };
+}
+
+-- the last of a list
+last_at : (xs : List ℕ) (x : ℕ) → slice_get (xs ++ x ∷ []) (length xs) ≡ Some x
+last_at [] x = refl
+last_at (y ∷ xs) x = last_at xs x
+
+-- one more node is listed and shown
+pub shown_one : (guest : Guest) (flats : List Flat) (origins : List Origin) (seen : ℕ) (listed : List ℕ) (outcomes : List Shown) (x : Shown)
+    → HasShown guest flats origins seen listed outcomes → AreOutcomes flats (suc seen) (listed ++ seen ∷ []) → x.node ≡ seen
+    → ((n : Origin) → slice_get origins seen ≡ Some n → x.level ≡ n.level)
+    → ((f : Flat) → slice_get flats seen ≡ Some f → IsShown guest f x.level (order_of_turns x.turns.items))
+    → HasShown guest flats origins (suc seen) (listed ++ seen ∷ []) (outcomes ++ x ∷ [])
+shown_one guest flats origins seen listed outcomes x has different node level shown = record {
+  different = different;
+  shown = subst (λ n. AreShown guest flats origins (listed ++ seen ∷ []) n (outcomes ++ x ∷ []))
+      (let a = length-append listed (seen ∷ []) in omega (arith, a))
+      (shown_more guest flats origins (listed ++ seen ∷ []) (length listed) outcomes x wide (last_at listed seen ∙ ap Some (sym node))
+      (λ n is. level n (subst (λ z. slice_get origins z ≡ Some n) node is))
+      (λ f is. shown f (subst (λ z. slice_get flats z ≡ Some f) node is)));
+}
+  where
+    wide : AreShown guest flats origins (listed ++ seen ∷ []) (length listed) outcomes
+    wide = record {
+      count = has.shown.count;
+      node = λ i y is. pushed_stays listed (seen ∷ []) i y.node (has.shown.node i y is);
+      level = has.shown.level;
+      shown = has.shown.shown;
+    }
+
+-- no outcomes, before the first level
+pub none_explored : (guest : Guest) (flats : List Flat) → AreExplored guest flats 0 []
+none_explored guest flats = record {
+  shown = λ i x f at. absurd (cc at.0);
+  fewest = λ i x f at. absurd (cc at.0);
+  different = λ i j x y f g at. absurd (cc at.0);
+  rising = λ i j x y is. absurd (cc is);
+  nodes = λ i x is. absurd (cc is);
+  most = λ i x is. absurd (cc is);
+  covered = λ c less. absurd (omega (arith, less));
 }

@@ -68,25 +68,6 @@ pub record AreExplored (guest : Guest) (flats : List Flat) (levels : ℕ) (outco
 abbrev pub AreAll : Guest → List Flat → List Shown → Type 0
 AreAll guest flats outcomes = (x : Outcome) → IsOutcomeOf guest x ↔ IsIn flats outcomes x
 
--- what was found out about a guest, explored within these bounds and up to so many switches
-pub record IsExplored (guest : Guest) (bounds : Bounds) (most : ℕ) (e : Explored) : Type 0 where
-  -- however it ended, what is listed is right, and complete up to a number of switches
-  pub explored : AreExplored guest e.states.graph.flats.items e.levels e.outcomes.items
-  pub reached : AllReached guest e.states.graph.flats.items
-  -- once it is finished, an outcome is listed exactly where some complete run of the guest has it
-  pub all : e.ended ≡ Finished → AreAll guest e.states.graph.flats.items e.outcomes.items
-  -- so are its hangs: one is shown exactly where some run of the guest can't be brought to an end
-  pub hangs : e.ended ≡ Finished → AreHangs guest e.states.graph.flats.items e.hangs e.hang
-  pub unknown : (e.ended ≡ Finished → ⊥) → e.hang ≡ None
-  -- it ended so only where all levels that are wanted are gone over, and some state was found in the last of them
-  pub covered : e.ended ≡ Covered → e.levels ≡ suc most
-  pub left : e.ended ≡ Covered
-      → (v : ℕ) × (n : Origin) × (slice_get e.states.search.nodes.items v ≡ Some n) × (n.level ≡ most)
-  -- It stopped only where the states are as many as may be, memory ends, a run leads to a thread that is not followed, or an order that was
-  -- found doesn't lead to its state once more.
-  pub stopped : (why : Stop) → e.ended ≡ Stopped why
-      → MayStop guest e.states.graph.flats.items bounds.nodes bounds.private why ⊎ IsOrder why
-
 -- each of the listed nodes, up to a place, is shown
 pub record AreShown (guest : Guest) (flats : List Flat) (origins : List Origin) (listed : List ℕ) (many : ℕ) (outcomes : List Shown) : Type 0 where
   pub count : length outcomes ≡ many
@@ -105,3 +86,22 @@ pub record AreHangs (guest : Guest) (flats : List Flat) (hangs : ℕ) (hang : Op
   pub shown : (x : Shown) → hang ≡ Some x → IsHangShown guest x.level (order_of_turns x.turns.items)
   pub fewest : (x : Shown) → hang ≡ Some x → (answers : ℕ → List ℕ) (budget : ℕ) (steps : List Step)
       → IsHangOf guest budget answers steps → x.level ≤ switches_by guest budget steps
+
+-- what was found out about a guest, explored within these bounds and up to so many switches
+pub record IsExplored (guest : Guest) (bounds : Bounds) (most : ℕ) (e : Explored) : Type 0 where
+  -- however it ended, what is listed is right, and complete up to a number of switches
+  pub explored : AreExplored guest e.states.graph.flats.items e.levels e.outcomes.items
+  pub reached : AllReached guest e.states.graph.flats.items
+  -- once it is finished, an outcome is listed exactly where some complete run of the guest has it
+  pub all : e.ended ≡ Finished → AreAll guest e.states.graph.flats.items e.outcomes.items
+  -- so are its hangs: one is shown exactly where some run of the guest can't be brought to an end
+  pub hangs : e.ended ≡ Finished → AreHangs guest e.states.graph.flats.items e.hangs e.hang
+  pub unknown : (e.ended ≡ Finished → ⊥) → e.hang ≡ None
+  -- it ended so only where all levels that are wanted are gone over, and some state was found in the last of them
+  pub covered : e.ended ≡ Covered → e.levels ≡ suc most
+  pub left : e.ended ≡ Covered
+      → (v : ℕ) × (n : Origin) × (slice_get e.states.search.nodes.items v ≡ Some n) × (n.level ≡ most)
+  -- It stopped only where the states are as many as may be, memory ends, a run leads to a thread that is not followed, or an order that was
+  -- found doesn't lead to its state once more.
+  pub stopped : (why : Stop) → e.ended ≡ Stopped why
+      → MayStop guest e.states.graph.flats.items bounds.nodes bounds.private why ⊎ IsOrder why

@@ -1,5 +1,5 @@
 -- The outcomes of a guest while a search for them goes on, level by level.
-use Rattle.std.specs.Prelude.{◌≡◌, ◌⊎◌, ℕ, suc, ◌<◌, ◌≤◌, List, Some, None, length}
+use Rattle.std.specs.Prelude.{◌≡◌, ◌⊎◌, ℕ, suc, ◌<◌, ◌≤◌, List, Option, Some, None, length}
 use Rattle.ir_image.specs.Guest.{Guest}
 use Rattle.ir_explore.specs.declared.origin.Origin.{Origin}
 use Rattle.ir_explore.specs.declared.stop.Stop.{Stop}
@@ -14,13 +14,15 @@ use Rattle.ir_outcomes.specs.declared.shown.Shown.{Shown}
 
 -- of the first `seen` nodes where all threads are done, the first with each outcome is listed, and shown
 pub record HasShown (guest : Guest) (flats : List Flat) (origins : List Origin) (seen : ℕ) (listed : List ℕ) (outcomes : List Shown) : Type 0 where
-  pub outcomes : AreOutcomes flats seen listed
+  pub different : AreOutcomes flats seen listed
   pub shown : AreShown guest flats origins listed (length listed) outcomes
 
--- the search can go on: it stands between two levels, and the outcomes among all states that it has found are shown
+-- The search can go on: it stands between two levels, and the outcomes among all states that it has found are shown, once it has gone over a
+-- level.
 pub record CanGoOn (e : Exploring) : Type 0 where
   pub between : StandsBetween e.states
-  pub searched : AreSearched e.states.graph.image.now e.states.graph.flats.items e.states.search.nodes.items e.states.search.level.number
+  pub searched : 0 < e.states.search.level.first
+      → AreSearched e.states.graph.image.now e.states.graph.flats.items e.states.search.nodes.items e.states.search.level.number
   pub has : HasShown e.states.graph.image.now e.states.graph.flats.items e.states.search.nodes.items e.list.seen e.list.listed.items
       e.list.outcomes.items
   pub few : e.list.seen ≤ length e.states.search.nodes.items
@@ -35,3 +37,8 @@ pub record IsExploring (e : Exploring) : Type 0 where
   pub going : e.stop ≡ None → CanGoOn e
   pub stopped : (why : Stop) → e.stop ≡ Some why
       → MayStop e.states.graph.image.now e.states.graph.flats.items e.states.graph.bounds.nodes e.states.graph.bounds.private why ⊎ IsOrder why
+
+-- more than so many levels are left to go over, or none where the search can't go on
+abbrev pub levels_left : Option Stop → ℕ → ℕ
+levels_left None most = suc most
+levels_left (Some why) most = 0

@@ -1,6 +1,6 @@
 //! The outcomes of a guest, found level by level.
 
-ghost use Rattle.std.specs.Prelude.{◌≡◌, ◌⊎◌, ℕ, suc, ◌<◌, ◌≤◌, true, false, length, None, IfOk, IfErr};
+ghost use Rattle.std.specs.Prelude.{◌≡◌, ◌⊎◌, ℕ, suc, ◌<◌, ◌≤◌, true, false, length, Some, None, IfOk, IfErr, IsErrOf, OnErr};
 ghost use Rattle.ir_explore.specs.declared.search.Ended.TheVariants.{Finished, Covered, Stopped};
 ghost use Rattle.ir_explore.specs.declared.stop.Stop.{Stop};
 ghost use Rattle.ir_explore.specs.declared.stop.Stop.TheVariants.{Memory};
@@ -43,6 +43,18 @@ struct Ending {
     hangs: usize,
     // A run that leads to the first of them.
     hang: Option<Shown>,
+}
+
+// Why one of two steps failed: of the first, if both did.
+fn first_stop(first: Result<(), Stop>, second: Result<(), Stop>) -> Option<Stop>
+    ensures none { result ≡ None → OnErr first ⊥ × OnErr second ⊥ }
+    ensures some { (why : Stop) → result ≡ Some why → IsErrOf first why ⊎ IsErrOf second why }
+{
+    match (first, second) {
+        (Err(why), _) => Some(why),
+        (Ok(()), Err(why)) => Some(why),
+        (Ok(()), Ok(())) => None,
+    }
 }
 
 impl<'a> Exploring<'a> {
@@ -109,10 +121,7 @@ impl<'a> Exploring<'a> {
     {
         let searched = self.states.go_over(observer);
         let shown = show_new(self.alloc, &self.states, &mut self.list);
-        self.stop = match shown {
-            Err(why) => Some(why),
-            Ok(()) => searched.err(),
-        };
+        self.stop = first_stop(shown, searched);
         observer.listed(self.list.outcomes.len());
     }
 

@@ -3,8 +3,10 @@
 
 use crate::device_tests::{Bytes, ENDLESS, Page, empty_page};
 use crate::shelf::Shelf;
-use ir_object::OpenGate;
+use ir_explore::Observer;
+use ir_object::Gate;
 use ir_program::{Invocation, Surroundings, Terminals, program};
+use ir_runs::Access;
 use std::alloc::{AllocError, AllocGlobal, Global};
 use std::sync::Wait;
 use std::test::Fail;
@@ -17,6 +19,21 @@ const DOUBLE: &[u8] =
 // Two threads; the first prints A, the second nothing.
 const TWO: &[u8] =
     b".thread prints\n.thread silent\nprints: addi a0, zero, 65\naddi a7, zero, 2\necall\nsilent: ebreak\n";
+
+// Is told and shows nothing.
+struct Quiet;
+
+impl Gate for Quiet {
+    fn entered(&self, _thread: u8, _object: u8, _access: Access) {}
+
+    fn leaving(&self, _thread: u8, _object: u8, _access: Access) {}
+}
+
+impl Observer for Quiet {
+    fn searched(&self, _states: usize, _switches: usize) {}
+
+    fn listed(&self, _outcomes: usize) {}
+}
 
 // The words of a line.
 fn words_of(alloc: Global, line: &str) -> Result<Vec<String>, AllocError> {
@@ -49,7 +66,7 @@ pub fn ran_at<R: Threads + Wait + Sync + Clock + Eprint + AllocGlobal>(
         Surroundings {
             rt,
             folder: &shelf,
-            gate: &OpenGate,
+            gate: &Quiet,
         },
         &Invocation {
             arguments: words.as_slice(),

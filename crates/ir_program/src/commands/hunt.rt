@@ -4,7 +4,10 @@ ghost use Rattle.std.specs.Prelude.{◌≡◌, false};
 
 use crate::commands::bytes_of;
 use crate::commands::conditions::conditions_of;
-use crate::commands::recording::{RecordingPaths, input_of, loses_input, output_places};
+use crate::commands::recording::{
+    Places, RecordingPaths, input_of, loses_input, output_places,
+};
+use crate::dispatch::Surroundings;
 use crate::ends::tell_ends;
 use ir_arguments::HuntArguments;
 use ir_files::{ExitStatus, Folder, MOST_BYTES, OutputFiles, WholeFile};
@@ -28,11 +31,9 @@ fn paths(arguments: &HuntArguments) -> RecordingPaths<'_> {
 }
 
 // Hunts for a run of a guest, whose trace and outputs go into files at these paths.
-fn hunted_into<'a, R, D, O, E>(
-    rt: &R,
-    folder: &'a D,
-    place: &'a str,
-    places: Option<&'a [String]>,
+fn hunted_into<R, D, G, O, E>(
+    around: &Surroundings<'_, R, D, G>,
+    places: Places<'_>,
     image: &ParsedImage<'_>,
     plan: &HuntPlan<'_>,
     out: &mut O,
@@ -46,15 +47,15 @@ where
     requires writes { O.broken out.old ≡ false }
     requires reports { E.broken faults.old ≡ false }
 {
-    let mut trace = WholeFile::new(rt.alloc(), folder, place);
-    let mut outputs = OutputFiles::new(folder, places, place);
+    let Surroundings { rt, folder, .. } = *around;
+    let mut trace = WholeFile::new(rt.alloc(), folder, places.trace);
+    let mut outputs = OutputFiles::new(folder, places.outputs, places.trace);
     hunt_run(rt, image, plan, &mut trace, &mut outputs, out, faults)
 }
 
 // Hunts for a run of a guest, and records it into a file, and what its threads print into others where they are asked for.
-pub fn hunt_file<R, D, O, E>(
-    rt: &R,
-    folder: &D,
+pub fn hunt_file<R, D, G, O, E>(
+    around: &Surroundings<'_, R, D, G>,
     arguments: &HuntArguments,
     explains: bool,
     out: &mut O,
@@ -68,8 +69,8 @@ where
     requires writes { O.broken out.old ≡ false }
     requires reports { E.broken faults.old ≡ false }
 {
-    let alloc = rt.alloc();
-    let place = arguments.trace.as_str();
+    let folder = around.folder;
+    let alloc = around.rt.alloc();
     if loses_input(folder, faults, &paths(arguments)) {
         return ExitStatus::BadArguments;
     }
@@ -97,8 +98,11 @@ where
         stale: arguments.stale,
         is_shown: explains,
     };
-    let places = outputs.as_ref().map(|each| each.as_slice());
-    match hunted_into(rt, folder, place, places, &image, &plan, out, faults) {
+    let places = Places {
+        trace: arguments.trace.as_str(),
+        outputs: outputs.as_ref().map(|each| each.as_slice()),
+    };
+    match hunted_into(around, places, &image, &plan, out, faults) {
         Ok(Some(recorded)) => {
             if explains {
                 tell_ends(alloc, &recorded, faults);

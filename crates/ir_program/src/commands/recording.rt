@@ -23,6 +23,15 @@ pub struct RecordingPaths<'a> {
     pub output: Option<&'a String>,
 }
 
+/// Where a recording goes.
+#[derive(Clone, Copy)]
+pub struct Places<'a> {
+    /// The trace.
+    pub trace: &'a str,
+    /// What each thread prints, if it is asked for.
+    pub outputs: Option<&'a [String]>,
+}
+
 /// The bytes that guests read, none without a file.
 pub fn input_of<D: Folder, E: Sink>(
     alloc: Global,

@@ -4,9 +4,11 @@ ghost use Rattle.std.specs.Prelude.{◌≡◌, false};
 
 use crate::commands::bytes_of;
 use crate::commands::conditions::conditions_of;
-use crate::commands::recording::{RecordingPaths, loses_input, output_places};
+use crate::commands::recording::{Places, RecordingPaths, loses_input, output_places};
+use crate::dispatch::Surroundings;
 use crate::ends::tell_ends;
 use ir_arguments::UntilArguments;
+use ir_explore::Observer;
 use ir_explore_run::{UntilPlan, explore_until};
 use ir_files::{ExitStatus, Folder, MOST_BYTES, OutputFiles, WholeFile};
 use ir_record_run::ParsedImage;
@@ -28,33 +30,31 @@ fn paths(arguments: &UntilArguments) -> RecordingPaths<'_> {
 }
 
 // Looks for an outcome of a guest, whose trace and outputs go into files at these paths.
-fn found_into<'a, R, D, O, E>(
-    rt: &R,
-    folder: &'a D,
-    place: &'a str,
-    places: Option<&'a [String]>,
-    image: &ParsedImage<'_>,
-    plan: &UntilPlan<'_>,
+fn found_into<R, D, G, O, E>(
+    around: &Surroundings<'_, R, D, G>,
+    places: Places<'_>,
+    plan: &UntilPlan<'_, '_, G>,
     out: &mut O,
     faults: &mut E,
 ) -> Result<Trace, ExitStatus>
 where
     R: Threads + Wait + Sync + Clock + AllocGlobal,
     D: Folder,
+    G: Observer,
     O: Sink,
     E: Sink,
     requires writes { O.broken out.old ≡ false }
     requires reports { E.broken faults.old ≡ false }
 {
-    let mut trace = WholeFile::new(rt.alloc(), folder, place);
-    let mut outputs = OutputFiles::new(folder, places, place);
-    explore_until(rt, image, plan, &mut trace, &mut outputs, out, faults)
+    let Surroundings { rt, folder, .. } = *around;
+    let mut trace = WholeFile::new(rt.alloc(), folder, places.trace);
+    let mut outputs = OutputFiles::new(folder, places.outputs, places.trace);
+    explore_until(rt, plan, &mut trace, &mut outputs, out, faults)
 }
 
 // Looks for an outcome of a guest, and records a run that has it into a file, and what its threads print into others where they are asked for.
-pub fn until_file<R, D, O, E>(
-    rt: &R,
-    folder: &D,
+pub fn until_file<R, D, G, O, E>(
+    around: &Surroundings<'_, R, D, G>,
     arguments: &UntilArguments,
     explains: bool,
     out: &mut O,
@@ -63,12 +63,14 @@ pub fn until_file<R, D, O, E>(
 where
     R: Threads + Wait + Sync + Clock + AllocGlobal,
     D: Folder,
+    G: Observer,
     O: Sink,
     E: Sink,
     requires writes { O.broken out.old ≡ false }
     requires reports { E.broken faults.old ≡ false }
 {
-    let alloc = rt.alloc();
+    let folder = around.folder;
+    let alloc = around.rt.alloc();
     let paths = paths(arguments);
     if loses_input(folder, faults, &paths) {
         return ExitStatus::BadArguments;
@@ -86,11 +88,16 @@ where
         Err(status) => return status,
     };
     let plan = UntilPlan {
+        image: &image,
         explore: arguments.explore.plan,
         conditions: conditions.as_slice(),
+        observer: around.gate,
     };
-    let places = outputs.as_ref().map(|each| each.as_slice());
-    match found_into(rt, folder, paths.trace, places, &image, &plan, out, faults) {
+    let places = Places {
+        trace: paths.trace,
+        outputs: outputs.as_ref().map(|each| each.as_slice()),
+    };
+    match found_into(around, places, &plan, out, faults) {
         Ok(recorded) => {
             if explains {
                 tell_ends(alloc, &recorded, faults);
