@@ -70,6 +70,7 @@ impl Search {
     pub fn new(alloc: Global, threads: usize) -> Result<Search, AllocError>
         ensures threads { IfOk result (λ s. length (rows s.opened.items) ≡ threads) }
         ensures number { IfOk result (λ s. s.level.number ≡ 0) }
+        ensures first { IfOk result (λ s. s.level.first ≡ 0) }
         ensures between { IfOk result (λ s. (noted : ℕ → Leading) → IsBetween noted 1 s.nodes.items (rows s.opened.items) s.level) }
     {
         let opened = no_rows(alloc, threads)?;
@@ -89,6 +90,7 @@ impl Search {
     pub fn is_finished(&self) -> bool
         ensures finished { result ≡ true → (noted : ℕ → Leading) (size : ℕ) → IsBetween noted size self.now.nodes.items (rows self.now.opened.items) self.now.level
             → AreAsked noted (length (rows self.now.opened.items)) size }
+        ensures over { result ≡ true → self.now.level.until ≤ self.now.level.first }
         ensures more { result ≡ false → self.now.level.first < self.now.level.until }
     {
         self.level.first >= self.level.until

@@ -40,6 +40,7 @@ impl<'a> States<'a> {
         ensures is { IfOk result IsSearch }
         ensures between { IfOk result StandsBetween }
         ensures number { IfOk result (λ s. s.search.level.number ≡ 0) }
+        ensures first { IfOk result (λ s. s.search.level.first ≡ 0) }
         ensures refused { IfErr result (λ stop. (stop ≡ Memory) ⊎ IsStop image.now bounds.private stop) }
     {
         let graph = start_graph(alloc, image, bounds)?;
@@ -50,6 +51,7 @@ impl<'a> States<'a> {
     /// Whether all states are found.
     pub fn is_finished(&self) -> bool
         ensures finished { result ≡ true → IsSearch self.now → StandsBetween self.now → IsWhole self.now }
+        ensures over { result ≡ true → self.now.search.level.until ≤ self.now.search.level.first }
         ensures more { result ≡ false → self.now.search.level.first < self.now.search.level.until }
     {
         self.search.is_finished()

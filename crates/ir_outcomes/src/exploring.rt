@@ -5,6 +5,7 @@ ghost use Rattle.ir_explore.specs.declared.search.Ended.TheVariants.{Finished, C
 ghost use Rattle.ir_explore.specs.declared.stop.Stop.{Stop};
 ghost use Rattle.ir_explore.specs.declared.stop.Stop.TheVariants.{Memory};
 ghost use Rattle.ir_explore.specs.Following.{Stay};
+ghost use Rattle.ir_graph.specs.Searched.{IsWhole};
 ghost use Rattle.ir_graph.specs.Stops.{IsStop, MayStop};
 ghost use Rattle.ir_outcomes.specs.Explored.{AreHangs, IsExplored};
 ghost use Rattle.ir_outcomes.specs.Exploring.{IsExploring};
@@ -99,9 +100,13 @@ impl<'a> Exploring<'a> {
         ensures wanted { result ≡ true → self.now.states.search.level.number ≤ self.now.most }
         ensures over { result ≡ false → self.now.stop ≡ None → (self.now.states.search.level.until ≤ self.now.states.search.level.first) ⊎ (self.now.most < self.now.states.search.level.number) }
     {
-        self.stop.is_none()
-            && !self.states.is_finished()
-            && self.states.search.level.number <= self.most
+        if self.stop.is_some() {
+            return false;
+        }
+        if self.states.is_finished() {
+            return false;
+        }
+        self.states.search.level.number <= self.most
     }
 
     /// Goes over the next level, and shows the new outcomes. The observer is told how far it is.
@@ -131,6 +136,7 @@ impl<'a> Exploring<'a> {
         requires is { IsExploring self.now }
         requires stop { self.now.stop ≡ None }
         requires over { self.now.states.search.level.until ≤ self.now.states.search.level.first }
+        requires whole { IsWhole self.now.states }
         ensures hangs { IfOk result (λ found. AreHangs self.now.states.graph.image.now self.now.states.graph.flats.items found.0 found.1) }
         ensures refused { IfErr result (λ why. (why ≡ Memory) ⊎ IsOrder why) }
     {
@@ -153,7 +159,7 @@ impl<'a> Exploring<'a> {
         requires allowed { IsAllowed One self.now.states.graph.image.now }
         requires is { IsExploring self.now }
         ensures stopped { (why : Stop) → result.ended ≡ Stopped why → MayStop self.now.states.graph.image.now self.now.states.graph.flats.items self.now.states.graph.bounds.nodes self.now.states.graph.bounds.private why ⊎ IsOrder why }
-        ensures finished { result.ended ≡ Finished → (self.now.stop ≡ None) × (self.now.states.search.level.until ≤ self.now.states.search.level.first) }
+        ensures finished { result.ended ≡ Finished → (self.now.stop ≡ None) × (self.now.states.search.level.until ≤ self.now.states.search.level.first) × IsWhole self.now.states }
         ensures covered { result.ended ≡ Covered → (self.now.stop ≡ None) × (self.now.states.search.level.first < self.now.states.search.level.until) }
         ensures hangs { result.ended ≡ Finished → AreHangs self.now.states.graph.image.now self.now.states.graph.flats.items result.hangs result.hang }
         ensures unknown { (result.ended ≡ Finished → ⊥) → result.hang ≡ None }
@@ -174,9 +180,9 @@ impl<'a> Exploring<'a> {
         requires allowed { IsAllowed One self.states.graph.image.now }
         requires is { IsExploring self }
         requires over { self.stop ≡ None → (self.states.search.level.until ≤ self.states.search.level.first) ⊎ (self.most < self.states.search.level.number) }
-        ensures explored { IsExplored self.states.graph.image.now self.states.graph.bounds self.most result }
-        ensures flats { result.states.graph.flats.items ≡ self.states.graph.flats.items }
-        ensures outcomes { result.outcomes.items ≡ self.list.outcomes.items }
+        ensures explored { IsExplored self.entry.states.graph.image.now self.entry.states.graph.bounds self.entry.most result }
+        ensures flats { result.states.graph.flats.items ≡ self.entry.states.graph.flats.items }
+        ensures outcomes { result.outcomes.items ≡ self.entry.list.outcomes.items }
     {
         let Ending { ended, hangs, hang } = self.ending();
         let Exploring { states, list, .. } = self;

@@ -5,7 +5,7 @@ use Rattle.ir_outcomes.proofs.explored.explore.Given as goal
 abbrev pub invariant-levels : goal.invariant-levels
 invariant-levels g l = record {
   is : IsExploring l.exploring;
-  image : l.exploring.states.graph.image.now ≡ l.image.now;
+  image : l.exploring.states.graph.image.now ≡ l.image;
   bounds : l.exploring.states.graph.bounds ≡ l.bounds;
   most : l.exploring.most ≡ l.most;
 }
