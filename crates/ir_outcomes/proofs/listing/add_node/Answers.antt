@@ -1,4 +1,4 @@
-use Rattle.std.proofs.Common.{◌≡◌, ◌++◌, [], ◌∷◌, suc, Some, length, sym, ap, ◌∙◌, subst}
+use Rattle.std.proofs.Common.{◌≡◌, ◌++◌, [], ◌∷◌, suc, Some, sym, subst}
 use Rattle.std.specs.Prelude.{slice_get}
 use Rattle.ir_explore.proofs.CallerLemmas.{pushed_stays}
 use Rattle.ir_graph.specs.Listing.{AreOutcomes}

@@ -14,7 +14,7 @@ returns-clause-explored c =
       explored = is.explored;
       reached = is.search.graph.reached;
       all = λ done.
-          let f = c.ending.ensures.finished done in
+          let f = c.ending-ended.ensures.finished done in
           let going = is.going f.0 in
           let over = f.1 in
           let until = going.between.until in
@@ -22,10 +22,10 @@ returns-clause-explored c =
           let later : 0 < level.first = omega (arith, over, until, some) in
           all_outcomes s.graph.image.now s.graph.flats.items s.search.nodes.items level.number e.list.seen e.list.listed.items e.list.outcomes.items
           (going.searched later) going.few going.has (going.seen later) f.2.all f.2.nodes;
-      hangs = c.ending.ensures.hangs;
-      unknown = c.ending.ensures.unknown;
+      hangs = c.ending-ended.ensures.hangs;
+      unknown = c.ending-ended.ensures.unknown;
       covered = λ done.
-          let f = c.ending.ensures.covered done in
+          let f = c.ending-ended.ensures.covered done in
           let more = f.1 in
           let most = is.wanted in
           elim (c.requires.over f.0) [
@@ -33,7 +33,7 @@ returns-clause-explored c =
             | inr all ↦ (is.going f.0).levels ∙ omega (arith, all, most)
           ];
       left = λ done.
-          let f = c.ending.ensures.covered done in
+          let f = c.ending-ended.ensures.covered done in
           let more = f.1 in
           let most = is.wanted in
           elim (c.requires.over f.0) [
@@ -43,5 +43,5 @@ returns-clause-explored c =
                 let n = subst (λ k. BeginsAt s.search.nodes.items k level.first) number ((is.going f.0).between.stands level.first (omega arith) more) in
                 (level.first, n.0, n.1, n.2)
           ];
-      stopped = c.ending.ensures.stopped;
+      stopped = c.ending-ended.ensures.stopped;
     }

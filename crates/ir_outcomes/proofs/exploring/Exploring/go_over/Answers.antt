@@ -1,6 +1,5 @@
-use Rattle.std.proofs.Common.{◌≡◌, ◌≤◌, ◌<◌, ◌⊎◌, suc, inl, inr, length, sym, subst, arith}
+use Rattle.std.proofs.Common.{◌≡◌, ◌≤◌, ◌⊎◌, suc, inl, inr, sym, subst, arith}
 use Rattle.ir_explore.specs.declared.origin.Level.{Level}
-use Rattle.ir_explore.specs.declared.stop.Stop.{Stop}
 use Rattle.ir_explore.specs.declared.stop.Stop.TheVariants.{Memory}
 use Rattle.ir_graph.specs.Searched.{AreSearched}
 use Rattle.ir_graph.specs.Stops.{MayStop}
@@ -52,7 +51,7 @@ returns-clause-is g c =
           (on_ok searched.result (λ next. let a = c.requires.wanted in omega (arith, a, next)) searched.ensures.next) searched.ensures.level
           (let a = c.requires.wanted in omega (arith, a));
       going = λ none.
-          let n = c.first_stop.ensures.none none in
+          let n = c.first_stop-self.ensures.none none in
           let seen = really_ok shown.result n.0 shown.ensures.seen in record {
             between = really_ok searched.result n.1 searched.ensures.between;
             searched = λ some. really_ok searched.result n.1 searched.ensures.searched;
@@ -61,7 +60,7 @@ returns-clause-is g c =
             seen = λ some. seen;
             levels = really_ok shown.result n.0 shown.ensures.levels;
           };
-      stopped = λ why is. elim (c.first_stop.ensures.some why is) [
+      stopped = λ why is. elim (c.first_stop-self.ensures.some why is) [
         | inl e ↦ elim (really_err (λ w. (w ≡ Memory) ⊎ IsOrder w) shown.result why e shown.ensures.refused) [
           | inl m ↦ inl (subst may (sym m) tt)
           | inr o ↦ inr o
@@ -72,4 +71,4 @@ returns-clause-is g c =
 
 pub returns-clause-next : goal.returns-clause-next
 returns-clause-next g c = λ none.
-    really_ok c.go_over-searched.result (c.first_stop.ensures.none none).1 c.go_over-searched.ensures.next
+    really_ok c.go_over-searched.result (c.first_stop-self.ensures.none none).1 c.go_over-searched.ensures.next
