@@ -36,7 +36,7 @@ impl ExplorePlan {
 
 /// What is looked for among the outcomes of a guest, and how far.
 #[derive(Clone, Copy)]
-pub struct UntilPlan<'a, 'i, W> {
+pub struct UntilPlan<'a, 'i, 'o, W> {
     /// The guest's image.
     pub image: &'a ParsedImage<'i>,
     /// How far the guest is explored.
@@ -44,5 +44,5 @@ pub struct UntilPlan<'a, 'i, W> {
     /// What has to hold of an outcome, all of it.
     pub conditions: &'a [Condition<'a>],
     /// What is told how far the search is.
-    pub observer: &'a W,
+    pub observer: &'o W,
 }

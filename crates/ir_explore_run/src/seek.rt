@@ -33,7 +33,7 @@ pub struct Sought<'a> {
 fn search<'a, W: Observer>(
     alloc: Global,
     image: &'a Image,
-    plan: &UntilPlan<'_, '_, W>,
+    plan: &UntilPlan<'_, '_, '_, W>,
     switches: usize,
 ) -> Result<Sought<'a>, Stop>
     requires { IsAllowed One image.now }
@@ -77,7 +77,7 @@ fn widened(switches: usize, most: usize) -> usize
 pub fn seek<'a, W: Observer>(
     alloc: Global,
     image: &'a Image,
-    plan: &UntilPlan<'_, '_, W>,
+    plan: &UntilPlan<'_, '_, '_, W>,
 ) -> Result<Sought<'a>, Stop>
     requires { IsAllowed One image.now }
     ensures sought { IfOk result (λ s. IsSought image.now plan.now.explore (map as_condition plan.now.conditions.now) (known_of s.explored) s.first) }

@@ -86,7 +86,7 @@ struct Told {
 fn sought_text<W>(
     alloc: Global,
     image: &Image,
-    plan: &UntilPlan<'_, '_, W>,
+    plan: &UntilPlan<'_, '_, '_, W>,
     sought: &Sought<'_>,
 ) -> Result<Told, AllocError>
     requires allowed { IsAllowed One image.now }
@@ -113,7 +113,7 @@ fn sought_text<W>(
 fn text_about<W: Observer>(
     alloc: Global,
     image: &Image,
-    plan: &UntilPlan<'_, '_, W>,
+    plan: &UntilPlan<'_, '_, '_, W>,
 ) -> Result<Told, AllocError>
     requires { IsAllowed One image.now }
     ensures { IfOk result (λ told. IsUntilText image.now plan.now.explore (map as_condition plan.now.conditions.now) (option_map (λ s. string_bytes s) told.list) told.text.items) }
@@ -130,7 +130,7 @@ fn text_about<W: Observer>(
 // Writes it: the list of the outcome that was found, if one was.
 fn tell_sought<W: Observer, O: Sink>(
     alloc: Global,
-    plan: &UntilPlan<'_, '_, W>,
+    plan: &UntilPlan<'_, '_, '_, W>,
     out: &mut O,
 ) -> Result<Option<String>, ExploreFault>
     requires { O.broken out.old ≡ false }
@@ -157,7 +157,7 @@ fn tell_sought<W: Observer, O: Sink>(
 /// which is reported in one line.
 pub fn explore_until<R, V, W, P, O, E>(
     rt: &R,
-    plan: &UntilPlan<'_, '_, V>,
+    plan: &UntilPlan<'_, '_, '_, V>,
     trace: &mut W,
     outputs: &mut P,
     out: &mut O,

@@ -33,7 +33,7 @@ fn paths(arguments: &HuntArguments) -> RecordingPaths<'_> {
 // Hunts for a run of a guest, whose trace and outputs go into files at these paths.
 fn hunted_into<R, D, G, O, E>(
     around: &Surroundings<'_, R, D, G>,
-    places: Places<'_>,
+    places: Places<'_, '_>,
     image: &ParsedImage<'_>,
     plan: &HuntPlan<'_>,
     out: &mut O,

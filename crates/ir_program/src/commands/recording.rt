@@ -25,11 +25,11 @@ pub struct RecordingPaths<'a> {
 
 /// Where a recording goes.
 #[derive(Clone, Copy)]
-pub struct Places<'a> {
+pub struct Places<'a, 'b> {
     /// The trace.
     pub trace: &'a str,
     /// What each thread prints, if it is asked for.
-    pub outputs: Option<&'a [String]>,
+    pub outputs: Option<&'b [String]>,
 }
 
 /// The bytes that guests read, none without a file.

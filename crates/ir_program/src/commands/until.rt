@@ -32,8 +32,8 @@ fn paths(arguments: &UntilArguments) -> RecordingPaths<'_> {
 // Looks for an outcome of a guest, whose trace and outputs go into files at these paths.
 fn found_into<R, D, G, O, E>(
     around: &Surroundings<'_, R, D, G>,
-    places: Places<'_>,
-    plan: &UntilPlan<'_, '_, G>,
+    places: Places<'_, '_>,
+    plan: &UntilPlan<'_, '_, '_, G>,
     out: &mut O,
     faults: &mut E,
 ) -> Result<Trace, ExitStatus>
