@@ -7,6 +7,7 @@ ghost use Rattle.ir_record.specs.Recording.{IsRecorded, AllWork, AreHandedBack, 
 ghost use Rattle.ir_record.specs.Worlds.{NoneFailed};
 
 use crate::handing_back::{gathered, joined, room, worlds_of};
+use crate::limits::Limits;
 use crate::outputs::Outputs;
 use crate::record_err::RecordErr;
 use crate::workers::{first_failed, new_workers, run_workers};
@@ -14,7 +15,6 @@ use crate::world::World;
 use ir_crew::Crew;
 use ir_image::{Image, MOST_OBJECT_WORDS};
 use ir_object::{Gate, Object};
-use ir_thread::Profile;
 use ir_trace::Trace;
 use std::alloc::{AllocError, Global};
 use std::sync::Wait;
@@ -32,9 +32,8 @@ fn blanks(alloc: Global, count: usize) -> Result<Vec<Object>, AllocError>
 }
 
 /// Records the guest on real threads. Each of its threads runs on one of its own; where none can be started, the caller
-/// runs it, and several such one after another. The budget is in steps, for each thread of the guest; the profile says
-/// which system calls there are, and has to allow the guest's threads and objects. Which of the guest's runs is recorded is
-/// open, and any try may be refused.
+/// runs it, and several such one after another. The profile has to allow the guest's threads and objects. Which of the
+/// guest's runs is recorded is open, and any try may be refused.
 ///
 /// Each entry is reported to the gate just after it, and each leave just before it, on the thread that enters or leaves. This
 /// includes what a thread releases at its end or after its world has failed. Private steps are reported too. A gate that
@@ -54,22 +53,21 @@ pub fn record<R: Threads + Wait + Sync, W: World + Drop + Send, G: Gate + Sync>(
     image: &Image,
     worlds: Vec<W>,
     gate: &G,
-    budget: u64,
-    profile: Profile,
+    limits: Limits,
 ) -> Result<(Trace, Outputs<W>), RecordErr<W>>
-    requires budget { budget ≤ most_budget }
-    requires allowed { IsAllowed profile image.now }
+    requires budget { limits.budget ≤ most_budget }
+    requires allowed { IsAllowed limits.profile image.now }
     requires each { vec_len worlds ≡ length image.now.entries }
     requires works { NoneFailed (map W.broken worlds.items) }
     // One complete run of the guest: its trace, what its threads printed, and what their worlds answered.
-    ensures recorded { IfOk result (IsRecorded W.answers image.now budget profile worlds.items) }
+    ensures recorded { IfOk result (IsRecorded W.answers image.now limits.budget limits.profile worlds.items) }
     ensures works { IfOk result (AllWork W.broken) }
     // The worlds are those that were handed in.
     ensures origins { IfOk result (AreHandedBack W.origin worlds.items) }
-    ensures failed { IfErr result (IsFailure W.answers W.broken W.origin image.now budget profile worlds.items) }
+    ensures failed { IfErr result (IsFailure W.answers W.broken W.origin image.now limits.budget limits.profile worlds.items) }
 {
     let (crew, seats) = Crew::open(alloc, image)?;
-    let mut workers = new_workers(alloc, image, seats, worlds, budget, profile)?;
+    let mut workers = new_workers(alloc, image, seats, worlds, limits.budget, limits.profile)?;
     let room = room(alloc, workers.len())?;
     let mut objects = blanks(alloc, image.object_count())?;
     // From here on nothing takes memory.
@@ -80,7 +78,7 @@ pub fn record<R: Threads + Wait + Sync, W: World + Drop + Send, G: Gate + Sync>(
             worlds: worlds_of(room, workers),
         });
     }
-    let (seats, trace, outputs) = gathered(room, objects.len() as u8, budget, profile, workers);
+    let (seats, trace, outputs) = gathered(room, objects.len() as u8, limits.budget, limits.profile, workers);
     let seat = joined(&crew, seats);
     crew.close(seat, objects.as_mut_slice());
     Ok((trace, outputs))

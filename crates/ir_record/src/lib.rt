@@ -6,6 +6,7 @@ mod follow;
 mod gather;
 mod handing_back;
 mod in_order;
+mod limits;
 mod outputs;
 mod pass;
 mod record_err;
@@ -24,6 +25,7 @@ mod world;
 
 pub use by_threads::record;
 pub use in_order::{record_in_order, record_in_turns};
+pub use limits::Limits;
 pub use outputs::{Output, Outputs};
 pub use record_err::RecordErr;
 pub use turns::Turns;

@@ -14,7 +14,7 @@ use ir_debug::{Ended, SessionErr};
 use ir_fit::{FitErr, Fitted, fit};
 use ir_image::{Image, write_image};
 use ir_object::{Given, OpenGate};
-use ir_record::{RecordErr, World, WorldErr, record};
+use ir_record::{Limits, RecordErr, World, WorldErr, record};
 use ir_replay::{Pace, State, advance};
 use ir_runs::EnvKind;
 use ir_tests::guests::{DOUBLED, Source, TWO_COUNTERS, TWO_READERS};
@@ -175,7 +175,11 @@ fn asked_in<R: Threads + Wait + Sync>(
     requires { IsAllowed One image.now }
 {
     let worlds = counting_worlds(alloc, image.entries().len(), count)?;
-    match record(rt, alloc, image, worlds, &OpenGate, BUDGET, Profile::One) {
+    let limits = Limits {
+        budget: BUDGET,
+        profile: Profile::One,
+    };
+    match record(rt, alloc, image, worlds, &OpenGate, limits) {
         Ok((trace, _outputs)) => Ok(trace.threads().len()),
         Err(RecordErr::NoMem) => Err(Short::Memory),
         Err(_) => Err(Short::Wrong),

@@ -10,7 +10,7 @@ use crate::worlds::{COUNTS, FAILS, Script, worlds};
 use ir_fit::{Fitted, fit};
 use ir_image::Image;
 use ir_object::{Gate, OpenGate};
-use ir_record::{Outputs, RecordErr, record, record_in_order};
+use ir_record::{Limits, Outputs, RecordErr, record, record_in_order};
 use ir_thread::Profile;
 use ir_trace::Trace;
 use std::alloc::Global;
@@ -67,7 +67,11 @@ pub fn by_threads<R: Threads + Wait + Sync, G: Gate + Sync>(
     requires { IsAllowed One image.now }
 {
     let worlds = worlds(alloc, image.entries().len(), answers, FAILS)?;
-    record(rt, alloc, image, worlds, gate, BUDGET, Profile::One)
+    let limits = Limits {
+        budget: BUDGET,
+        profile: Profile::One,
+    };
+    record(rt, alloc, image, worlds, gate, limits)
 }
 
 // The guest recorded on real threads, whose worlds count.
@@ -83,7 +87,7 @@ fn counting_by_threads<R: Threads + Wait + Sync, G: Gate + Sync>(
     requires allowed { IsAllowed profile image.now }
 {
     let worlds = worlds(alloc, image.entries().len(), &[], COUNTS)?;
-    record(rt, alloc, image, worlds, gate, budget, profile)
+    record(rt, alloc, image, worlds, gate, Limits { budget, profile })
 }
 
 // The same in an order.
