@@ -9,7 +9,6 @@ use Rattle.ir_thread.specs.State.{end_number, end_code, held_count}
 use Rattle.ir_thread.specs.Instance.{shared_ask, reply_of, is_result, thread_machine}
 use Rattle.ir_runs.specs.Machine as machine
 use Rattle.ir_runs.specs.Machine.{act_of, target, Admits, emitted, Label, logged}
-use Rattle.ir_runs.specs.Machine as machine_labels
 use Rattle.ir_thread.specs.State as thread
 use Rattle.ir_runs.specs.declared.access.Access.{Access}
 use Rattle.ir_runs.specs.declared.access.Access.TheVariants.{Reading, Writing}
@@ -223,7 +222,7 @@ call_follows r f t v kind j fits is steps next suits =
     let asked = call_asked kind (Answer j v) suits in
     let same : j ≡ kind = cc asked in
     let here : Answer j v ≡ Answer kind v = ap (λ z. Answer z v) same in
-    let es : log_ahead r f t ≡ machine_labels.Answer kind v ∷ drop (suc (thread_of f t).events) (map label_of (recorded_thread r t).events) =
+    let es : log_ahead r f t ≡ machine.Answer kind v ∷ drop (suc (thread_of f t).events) (map label_of (recorded_thread r t).events) =
     ahead_at (recorded_thread r t).events (thread_of f t).events (Answer kind v)
     (subst (λ z. slice_get (recorded_thread r t).events (thread_of f t).events ≡ Some z) here next) in
     let result : IsResult kind v = subst (λ z. IsResult z v) same
@@ -231,7 +230,7 @@ call_follows r f t v kind j fits is steps next suits =
     follows_by r f t v (Env kind) is (record {
       can = fits_result kind v result;
       steps = steps;
-      logs = ap (λ z. machine_labels.Answer kind v ∷ unlogged (machine_labels.Answer kind v) z) es ∙ sym es;
+      logs = ap (λ z. machine.Answer kind v ∷ unlogged (machine.Answer kind v) z) es ∙ sym es;
       ends = tt;
     })
 
@@ -248,8 +247,8 @@ open_entry f t v o a (Read p w) es rest is suits h =
     let access : ◌≡◌ {A = Access} Reading a = cc asked in
     subst (λ z. (Admitted z (cell_of f o).fields) × (logged (emits f (Enter o z) v) (unlogged (emits f (Enter o z) v) es) ≡ es)) access (
       h.1,
-      ap (λ z. machine_labels.In o Reading (cell_of f o).fields.version 0 ∷ unlogged (machine_labels.In o Reading (cell_of f o).fields.version 0) z) is
-          ∙ (λ i. machine_labels.In (object i) Reading (h.0 i) 0 ∷ rest) ∙ sym is,
+      ap (λ z. machine.In o Reading (cell_of f o).fields.version 0 ∷ unlogged (machine.In o Reading (cell_of f o).fields.version 0) z) is
+          ∙ (λ i. machine.In (object i) Reading (h.0 i) 0 ∷ rest) ∙ sym is,
     )
 open_entry f t v o a (Write p w l) es rest is suits h =
     let asked = entry_asked o a (Write p w l) suits in
@@ -257,9 +256,9 @@ open_entry f t v o a (Write p w l) es rest is suits h =
     let access : ◌≡◌ {A = Access} Writing a = cc asked in
     subst (λ z. (Admitted z (cell_of f o).fields) × (logged (emits f (Enter o z) v) (unlogged (emits f (Enter o z) v) es) ≡ es)) access (
       h.2,
-      ap (λ z. machine_labels.In o Writing (cell_of f o).fields.version (cell_of f o).fields.left
-          ∷ unlogged (machine_labels.In o Writing (cell_of f o).fields.version (cell_of f o).fields.left) z) is
-          ∙ (λ i. machine_labels.In (object i) Writing (h.0 i) (h.1 i) ∷ rest) ∙ sym is,
+      ap (λ z. machine.In o Writing (cell_of f o).fields.version (cell_of f o).fields.left
+          ∷ unlogged (machine.In o Writing (cell_of f o).fields.version (cell_of f o).fields.left) z) is
+          ∙ (λ i. machine.In (object i) Writing (h.0 i) (h.1 i) ∷ rest) ∙ sym is,
     )
 
 entry_open : (f : Flat) (t v o : ℕ) (a : Access) (e : Event) (es rest : List Label) → es ≡ label_of e ∷ rest → Suits (Enter o a) e
@@ -269,16 +268,16 @@ entry_open f t v o a (Refused p) es rest is suits can h = let asked = entry_aske
 entry_open f t v o a (Read p w) es rest is suits can h =
     let asked = entry_asked o a (Read p w) suits in
     let access : ◌≡◌ {A = Access} a Reading = sym (let e : ◌≡◌ {A = Access} Reading a = cc asked in e) in
-    let emits_read : machine_labels.In o Reading (cell_of f o).fields.version 0
-    ∷ unlogged (machine_labels.In o Reading (cell_of f o).fields.version 0) es ≡ es =
+    let emits_read : machine.In o Reading (cell_of f o).fields.version 0
+    ∷ unlogged (machine.In o Reading (cell_of f o).fields.version 0) es ≡ es =
     subst (λ z. logged (emits f (Enter o z) v) (unlogged (emits f (Enter o z) v) es) ≡ es) access h in
     let both = emits_read ∙ is in
     ((let e : ◌≡◌ {A = ℕ} (cell_of f o).fields.version w = cc both in e), subst (λ z. Admitted z (cell_of f o).fields) access can)
 entry_open f t v o a (Write p w l) es rest is suits can h =
     let asked = entry_asked o a (Write p w l) suits in
     let access : ◌≡◌ {A = Access} a Writing = sym (let e : ◌≡◌ {A = Access} Writing a = cc asked in e) in
-    let emits_write : machine_labels.In o Writing (cell_of f o).fields.version (cell_of f o).fields.left
-    ∷ unlogged (machine_labels.In o Writing (cell_of f o).fields.version (cell_of f o).fields.left) es ≡ es =
+    let emits_write : machine.In o Writing (cell_of f o).fields.version (cell_of f o).fields.left
+    ∷ unlogged (machine.In o Writing (cell_of f o).fields.version (cell_of f o).fields.left) es ≡ es =
     subst (λ z. logged (emits f (Enter o z) v) (unlogged (emits f (Enter o z) v) es) ≡ es) access h in
     let both = emits_write ∙ is in (
       (let e : ◌≡◌ {A = ℕ} (cell_of f o).fields.version w = cc both in e),
@@ -344,12 +343,12 @@ pub refused_follows : (r : Recorded) (f : Flat) (t o p : ℕ) → ask_of f.code 
 refused_follows r f t o p is steps next suits =
     let rest = drop (suc (thread_of f t).events) (map label_of (recorded_thread r t).events) in
     let same : ◌≡◌ {A = ℕ} p o = suits_try (Refused p) rest o suits in
-    let es : log_ahead r f t ≡ machine_labels.Refused o ∷ rest =
-    ahead_at (recorded_thread r t).events (thread_of f t).events (Refused p) next ∙ ap (λ z. machine_labels.Refused z ∷ rest) same in
+    let es : log_ahead r f t ≡ machine.Refused o ∷ rest =
+    ahead_at (recorded_thread r t).events (thread_of f t).events (Refused p) next ∙ ap (λ z. machine.Refused z ∷ rest) same in
     follows_by r f t 0 (Try o) is (record {
       can = tt;
       steps = steps;
-      logs = ap (λ z. machine_labels.Refused o ∷ unlogged (machine_labels.Refused o) z) es ∙ sym es;
+      logs = ap (λ z. machine.Refused o ∷ unlogged (machine.Refused o) z) es ∙ sym es;
       ends = tt;
     })
 

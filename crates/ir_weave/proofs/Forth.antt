@@ -6,7 +6,6 @@ use Rattle.ir_thread.specs.Calls.{ask_of}
 use Rattle.ir_thread.specs.Instance.{shared_ask}
 use Rattle.ir_runs.specs.Machine.{act_of, Object, target, Admits, emitted, Label, logged}
 use Rattle.ir_runs.specs.Machine as machine
-use Rattle.ir_runs.specs.Machine as machine_labels
 use Rattle.ir_thread.specs.State as thread
 use Rattle.ir_runs.specs.declared.access.Access.{Access}
 use Rattle.ir_runs.specs.declared.access.Access.TheVariants.{Reading, Writing}
@@ -150,13 +149,13 @@ try_or (End x) = inr (λ o h. cc h)
 try_or Done = inr (λ o h. cc h)
 
 -- a refused try needs nothing
-needs_refused : (b : Label) (o : ℕ) → Needs b (machine_labels.Refused o) → ⊥
-needs_refused machine_labels.Quiet o h = h
-needs_refused (machine_labels.Answer k v) o h = h
-needs_refused (machine_labels.In p a v l) o h = h
-needs_refused (machine_labels.Refused p) o h = h
-needs_refused (machine_labels.Out p Reading v) o h = h
-needs_refused (machine_labels.Out p Writing v) o h = h
+needs_refused : (b : Label) (o : ℕ) → Needs b (machine.Refused o) → ⊥
+needs_refused machine.Quiet o h = h
+needs_refused (machine.Answer k v) o h = h
+needs_refused (machine.In p a v l) o h = h
+needs_refused (machine.Refused p) o h = h
+needs_refused (machine.Out p Reading v) o h = h
+needs_refused (machine.Out p Writing v) o h = h
 
 -- the event of a refused try
 refused_event : (x : Option Event) → IsRefused x → (o : ℕ) × (x ≡ Some (Refused o))
