@@ -78,7 +78,13 @@ pub fn record<R: Threads + Wait + Sync, W: World + Drop + Send, G: Gate + Sync>(
             worlds: worlds_of(room, workers),
         });
     }
-    let (seats, trace, outputs) = gathered(room, objects.len() as u8, limits.budget, limits.profile, workers);
+    let (seats, trace, outputs) = gathered(
+        room,
+        objects.len() as u8,
+        limits.budget,
+        limits.profile,
+        workers,
+    );
     let seat = joined(&crew, seats);
     crew.close(seat, objects.as_mut_slice());
     Ok((trace, outputs))

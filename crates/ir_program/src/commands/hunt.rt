@@ -4,7 +4,9 @@ ghost use Rattle.std.specs.Prelude.{◌≡◌, false};
 
 use crate::commands::bytes_of;
 use crate::commands::conditions::conditions_of;
-use crate::commands::recording::{RecordingPaths, input_of, loses_input, output_places, record_files};
+use crate::commands::recording::{
+    RecordingPaths, input_of, loses_input, output_places, record_files,
+};
 use crate::ends::tell_ends;
 use ir_arguments::HuntArguments;
 use ir_files::{ExitStatus, Folder, MOST_BYTES};

@@ -2,7 +2,9 @@
 
 ghost use Rattle.std.specs.Prelude.{◌≡◌, OnOk, false};
 
-use crate::commands::recording::{RecordingPaths, input_of, loses_input, output_places, record_files};
+use crate::commands::recording::{
+    RecordingPaths, input_of, loses_input, output_places, record_files,
+};
 use crate::commands::{bytes_of, say};
 use crate::dispatch::Surroundings;
 use crate::ends::{all_ended, tell_ends};
