@@ -57,7 +57,6 @@ answer_took f g logs more t value kind a answers given l e =
       below = a.below;
       few = flat_few f a.flat;
       can = answer_can f t value kind a.asked a.fits;
-      enters = no_try f t value (Env kind) a.asked (λ o e. cc e);
       taken = a.taken;
       code = a.code;
       threads = a.threads;
@@ -68,4 +67,4 @@ answer_took f g logs more t value kind a answers given l e =
       own_answers = ap (λ z. answers_at z t) e ∙ get_or-set_same answers t (answers_at answers t ++ (kind, value) ∷ []) [] l;
       other_logs = λ u ne. subst (λ z. labels_at z u ≡ labels_at logs u) (sym a.logged) (labels_other logs t u a.new ne);
       other_answers = λ u ne. ap (λ z. answers_at z u) e ∙ get_or-set_other answers t u (answers_at answers t ++ (kind, value) ∷ []) [] ne;
-    })
+    }) (no_try f t value (Env kind) a.asked (λ o e. cc e))

@@ -17,17 +17,19 @@ use Rattle.ir_runs.specs.Machine.{Admits, target}
 use Rattle.ir_flat.specs.Flat.{Flat, thread_of, tables, machine, idle, start_flat, start_threads}
 use Rattle.ir_runs.specs.Run.{State, Step, asked, Can, IsRun, end, log, IsDone}
 use Rattle.ir_flat.proofs.CallerLemmas.{fresh, threads_length, cells_length, nothing_is_stuck, start_idle, really_done}
-use Rattle.ir_runs.proofs.CallerLemmas.{run_idle, turns_run}
+use Rattle.ir_runs.proofs.CallerLemmas.{run_idle}
 use Rattle.ir_log.specs.Logged.{Logged}
 use Rattle.ir_log.specs.Logging.{label_of}
 use Rattle.ir_trace.specs.Recorded.{Recorded}
 use Rattle.ir_trace.specs.Within.{IsEvent}
 use Rattle.ir_record.specs.Gathered.{AreThreadTraces}
 use Rattle.ir_runs.specs.InOrder.{HasNone, rounds}
-use Rattle.ir_record.specs.Progress.{Progress, Took, IsReady, log_at, no_log}
+use Rattle.ir_record.specs.Progress.{Progress, TookTurns, IsReady, log_at, no_log}
+use Rattle.ir_record.specs.Refusing.{Turn, plain}
 use Rattle.ir_record.specs.Worlds.{answers_at, Answered, NoneFailed}
-use Rattle.ir_record.specs.Recording.{IsRecording}
+use Rattle.ir_record.specs.Recording.{IsRecordingByTurns}
 use Rattle.ir_record.proofs.Profiles.{run_profile, start_profile}
+use Rattle.ir_record.proofs.Refusing.{in_turns-run}
 use Rattle.ir_record.proofs.Telling.{StandAtEnd, emitted_there, printed_there, answered_there}
 
 -- ---- the start
@@ -99,37 +101,37 @@ has_ended code x e = (subst (Permits x) (really_done (ask_of code x) e) (ask_per
 
 -- ---- the whole recording
 
--- a recording at its end: turns by the order, and rounds, until no thread has a step
-pub record Over (guest : Guest) (budget : ℕ) (profile : Profile) (order : List ℕ) (before : List (List Answered)) (b : Progress) : Type 0 where
+-- a recording at its end: these turns, and rounds, until no thread has a step
+pub record Over (guest : Guest) (budget : ℕ) (profile : Profile) (turns : List Turn) (before : List (List Answered)) (b : Progress) : Type 0 where
   pub count : ℕ
-  pub took : Took (order ++ rounds (length guest.entries) count) (start guest budget profile before) b
+  pub took : TookTurns (turns ++ plain (rounds (length guest.entries) count)) (start guest budget profile before) b
   pub none : (t : ℕ) → t < length b.flat.threads → HasNone (machine b.flat) (tables b.flat) t
 
-module _ {guest : Guest} {budget : ℕ} {profile : Profile} {order : List ℕ} {before : List (List Answered)} {b : Progress}
-    (o : Over guest budget profile order before b) where
+module _ {guest : Guest} {budget : ℕ} {profile : Profile} {turns : List Turn} {before : List (List Answered)} {b : Progress}
+    (o : Over guest budget profile turns before b) where
   pub threads_there : length b.flat.threads ≡ length guest.entries
-  threads_there = o.took.threads ∙ threads_length guest budget profile 0 (length guest.entries)
+  threads_there = o.took.moved.threads ∙ threads_length guest budget profile 0 (length guest.entries)
 
   pub objects_there : length b.flat.objects ≡ object_count guest
-  objects_there = o.took.objects ∙ cells_length guest 0 (object_count guest)
+  objects_there = o.took.moved.objects ∙ cells_length guest 0 (object_count guest)
 
   pub profiles_there : (t : ℕ) → t < length b.flat.threads → (thread_of b.flat t).profile ≡ profile
   profiles_there t l =
-      ap (λ s. (s.now t).profile) o.took.ends ∙ run_profile guest.code (tables (start_flat guest budget profile)) o.took.run t
+      ap (λ s. (s.now t).profile) o.took.moved.ends ∙ run_profile guest.code (tables (start_flat guest budget profile)) o.took.run t
       ∙ start_profile guest budget profile 0 (length guest.entries) t (let n = threads_there in omega (arith, l, n))
 
   run_of_it : IsRun (thread_machine guest.code) (tables (start_flat guest budget profile)) o.took.run
-  run_of_it = turns_run (thread_machine guest.code) (tables (start_flat guest budget profile))
-      (order ++ rounds (length guest.entries) o.count) o.took.run o.took.turns
+  run_of_it = in_turns-run (thread_machine guest.code) (tables (start_flat guest budget profile))
+      (turns ++ plain (rounds (length guest.entries) o.count)) o.took.run o.took.in_turns
 
   done_there : IsDone (thread_machine guest.code) (end (thread_machine guest.code) (tables (start_flat guest budget profile)) o.took.run)
   done_there = all_done guest budget profile o.took.run run_of_it
-      (λ t l. subst (λ s. HasNone (thread_machine guest.code) s t) o.took.ends
-      (subst (λ c. HasNone (thread_machine c) (tables b.flat) t) o.took.code
+      (λ t l. subst (λ s. HasNone (thread_machine guest.code) s t) o.took.moved.ends
+      (subst (λ c. HasNone (thread_machine c) (tables b.flat) t) o.took.moved.code
       (o.none t (let n = threads_there in omega (arith, l, n)))))
 
   pub ended_there : (t : ℕ) → (thread_of b.flat t).ended ≢ None
-  ended_there t = has_ended guest.code (thread_of b.flat t) (ap (λ s. shared_ask (ask_of guest.code (s.now t))) o.took.ends ∙ done_there t)
+  ended_there t = has_ended guest.code (thread_of b.flat t) (ap (λ s. shared_ask (ask_of guest.code (s.now t))) o.took.moved.ends ∙ done_there t)
 
   -- what is at hand at its end
   at_end : StandAtEnd guest budget profile o.took.run before (thread_of b.flat) (log_at b.logs) (answers_at b.answers)
@@ -139,25 +141,25 @@ module _ {guest : Guest} {budget : ℕ} {profile : Profile} {order : List ℕ} {
       let f0 : Flat = start_flat guest budget profile in
       record {
         runs = run_of_it;
-        threads = λ t l. ap (λ s. s.now t) o.took.ends;
-        logged = λ t l. o.took.logs t (omega (arith, l, n))
+        threads = λ t l. ap (λ s. s.now t) o.took.moved.ends;
+        logged = λ t l. o.took.moved.logs t (omega (arith, l, n))
             ∙ ap (λ z. map label_of z.events ++ log (machine f0) (tables f0) o.took.run t)
             (get_or-replicate (length guest.entries) t new_log no_log l);
-        answered = λ t l. o.took.answers t (omega (arith, l, n));
+        answered = λ t l. o.took.moved.answers t (omega (arith, l, n));
       }
 
   pub recorded_there : (failed : List Bool) → IsReady b failed
       → (trace : Recorded) → trace.objects ≡ length b.flat.objects → trace.budget ≡ budget → trace.profile ≡ profile
       → AreThreadTraces b.flat b.logs trace.threads
       → (outputs : List (List ℕ)) → outputs ≡ map (λ x. x.output) b.flat.threads
-      → (answers : List (List Answered)) → answers ≡ b.answers → IsRecording guest budget profile order before trace outputs answers
+      → (answers : List (List Answered)) → answers ≡ b.answers → IsRecordingByTurns guest budget profile turns before trace outputs answers
   recorded_there failed ready trace objects limit same traces outputs printed answers given =
       let n : length b.flat.threads ≡ length guest.entries = threads_there in
       let logs : length b.logs ≡ length guest.entries = ready.tape.one_each ∙ n in
       let size : length answers ≡ length guest.entries = ap (λ z. length z) given ∙ ready.worlds ∙ n in
       record {
         run = o.took.run;
-        by_order = record { count = o.count; turns = o.took.turns; done = done_there };
+        by_turns = record { count = o.count; in_turns = o.took.in_turns; done = done_there };
         of = record {
           emitted = emitted_there at_end done_there trace (objects ∙ objects_there) limit same (traces.count ∙ logs) (λ t l. traces.each t (omega (arith, l, logs)));
           printed = printed_there at_end outputs
@@ -175,15 +177,15 @@ pub started : (guest : Guest) (budget : ℕ) (profile : Profile) (answers : List
     → ◌≡◌ {A = Progress} (record { flat = f; logs = logs; answers = answers }) (start guest budget profile answers)
 started guest budget profile answers p q = λ i. record { flat = p i; logs = q i; answers = answers }
 
-pub over_from : {guest : Guest} {budget : ℕ} {profile : Profile} {order : List ℕ} {before : List (List Answered)}
+pub over_from : {guest : Guest} {budget : ℕ} {profile : Profile} {turns : List Turn} {before : List (List Answered)}
     {f : Flat} {logs : List Logged} {b : Progress} → f ≡ start_flat guest budget profile → logs ≡ replicate (length guest.entries) new_log
-    → ((count : ℕ) × Took (order ++ rounds (length f.threads) count) (record { flat = f; logs = logs; answers = before }) b)
-    → ((t : ℕ) → t < length b.flat.threads → HasNone (machine b.flat) (tables b.flat) t) → Over guest budget profile order before b
-over_from {guest} {budget} {profile} {order} {before} {f} {logs} {b} p q k none = record {
+    → ((count : ℕ) × TookTurns (turns ++ plain (rounds (length f.threads) count)) (record { flat = f; logs = logs; answers = before }) b)
+    → ((t : ℕ) → t < length b.flat.threads → HasNone (machine b.flat) (tables b.flat) t) → Over guest budget profile turns before b
+over_from {guest} {budget} {profile} {turns} {before} {f} {logs} {b} p q k none = record {
   count = k.0;
-  took = subst (λ n. Took (order ++ rounds n k.0) (start guest budget profile before) b)
+  took = subst (λ n. TookTurns (turns ++ plain (rounds n k.0)) (start guest budget profile before) b)
       (ap (λ z. length z.threads) p ∙ threads_length guest budget profile 0 (length guest.entries))
-      (subst (λ z. Took (order ++ rounds (length f.threads) k.0) z b) (started guest budget profile before p q) k.1);
+      (subst (λ z. TookTurns (turns ++ plain (rounds (length f.threads) k.0)) z b) (started guest budget profile before p q) k.1);
   none = none;
 }
 

@@ -20,7 +20,7 @@ use Rattle.ir_trace.specs.Within.{IsEvent}
 use Rattle.ir_runs.specs.InOrder.{HasNone, EntersIfFree}
 use Rattle.ir_record.specs.Progress.{TookIf, IsTape, IsQuiet, log_at, labels_at}
 use Rattle.ir_record.specs.Worlds.{answers_at, Answered, answers_in}
-use Rattle.ir_record.proofs.Steps.{took_one, took_none, no_try}
+use Rattle.ir_record.proofs.Steps.{OneStep, took_one, took_none, no_try}
 use Rattle.ir_record.proofs.Logs.{tape_kept, tape_pushed, labels_pushed, labels_other}
 use Rattle.ir_record.proofs.Running.{flat_few}
 
@@ -86,7 +86,6 @@ pub record OneEvent (f g : Flat) (logs more : List Logged) (t r : ℕ) (k : Labe
   pub unanswered : answers_in (logged k []) ≡ []
   pub fits : IsEvent (thread_of f t).profile (length f.objects) e
   pub can : Can (machine f) (tables f) (t, r)
-  pub enters : EntersIfFree (machine f) (tables f) (t, r)
   pub taken : tables g ≡ after (machine f) (tables f) (t, r)
   pub code : g.code ≡ f.code
   pub threads : length g.threads ≡ length f.threads
@@ -99,27 +98,33 @@ pub event_tape : (f g : Flat) (logs more : List Logged) (t r : ℕ) (k : Label) 
 event_tape f g logs more t r k e x =
     subst (IsTape g) (sym x.logs_are) (tape_pushed f g logs t r e x.new x.tape x.below x.taken x.threads x.objects x.one x.fits x.pushed)
 
-pub event_took : (f g : Flat) (logs more : List Logged) (t r : ℕ) (k : Label) (e : Event) → OneEvent f g logs more t r k e
+-- the step that it is of
+pub event_step : (f g : Flat) (logs more : List Logged) (t r : ℕ) (k : Label) (e : Event) → OneEvent f g logs more t r k e
     → (answers : List (List Answered))
+    → OneStep t r k (record { flat = f; logs = logs; answers = answers }) (record { flat = g; logs = more; answers = answers })
+event_step f g logs more t r k e x answers = record {
+  below = x.below;
+  few = flat_few f x.flat;
+  can = x.can;
+  taken = x.taken;
+  code = x.code;
+  threads = x.threads;
+  objects = x.objects;
+  emits = x.emits;
+  own_log = subst (λ z. labels_at z t ≡ labels_at logs t ++ logged k []) (sym x.logs_are)
+      (labels_pushed logs t e x.new (omega (arith, x.below, x.tape.one_each)) x.pushed
+      ∙ ap (λ z. labels_at logs t ++ z) (ap (λ z. z ∷ []) x.event ∙ sym x.once));
+  own_answers = sym (append-nil (answers_at answers t)) ∙ ap (λ z. answers_at answers t ++ z) (sym x.unanswered);
+  other_logs = λ u ne. subst (λ z. labels_at z u ≡ labels_at logs u) (sym x.logs_are) (labels_other logs t u x.new ne);
+  other_answers = λ u ne. refl;
+}
+
+pub event_took : (f g : Flat) (logs more : List Logged) (t r : ℕ) (k : Label) (e : Event) → OneEvent f g logs more t r k e
+    → EntersIfFree (machine f) (tables f) (t, r) → (answers : List (List Answered))
     → TookIf true (t ∷ []) (record { flat = f; logs = logs; answers = answers }) (record { flat = g; logs = more; answers = answers })
-event_took f g logs more t r k e x answers =
-    took_one t r k (record { flat = f; logs = logs; answers = answers }) (record { flat = g; logs = more; answers = answers }) (record {
-      below = x.below;
-      few = flat_few f x.flat;
-      can = x.can;
-      enters = x.enters;
-      taken = x.taken;
-      code = x.code;
-      threads = x.threads;
-      objects = x.objects;
-      emits = x.emits;
-      own_log = subst (λ z. labels_at z t ≡ labels_at logs t ++ logged k []) (sym x.logs_are)
-          (labels_pushed logs t e x.new (omega (arith, x.below, x.tape.one_each)) x.pushed
-          ∙ ap (λ z. labels_at logs t ++ z) (ap (λ z. z ∷ []) x.event ∙ sym x.once));
-      own_answers = sym (append-nil (answers_at answers t)) ∙ ap (λ z. answers_at answers t ++ z) (sym x.unanswered);
-      other_logs = λ u ne. subst (λ z. labels_at z u ≡ labels_at logs u) (sym x.logs_are) (labels_other logs t u x.new ne);
-      other_answers = λ u ne. refl;
-    })
+event_took f g logs more t r k e x enters answers =
+    took_one t r k (record { flat = f; logs = logs; answers = answers }) (record { flat = g; logs = more; answers = answers })
+    (event_step f g logs more t r k e x answers) enters
 
 -- what a step emits, by what is asked
 pub emits_asked : (f : Flat) (t r : ℕ) (q : Ask) → ask_of f.code (thread_of f t) ≡ q
@@ -196,7 +201,6 @@ go_took f g logs t x answers =
       below = x.below;
       few = flat_few f x.flat;
       can = x.can;
-      enters = no_try f t 0 (ask_of f.code (thread_of f t)) refl (quiet_enters (ask_of f.code (thread_of f t)) x.quiet);
       taken = x.taken;
       code = x.code;
       threads = x.threads;
@@ -206,7 +210,7 @@ go_took f g logs t x answers =
       own_answers = sym (append-nil (answers_at answers t)) ∙ ap (λ z. answers_at answers t ++ answers_in z) (sym none);
       other_logs = λ u ne. refl;
       other_answers = λ u ne. refl;
-    })
+    }) (no_try f t 0 (ask_of f.code (thread_of f t)) refl (quiet_enters (ask_of f.code (thread_of f t)) x.quiet))
 
 -- where the thread waits, or is done, nothing changes
 pub waits_took : (f g : Flat) (logs : List Logged) (t : ℕ) → HasNone (machine f) (tables f) t → g ≡ f → (answers : List (List Answered))

@@ -62,7 +62,6 @@ tried_in f g logs more t o e x emits fits = record {
   unanswered = entry_unanswered o Writing 0 ((tables f).objects o);
   fits = fits (thread_of f t).profile;
   can = x.can;
-  enters = λ i tries can. refl;
   taken = x.taken;
   code = x.code;
   threads = x.threads;
@@ -72,10 +71,10 @@ tried_in f g logs more t o e x emits fits = record {
   logs_are = x.logs_are;
 }
 
--- it was refused, where it can't enter
+-- it was refused
 pub tried_out : (f g : Flat) (logs more : List Logged) (t o : ℕ) → Trying f g logs more t o 0 (event.Try o)
-    → (Can (machine_of f) (tables f) (t, 1) → ⊥) → OneEvent f g logs more t 0 (Refused o) (event.Try o)
-tried_out f g logs more t o x never = record {
+    → OneEvent f g logs more t 0 (Refused o) (event.Try o)
+tried_out f g logs more t o x = record {
   tape = x.tape;
   flat = x.flat;
   below = x.below;
@@ -89,7 +88,6 @@ tried_out f g logs more t o x never = record {
     try_object f t o x.flat x.below x.asked,
   );
   can = x.can;
-  enters = λ i tries can. absurd (never can);
   taken = x.taken;
   code = x.code;
   threads = x.threads;

@@ -4,9 +4,9 @@ ghost use Rattle.std.specs.Prelude.{◌≡◌, ◌<◌, [], ◌∷◌, ◌++◌,
 ghost use Rattle.ir_flat.specs.Flat.{IsFlat, thread_of};
 ghost use Rattle.ir_thread.specs.Calls.{ask_of};
 ghost use Rattle.ir_thread.specs.Instance.{is_result};
-ghost use Rattle.ir_record.specs.Progress.{TookIf};
+ghost use Rattle.ir_record.specs.Progress.{TookIf, TookTurns};
 ghost use Rattle.ir_record.specs.Worlds.{answers_at, NoneFailed, AreSameWorlds};
-ghost use Rattle.ir_record.specs.Recorders.{progress_of, CanGoOn, NamesFirst, StopsAtOnce};
+ghost use Rattle.ir_record.specs.Recorders.{progress_of, CanGoOn, NamesFirst, StopsAtOnce, StopsInTurns};
 
 use crate::recorder::Recorder;
 use crate::world::World;
@@ -66,5 +66,25 @@ impl<W: World> Recorder<'_, W> {
             }
             _ => Ok(self.tape.go(t, asked)),
         }
+    }
+    // A turn of thread t in which a try is refused. If it asks no try, it takes its next step, if it has one.
+    pub fn turn_refused(&mut self, t: usize) -> Result<(), Failed>
+        requires ready { CanGoOn W.answers W.broken self.old }
+        ensures took { OnOk result (TookTurns ((t, true) ∷ []) (progress_of W.answers self.old) (progress_of W.answers self.new)) }
+        ensures ready { OnOk result (CanGoOn W.answers W.broken self.new) }
+        ensures failed { IfErr result (NamesFirst W.broken self.new.worlds.items) }
+        ensures stopped { IfErr result (StopsInTurns W.answers ((t, true) ∷ []) self.old self.new.worlds.items) }
+        ensures kept { AreSameWorlds W.origin self.old.worlds.items self.new.worlds.items }
+    {
+        if t >= self.tape.flat.threads().len() {
+            return Ok(());
+        }
+        let asked = self.tape.ask(t);
+        if let Ask::Try(object) = asked {
+            self.tape.refuse(t, object);
+            return Ok(());
+        }
+        self.turn_asked(t, asked)?;
+        Ok(())
     }
 }

@@ -10,7 +10,7 @@ use crate::worlds::{COUNTS, FAILS, Script, worlds};
 use ir_fit::{Fitted, fit};
 use ir_image::Image;
 use ir_object::{Gate, OpenGate};
-use ir_record::{Limits, Outputs, RecordErr, record, record_in_order};
+use ir_record::{Item, Limits, Outputs, RecordErr, record, record_in_order, record_with_refusals};
 use ir_thread::Profile;
 use ir_trace::Trace;
 use std::alloc::Global;
@@ -155,5 +155,28 @@ pub fn tried_in_order(
 {
     let image = image_for(alloc, Profile::Two, source)?;
     let (trace, _outputs) = counting_in_order(alloc, &image, order, budget, Profile::Two)?;
+    Ok(fit(alloc, image, trace, &OpenGate)?)
+}
+
+/// The same by items, of which some refuse tries.
+pub fn tried_with_refusals(
+    alloc: Global,
+    source: &[&str],
+    items: &[Item],
+    budget: u64,
+) -> Result<Fitted, Fail>
+    requires { budget ≤ most_budget }
+{
+    let image = image_for(alloc, Profile::Two, source)?;
+    let worlds = worlds(alloc, image.entries().len(), &[], COUNTS)?;
+    let recorded: Recorded = record_with_refusals(
+        alloc,
+        &image,
+        items,
+        worlds,
+        budget,
+        Profile::Two,
+    );
+    let (trace, _outputs) = recorded?;
     Ok(fit(alloc, image, trace, &OpenGate)?)
 }

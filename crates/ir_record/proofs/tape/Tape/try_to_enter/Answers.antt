@@ -45,6 +45,7 @@ returns-in-Ok-clause-took c = event_took c.args.self.now.flat c.take.new.self c.
     c.entry-event.result
     (tried_in c.args.self.now.flat c.take.new.self c.args.self.now.logs.items (set c.args.self.now.logs.items c.args.t c.push.new.self)
     c.args.t c.args.object c.entry-event.result (entered c) c.entry-event.ensures.emitted c.entry-event.ensures.fits)
+    (λ o tries can. refl)
 
 pub returns-in-Ok-clause-tape : goal.returns-in-Ok-clause-tape
 returns-in-Ok-clause-tape c = event_tape c.args.self.now.flat c.take.new.self c.args.self.now.logs.items
@@ -89,10 +90,11 @@ pub returns-in-Err-clause-took : goal.returns-in-Err-clause-took
 returns-in-Err-clause-took c = event_took c.args.self.now.flat c.take-in-Err.new.self c.args.self.now.logs.items
     (set c.args.self.now.logs.items c.args.t c.push-in-Err.new.self) c.args.t 0 (Refused c.args.object) (event.Try c.args.object)
     (tried_out c.args.self.now.flat c.take-in-Err.new.self c.args.self.now.logs.items
-    (set c.args.self.now.logs.items c.args.t c.push-in-Err.new.self) c.args.t c.args.object (left_out c) c.in-Err.ensures.refused)
+    (set c.args.self.now.logs.items c.args.t c.push-in-Err.new.self) c.args.t c.args.object (left_out c))
+    (λ o tries can. absurd (c.in-Err.ensures.refused can))
 
 pub returns-in-Err-clause-tape : goal.returns-in-Err-clause-tape
 returns-in-Err-clause-tape c = event_tape c.args.self.now.flat c.take-in-Err.new.self c.args.self.now.logs.items
     (set c.args.self.now.logs.items c.args.t c.push-in-Err.new.self) c.args.t 0 (Refused c.args.object) (event.Try c.args.object)
     (tried_out c.args.self.now.flat c.take-in-Err.new.self c.args.self.now.logs.items
-    (set c.args.self.now.logs.items c.args.t c.push-in-Err.new.self) c.args.t c.args.object (left_out c) c.in-Err.ensures.refused)
+    (set c.args.self.now.logs.items c.args.t c.push-in-Err.new.self) c.args.t c.args.object (left_out c))
