@@ -80,7 +80,7 @@ ARGUMENTS = [
     ("debug d.img none.trc", 1, "ir: none.trc can't be read: no such file or folder\n"),
     ("record d.s d.trc", 3, "ir: the image is refused, 2: these bytes are no image\n"),
     ("record d.img d.trc --order 1", 3, "ir: LIST: the item '1' names no thread of the image\n"),
-    ("record d.img d.trc --order -1", 3, "ir: LIST: the item '-1' is neither T nor TxN\n"),
+    ("record d.img d.trc --order -1", 3, "ir: LIST: the item '-1' is none of T, TxN, T! and T!xN\n"),
     ("record d.img d.trc --order 0x0", 3, "ir: LIST: the item '0x0' has an N that is not from 1 to 1000000\n"),
     ("record d.img none/d.trc", 1, "ir: none/d.trc can't be written: no such file or folder\n"),
     ("trace", 2, "ir: the following required arguments were not provided: <TRACE>\n"),
@@ -251,7 +251,7 @@ def test_names(folder):
     for words, status, error in (
         (["debug", "a\nb", "d.trc"], 1, "ir: a?b can't be read: no such file or folder\n"),
         (["asm", "d.s", "none/\x1b[2J"], 1, "ir: none/?[2J can't be written: no such file or folder\n"),
-        (["record", "d.img", "d.trc", "--order", "0\n1"], 3, "ir: LIST: the item '0?1' is neither T nor TxN\n"),
+        (["record", "d.img", "d.trc", "--order", "0\n1"], 3, "ir: LIST: the item '0?1' is none of T, TxN, T! and T!xN\n"),
         (["record", "d.img", "d.trc", "--random", "5\n"], 2, "ir: --random: '5?' is no number up to 18446744073709551615\n"),
         (["debug", "d\u00e9", "d.trc"], 1, "ir: d\u00e9 can't be read: no such file or folder\n"),
     ):

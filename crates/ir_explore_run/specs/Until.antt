@@ -12,6 +12,7 @@ use Rattle.ir_image.specs.Reading.{guest_at}
 use Rattle.ir_order.specs.Recording.{IsPlanned, IsOfRun}
 use Rattle.ir_outcomes.specs.Explored.{outcome_by, switches_by, IsAt, AreExplored}
 use Rattle.ir_outcomes.specs.declared.shown.Shown.{Shown}
+use Rattle.ir_record.specs.Refusing.{plain}
 use Rattle.ir_record_run.specs.Order.{order_of}
 use Rattle.ir_record_run.specs.Plan.{Plan}
 use Rattle.ir_runs.specs.Run.{Step}
@@ -36,7 +37,7 @@ recording list = record { order = list; budget = most_budget; random = 0; input 
 -- fewer does, whatever its budget and whatever the world answers.
 pub record IsHit (guest : Guest) (conditions : List Condition) (level : ℕ) (list : List ℕ) : Type 0 where
   pub order : List ℕ
-  pub spelled : order_of (length guest.entries) list ≡ Some order
+  pub spelled : order_of (length guest.entries) list ≡ Some (plain order)
   pub run : List Step
   pub counted : (answers : ℕ → List ℕ) → IsCounted guest most_budget One told answers run
   pub planned : IsPlanned guest (recording (Some list)) order run

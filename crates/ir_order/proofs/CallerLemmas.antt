@@ -1,7 +1,7 @@
 -- What callers may cite of orders and their runs.
 -- the run by an order is one
-pub use Rattle.ir_order.proofs.OneRun.{one_run_by_order}
+pub use Rattle.ir_order.proofs.OneRun.{one_run_by_turns, one_run_by_order}
 -- a recording with a list is of the run by it, and one; a recording in turns is of the run by their order
-pub use Rattle.ir_order.proofs.Recorded.{recordings_of_run, one_recording, of_turns}
+pub use Rattle.ir_order.proofs.Recorded.{recordings_in_turns, recordings_of_run, one_recording, of_turns}
 -- a complete run has a step
 pub use Rattle.ir_order.proofs.Complete.{complete_runs}

@@ -202,7 +202,7 @@ const ROWS: [(&str, u8, &str); 54] = [
     (
         "ir record d.img d.trc --order-file bad.list",
         3,
-        "ir: LIST: the item 'x' is neither T nor TxN\n",
+        "ir: LIST: the item 'x' is none of T, TxN, T! and T!xN\n",
     ),
     (
         "ir record d.img d.trc --order-file no.text",
@@ -365,12 +365,12 @@ const ROWS: [(&str, u8, &str); 54] = [
     (
         "ir record d.img d.trc --order -1",
         3,
-        "ir: LIST: the item '-1' is neither T nor TxN\n",
+        "ir: LIST: the item '-1' is none of T, TxN, T! and T!xN\n",
     ),
     (
         "ir record d.img d.trc --order 0\n1",
         3,
-        "ir: LIST: the item '0?1' is neither T nor TxN\n",
+        "ir: LIST: the item '0?1' is none of T, TxN, T! and T!xN\n",
     ),
     (
         "ir record d.img d.trc --order 0x0",
@@ -378,9 +378,24 @@ const ROWS: [(&str, u8, &str); 54] = [
         "ir: LIST: the item '0x0' has an N that is not from 1 to 1000000\n",
     ),
     (
+        "ir record d.img d.trc --order 0!!",
+        3,
+        "ir: LIST: the item '0!!' is none of T, TxN, T! and T!xN\n",
+    ),
+    (
+        "ir record d.img d.trc --order 0x2!",
+        3,
+        "ir: LIST: the item '0x2!' is none of T, TxN, T! and T!xN\n",
+    ),
+    (
+        "ir record d.img d.trc --order 1!x2",
+        3,
+        "ir: LIST: the item '1!x2' names no thread of the image\n",
+    ),
+    (
         "ir record d.img d.trc --order 0,",
         3,
-        "ir: LIST: the item '' is neither T nor TxN\n",
+        "ir: LIST: the item '' is none of T, TxN, T! and T!xN\n",
     ),
     (
         "ir record longer d.trc",
