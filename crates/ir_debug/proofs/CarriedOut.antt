@@ -1,6 +1,6 @@
 -- What the debugger carries out is what the small machine may answer.
 use Rattle.std.proofs.Common.{◌≡◌, ℕ, ◌<◌, arith, Bool, true, false, List, length, sym, ap, subst, ◌∙◌, refl, inl, None, Some}
-use Rattle.std.specs.Prelude.{not, nat_lt, codes, ◌+◌, ◌++◌, Option, if◌then◌else◌}
+use Rattle.std.specs.Prelude.{not, nat_lt, codes, ◌+◌, Option, if◌then◌else◌}
 use Rattle.std.proofs.lemmas.List.{get_or_default}
 use Rattle.std.proofs.lemmas.Bool.{ltb-true}
 use Rattle.std.specs.List.{slice_index_or}
@@ -18,17 +18,13 @@ use Rattle.ir_command.specs.declared.refusal.Refusal.{Refusal}
 use Rattle.ir_command.specs.declared.refusal.Refusal.TheVariants.{NoSuchThread}
 use Rattle.ir_debug.specs.declared.answer.Answer.{Answer}
 use Rattle.ir_debug.specs.declared.answer.Answer.TheVariants as answer
-use Rattle.ir_command.specs.declared.command.Keeping.TheVariants.{Keep, Load, Drop, Kept}
 use Rattle.ir_timeline.specs.Positions.{threads_of}
-use Rattle.ir_debug.specs.Machine.Desk.{Desk, moved, spoken, with_point, without_point, kept_cut, with_kept, without_kept}
-use Rattle.ir_command.specs.declared.command.Direction.{Direction}
+use Rattle.ir_debug.specs.Machine.Desk.{Desk, moved_to, spoken, with_point, without_point}
 use Rattle.ir_command.specs.declared.command.Point.{Point}
-use Rattle.ir_command.specs.declared.hit.Hit.{Hit}
-use Rattle.ir_debug.specs.Machine.Moves.{Continues}
-use Rattle.ir_debug.specs.Machine.Refusals.{if_some, thread_moved, refusal_of, is_at_hand}
+use Rattle.ir_debug.specs.Machine.Refusals.{if_some, thread_named, refusal_of, is_at_hand}
 use Rattle.ir_debug.specs.Machine.Shown.{shown}
-use Rattle.ir_text.specs.Texts.{number_line, positions_text, next_text}
-use Rattle.ir_debug.specs.Machine.Answers.{kept_text, Answers, AnswersBy, continued_text}
+use Rattle.ir_text.specs.Texts.{number_line, next_text}
+use Rattle.ir_debug.specs.Machine.Answers.{Answers, AnswersBy}
 use Rattle.ir_debug.specs.Debugging.{Debugging, IsThere, answer_text}
 
 -- the machine at d may give this answer and be at next then, and the command isn't refused otherwise
@@ -43,9 +39,9 @@ passed false r rest e = absurd (cc e)
 
 -- a move that isn't refused names a thread that there is, if any
 pub mover_there : (d : Desk) (m : Move) → refusal_of d (command.Move m) ≡ None
-    → if_some (thread_moved m) (λ t. nat_lt t (threads_of d.fitted)) ≡ true
+    → if_some (thread_named (command.Move m)) (λ t. nat_lt t (threads_of d.fitted)) ≡ true
 unfolding refusal_of
-mover_there d m none = passed (if_some (thread_moved m) (λ t. nat_lt t (threads_of d.fitted))) NoSuchThread _ none
+mover_there d m none = passed (if_some (thread_named (command.Move m)) (λ t. nat_lt t (threads_of d.fitted))) NoSuchThread _ none
 
 -- a show of a thread that isn't refused names one that there is
 pub shown_there : (d : Desk) (s : Show) (t : ℕ) → s ≡ Next t → refusal_of d (command.Show s) ≡ None → t < threads_of d.fitted
@@ -98,7 +94,7 @@ next_answered d e threads code t x line is there all same l read text =
 -- ---- all commands
 
 -- what is refused depends on the guest alone
-pub refusal_moved : (d next : Desk) (cut : List ℕ) (c : Command) → next ≡ moved d cut → refusal_of next c ≡ refusal_of d c
+pub refusal_moved : (d next : Desk) (cut : List ℕ) (c : Command) → next ≡ moved_to d cut → refusal_of next c ≡ refusal_of d c
 unfolding refusal_of
 refusal_moved d next cut c is = ap (λ z. refusal_of z c) is
 
@@ -127,31 +123,9 @@ quit_answered d next is run whole = inl (refl, is)
 
 -- ---- points
 
-pub continue_answered : (d next : Desk) (t : ℕ) (direction : Direction) (hit : Option Hit) (to : List ℕ)
-    → EachRun d.fitted (λ run. Continues run d t direction hit to) → next ≡ moved d to
-    → AnswersSo d (command.Continue t direction) (answer.Continued t hit) next
-continue_answered d next t direction hit to goes is run whole =
-    inl (to, hit, goes run whole, (ap (λ (z : Desk). continued_text z.fitted t hit z.at) is, is))
-
 pub set_answered : (d next : Desk) (point : Point) (n : ℕ) → n ≡ d.last_point + 1 → next ≡ with_point d point
     → AnswersSo d (command.Set point) (answer.Set n) next
 set_answered d next point n number is run whole = inl (ap (number_line (codes "point ")) number, is)
 
 pub clear_answered : (d next : Desk) (n : ℕ) → next ≡ without_point d n → AnswersSo d (command.Clear n) (answer.Cleared n) next
 clear_answered d next n is run whole = inl (refl, is)
-
--- ---- kept cuts
-
-pub kept_answered : (d next : Desk) (n : ℕ) → n ≡ d.last_kept + 1 → next ≡ with_kept d
-    → AnswersSo d (command.Keeping Keep) (answer.Kept n) next
-kept_answered d next n number is run whole = inl (ap (number_line (codes "kept ")) number, is)
-
-pub load_answered : (d next : Desk) (n : ℕ) (to : List ℕ) → kept_cut d.kept n ≡ Some to → next ≡ moved d to
-    → AnswersSo d (command.Keeping (Load n)) answer.Position next
-load_answered d next n to found is run whole = inl (to, found, (ap (λ z. positions_text z.at ++ codes "\n") is, is))
-
-pub drop_answered : (d next : Desk) (n : ℕ) → next ≡ without_kept d n → AnswersSo d (command.Keeping (Drop n)) (answer.Dropped n) next
-drop_answered d next n is run whole = inl (refl, is)
-
-pub list_answered : (d next : Desk) → next ≡ spoken d → AnswersSo d (command.Keeping Kept) answer.KeptCuts next
-list_answered d next is run whole = inl (ap (λ z. kept_text z.kept) is, is)

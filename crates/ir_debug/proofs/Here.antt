@@ -1,5 +1,5 @@
 -- What is shown of the threads and objects in hand is what the small machine shows, whichever run it holds.
-use Rattle.std.proofs.Common.{◌≡◌, ◌<◌, ◌≤◌, ℕ, List, length, refl, sym, ap, subst, ◌∙◌, arith}
+use Rattle.std.proofs.Common.{◌≡◌, ◌<◌, ◌≤◌, ℕ, Some, List, length, refl, sym, ap, subst, ◌∙◌, arith}
 use Rattle.std.specs.List.{slice_index_or}
 use Rattle.std.proofs.lemmas.List.{get_or_default}
 use Rattle.ir_image.specs.Guest.{object_words}
@@ -19,12 +19,12 @@ use Rattle.ir_command.specs.declared.command.Command.TheVariants as command
 use Rattle.ir_debug.specs.declared.answer.Answer.{Answer}
 use Rattle.ir_debug.specs.declared.answer.Answer.TheVariants.{Shown}
 use Rattle.ir_debug.specs.declared.answer.Answer.TheVariants as answer
-use Rattle.ir_debug.specs.Debugging.{Debugging, IsThere, IsLast, IsText, answer_text}
+use Rattle.ir_debug.specs.Debugging.{Debugging, IsThere, IsLast, IsText, answer_text, IsDesk}
 use Rattle.ir_debug.proofs.Passed.{thread_below, object_below}
 use Rattle.ir_text.specs.Held.{held_by}
 use Rattle.ir_debug.specs.AtHand.{thread_here, object_here, events_of, shown_here, text_here, ShowsHere}
 use Rattle.ir_timeline.specs.Positions.{threads_of}
-use Rattle.ir_debug.specs.Within.{IsDesk}
+use Rattle.ir_debug.specs.Machine.Refusals.{thread_named}
 use Rattle.ir_debug.specs.Machine.Shown.{shown, current, logged_so_far}
 
 -- a thread in hand is the run's at its position
@@ -67,6 +67,10 @@ within d t desk there below =
 
 pub asked : (d : Debugging) (s like : Show) → s ≡ like → IsLast d (Shown s) → IsLast d (Shown like)
 asked d s like is last = subst (λ x. IsLast d (Shown x)) is last
+
+-- the thread that it names is one of the guest's
+pub named : (d : Debugging) (s like : Show) (t : ℕ) → s ≡ like → thread_named (command.Show like) ≡ Some t → IsLast d (Shown s) → t < threads_of d.desk.fitted
+named d s like t is shows last = thread_below d.desk (command.Show like) t (asked d s like is last).0 shows
 
 pub object_there : (d : Debugging) (s : Show) (objects : List Cell) (o : ℕ) → s ≡ show.Object o → IsLast d (Shown s)
     → objects ≡ d.state.objects → o < length objects

@@ -1,5 +1,6 @@
 -- Where moves lead.
 use Rattle.std.proofs.Common.{◌≡◌, ℕ, ◌+◌, ◌-◌, ◌^◌, ◌<◌, ◌≤◌, min, arith, List, sym, ap, subst, ◌∙◌}
+use Rattle.std.specs.Prelude.{if◌then◌else◌}
 use Rattle.std.proofs.lemmas.Bool.{le-leb, lt-leb}
 use Rattle.ir_runs.specs.Cuts.{IsLeast, IsGreatest}
 use Rattle.ir_fit.specs.Fit.{FittedTrace}
@@ -9,7 +10,7 @@ use Rattle.ir_command.specs.declared.command.Direction.TheVariants.{Forwards, Ba
 use Rattle.ir_command.specs.declared.command.Move.{Move}
 use Rattle.ir_command.specs.declared.command.Move.TheVariants.{Step, Back}
 use Rattle.ir_timeline.specs.Positions.{last_of}
-use Rattle.ir_debug.specs.Machine.Moves.{Leads, ToLeast, ToGreatest, ToEither, ToPosition, StopsAt}
+use Rattle.ir_debug.specs.Machine.Moves.{Leads, ToLeast, ToGreatest, ToPosition, StopsAt}
 
 to_least : (f : FittedTrace) (at to : List ℕ) (t k j : ℕ) → IsLeastCut f at t k to → k ≡ j
     → EachRun f (λ run. ToLeast run f at t j to)
@@ -37,7 +38,7 @@ pub up_to : (f : FittedTrace) (at to : List ℕ) (t k position last here : ℕ) 
     → here ≡ cut_of at t → here ≤ k → IsLeastCut f at t k to → ToPositionSo f at t (min position (last_of f t)) to
 up_to f at to t k position last here most is stands up least run whole =
     let wanted : k ≡ min position (last_of f t) = most ∙ ap (min position) is in
-    subst (λ b. ToEither b run f at t (min position (last_of f t)) to)
+    subst (λ b. StopsAt run f at t (if b then Forwards else Backwards) (min position (last_of f t)) to)
     (sym (le-leb (cut_of at t) (min position (last_of f t)) (omega (arith, wanted, stands, up))))
     (to_least f at to t k (min position (last_of f t)) least wanted run whole)
 
@@ -46,7 +47,7 @@ pub down_to : (f : FittedTrace) (at to : List ℕ) (t k position last here : ℕ
     → here ≡ cut_of at t → k < here → IsGreatestCut f at t k to → ToPositionSo f at t (min position (last_of f t)) to
 down_to f at to t k position last here most is stands down greatest run whole =
     let wanted : k ≡ min position (last_of f t) = most ∙ ap (min position) is in
-    subst (λ b. ToEither b run f at t (min position (last_of f t)) to)
+    subst (λ b. StopsAt run f at t (if b then Forwards else Backwards) (min position (last_of f t)) to)
     (sym (lt-leb (cut_of at t) (min position (last_of f t)) (omega (arith, wanted, stands, down))))
     (to_greatest f at to t k (min position (last_of f t)) greatest wanted run whole)
 

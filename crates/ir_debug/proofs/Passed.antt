@@ -85,23 +85,17 @@ address_low g size address short =
 pub number_kept : (d : Desk) (n : ℕ) → refusal_of d (command.Keeping (Load n)) ≡ None → is_some (kept_cut d.kept n) ≡ true
 number_kept d n none = (passes d (command.Keeping (Load n)) none).number
 
-pub place_left : (d : Desk) → refusal_of d (command.Keeping Keep) ≡ None → length d.kept < most_kept + 1
-place_left d none = ltb-true (length d.kept) (most_kept + 1)
-    (first_true (nat_lt (length d.kept) (most_kept + 1)) (nat_lt d.last_kept most_number) (passes d (command.Keeping Keep) none).place)
+both_below : (i m j n : ℕ) → nat_lt i m && nat_lt j n ≡ true → (i < m) × (j < n)
+both_below i m j n e = (ltb-true i m (first_true (nat_lt i m) (nat_lt j n) e), ltb-true j n (second_true (nat_lt i m) (nat_lt j n) e))
 
-pub number_left : (d : Desk) → refusal_of d (command.Keeping Keep) ≡ None → d.last_kept < most_number
-number_left d none = ltb-true d.last_kept most_number
-    (second_true (nat_lt (length d.kept) (most_kept + 1)) (nat_lt d.last_kept most_number) (passes d (command.Keeping Keep) none).place)
+-- there is place for one more, and a number
+pub kept_room : (d : Desk) → refusal_of d (command.Keeping Keep) ≡ None → (length d.kept < most_kept + 1) × (d.last_kept < most_number)
+kept_room d none = both_below _ _ _ _ (passes d (command.Keeping Keep) none).place
 
 -- ---- points
 
-pub point_place : (d : Desk) (p : Point) → refusal_of d (command.Set p) ≡ None → length d.points < most_points
-point_place d p none = ltb-true (length d.points) most_points
-    (first_true (nat_lt (length d.points) most_points) (nat_lt d.last_point most_number) (passes d (command.Set p) none).place)
-
-pub point_number : (d : Desk) (p : Point) → refusal_of d (command.Set p) ≡ None → d.last_point < most_number
-point_number d p none = ltb-true d.last_point most_number
-    (second_true (nat_lt (length d.points) most_points) (nat_lt d.last_point most_number) (passes d (command.Set p) none).place)
+pub point_room : (d : Desk) (p : Point) → refusal_of d (command.Set p) ≡ None → (length d.points < most_points) × (d.last_point < most_number)
+point_room d p none = both_below _ _ _ _ (passes d (command.Set p) none).place
 
 word_there : (address : ℕ) → (address % 4 == 0) && lies_in_memory 4 address ≡ true → IsMemoryWord address
 word_there address test =

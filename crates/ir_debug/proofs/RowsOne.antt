@@ -47,55 +47,18 @@ f_e = fitted_by Small One (0x513 ∷ 0x00800893 ∷ 0x73 ∷ 0x593 ∷ 0x0070061
 abbrev f_v : FittedTrace
 f_v = fitted_by Large One (0x513 ∷ 0x00800893 ∷ 0x73 ∷ 0x00f00593 ∷ 0x00700613 ∷ 0x00b00893 ∷ 0x73 ∷ 0x00100073 ∷ []) 16 9
 
-registers_q : shown (alone 6) (at_only f_q 3) (Registers 0) ≡ codes
-    "pc 0001000c\nzero=00000000 ra=00000000 sp=00110000 gp=00000000\ntp=00000000 t0=00000000 t1=00000000 t2=00000000\ns0=00000000 s1=00000000 a0=00000048 a1=00000000\na2=00000000 a3=00000000 a4=00000000 a5=00000000\na6=00000000 a7=00000002 s2=00000000 s3=00000000\ns4=00000000 s5=00000000 s6=00000000 s7=00000000\ns8=00000000 s9=00000000 s10=00000000 s11=00000000\nt3=00000000 t4=00000000 t5=00000000 t6=00000000\n"
+calls : (shown (alone 6) (at_only f_q 3) (Registers 0) ≡ codes "pc 0001000c\nzero=00000000 ra=00000000 sp=00110000 gp=00000000\ntp=00000000 t0=00000000 t1=00000000 t2=00000000\ns0=00000000 s1=00000000 a0=00000048 a1=00000000\na2=00000000 a3=00000000 a4=00000000 a5=00000000\na6=00000000 a7=00000002 s2=00000000 s3=00000000\ns4=00000000 s5=00000000 s6=00000000 s7=00000000\ns8=00000000 s9=00000000 s10=00000000 s11=00000000\nt3=00000000 t4=00000000 t5=00000000 t6=00000000\n")
+    × (shown (alone 6) (at_only f_q 3) (Output 0) ≡ codes "out 1\n48\n")
+    × (shown (alone 6) (at_only f_q 3) (Memory 0 0x10000 4) ≡ codes "00010000: 13058004\n")
+    × (shown (alone 11) (at_only f_r 7) (Object 0) ≡ codes "version 0 left 1 readers - writer 0\nwords 00000000 00000000 00000000 00000000 00000000 00000000 00000000 00000000\n")
+    × (shown (alone 11) (at_only f_r 3) (Object 0) ≡ codes "version 0 left 0 readers 0 writer -\nwords 00000000 00000000 00000000 00000000 00000000 00000000 00000000 00000000\n")
+    × (shown (alone 11) (at_only f_r 7) (Log 0) ≡ codes "log 2 of 2\n0 read 0 version 0\n1 write 0 version 0 readers 1\n")
+    × (shown (alone 9) (at_only f_e 8) (Next 0) ≡ codes "next give back 0\n")
+    × (shown (alone 9) (at_only f_e 9) (Object 0) ≡ codes "version 1 left 0 readers - writer -\nwords 00000007 00000000 00000000 00000000 00000000 00000000 00000000 00000000\n")
+    × (shown (alone 9) (at_only f_v 9) (Object 0) ≡ codes "version 1 left 0 readers - writer -\nwords 00000000 00000000 00000000 00000000 00000000 00000000 00000000 00000000 00000000 00000000 00000000 00000000 00000000 00000000 00000000 00000007\n")
 unfolding shown upd after_reply after inside_for event_lines memory_lines output_lines bytes_from digits encode_with registers_text
     decoded.instruction_of
-registers_q = refl
-
-output_q : shown (alone 6) (at_only f_q 3) (Output 0) ≡ codes "out 1\n48\n"
-unfolding shown upd after_reply after inside_for event_lines memory_lines output_lines bytes_from digits encode_with registers_text
-    decoded.instruction_of
-output_q = refl
-
-memory_q : shown (alone 6) (at_only f_q 3) (Memory 0 0x10000 4) ≡ codes "00010000: 13058004\n"
-unfolding shown upd after_reply after inside_for event_lines memory_lines output_lines bytes_from digits encode_with registers_text
-    decoded.instruction_of
-memory_q = refl
-
-object_r_7 : shown (alone 11) (at_only f_r 7) (Object 0) ≡ codes
-    "version 0 left 1 readers - writer 0\nwords 00000000 00000000 00000000 00000000 00000000 00000000 00000000 00000000\n"
-unfolding shown upd after_reply after inside_for event_lines memory_lines output_lines bytes_from digits encode_with registers_text
-    decoded.instruction_of
-object_r_7 = refl
-
-object_r_3 : shown (alone 11) (at_only f_r 3) (Object 0) ≡ codes
-    "version 0 left 0 readers 0 writer -\nwords 00000000 00000000 00000000 00000000 00000000 00000000 00000000 00000000\n"
-unfolding shown upd after_reply after inside_for event_lines memory_lines output_lines bytes_from digits encode_with registers_text
-    decoded.instruction_of
-object_r_3 = refl
-
-log_r : shown (alone 11) (at_only f_r 7) (Log 0) ≡ codes "log 2 of 2\n0 read 0 version 0\n1 write 0 version 0 readers 1\n"
-unfolding shown upd after_reply after inside_for event_lines memory_lines output_lines bytes_from digits encode_with registers_text
-    decoded.instruction_of
-log_r = refl
-
-next_e : shown (alone 9) (at_only f_e 8) (Next 0) ≡ codes "next give back 0\n"
-unfolding shown upd after_reply after inside_for event_lines memory_lines output_lines bytes_from digits encode_with registers_text
-    decoded.instruction_of
-next_e = refl
-
-object_e : shown (alone 9) (at_only f_e 9) (Object 0) ≡ codes
-    "version 1 left 0 readers - writer -\nwords 00000007 00000000 00000000 00000000 00000000 00000000 00000000 00000000\n"
-unfolding shown upd after_reply after inside_for event_lines memory_lines output_lines bytes_from digits encode_with registers_text
-    decoded.instruction_of
-object_e = refl
-
-object_v : shown (alone 9) (at_only f_v 9) (Object 0) ≡ codes
-    "version 1 left 0 readers - writer -\nwords 00000000 00000000 00000000 00000000 00000000 00000000 00000000 00000000 00000000 00000000 00000000 00000000 00000000 00000000 00000000 00000007\n"
-unfolding shown upd after_reply after inside_for event_lines memory_lines output_lines bytes_from digits encode_with registers_text
-    decoded.instruction_of
-object_v = refl
+calls = (refl, refl, refl, refl, refl, refl, refl, refl, refl)
 
 -- it tries to enter object 0 for writing, and ends with the answer
 abbrev code_t : List ℕ
@@ -104,21 +67,12 @@ code_t = 0x513 ∷ 0x00d00893 ∷ 0x73 ∷ 0x00100893 ∷ 0x73 ∷ []
 abbrev f_t : FittedTrace
 f_t = fitted_by Small Two code_t 8 5
 
-next_t : shown (alone 5) (at_only f_t 2) (Next 0) ≡ codes "next 00010008 ecall\n"
+refused_try : (shown (alone 5) (at_only f_t 2) (Next 0) ≡ codes "next 00010008 ecall\n")
+    × (shown (alone 5) (at_only f_t 5) (Log 0) ≡ codes "log 1 of 1\n0 try 0\n")
+    × (shown (alone 5) (at_only f_t 3) (Object 0) ≡ codes "version 0 left 0 readers - writer -\nwords 00000000 00000000 00000000 00000000 00000000 00000000 00000000 00000000\n")
 unfolding shown upd after_reply after inside_for event_lines memory_lines output_lines bytes_from digits encode_with registers_text
     decoded.instruction_of
-next_t = refl
-
-log_t : shown (alone 5) (at_only f_t 5) (Log 0) ≡ codes "log 1 of 1\n0 try 0\n"
-unfolding shown upd after_reply after inside_for event_lines memory_lines output_lines bytes_from digits encode_with registers_text
-    decoded.instruction_of
-log_t = refl
-
-object_t : shown (alone 5) (at_only f_t 3) (Object 0) ≡ codes
-    "version 0 left 0 readers - writer -\nwords 00000000 00000000 00000000 00000000 00000000 00000000 00000000 00000000\n"
-unfolding shown upd after_reply after inside_for event_lines memory_lines output_lines bytes_from digits encode_with registers_text
-    decoded.instruction_of
-object_t = refl
+refused_try = (refl, refl, refl)
 
 -- the same where the try gets in, which is logged as an entry; the thread releases the object after its end
 abbrev f_w : FittedTrace
@@ -127,18 +81,9 @@ f_w = fitted_by Small Two code_t 8 6
 abbrev run_w : List Step
 run_w = (0, 0) ∷ (0, 0) ∷ (0, 1) ∷ (0, 0) ∷ (0, 0) ∷ (0, 0) ∷ []
 
-log_w : shown run_w (at_only f_w 6) (Log 0) ≡ codes "log 1 of 1\n0 write 0 version 0 readers 0\n"
+entered_try : (shown run_w (at_only f_w 6) (Log 0) ≡ codes "log 1 of 1\n0 write 0 version 0 readers 0\n")
+    × (shown run_w (at_only f_w 3) (Object 0) ≡ codes "version 0 left 0 readers - writer 0\nwords 00000000 00000000 00000000 00000000 00000000 00000000 00000000 00000000\n")
+    × (shown run_w (at_only f_w 5) (Next 0) ≡ codes "next give back 0\n")
 unfolding shown upd after_reply after inside_for event_lines memory_lines output_lines bytes_from digits encode_with registers_text
     decoded.instruction_of
-log_w = refl
-
-object_w : shown run_w (at_only f_w 3) (Object 0) ≡ codes
-    "version 0 left 0 readers - writer 0\nwords 00000000 00000000 00000000 00000000 00000000 00000000 00000000 00000000\n"
-unfolding shown upd after_reply after inside_for event_lines memory_lines output_lines bytes_from digits encode_with registers_text
-    decoded.instruction_of
-object_w = refl
-
-next_w : shown run_w (at_only f_w 5) (Next 0) ≡ codes "next give back 0\n"
-unfolding shown upd after_reply after inside_for event_lines memory_lines output_lines bytes_from digits encode_with registers_text
-    decoded.instruction_of
-next_w = refl
+entered_try = (refl, refl, refl)

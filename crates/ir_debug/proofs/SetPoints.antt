@@ -1,9 +1,6 @@
--- Points that are set, and where a thread stops at them.
-use Rattle.std.proofs.Common.{◌≡◌, ◌≢◌, ◌<◌, ◌≤◌, ◌+◌, ◌==◌, ℕ, suc, Bool, true, false, List, [], ◌∷◌, ◌++◌, length, drop, Option, Some, None, refl, sym, ap, ◌∙◌, subst, arith, get_or, inl, inr}
-use Rattle.std.specs.Prelude.{not, find, cond, is_some}
-use Rattle.std.proofs.lemmas.List.{at_drop_more, at_drop_all}
+-- Where a thread stops at points that are set.
+use Rattle.std.proofs.Common.{◌≡◌, ◌<◌, ◌≤◌, ℕ, suc, List, Option, Some, None, sym, ap, ◌∙◌, subst, arith, inl, inr}
 use Rattle.std.proofs.lemmas.Bool.{cases_lt}
-use Rattle.std.proofs.lemmas.Bool.Decides.{nat_tests}
 use Rattle.ir_mach.specs.Memory.{memory_word}
 use Rattle.ir_thread.specs.State as thread
 use Rattle.ir_runs.specs.declared.access.Access.TheVariants.{Writing}
@@ -17,56 +14,11 @@ use Rattle.ir_command.specs.declared.command.Direction.{Direction}
 use Rattle.ir_command.specs.declared.command.Direction.TheVariants.{Forwards, Backwards}
 use Rattle.ir_command.specs.declared.command.Point.{Point}
 use Rattle.ir_command.specs.declared.command.Point.TheVariants.{Break, Watch, WatchObject}
-use Rattle.ir_hits.specs.Hits.{Numbered, AreWatchable, IsWatchable, HitBy, thread_at, steps_of}
+use Rattle.ir_hits.specs.Hits.{Numbered, HitBy, thread_at, steps_of}
 use Rattle.ir_command.specs.declared.hit.Hit.{Hit}
-use Rattle.ir_debug.specs.Machine.Desk.{Desk, is_set, points_without}
+use Rattle.ir_debug.specs.Machine.Desk.{Desk}
 use Rattle.ir_timeline.specs.Positions.{threads_of, last_of, Finds}
 use Rattle.ir_debug.specs.Machine.Moves.{stop_of}
-
--- ---- the point of a number, from a place on
-
-here : (ps : List Numbered) (n i : ℕ) (p : Numbered) → i < length ps → p ≡ get_or ps i p
-    → is_set (drop i ps) n ≡ is_set (p ∷ drop (i + 1) ps) n
-here ps n i p l at = at_drop_more (λ xs. is_set xs n) ps i p l ∙ ap (λ z. is_set (z ∷ drop (i + 1) ps) n) (sym at)
-
-by_test : (b : Bool) (p : Numbered) (rest : Option Numbered) → b ≡ true → is_some (cond b (Some p) rest) ≡ true
-by_test true p rest is = refl
-by_test false p rest is = absurd cc
-
-by_other : (b : Bool) (p : Numbered) (rest : Option Numbered) → b ≡ false → is_some (cond b (Some p) rest) ≡ is_some rest
-by_other true p rest is = absurd cc
-by_other false p rest is = refl
-
-pub found : (ps : List Numbered) (n i : ℕ) (p : Numbered) → is_set (drop i ps) n ≡ is_set ps n → i < length ps → p ≡ get_or ps i p
-    → p.number ≡ n → is_set ps n ≡ true
-found ps n i p same l at is =
-    let test : (p.number == n) ≡ true = grind (arith, nat_tests, is) in
-    sym same ∙ here ps n i p l at ∙ by_test (p.number == n) p (find (λ z. z.number == n) (drop (i + 1) ps)) test
-
-pub further : (ps : List Numbered) (n i : ℕ) (p : Numbered) → is_set (drop i ps) n ≡ is_set ps n → i < length ps → p ≡ get_or ps i p
-    → p.number ≢ n → is_set (drop (i + 1) ps) n ≡ is_set ps n
-further ps n i p same l at other =
-    let test : (p.number == n) ≡ false = grind (arith, nat_tests, other) in
-    sym (by_other (p.number == n) p (find (λ z. z.number == n) (drop (i + 1) ps)) test) ∙ sym (here ps n i p l at) ∙ same
-
-pub found_none : (ps : List Numbered) (n i : ℕ) → is_set (drop i ps) n ≡ is_set ps n → length ps ≤ i → is_set ps n ≡ false
-found_none ps n i same l = sym same ∙ at_drop_all (λ z. is_set z n) ps i l
-
--- ---- what holds of all
-
-pub all_more : (ps : List Numbered) (p : Numbered) → AreWatchable ps → IsWatchable p.point → AreWatchable (ps ++ p ∷ [])
-all_more [] p all one = (one, tt)
-all_more (x ∷ xs) p all one = (all.0, all_more xs p all.1 one)
-
-by_kept : (p : Numbered) (rest : List Numbered) (b : Bool) → IsWatchable p.point → AreWatchable rest → AreWatchable (cond b (p ∷ rest) rest)
-by_kept p rest true one others = (one, others)
-by_kept p rest false one others = others
-
-pub all_without : (ps : List Numbered) (n : ℕ) → AreWatchable ps → AreWatchable (points_without ps n)
-all_without [] n all = tt
-all_without (p ∷ ps) n all = by_kept p (points_without ps n) (not (p.number == n)) all.0 (all_without ps n all.1)
-
--- ---- where a thread stops
 
 -- after its last step a thread stays as it is
 pub stays : (f : FittedTrace) (run : List Step) (t j : ℕ) → steps_of f run t ≤ j → thread_at f run t j ≡ thread_at f run t (suc j)

@@ -116,15 +116,6 @@ line_quits : (b : Bool) (l : Link) (line : List ℕ) → b ≡ true → AnswersL
 line_quits true l line quits = (refl, refl)
 line_quits false l line quits = absurd cc
 
-pub quit_sent : (b : Bool) (l : Link) (line : List ℕ) (mid next : Link) (w w' : Option (List ℕ)) → b ≡ true → mid ≡ l → next ≡ sent mid mid.stub
-    → Appends w w' (packet_of (reply_text reply.NotPermitted)) → Sent (AnswersLine b l line) next w w'
-quit_sent b l line mid next w w' quits is after grown = record {
-  text = packet_of (reply_text reply.NotPermitted);
-  is = subst (AnswersLine b l line (packet_of (reply_text reply.NotPermitted))) (sym (after ∙ ap (λ (m : Link). sent m m.stub) is))
-      (line_quits b l line quits);
-  grown = grown;
-}
-
 pub quit_part : (b : Bool) (l : Link) (line : List ℕ) (w w' : Option (List ℕ)) → b ≡ true
     → AppendsPrefix w w' (packet_of (reply_text reply.NotPermitted)) → SentInPart (AnswersLine b l line) [] w w'
 quit_part b l line w w' quits grown = record {
@@ -139,15 +130,6 @@ line_lacks : (b : Bool) (l : Link) (line : List ℕ) (mid next : Link) → b ≡
 line_lacks true l line mid next goes r after = absurd cc
 line_lacks false l line mid next goes (inl same) after = inr (inl (after ∙ ap (λ (m : Link). sent m m.stub) same), refl)
 line_lacks false l line mid next goes (inr (s, r, is)) after = inr (inr (s, r, after ∙ ap (λ (m : Link). sent m m.stub) is), refl)
-
-pub lacks_sent : (b : Bool) (l : Link) (line : List ℕ) (mid next : Link) (w w' : Option (List ℕ)) → b ≡ false
-    → ((mid ≡ l) ⊎ ((s : Stub) × Responds l.stub line s (λ text. ⊤) × (mid ≡ record l { stub = s }))) → next ≡ sent mid mid.stub
-    → Appends w w' (packet_of (reply_text reply.NoMemory)) → Sent (AnswersLine b l line) next w w'
-lacks_sent b l line mid next w w' goes r after grown = record {
-  text = packet_of (reply_text reply.NoMemory);
-  is = line_lacks b l line mid next goes r after;
-  grown = grown;
-}
 
 pub lacks_part : (b : Bool) (l : Link) (line : List ℕ) (mid : Link) (w w' : Option (List ℕ)) → b ≡ false
     → ((mid ≡ l) ⊎ ((s : Stub) × Responds l.stub line s (λ text. ⊤) × (mid ≡ record l { stub = s })))
@@ -181,10 +163,6 @@ packet_part l payload w w1 w2 first rest = record {
   grown = prefix_after w w1 w2 (sign l (codes "+")) rest.text first rest.grown;
 }
 
-pub packet_unsigned : (l : Link) (payload : List ℕ) (w w1 : Option (List ℕ)) → AppendsPrefix w w1 (sign l (codes "+"))
-    → SentInPart (AnswersPacket l payload) (sign l (codes "+")) w w1
-packet_unsigned l payload w w1 grown = record { text = sign l (codes "+"); is = inr refl; grown = grown }
-
 no_reply : reply_text reply.Nothing ≡ []
 unfolding reply_text
 no_reply = refl
@@ -214,7 +192,3 @@ long_unsigned l w w1 first = record {
   is = inl (sent l l.stub, long_is l (sent l l.stub) refl);
   grown = prefix_longer w w1 (sign l (codes "+")) (packet_of (reply_text reply.Nothing)) first;
 }
-
--- nothing is written
-pub nothing_sent : (May : List ℕ → Link → Type 0) (next : Link) (w : Option (List ℕ)) → May [] next → Sent May next w w
-nothing_sent May next w is = record { text = []; is = is; grown = Appends-nil w }

@@ -24,13 +24,6 @@ use Rattle.ir_gdb.proofs.Together.{and_next}
 
 -- ---- hits of a thread on its way
 
--- a thread that isn't moved has none
-pub not_moved : (s v : Stub) (pc u to here : ℕ) (cut : List ℕ) → v ≡ spoken s → to ≡ cut_of cut u → here ≡ position_of v u → to ≤ here
-    → EachRun s.desk.fitted (λ run. HasHit false run s pc cut u)
-not_moved s v pc u to here cut same at from le run whole =
-    let first : here ≡ position_of s u = from ∙ ap (λ (x : Stub). position_of x u) same in
-    λ j n low high hit. absurd (omega (arith, at, first, le, low, high))
-
 pub cut_within : (f : FittedTrace) (cut : List ℕ) (t : ℕ) → HasRun f → Cuts f cut → t < threads_of f → cut_of cut t ≤ last_of f t
 cut_within f cut t has is l = subst (λ (n : ℕ). cut_of cut t ≤ n) (has.whole.1.steps t l) ((is.1 has.run has.whole).0 t)
 

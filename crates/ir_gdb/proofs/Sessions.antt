@@ -20,6 +20,8 @@ use Rattle.ir_debug.specs.declared.ended.Ended.{Ended}
 use Rattle.ir_debug.specs.declared.ended.Ended.TheVariants as ended
 use Rattle.ir_debug.specs.declared.ended.SessionErr.{SessionErr}
 use Rattle.ir_debug.specs.declared.ended.SessionErr.TheVariants as err
+use Rattle.ir_debug.proofs.CallerLemmas.{IfSome-map, IfServed-by}
+pub use Rattle.ir_debug.proofs.CallerLemmas.{Reads-map, opens_ready, was_read, was_write}
 use Rattle.ir_gdb.specs.Stub.{Stub, stub_of}
 use Rattle.ir_gdb.specs.Connection.{Link, link_of, LeadsTo}
 use Rattle.ir_gdb.specs.Session.{first_link, Serves, Refuses, Connects, Connected, Announced, IfNotRefused}
@@ -28,26 +30,6 @@ use Rattle.ir_gdb.specs.Session.{first_link, Serves, Refuses, Connects, Connecte
 
 pub link_is : (l : Link) (s : Stub) (d : Desk) → l ≡ link_of s → s ≡ stub_of d → l ≡ first_link d
 link_is l s d is of = is ∙ ap link_of of
-
-pub Reads-map : (limit : ℕ) (a b : Option (List ℕ)) (P Q : List ℕ → Type 0) → ((consumed : List ℕ) → P consumed → Q consumed)
-    → Reads limit a b P → Reads limit a b Q
-Reads-map limit a b P Q go reads = record {
-  consumed = reads.consumed;
-  taken = reads.taken;
-  within = reads.within;
-  holds = go reads.consumed reads.holds;
-}
-
-IfSome-map : (a : Option (List ℕ)) (P Q : List ℕ → Type 0) → ((input : List ℕ) → P input → Q input) → IfSome a P → IfSome a Q
-IfSome-map None P Q go p = tt
-IfSome-map (Some xs) P Q go p = go xs p
-
-IfServed-by : (r : Result Served Fault) (P Q : Type 0) → (P → Q) → IfEnded r P → IfServed (ended_by r) Q
-IfServed-by (Ok served.Quit) P Q go p = go p
-IfServed-by (Ok served.InputEnd) P Q go p = go p
-IfServed-by (Err fault.Read) P Q go p = tt
-IfServed-by (Err fault.Write) P Q go p = tt
-IfServed-by (Err fault.TooLong) P Q go p = go p
 
 serves : (d : Desk) (l : Link) (r : Result Served Fault) (w w' : Option (List ℕ)) (input : List ℕ) → l ≡ first_link d
     → LeadsTo l most_input r w w' input → Serves d (ended_by r) w w' input
@@ -92,25 +74,7 @@ not_no_memory (Err fault.Read) e = absurd cc
 not_no_memory (Err fault.Write) e = absurd cc
 not_no_memory (Err fault.TooLong) e = absurd cc
 
-pub was_read : (r : Result Served Fault) → ended_by r ≡ Err err.Read → r ≡ Err fault.Read
-was_read (Ok served.Quit) e = absurd cc
-was_read (Ok served.InputEnd) e = absurd cc
-was_read (Err fault.Read) e = refl
-was_read (Err fault.Write) e = absurd cc
-was_read (Err fault.TooLong) e = absurd cc
-
-pub was_write : (r : Result Served Fault) → ended_by r ≡ Err err.Write → r ≡ Err fault.Write
-was_write (Ok served.Quit) e = absurd cc
-was_write (Ok served.InputEnd) e = absurd cc
-was_write (Err fault.Read) e = absurd cc
-was_write (Err fault.Write) e = refl
-was_write (Err fault.TooLong) e = absurd cc
-
 -- ---- what was opened
-
-pub opens_ready : (image trace : List ℕ) (o : Opened) (d : Debugging) → o ≡ opened.Ready d → Opens image trace (opening_of o)
-    → Opens image trace (opening.Ready d.desk)
-opens_ready image trace o d is = subst (λ (x : Opened). Opens image trace (opening_of x)) is
 
 IfServed-map : (result : Result Ended SessionErr) (P Q : Type 0) → (P → Q) → IfServed result P → IfServed result Q
 IfServed-map (Ok e) P Q go p = go p

@@ -3,6 +3,7 @@ use Rattle.std.proofs.Common.{◌≡◌, ◌≤◌, ◌<◌, ◌+◌, ℕ, suc, 
 use Rattle.std.specs.Prelude.{◌&&◌}
 use Rattle.std.specs.List.{filter, AllByRecursion}
 use Rattle.ir_mach.specs.Core.{memory_start, memory_size}
+use Rattle.ir_debug.proofs.CallerLemmas.{all_more, all_without, fewer}
 use Rattle.ir_gdb.specs.declared.point.Breakpoint.{Breakpoint}
 use Rattle.ir_gdb.specs.declared.point.Watched.{Watched}
 use Rattle.ir_gdb.specs.Stub.{Stub, IsStub, IsWatched, most_points, most_watched}
@@ -23,10 +24,6 @@ stub_with_break s b is room = record {
   watches = is.watches;
   few = let more = one_longer s.breaks b in omega (arith, more, room);
 }
-
-all_pushed : (ws : List Watched) (w : Watched) → AllByRecursion IsWatched ws → IsWatched w → AllByRecursion IsWatched (ws ++ w ∷ [])
-all_pushed [] w all is = (is, tt)
-all_pushed (x ∷ ws) w all is = (all.0, all_pushed ws w all.1 is)
 
 both : (a b c d : Bool) → (a && (b && (c && d))) ≡ true → (a ≡ true) × (b ≡ true) × (c ≡ true) × (d ≡ true)
 both true true true true e = (refl, refl, refl, refl)
@@ -52,19 +49,11 @@ stub_with_watch s w is can room = record {
   chosen = is.chosen;
   current = is.current;
   told = is.told;
-  watches = all_pushed s.watches w is.watches (is_watched w can);
+  watches = all_more IsWatched s.watches w is.watches (is_watched w can);
   few = let more = one_longer s.watches w in omega (arith, more, room);
 }
 
 -- ---- a point fewer
-
-shorter : {A : Type 0} (x : A) (xs : List A) (keeps : Bool) (n : ℕ) → length xs ≤ n → length (cond keeps (x ∷ xs) xs) ≤ suc n
-shorter x xs true n h = omega (arith, h)
-shorter x xs false n h = omega (arith, h)
-
-fewer : {A : Type 0} (p : A → Bool) (xs : List A) → length (filter p xs) ≤ length xs
-fewer p [] = omega arith
-fewer p (x ∷ xs) = shorter x (filter p xs) (p x) (length xs) (fewer p xs)
 
 pub stub_without_break : (s : Stub) (b : Breakpoint) → IsStub s → IsStub (record s { breaks = breaks_without s.breaks b })
 stub_without_break s b is = record {
@@ -76,21 +65,12 @@ stub_without_break s b is = record {
   few = let less = fewer (λ x. not (is_same_break x b)) s.breaks in let all = is.few in omega (arith, less, all);
 }
 
-by_kept : (w : Watched) (ws : List Watched) (keeps : Bool) → IsWatched w → AllByRecursion IsWatched ws
-    → AllByRecursion IsWatched (cond keeps (w ∷ ws) ws)
-by_kept w ws true is all = (is, all)
-by_kept w ws false is all = all
-
-all_filtered : (p : Watched → Bool) (ws : List Watched) → AllByRecursion IsWatched ws → AllByRecursion IsWatched (filter p ws)
-all_filtered p [] all = tt
-all_filtered p (w ∷ ws) all = by_kept w (filter p ws) (p w) all.0 (all_filtered p ws all.1)
-
 pub stub_without_watch : (s : Stub) (w : Watched) → IsStub s → IsStub (record s { watches = watches_without s.watches w })
 stub_without_watch s w is = record {
   general = is.general;
   chosen = is.chosen;
   current = is.current;
   told = is.told;
-  watches = all_filtered (λ x. not (is_same_watch x w)) s.watches is.watches;
+  watches = all_without IsWatched (λ x. not (is_same_watch x w)) s.watches is.watches;
   few = let less = fewer (λ x. not (is_same_watch x w)) s.watches in let all = is.few in omega (arith, less, all);
 }

@@ -193,7 +193,7 @@ impl Timeline {
         hit_up_to(hands, &self.fitted, &mut self.hand, t, to, points)
     }
 
-    /// Keeps the state in hand, under the next number from 1 on. Beside the start 64 are kept at most.
+    /// Keeps the state in hand, for moves and searches to begin at. Beside the start 64 are kept at most.
     ///
     /// # Errors
     /// Out of memory.
@@ -203,10 +203,10 @@ impl Timeline {
         self.hand.checkpoints.keep(&self.fitted, &self.hand.state)
     }
 
-    /// Gives up the state that is kept under a number, if there is one, and it isn't the start.
-    pub fn drop_kept(&mut self, number: u32)
+    /// Gives up a state that was kept at this cut by `keep`, if there is one.
+    pub fn drop_kept(&mut self, cut: &Cut)
         ensures { self.new ≡ self.old }
     {
-        self.hand.checkpoints.drop_kept(&self.fitted, number);
+        self.hand.checkpoints.drop_kept(&self.fitted, cut);
     }
 }

@@ -5,4 +5,4 @@ use Rattle.ir_debug.proofs.answering.put_moved.Goals as goal
 
 pub put_stopped-requires-clause-thread : goal.put_stopped-requires-clause-thread
 put_stopped-requires-clause-thread c = thread_below c.args.debugger.now.desk (command.Move c.args.asked) c.in-Some.thread c.requires.passed
-    (sym c.thread_moved.ensures ∙ c.in-Some.is)
+    (sym c.thread_named.ensures ∙ c.in-Some.is)

@@ -4,7 +4,7 @@ use Rattle.ir_fit.specs.Fit.{FittedTrace, HasRun}
 use Rattle.ir_command.specs.declared.command.Command.TheVariants as command
 use Rattle.ir_timeline.specs.Positions.{threads_of, Cuts, Finds}
 use Rattle.ir_debug.specs.Debugging.{Debugging}
-use Rattle.ir_debug.proofs.Desks.{desk_same}
+use Rattle.ir_debug.proofs.Desks.{spoke}
 use Rattle.ir_debug.proofs.Passed.{thread_below}
 use Rattle.ir_debug.proofs.SetPoints.{stop_within}
 use Rattle.ir_debug.proofs.debugger.Debugger.go_on.Goals as goal
@@ -15,22 +15,13 @@ search-requires-clause-thread g c κs within =
     (thread_below c.args.self.now.desk (command.Continue c.args.thread c.args.direction) c.args.thread c.requires refl)
 
 pub invariant_of-self : goal.invariant_of-self
-invariant_of-self g c = record {
-  desk = desk_same _ _ c.search.ensures.fitted refl refl refl c.self.invariant.desk;
-  fresh = λ e. absurd (cc e);
-}
+invariant_of-self g c = spoke _ _ _ c.search.ensures.fitted refl refl refl refl c.self.invariant.desk
 
 pub invariant_of-self-in_err-cut : goal.invariant_of-self-in_err-cut
-invariant_of-self-in_err-cut g c = record {
-  desk = desk_same _ _ c.search.ensures.fitted refl refl refl c.self.invariant.desk;
-  fresh = λ e. absurd (cc e);
-}
+invariant_of-self-in_err-cut g c = spoke _ _ _ c.search.ensures.fitted refl refl refl refl c.self.invariant.desk
 
 pub invariant_of-self-2 : goal.invariant_of-self-2
-invariant_of-self-2 g c = record {
-  desk = desk_same _ _ c.search.ensures.fitted refl refl refl c.self.invariant.desk;
-  fresh = λ e. absurd (cc e);
-}
+invariant_of-self-2 g c = spoke _ _ _ c.search.ensures.fitted refl refl refl refl c.self.invariant.desk
 
 pub stop-requires-clause-cut : goal.stop-requires-clause-cut
 stop-requires-clause-cut g c =

@@ -2,7 +2,7 @@ use Rattle.std.proofs.Common.{sym, ap, subst, refl}
 use Rattle.ir_fit.specs.Fit.{FittedTrace}
 use Rattle.ir_timeline.specs.Positions.{Cuts}
 use Rattle.ir_debug.specs.Debugging.{Debugging}
-use Rattle.ir_debug.proofs.Desks.{desk_over, desk_same}
+use Rattle.ir_debug.proofs.Desks.{desk_over, spoke}
 use Rattle.ir_debug.proofs.debugger.Debugger.go_to.Goals as goal
 
 pub go_to-requires-after_bounds : goal.go_to-requires-after_bounds
@@ -11,10 +11,7 @@ go_to-requires-after_bounds g c κs within =
     (c.requires.size, c.requires.consistent)
 
 pub invariant_of-self : goal.invariant_of-self
-invariant_of-self g c = record {
-  desk = desk_same _ _ c.go_to.ensures.fitted refl refl refl c.self.invariant.desk;
-  fresh = λ e. absurd (cc e);
-}
+invariant_of-self g c = spoke _ _ _ c.go_to.ensures.fitted refl refl refl refl c.self.invariant.desk
 
 pub invariant_of-self-2 : goal.invariant_of-self-2
 invariant_of-self-2 g c =

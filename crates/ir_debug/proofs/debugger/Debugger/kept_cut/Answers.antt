@@ -1,9 +1,8 @@
 use Rattle.std.proofs.Common.{List, sym, subst}
 use Rattle.std.specs.Prelude.{IfSome}
 use Rattle.ir_timeline.specs.Positions.{Cuts}
-use Rattle.ir_debug.specs.Debugging.{Debugging}
+use Rattle.ir_debug.specs.Debugging.{Debugging, AllKept}
 use Rattle.ir_debug.specs.Machine.Desk.{Kept}
-use Rattle.ir_debug.specs.Within.{AllKept}
 use Rattle.ir_debug.proofs.KeptCuts.{are_cuts}
 use Rattle.ir_debug.proofs.debugger.Debugger.kept_cut.Goals as goal
 

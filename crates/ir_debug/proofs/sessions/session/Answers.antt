@@ -1,0 +1,78 @@
+use Rattle.std.proofs.Common.{[], refl, sym, ap, ◌∙◌}
+use Rattle.std.specs.Prelude.{IfSome}
+use Rattle.ir_stream.specs.Answers.{Reads}
+use Rattle.ir_debug.specs.Openings.{opening_of}
+use Rattle.ir_debug.specs.Machine.Opening as opening
+use Rattle.ir_debug.proofs.Openings.{none_read, reads_nothing, whatever, refused, Reads-map, IfSome-map, opens_ready, begun_ready, was_read, was_write, session_says, answered, answered_in_part}
+use Rattle.ir_debug.proofs.sessions.session.Goals as goal
+
+pub returns-in-Err-clause-write : goal.returns-in-Err-clause-write
+returns-in-Err-clause-write g c = λ e.
+    (c.requires.reads, c.in-Err.ensures.err, none_read _ _ _ c.args.limit _ _ _ c.in-Ok.ensures c.in-Err.ensures.prefix)
+
+pub returns-in-ImageRefused-clause-ended : goal.returns-in-ImageRefused-clause-ended
+returns-in-ImageRefused-clause-ended g c = reads_nothing c.args.limit (g.R.Source.left c.args.reader.now) _ (refused c.args.image.now c.args.trace.now _ (opening.ImageRefused c.in-ImageRefused._error) c.args.limit _
+    (g.W.Sink.written c.args.writer.now) (g.W.Sink.written c.announce.new.writer) (ap opening_of c.in-ImageRefused.is) (λ lines. (refl, refl))
+    (λ input. refl) c.in-Ok.ensures c.in-Ok-announce.ensures.ok [])
+
+pub returns-in-ImageRefused-clause-known : goal.returns-in-ImageRefused-clause-known
+returns-in-ImageRefused-clause-known g c = whatever (g.R.Source.left c.args.reader.now) _ (refused c.args.image.now c.args.trace.now _ (opening.ImageRefused c.in-ImageRefused._error) c.args.limit _
+    (g.W.Sink.written c.args.writer.now) (g.W.Sink.written c.announce.new.writer) (ap opening_of c.in-ImageRefused.is) (λ lines. (refl, refl))
+    (λ input. refl) c.in-Ok.ensures c.in-Ok-announce.ensures.ok)
+
+pub returns-in-TraceRefused-clause-ended : goal.returns-in-TraceRefused-clause-ended
+returns-in-TraceRefused-clause-ended g c = reads_nothing c.args.limit (g.R.Source.left c.args.reader.now) _ (refused c.args.image.now c.args.trace.now _ (opening.TraceRefused c.in-TraceRefused._error) c.args.limit _
+    (g.W.Sink.written c.args.writer.now) (g.W.Sink.written c.announce.new.writer) (ap opening_of c.in-TraceRefused.is) (λ lines. (refl, refl))
+    (λ input. refl) c.in-Ok.ensures c.in-Ok-announce.ensures.ok [])
+
+pub returns-in-TraceRefused-clause-known : goal.returns-in-TraceRefused-clause-known
+returns-in-TraceRefused-clause-known g c = whatever (g.R.Source.left c.args.reader.now) _ (refused c.args.image.now c.args.trace.now _ (opening.TraceRefused c.in-TraceRefused._error) c.args.limit _
+    (g.W.Sink.written c.args.writer.now) (g.W.Sink.written c.announce.new.writer) (ap opening_of c.in-TraceRefused.is) (λ lines. (refl, refl))
+    (λ input. refl) c.in-Ok.ensures c.in-Ok-announce.ensures.ok)
+
+pub returns-in-Unfit-clause-ended : goal.returns-in-Unfit-clause-ended
+returns-in-Unfit-clause-ended g c = reads_nothing c.args.limit (g.R.Source.left c.args.reader.now) _ (refused c.args.image.now c.args.trace.now _ (opening.Unfit c.in-Unfit._verdict) c.args.limit _
+    (g.W.Sink.written c.args.writer.now) (g.W.Sink.written c.announce.new.writer) (ap opening_of c.in-Unfit.is) (λ lines. (refl, refl))
+    (λ input. refl) c.in-Ok.ensures c.in-Ok-announce.ensures.ok [])
+
+pub returns-in-Unfit-clause-known : goal.returns-in-Unfit-clause-known
+returns-in-Unfit-clause-known g c = whatever (g.R.Source.left c.args.reader.now) _ (refused c.args.image.now c.args.trace.now _ (opening.Unfit c.in-Unfit._verdict) c.args.limit _
+    (g.W.Sink.written c.args.writer.now) (g.W.Sink.written c.announce.new.writer) (ap opening_of c.in-Unfit.is) (λ lines. (refl, refl))
+    (λ input. refl) c.in-Ok.ensures c.in-Ok-announce.ensures.ok)
+
+pub returns-in-Ready-clause-ended : goal.returns-in-Ready-clause-ended
+returns-in-Ready-clause-ended g c =
+    session_says (Reads c.args.limit (g.R.Source.left c.args.reader.now) (g.R.Source.left c.serve.new.reader)) (Reads-map _ _ _) _ _ _ c.args.limit
+    _ _ _ _ _ c.ended.ensures (opens_ready _ _ _ _ c.in-Ready.is c.in-Ok.ensures)
+    (begun_ready _ _ _ _ c.in-Ready.is c.in-Ok-announce.ensures.ok) c.serve.ensures.ended
+
+pub returns-in-Ready-clause-known : goal.returns-in-Ready-clause-known
+returns-in-Ready-clause-known g c =
+    session_says (IfSome (g.R.Source.left c.args.reader.now)) (IfSome-map _) _ _ _ c.args.limit _ _ _ _ _ c.ended.ensures
+    (opens_ready _ _ _ _ c.in-Ready.is c.in-Ok.ensures) (begun_ready _ _ _ _ c.in-Ready.is c.in-Ok-announce.ensures.ok)
+    c.serve.ensures.known
+
+pub returns-in-Ready-clause-read : goal.returns-in-Ready-clause-read
+returns-in-Ready-clause-read g c = λ e.
+    let r = c.serve.ensures.read (was_read c.serve.result (sym c.ended.ensures ∙ e)) in (
+      r.0,
+      r.1,
+      Reads-map c.args.limit _ _ _ _ (λ consumed p. record {
+        goes = p.0;
+        transcript = answered _ _ _ _ _ _ _ (opens_ready _ _ _ _ c.in-Ready.is c.in-Ok.ensures)
+            (begun_ready _ _ _ _ c.in-Ready.is c.in-Ok-announce.ensures.ok) p.1;
+      }) r.2,
+    )
+
+pub returns-in-Ready-clause-write : goal.returns-in-Ready-clause-write
+returns-in-Ready-clause-write g c = λ e.
+    let r = c.serve.ensures.write (was_write c.serve.result (sym c.ended.ensures ∙ e)) in (
+      r.0,
+      r.1,
+      Reads-map c.args.limit _ _ _ _ (λ consumed p. record {
+        goes = p.0;
+        ended = p.1;
+        wrote = answered_in_part _ _ _ _ _ _ _ (opens_ready _ _ _ _ c.in-Ready.is c.in-Ok.ensures)
+            (begun_ready _ _ _ _ c.in-Ready.is c.in-Ok-announce.ensures.ok) p.2;
+      }) r.2,
+    )
