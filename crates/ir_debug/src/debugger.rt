@@ -80,11 +80,21 @@ impl Debugger {
     ghost use Rattle.ir_debug.specs.Machine.Answers.{Answers, AnswersBy};
     ghost use Rattle.ir_debug.specs.Debugging.{IsDesk, IsLast, IsThere, answer_text};
 
-    /// A debugger with all threads at 0, with states that a run along the trace passed.
+    /// A debugger with all threads at 0.
     ///
     /// # Errors
     /// Out of memory.
-    pub fn open(
+    pub fn open(alloc: Global, fitted: Fitted) -> Result<Debugger, AllocError>
+        ensures { IfOk result (λ d. d.desk ≡ desk_of fitted) }
+    {
+        Debugger::open_passed(alloc, fitted, Vec::new(alloc))
+    }
+
+    /// `open`, with states that a run along the trace passed, near which moves begin.
+    ///
+    /// # Errors
+    /// Out of memory.
+    pub fn open_passed(
         alloc: Global,
         fitted: Fitted,
         passed: Vec<PassedState>,

@@ -27,4 +27,4 @@ pub use ir_hits::NumberedPoint;
 pub use ir_stream::{DeviceErr, FromStd, Sink, Source};
 pub use opening::Opened;
 pub use serving::respond;
-pub use sessions::{MOST_INPUT, session};
+pub use sessions::{MOST_INPUT, session, session_up_to};

@@ -38,7 +38,7 @@ fn ended(served: Result<Served, Fault>) -> Result<Ended, SessionErr>
 ///
 /// # Errors
 /// `NoMem` before a byte is written; `Read` and `Write` only where that device failed; `TooLong`.
-pub fn session<H: Hands, R: Source, W: Sink>(
+pub fn session_up_to<H: Hands, R: Source, W: Sink>(
     hands: &H,
     limit: u64,
     image: &[u8],
@@ -87,4 +87,31 @@ pub fn session<H: Hands, R: Source, W: Sink>(
             ended(serve(hands, limit, reader, writer, &mut debugger))
         }
     }
+}
+
+/// `session_up_to` with the limit of 1,073,741,824 bytes.
+pub fn session<H: Hands, R: Source, W: Sink>(
+    hands: &H,
+    image: &[u8],
+    trace: &[u8],
+    reader: &mut R,
+    writer: &mut W,
+) -> Result<Ended, SessionErr>
+    requires reads { R.broken reader.old ≡ false }
+    requires writes { W.broken writer.old ≡ false }
+    ensures ended { IfServed result (Reads most_input (R.left reader.old) (R.left reader.new)
+        (Session image.now trace.now most_input result (W.written writer.old) (W.written writer.new))) }
+    ensures works { IfServed result ((R.broken reader.new ≡ false) × (W.broken writer.new ≡ false)) }
+    ensures known { IfServed result (IfSome (R.left reader.old)
+        (Session image.now trace.now most_input result (W.written writer.old) (W.written writer.new))) }
+    ensures unread { IfRefused result (reader.new ≡ reader.old) }
+    ensures no_memory { result ≡ Err SessionErr.NoMem → (reader.new ≡ reader.old) × (writer.new ≡ writer.old) }
+    ensures read { result ≡ Err SessionErr.Read → (R.broken reader.new ≡ true) × (W.broken writer.new ≡ false)
+        × Reads most_input (R.left reader.old) (R.left reader.new)
+        (AnsweredWhole image.now trace.now (W.written writer.old) (W.written writer.new)) }
+    ensures write { result ≡ Err SessionErr.Write → (R.broken reader.new ≡ false) × (W.broken writer.new ≡ true)
+        × Reads most_input (R.left reader.old) (R.left reader.new)
+        (AnsweredInPart image.now trace.now (R.left reader.new) (W.written writer.old) (W.written writer.new)) }
+{
+    session_up_to(hands, MOST_INPUT, image, trace, reader, writer)
 }

@@ -11,7 +11,7 @@ ghost use Rattle.ir_program.specs.Taking.{reader_of, TakesBytes, LineFails};
 
 use crate::fault::BundleErr;
 use crate::line::{bytes_of, read_line};
-use ir_debug::{Ended, MOST_INPUT, Sink, Source, session};
+use ir_debug::{Ended, Sink, Source, session};
 use ir_files::{ExitStatus, tell};
 use ir_object::Hands;
 use std::alloc::Global;
@@ -53,7 +53,7 @@ pub fn bundled<H: Hands, R: Source, W: Sink>(
     let image = next_bytes(alloc, reader)?;
     let trace = next_bytes(alloc, reader)?;
     let (image, trace) = (image.as_slice(), trace.as_slice());
-    let ended = session(hands, MOST_INPUT, image, trace, reader, writer)?;
+    let ended = session(hands, image, trace, reader, writer)?;
     Ok(ended)
 }
 

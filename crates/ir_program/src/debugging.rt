@@ -11,7 +11,7 @@ ghost use Rattle.ir_debug.specs.declared.ended.SessionErr.{SessionErr};
 
 use crate::bundles::status;
 use crate::fault::BundleErr;
-use ir_debug::{MOST_INPUT, Sink, Source, session};
+use ir_debug::{Sink, Source, session};
 use ir_files::{ExitStatus, tell};
 use ir_object::Hands;
 
@@ -38,7 +38,7 @@ pub fn debug_run<H: Hands, R: Source, W: Sink, E: Sink>(
         (writer_of (W.written writer.old) (W.written writer.new) (W.broken writer.new)) ((reader.new ≡ reader.old) × (writer.new ≡ writer.old))
         × Reports (writer_of (E.written faults.old) (E.written faults.new) (E.broken faults.new)) (fault_text (fault_words (fault_of e))) }
 {
-    match session(hands, MOST_INPUT, image, trace, reader, writer) {
+    match session(hands, image, trace, reader, writer) {
         Ok(ended) => status(ended),
         Err(error) => {
             tell(faults, BundleErr::from(error).words());

@@ -3,7 +3,7 @@
 use crate::line_tests::line_of;
 use crate::sessions::{Files, files_of};
 use crate::streams::{Bytes, ENDLESS, Page};
-use ir_debug::{Ended, MOST_INPUT, SessionErr, session};
+use ir_debug::{Ended, MOST_INPUT, SessionErr, session_up_to};
 use ir_object::{Given, OpenGate};
 use ir_tests::guests::DOUBLED;
 use ir_tests::patches::{Patch, UNPATCHED, patched};
@@ -46,7 +46,7 @@ fn is_limited<R: AllocGlobal + Threads + Clock + Sync>(
     let mut reader = Bytes::new(lines, limit);
     let mut writer = Page::new(rt.alloc(), false, ENDLESS);
     let hands = Given::new(rt, rt.alloc(), &OpenGate);
-    let ended = session(
+    let ended = session_up_to(
         &hands,
         limit.min(MOST_INPUT),
         files.image.as_slice(),

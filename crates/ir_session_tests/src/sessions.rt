@@ -1,7 +1,7 @@
 //! Sessions over bytes in memory.
 
 use crate::streams::{Bytes, ENDLESS, Page};
-use ir_debug::{Ended, MOST_INPUT, SessionErr, session};
+use ir_debug::{Ended, SessionErr, session};
 use ir_object::{Gate, Given, OpenGate};
 use ir_tests::sources::image_bytes;
 use ir_tests::traces::{TraceRow, trace_bytes};
@@ -28,7 +28,7 @@ pub fn answered_until<R: AllocGlobal + Threads + Clock + Sync, G: Gate + Sync>(
     let mut reader = Bytes::new(lines, reads);
     let mut writer = Page::new(rt.alloc(), writes.is_some(), writes.unwrap_or(ENDLESS));
     let hands = Given::new(rt, rt.alloc(), gate);
-    let ended = session(&hands, MOST_INPUT, image, trace, &mut reader, &mut writer);
+    let ended = session(&hands, image, trace, &mut reader, &mut writer);
     (writer, ended)
 }
 

@@ -4,14 +4,15 @@ ghost use Rattle.std.specs.Prelude.{◌≡◌, false};
 
 use crate::commands::bytes_of;
 use crate::commands::conditions::conditions_of;
-use crate::commands::recording::{RecordingPaths, input_of, loses_input, output_places};
+use crate::commands::recording::{
+    RecordingPaths, input_of, loses_input, output_places, record_files,
+};
 use crate::ends::tell_ends;
 use ir_arguments::HuntArguments;
-use ir_files::{ExitStatus, Folder, MOST_BYTES, OutputFiles, WholeFile};
+use ir_files::{ExitStatus, Folder, MOST_BYTES};
 use ir_hunt::{HuntPlan, hunt_run};
 use ir_record_run::ParsedImage;
 use ir_stream::Sink;
-use ir_trace::Trace;
 use std::sync::Wait;
 use std::thread::Threads;
 use std::time::Clock;
@@ -25,30 +26,6 @@ fn paths(arguments: &HuntArguments) -> RecordingPaths<'_> {
         list: None,
         output: arguments.options.output.as_ref(),
     }
-}
-
-// Hunts for a run of a guest, whose trace and outputs go into files at these paths.
-fn hunted_into<'a, R, D, O, E>(
-    rt: &R,
-    folder: &'a D,
-    place: &'a str,
-    places: Option<&'a [String]>,
-    image: &ParsedImage<'_>,
-    plan: &HuntPlan<'_>,
-    out: &mut O,
-    faults: &mut E,
-) -> Result<Option<Trace>, ExitStatus>
-where
-    R: Threads + Wait + Sync + Clock + Eprint + AllocGlobal,
-    D: Folder,
-    O: Sink,
-    E: Sink,
-    requires writes { O.broken out.old ≡ false }
-    requires reports { E.broken faults.old ≡ false }
-{
-    let mut trace = WholeFile::new(rt.alloc(), folder, place);
-    let mut outputs = OutputFiles::new(folder, places, place);
-    hunt_run(rt, image, plan, &mut trace, &mut outputs, out, faults)
 }
 
 // Hunts for a run of a guest, and records it into a file, and what its threads print into others where they are asked for.
@@ -69,7 +46,6 @@ where
     requires reports { E.broken faults.old ≡ false }
 {
     let alloc = rt.alloc();
-    let place = arguments.trace.as_str();
     if loses_input(folder, faults, &paths(arguments)) {
         return ExitStatus::BadArguments;
     }
@@ -98,7 +74,8 @@ where
         is_shown: explains,
     };
     let places = outputs.as_ref().map(|each| each.as_slice());
-    match hunted_into(rt, folder, place, places, &image, &plan, out, faults) {
+    let mut files = record_files(alloc, folder, arguments.trace.as_str(), places);
+    match hunt_run(rt, &image, &plan, &mut files, out, faults) {
         Ok(Some(recorded)) => {
             if explains {
                 tell_ends(alloc, &recorded, faults);

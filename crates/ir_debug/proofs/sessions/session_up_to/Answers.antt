@@ -4,7 +4,7 @@ use Rattle.ir_stream.specs.Answers.{Reads}
 use Rattle.ir_debug.specs.Openings.{opening_of}
 use Rattle.ir_debug.specs.Machine.Opening as opening
 use Rattle.ir_debug.proofs.Openings.{none_read, reads_nothing, whatever, refused, Reads-map, IfSome-map, opens_ready, begun_ready, was_read, was_write, session_says, answered, answered_in_part}
-use Rattle.ir_debug.proofs.sessions.session.Goals as goal
+use Rattle.ir_debug.proofs.sessions.session_up_to.Goals as goal
 
 pub returns-in-Err-clause-write : goal.returns-in-Err-clause-write
 returns-in-Err-clause-write g c = λ e.

@@ -6,7 +6,7 @@ use Rattle.ir_hits.specs.Hits.{AreWatchable}
 use Rattle.ir_timeline.specs.Positions.{Cuts}
 use Rattle.ir_debug.specs.Machine.Desk.{Kept}
 use Rattle.ir_debug.specs.Debugging.{AllKept, IsDesk}
-use Rattle.ir_debug.proofs.debugger.Debugger.open.Goals as goal
+use Rattle.ir_debug.proofs.debugger.Debugger.open_passed.Goals as goal
 
 pub invariant_of-result : goal.invariant_of-result
 invariant_of-result c =
