@@ -5,11 +5,11 @@ use crate::plan::RecordPlan;
 
 /// A guest that is recorded, and how.
 #[derive(Clone, Copy)]
-pub struct Recording<'a, 'b> {
+pub struct Recording<'i, 'p, 'g, 'd> {
     /// The guest's image.
-    pub image: &'a ParsedImage<'b>,
+    pub image: &'i ParsedImage<'g>,
     /// How it is recorded.
-    pub plan: &'a RecordPlan<'b>,
+    pub plan: &'p RecordPlan<'d>,
 }
 
 /// Where a recording goes.

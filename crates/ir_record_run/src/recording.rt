@@ -334,7 +334,7 @@ pub fn record_run<
 >(
     rt: &R,
     gate: &G,
-    recording: &Recording<'_, '_>,
+    recording: &Recording<'_, '_, '_, '_>,
     files: &mut RecordFiles<W, P>,
     out: &mut O,
     faults: &mut E,
