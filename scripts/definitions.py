@@ -25,7 +25,7 @@ MOST_WORDS = 30
 # Each part of the headline: its name, its heading in theorem.md, and the functions and traits whose contracts it is.
 PARTS = [
     ("the session", "### The session", {
-        "ir_debug/src/sessions.rt": ["session"],
+        "ir_debug/src/sessions.rt": ["session", "session_up_to"],
         "ir_stream/src/device.rt": ["Source", "Sink"],
         "ir_object/src/gate.rt": ["Gate"],
     }),
