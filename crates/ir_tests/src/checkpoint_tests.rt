@@ -246,10 +246,11 @@ fn drop_three(
     alloc: Global,
     fitted: &Fitted,
     checkpoints: &mut Checkpoints,
-    [first, second, third]: [u64; 3],
+    positions: [u64; 3],
 ) -> Result<(), Fail>
     requires { AreCheckpoints fitted.now checkpoints.old }
 {
+    let [first, second, third] = positions;
     checkpoints.drop_kept(fitted, &all_at(alloc, fitted, first)?);
     checkpoints.drop_kept(fitted, &all_at(alloc, fitted, second)?);
     checkpoints.drop_kept(fitted, &all_at(alloc, fitted, third)?);
