@@ -39,7 +39,7 @@ returns-in_err-recorded-clause-stopped g c =
     let p = err_from_is_err_and c.from_residual.result c.from_residual.ensures.1 in
     let wrote = on_ok c.write_all.result _ c.write_all.ensures.ok (sym c.is_err.ensures.value ∙ c.if-is_err.false) in
     let line = c.as_bytes.ensures.value ∙ (rw c.in-Some.is at c.in-Ok.ensures.line) in
-    let stopped = rw c.as_str.ensures.value at (rw c.by_list-plan.ensures at c.in_err-recorded.ensures.stopped) in
+    let stopped = rw c.as_str.ensures.value at (rw c.by_list.ensures at c.in_err-recorded.ensures.stopped) in
     if_err _ c.from_residual.result c.in_err-recorded.field-0.0 p.0 p.1 p.2 (
       stopped.0,
       stopped.1,
@@ -59,7 +59,7 @@ returns-clause-done g c =
     let list = string_bytes c.in-Some.found.list in
     let wrote = on_ok c.write_all.result _ c.write_all.ensures.ok (sym c.is_err.ensures.value ∙ c.if-is_err.false) in
     let line = c.as_bytes.ensures.value ∙ (rw c.in-Some.is at c.in-Ok.ensures.line) in
-    let done = rw c.as_str.ensures.value at (rw c.by_list-plan.ensures at c.in_ok-recorded.ensures.done) in (
+    let done = rw c.as_str.ensures.value at (rw c.by_list.ensures at c.in_ok-recorded.ensures.done) in (
       c.in-Some.found.seed,
       list,
       done.0,
