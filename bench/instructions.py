@@ -22,8 +22,9 @@ from pathlib import Path
 
 from guests import call
 
-# Turns of the shorter guest, in units of 4,096.
-UNITS = 4
+# Turns of the shorter guest, in units of 4,096. The longer takes fewer than 2^19 steps, so that opening keeps no state on its way, and a move
+# to the end goes all the way.
+UNITS = 3
 COLLECTED = re.compile(r"Collected : (\d+)")
 RECORD = ["--budget", "1000000000"]
 ENTER, LEAVE, GET, PUT, SELF = 8, 9, 10, 11, 12

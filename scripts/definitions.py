@@ -9,7 +9,9 @@ call and each edit that docs/internals/contracts.md names has to be one of some 
 docs/internals/architecture.md.
 
 A contract leads to the definitions that it names, and these to those that they name: names are followed by the `use` lines of their file. A type
-of the code leads to what its ghost fields and its `impl Model` name. What leads to std or to another crate of the kit isn't followed.
+of the code leads to what its ghost fields and its `impl Model` name, and so do the types of a contract's parameters and results. What leads to
+std or to another crate of the kit isn't followed. A name that two files of the headline define is refused, and so is one in a table's row that
+its file doesn't define.
 """
 import re
 import sys
@@ -34,7 +36,7 @@ PARTS = [
         "ir_record/src/in_order.rt": ["record_in_order", "record_in_turns"],
         "ir_record/src/world.rt": ["World"],
     }),
-    ("`fit`, beside these", None, {"ir_fit/src/fitting.rt": ["fit"]}),
+    ("`fit`, beside these", "### Fit", {"ir_fit/src/fitting.rt": ["fit"]}),
     ("`advance`, beside these", "### Advance", {"ir_replay/src/moves.rt": ["advance", "advance_in_order"]}),
 ]
 
@@ -65,8 +67,9 @@ BEGINS = re.compile(r"^(?:abbrev pub|unfoldable pub|pub record|pub data|pub(?! u
 NAME = re.compile(r"[^\s(){}\[\].,;λ]+(?:\.[^\s(){}\[\].,;λ]+)*")
 EXPORT = re.compile(r"^pub use [\w:]+::(?:\{([^}]*)\}|(\w+));", re.MULTILINE)
 ITEM = re.compile(r"^(?:pub (?:const )?(?:fn|trait|struct|enum) (\w+)|impl(?:<[^{]*?>)? (?:[^{]*? for )?(\w+)).*?^\{?\}", re.MULTILINE | re.DOTALL)
+CODE_USE = re.compile(r"^use (ir_\w+|crate)::(?:[\w:]*?)(?:\{([^}]*)\}|(\w+));", re.MULTILINE)
 CALL = re.compile(r"\b(?:fn|trait|struct|enum) (\w+)")
-ROW = re.compile(r"^\| \[(ir_\w+)/specs/([\w/]+)\]", re.MULTILINE)
+ROW = re.compile(r"^\| \[(ir_\w+)/specs/([\w/]+)\][^|]*\|(.*)\|$", re.MULTILINE)
 
 
 @dataclass
@@ -177,13 +180,35 @@ def named_by(definition):
     return {where.names[item]} if item in where.names else set()
 
 
+@cache
+def file_of_type(crate, kind):
+    """The type of the code `declared.file.Type` of a crate's struct or enum, if it has one."""
+    for path in sorted((TOP / "crates" / crate / "src").rglob("*.rt")):
+        if re.search(rf"^pub (?:struct|enum) {kind}\b", path.read_text(encoding="utf-8"), re.MULTILINE):
+            return ".".join(["declared", *path.relative_to(TOP / "crates" / crate / "src").with_suffix("").parts, kind])
+    return None
+
+
+def types_in(signature, text, file):
+    """The types of the code that a signature names, as crate and `declared.file.Type`."""
+    imported = {}
+    for crate, several, one in CODE_USE.findall(text):
+        for name in filter(None, map(str.strip, (several or one).split(","))):
+            imported[name.split("::")[-1]] = file.partition("/")[0] if crate == "crate" else crate
+    for kind in sorted(set(re.findall(r"\b[A-Z]\w+", signature)) & set(imported)):
+        if imported[kind].startswith("ir_") and file_of_type(imported[kind], kind):
+            yield imported[kind], file_of_type(imported[kind], kind)
+
+
 def named_by_contract(file, item):
-    """What the contract of a function names, or the contracts of a trait."""
+    """What the contract of a function names, or the contracts of a trait, and what the types of the function's signature name."""
     text, where = code(file)
     begins = re.search(rf"^pub (?:fn|trait) {item}\b.*?^[{{}}]", text, re.MULTILINE | re.DOTALL)
     if begins is None:
         sys.exit(f"scripts/definitions.py: crates/{file} has no {item}")
-    return named_in(begins[0], where)
+    signature = re.split(r"^ *(?:requires|ensures)\b", begins[0], maxsplit=1, flags=re.MULTILINE)[0] if begins[0].startswith("pub fn") else ""
+    by_types = {found for kind in types_in(signature, text, file) for found in named_by_type(*kind)}
+    return named_in(begins[0], where) | by_types
 
 
 def led_to(contracts):
@@ -280,17 +305,39 @@ def listed(heading):
     """The files that theorem.md has in the section of a heading."""
     text = (PAGES / "theorem.md").read_text(encoding="utf-8")
     section = re.split(r"^#{2,3} ", text.partition(heading + "\n")[2], maxsplit=1, flags=re.MULTILINE)[0]
-    return {(crate, name.replace("/", ".")) for crate, name in ROW.findall(section)}
+    return {(crate, name.replace("/", ".")): says for crate, name, says in ROW.findall(section)}
+
+
+def row_faults(crate, name, says):
+    """The names in a row of theorem.md that its file doesn't define."""
+    where = module(crate, name)
+    text = "\n".join(where.lines)
+    for item in re.findall(r"`([\w.]+)[^`]*`", says):
+        if item not in where.definitions and not re.search(rf"^ +(?:pub )?{re.escape(item)} :", text, re.MULTILINE):
+            yield f"docs/internals/theorem.md: {crate}/specs/{name.replace('.', '/')} has no {item}"
 
 
 def table_faults():
     """What differs in the tables of theorem.md."""
     for title, heading, files, _ in parts():
-        there = listed(heading) if heading else set()
-        for crate, name in sorted(files - there):
+        there = listed(heading) if heading else {}
+        for crate, name in sorted(files - there.keys()):
             yield f"docs/internals/theorem.md: {crate}/specs/{name.replace('.', '/')} isn't in the table of {title}"
-        for crate, name in sorted(there - files):
+        for crate, name in sorted(there.keys() - files):
             yield f"docs/internals/theorem.md: no contract of {title} leads to {crate}/specs/{name.replace('.', '/')}"
+        for crate, name in sorted(there.keys() & files):
+            yield from row_faults(crate, name, there[crate, name])
+
+
+def double_faults():
+    """The names that two files of the headline define."""
+    defined = {}
+    for crate, name in sorted({file for _, _, files, _ in parts() for file in files}):
+        for item in module(crate, name).definitions:
+            defined.setdefault(item, []).append(f"{crate}/specs/{name.replace('.', '/')}")
+    for item, files in sorted(defined.items()):
+        if len(files) > 1:
+            yield f"{item} is defined in {' and in '.join(files)}"
 
 
 def name_faults():
@@ -313,6 +360,7 @@ def faults():
     if not PAGE.exists() or PAGE.read_text(encoding="utf-8") != page():
         yield f"{PAGE.relative_to(TOP)}: isn't what specs/ says: run python3 scripts/definitions.py"
     yield from table_faults()
+    yield from double_faults()
     yield from name_faults()
 
 

@@ -6,7 +6,8 @@ python3 scripts/rooms.py
 Of another crate's proofs a file may cite what its `proofs/CallerLemmas.antt` offers, and nothing else; no other module
 of `proofs/` is public; a crate stands in crates.txt on each crate that its files name; the texts of ir_tests'
 `examples.rt` are those of the files of `examples`, since a test can read no file; the manual page and docs/reference agree with the texts of
-`--help`; the literals of the page of `ir view` are those of page/view.html; and each edit of `must-fail/` and `edits/` applies, has no line that isn't read, and writes no name that its file doesn't have.
+`--help`; the literals of the page of `ir view` are those of page/view.html; no function has more than 8 parameters, and at most five have more than 6;
+and each edit of `must-fail/` and `edits/` applies, has no line that isn't read, and writes no name that its file doesn't have.
 """
 import re
 import sys
@@ -29,6 +30,8 @@ NO_CODE = re.compile(r'//.*|"(?:[^"\\]|\\.)*"|^ *(?:ghost|requires|ensures)\b.*'
 NEEDED = re.compile(r"(?<![\w.:'])(?:([A-Z]\w*)|([a-z_]\w*)(?=::|\())")
 WORD = re.compile(r"(?<![\w.:'])[A-Za-z_]\w*")
 ALWAYS = set("Self Some None Ok Err Vec String Option Result Drop Copy Clone crate self super std if while match return".split())
+FUNCTION = re.compile(r"\bfn (\w+)\s*(?:<[^(]*>)?\(")
+MOST_PARAMETERS, MANY_PARAMETERS, MOST_WIDE = 8, 6, 5
 EXAMPLES = TOP / "crates" / "ir_tests" / "src" / "examples.rt"
 TEXT = re.compile(r'^pub const (\w+): &str =\s+"([^"]*)";', re.MULTILINE)
 
@@ -114,8 +117,41 @@ def bad_edits():
             yield f"{edit.relative_to(TOP)}: {fault}"
 
 
+def parameters(text):
+    """How many parameters stand between the parenthesis before a text and its other half."""
+    depth, count, empty, before = 1, 0, True, ""
+    for char in text:
+        if char in "([{<":
+            depth += 1
+        elif char in ")]}" or char == ">" and before != "-":
+            depth -= 1
+        if depth == 0:
+            break
+        if char == "," and depth == 1:
+            count, empty = count + 1, True
+        elif not char.isspace():
+            empty = False
+        before = char
+    return count + (not empty)
+
+
+def wide_functions():
+    """The functions with too many parameters, a line each: above 8, or above 6 if there are more than five of them."""
+    wide = []
+    for path in sorted((TOP / "crates").glob("*/src/**/*.rt")):
+        text = re.sub(r"//.*", "", path.read_text(encoding="utf-8"))
+        for found in FUNCTION.finditer(text):
+            count = parameters(text[found.end():])
+            if count > MANY_PARAMETERS:
+                wide.append((count, f"{path.relative_to(TOP)}: {found[1]} has {count} parameters"))
+    if len(wide) > MOST_WIDE:
+        yield from (line for _, line in wide)
+    else:
+        yield from (line for count, line in wide if count > MOST_PARAMETERS)
+
+
 def main():
-    found = [*faults(), *examples(), *differences(), *page_differences(), *bad_edits(), *definitions.faults()]
+    found = [*faults(), *wide_functions(), *examples(), *differences(), *page_differences(), *bad_edits(), *definitions.faults()]
     print("\n".join(found) or "rooms: each crate cites what the others offer; examples, help and definitions agree with the pages; the edits apply")
     return 1 if found else 0
 

@@ -14,108 +14,108 @@ use Rattle.ir_isa.specs.declared.inst.Register.{Register}
 use Rattle.ir_isa.specs.declared.inst.Immediate.{Immediate}
 use Rattle.ir_asm.specs.declared.form.Form.TheVariants.{Loads, JumpsTo, Stores}
 use Rattle.ir_asm.specs.declared.item.Operand.TheVariants.{Index, Offset}
-use Rattle.ir_disasm.specs.Printed.{load_name, store_name, printed, address}
+use Rattle.ir_disasm.specs.Printed.{load_name, store_name, instruction_text, address}
 use Rattle.ir_asm.specs.Forms.{form_named}
 use Rattle.ir_asm.specs.Operands.{operands_of, at_address, address as address_of}
 use Rattle.ir_asm.specs.Items.{instruction}
 use Rattle.ir_asm.specs.Passes.{assembled, IsWordGuest}
-use Rattle.ir_asm.proofs.Pieces.{all_append, clean, IsPiece, not_nil, split_at, split_one, trim_clean}
-use Rattle.ir_asm.proofs.Numbers.{register_again, register_piece, signed_again, signed_piece, signed_plain, register_plain, plain_open, plain_close}
-use Rattle.ir_asm.proofs.FieldLaws.{immediate_kept}
-use Rattle.ir_asm.proofs.Statements.{one_statement}
-use Rattle.ir_asm.proofs.Formats.{plain_end, imm_within, imm_small}
-use Rattle.ir_asm.proofs.Pairs.{two_says}
+use Rattle.ir_asm.proofs.Pieces.{all_pass_in_append, clean, IsPiece, append_of_nonempty_is_nonempty, split_at_first_separator, split_without_separator, trim_of_clean_text}
+use Rattle.ir_asm.proofs.Numbers.{register_of_printed_name, register_name_is_piece, number_of_signed_decimal, signed_decimal_is_piece, signed_decimal_has_no_parenthesis, register_name_has_no_parenthesis, no_opening_if_no_parenthesis, no_closing_if_no_parenthesis}
+use Rattle.ir_asm.proofs.FieldLaws.{immediate_of_own_value}
+use Rattle.ir_asm.proofs.Statements.{line_that_says_word_assembles}
+use Rattle.ir_asm.proofs.Formats.{piece_is_last_operand, immediate_within_range, immediate_magnitude_is_small}
+use Rattle.ir_asm.proofs.Pairs.{two_operands_say_word}
 
-address_plain : (z : ℤ) (b : ℕ) → list_all clean (signed_decimal z) ≡ true → list_all clean (register_name b) ≡ true
+address_is_clean : (z : ℤ) (b : ℕ) → list_all clean (signed_decimal z) ≡ true → list_all clean (register_name b) ≡ true
     → list_all clean (address z b) ≡ true
-address_plain z b h k = all_append clean (signed_decimal z) (40 ∷ (register_name b ++ 41 ∷ [])) h
-    (all_append clean (register_name b) (41 ∷ []) k refl)
+address_is_clean z b h k = all_pass_in_append clean (signed_decimal z) (40 ∷ (register_name b ++ 41 ∷ [])) h
+    (all_pass_in_append clean (register_name b) (41 ∷ []) k refl)
 
-address_piece : (z : ℤ) (b : Register) → nat_abs z < 2 ^ 64 → IsPiece (address z b.number)
-address_piece z b h = record {
-  some = not_nil (signed_decimal z) (40 ∷ (register_name b.number ++ 41 ∷ [])) refl;
-  all = address_plain z b.number (signed_piece z h).all (register_piece b).all;
+address_is_piece : (z : ℤ) (b : Register) → nat_abs z < 2 ^ 64 → IsPiece (address z b.number)
+address_is_piece z b h = record {
+  some = append_of_nonempty_is_nonempty (signed_decimal z) (40 ∷ (register_name b.number ++ 41 ∷ [])) refl;
+  all = address_is_clean z b.number (signed_decimal_is_piece z h).all (register_name_is_piece b).all;
 }
 
 -- an address is cut into what was put together
-address_again : (z : ℤ) (b : Register) → nat_abs z < 2 ^ 64
+address_of_printed_address : (z : ℤ) (b : Register) → nat_abs z < 2 ^ 64
     → address_of (address z b.number) ≡ Some (signed_decimal z, register_name b.number)
-address_again z b h =
-    let s = signed_plain z h in
-    let r = register_plain b in
+address_of_printed_address z b h =
+    let s = signed_decimal_has_no_parenthesis z h in
+    let r = register_name_has_no_parenthesis b in
     let base : List ℕ = register_name b.number in
     rw (
-      split_at 40 (signed_decimal z) (base ++ 41 ∷ []) (plain_open (signed_decimal z) s),
-      split_one 40 (base ++ 41 ∷ [])
-          (all_append (λ c. not (c == 40)) base (41 ∷ []) (plain_open base r) refl),
+      split_at_first_separator 40 (signed_decimal z) (base ++ 41 ∷ []) (no_opening_if_no_parenthesis (signed_decimal z) s),
+      split_without_separator 40 (base ++ 41 ∷ [])
+          (all_pass_in_append (λ c. not (c == 40)) base (41 ∷ []) (no_opening_if_no_parenthesis base r) refl),
     )
-    (rw (split_one 41 (signed_decimal z) (plain_close (signed_decimal z) s), split_at 41 base [] (plain_close base r))
-    (rw (trim_clean (signed_decimal z) (signed_piece z h).all, trim_clean base (register_piece b).all) refl))
+    (rw (split_without_separator 41 (signed_decimal z) (no_closing_if_no_parenthesis (signed_decimal z) s), split_at_first_separator 41 base [] (no_closing_if_no_parenthesis base r))
+    (rw (trim_of_clean_text (signed_decimal z) (signed_decimal_is_piece z h).all, trim_of_clean_text base (register_name_is_piece b).all) refl))
 
-reads_at : (b : Register) (i : Immediate) → at_address (Some (signed_decimal i.value, register_name b.number)) ≡ Ok (Offset i.value b)
-reads_at b i =
-    let small = imm_small i.value i.low i.high in
-    rw (signed_again i.value (omega (arith, small))) (rw (imm_within i.value i.low i.high) (rw (register_again b) refl))
+at_address_of_printed_address : (b : Register) (i : Immediate) → at_address (Some (signed_decimal i.value, register_name b.number)) ≡ Ok (Offset i.value b)
+at_address_of_printed_address b i =
+    let small = immediate_magnitude_is_small i.value i.low i.high in
+    rw (number_of_signed_decimal i.value (omega (arith, small))) (rw (immediate_within_range i.value i.low i.high) (rw (register_of_printed_name b) refl))
 
-wide : (i : Immediate) → nat_abs i.value < 2 ^ 64
-wide i = let small = imm_small i.value i.low i.high in omega (arith, small)
+immediate_magnitude_fits_64_bits : (i : Immediate) → nat_abs i.value < 2 ^ 64
+immediate_magnitude_fits_64_bits i = let small = immediate_magnitude_is_small i.value i.low i.high in omega (arith, small)
 
-reads_load : (op : LoadOp) (a b : Register) (i : Immediate)
+operands_of_printed_load : (op : LoadOp) (a b : Register) (i : Immediate)
     → operands_of (Loads op) (register_name a.number ∷ address i.value b.number ∷ []) ≡ Ok (Index a ∷ Offset i.value b ∷ [])
-reads_load op a b i = rw ((register_piece a).some, address_again i.value b (wide i)) (rw (register_again a, reads_at b i) refl)
+operands_of_printed_load op a b i = rw ((register_name_is_piece a).some, address_of_printed_address i.value b (immediate_magnitude_fits_64_bits i)) (rw (register_of_printed_name a, at_address_of_printed_address b i) refl)
 
-reads_store : (op : StoreOp) (a b : Register) (i : Immediate)
+operands_of_printed_store : (op : StoreOp) (a b : Register) (i : Immediate)
     → operands_of (Stores op) (register_name a.number ∷ address i.value b.number ∷ []) ≡ Ok (Index a ∷ Offset i.value b ∷ [])
-reads_store op a b i = rw ((register_piece a).some, address_again i.value b (wide i)) (rw (register_again a, reads_at b i) refl)
+operands_of_printed_store op a b i = rw ((register_name_is_piece a).some, address_of_printed_address i.value b (immediate_magnitude_fits_64_bits i)) (rw (register_of_printed_name a, at_address_of_printed_address b i) refl)
 
-reads_jumps_to : (a b : Register) (i : Immediate)
+operands_of_printed_jalr : (a b : Register) (i : Immediate)
     → operands_of JumpsTo (register_name a.number ∷ address i.value b.number ∷ []) ≡ Ok (Index a ∷ Offset i.value b ∷ [])
-reads_jumps_to a b i = rw ((register_piece a).some, address_again i.value b (wide i)) (rw (register_again a, reads_at b i) refl)
+operands_of_printed_jalr a b i = rw ((register_name_is_piece a).some, address_of_printed_address i.value b (immediate_magnitude_fits_64_bits i)) (rw (register_of_printed_name a, at_address_of_printed_address b i) refl)
 
-load_named : (op : LoadOp) → form_named (load_name op) ≡ Some (Loads op)
-load_named Lb = refl
-load_named Lh = refl
-load_named Lw = refl
-load_named Lbu = refl
-load_named Lhu = refl
+form_of_load_name : (op : LoadOp) → form_named (load_name op) ≡ Some (Loads op)
+form_of_load_name Lb = refl
+form_of_load_name Lh = refl
+form_of_load_name Lw = refl
+form_of_load_name Lbu = refl
+form_of_load_name Lhu = refl
 
-load_piece : (op : LoadOp) → IsPiece (load_name op)
-load_piece Lb = record { some = refl; all = refl }
-load_piece Lh = record { some = refl; all = refl }
-load_piece Lw = record { some = refl; all = refl }
-load_piece Lbu = record { some = refl; all = refl }
-load_piece Lhu = record { some = refl; all = refl }
+load_name_is_piece : (op : LoadOp) → IsPiece (load_name op)
+load_name_is_piece Lb = record { some = refl; all = refl }
+load_name_is_piece Lh = record { some = refl; all = refl }
+load_name_is_piece Lw = record { some = refl; all = refl }
+load_name_is_piece Lbu = record { some = refl; all = refl }
+load_name_is_piece Lhu = record { some = refl; all = refl }
 
-store_named : (op : StoreOp) → form_named (store_name op) ≡ Some (Stores op)
-store_named Sb = refl
-store_named Sh = refl
-store_named Sw = refl
+form_of_store_name : (op : StoreOp) → form_named (store_name op) ≡ Some (Stores op)
+form_of_store_name Sb = refl
+form_of_store_name Sh = refl
+form_of_store_name Sw = refl
 
-store_piece : (op : StoreOp) → IsPiece (store_name op)
-store_piece Sb = record { some = refl; all = refl }
-store_piece Sh = record { some = refl; all = refl }
-store_piece Sw = record { some = refl; all = refl }
+store_name_is_piece : (op : StoreOp) → IsPiece (store_name op)
+store_name_is_piece Sb = record { some = refl; all = refl }
+store_name_is_piece Sh = record { some = refl; all = refl }
+store_name_is_piece Sw = record { some = refl; all = refl }
 
-pub load_law : (pc : ℕ) (op : LoadOp) (rd rs1 : Register) (i : Immediate)
-    → IsWordGuest (assembled (printed pc (Load op rd rs1 i))) (word_of (Load op rd rs1 i))
-load_law pc op rd rs1 i =
-    one_statement _ _ _ (two_says (load_name op) (register_name rd.number) (address i.value rs1.number) (address i.value rs1.number)
+pub printed_load_assembles : (pc : ℕ) (op : LoadOp) (rd rs1 : Register) (i : Immediate)
+    → IsWordGuest (assembled (instruction_text pc (Load op rd rs1 i))) (word_of (Load op rd rs1 i))
+printed_load_assembles pc op rd rs1 i =
+    line_that_says_word_assembles _ _ _ (two_operands_say_word (load_name op) (register_name rd.number) (address i.value rs1.number) (address i.value rs1.number)
     (word_of (Load op rd rs1 i)) (Loads op) (Index rd ∷ Offset i.value rs1 ∷ [])
-    (load_piece op) (register_piece rd) (plain_end (address i.value rs1.number) (address_piece i.value rs1 (wide i)))
-    (load_named op) refl (reads_load op rd rs1 i) (ap (λ (x : Immediate). instruction (Load op rd rs1 x)) (immediate_kept i)))
+    (load_name_is_piece op) (register_name_is_piece rd) (piece_is_last_operand (address i.value rs1.number) (address_is_piece i.value rs1 (immediate_magnitude_fits_64_bits i)))
+    (form_of_load_name op) refl (operands_of_printed_load op rd rs1 i) (ap (λ (x : Immediate). instruction (Load op rd rs1 x)) (immediate_of_own_value i)))
 
-pub store_law : (pc : ℕ) (op : StoreOp) (rs1 rs2 : Register) (i : Immediate)
-    → IsWordGuest (assembled (printed pc (Store op rs1 rs2 i))) (word_of (Store op rs1 rs2 i))
-store_law pc op rs1 rs2 i =
-    one_statement _ _ _ (two_says (store_name op) (register_name rs2.number) (address i.value rs1.number) (address i.value rs1.number)
+pub printed_store_assembles : (pc : ℕ) (op : StoreOp) (rs1 rs2 : Register) (i : Immediate)
+    → IsWordGuest (assembled (instruction_text pc (Store op rs1 rs2 i))) (word_of (Store op rs1 rs2 i))
+printed_store_assembles pc op rs1 rs2 i =
+    line_that_says_word_assembles _ _ _ (two_operands_say_word (store_name op) (register_name rs2.number) (address i.value rs1.number) (address i.value rs1.number)
     (word_of (Store op rs1 rs2 i)) (Stores op) (Index rs2 ∷ Offset i.value rs1 ∷ [])
-    (store_piece op) (register_piece rs2) (plain_end (address i.value rs1.number) (address_piece i.value rs1 (wide i)))
-    (store_named op) refl (reads_store op rs2 rs1 i) (ap (λ (x : Immediate). instruction (Store op rs1 rs2 x)) (immediate_kept i)))
+    (store_name_is_piece op) (register_name_is_piece rs2) (piece_is_last_operand (address i.value rs1.number) (address_is_piece i.value rs1 (immediate_magnitude_fits_64_bits i)))
+    (form_of_store_name op) refl (operands_of_printed_store op rs2 rs1 i) (ap (λ (x : Immediate). instruction (Store op rs1 rs2 x)) (immediate_of_own_value i)))
 
-pub jumps_to_law : (pc : ℕ) (rd rs1 : Register) (i : Immediate)
-    → IsWordGuest (assembled (printed pc (Jalr rd rs1 i))) (word_of (Jalr rd rs1 i))
-jumps_to_law pc rd rs1 i =
-    one_statement _ _ _ (two_says (codes "jalr") (register_name rd.number) (address i.value rs1.number) (address i.value rs1.number)
+pub printed_jalr_assembles : (pc : ℕ) (rd rs1 : Register) (i : Immediate)
+    → IsWordGuest (assembled (instruction_text pc (Jalr rd rs1 i))) (word_of (Jalr rd rs1 i))
+printed_jalr_assembles pc rd rs1 i =
+    line_that_says_word_assembles _ _ _ (two_operands_say_word (codes "jalr") (register_name rd.number) (address i.value rs1.number) (address i.value rs1.number)
     (word_of (Jalr rd rs1 i)) JumpsTo (Index rd ∷ Offset i.value rs1 ∷ [])
-    (record { some = refl; all = refl }) (register_piece rd) (plain_end (address i.value rs1.number) (address_piece i.value rs1 (wide i)))
-    refl refl (reads_jumps_to rd rs1 i) (ap (λ (x : Immediate). instruction (Jalr rd rs1 x)) (immediate_kept i)))
+    (record { some = refl; all = refl }) (register_name_is_piece rd) (piece_is_last_operand (address i.value rs1.number) (address_is_piece i.value rs1 (immediate_magnitude_fits_64_bits i)))
+    refl refl (operands_of_printed_jalr rd rs1 i) (ap (λ (x : Immediate). instruction (Jalr rd rs1 x)) (immediate_of_own_value i)))

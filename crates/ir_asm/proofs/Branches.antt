@@ -17,148 +17,148 @@ use Rattle.ir_asm.specs.declared.form.Form.TheVariants.{Shifts, Branches, Words}
 use Rattle.ir_asm.specs.declared.item.Operand.TheVariants.{Index, Integer}
 use Rattle.ir_asm.specs.declared.item.Item.TheVariants.{Code}
 use Rattle.ir_asm.specs.Text.{trim, trim_end}
-use Rattle.ir_disasm.specs.Printed.{branch_name, shift_name, one, far, distance, hex, printed}
+use Rattle.ir_disasm.specs.Printed.{branch_name, shift_name, one, far, distance, hex, instruction_text}
 use Rattle.ir_asm.specs.Forms.{form_named}
 use Rattle.ir_asm.specs.Operands.{operands_of, int_le, is_even, distance_in, distance_text}
 use Rattle.ir_asm.specs.Items.{instruction}
 use Rattle.ir_asm.specs.Source.{texts_of, is_source_byte}
 use Rattle.ir_asm.specs.Passes.{assembled, IsWordGuest}
-use Rattle.ir_asm.proofs.Pieces.{all_append, clean, IsPiece, split_one, clean_lacks, trim_clean, end_clean, before_none, no_blank}
-use Rattle.ir_asm.proofs.Numbers.{register_again, register_piece, decimal_again, decimal_piece, hex_again, hex_clean, natural_number}
-use Rattle.ir_asm.proofs.FieldLaws.{branch_offset_kept, amount_kept}
-use Rattle.ir_asm.proofs.Statements.{Says, one_statement}
-use Rattle.ir_asm.proofs.Formats.{Ends, plain_end, three_says, trim_under, before_under, lacks_before, weaken, clean_source, branch_named, branch_piece}
+use Rattle.ir_asm.proofs.Pieces.{all_pass_in_append, clean, IsPiece, split_without_separator, clean_text_lacks_unclean_byte, trim_of_clean_text, trim_end_of_clean_text, before_without_separator, clean_byte_is_not_blank}
+use Rattle.ir_asm.proofs.Numbers.{register_of_printed_name, register_name_is_piece, natural_of_decimal, decimal_is_piece, natural_of_hex_word, hex_is_clean, number_of_decimal}
+use Rattle.ir_asm.proofs.FieldLaws.{branch_offset_of_own_value, amount_of_own_bits}
+use Rattle.ir_asm.proofs.Statements.{Says, line_that_says_word_assembles}
+use Rattle.ir_asm.proofs.Formats.{IsLastOperand, piece_is_last_operand, three_operands_say_word, trim_end_under_prefix, before_under_prefix, before_lacks_byte, all_pass_weaker_test, clean_byte_is_source_byte, form_of_branch_name, branch_name_is_piece}
 
-blank_end : (a : List ℕ) → list_all clean a ≡ true → trim_end (a ++ 32 ∷ []) ≡ a
-blank_end [] h = refl
-blank_end (b ∷ a) h =
+trim_end_drops_one_blank : (a : List ℕ) → list_all clean a ≡ true → trim_end (a ++ 32 ∷ []) ≡ a
+trim_end_drops_one_blank [] h = refl
+trim_end_drops_one_blank (b ∷ a) h =
     let p = and_parts (clean b) (list_all clean a) h in
-    rw (no_blank b p.0) (ap (λ (l : List ℕ). b ∷ l) (blank_end a p.1))
+    rw (clean_byte_is_not_blank b p.0) (ap (λ (l : List ℕ). b ∷ l) (trim_end_drops_one_blank a p.1))
 
-distance_piece : (z : ℤ) → nat_abs z < 2 ^ 64 → IsPiece (distance z)
-distance_piece (pos n) h = record { some = refl; all = (decimal_piece n h).all }
-distance_piece (negsuc n) h = record { some = refl; all = (decimal_piece (suc n) h).all }
+distance_is_piece : (z : ℤ) → nat_abs z < 2 ^ 64 → IsPiece (distance z)
+distance_is_piece (pos n) h = record { some = refl; all = (decimal_is_piece n h).all }
+distance_is_piece (negsuc n) h = record { some = refl; all = (decimal_is_piece (suc n) h).all }
 
-pub far_end : (pc : ℕ) (z : ℤ) → nat_abs z < 2 ^ 64 → Ends (far pc z) (distance z)
-far_end pc z h =
-    let p = distance_piece z h in
+pub far_target_is_last_operand : (pc : ℕ) (z : ℤ) → nat_abs z < 2 ^ 64 → IsLastOperand (far pc z) (distance z)
+far_target_is_last_operand pc z h =
+    let p = distance_is_piece z h in
     let t : ℕ = (pc + low_bits 32 z) % 2 ^ 32 in
     record {
-      trimmed = ap trim_end (before_under 35 (distance z) (codes " # " ++ hex 8 t) (clean_lacks 35 (distance z) refl p.all))
-          ∙ blank_end (distance z) p.all;
+      trimmed = ap trim_end (before_under_prefix 35 (distance z) (codes " # " ++ hex 8 t) (clean_text_lacks_unclean_byte 35 (distance z) refl p.all))
+          ∙ trim_end_drops_one_blank (distance z) p.all;
       piece_is = p;
-      feed = all_append (λ b. not (b == 10)) (distance z) (codes " # " ++ hex 8 t) (clean_lacks 10 (distance z) refl p.all)
-          (clean_lacks 10 (hex 8 t) refl (hex_clean 8 t));
-      source = all_append is_source_byte (distance z) (codes " # " ++ hex 8 t) (weaken is_source_byte clean_source (distance z) p.all)
-          (weaken is_source_byte clean_source (hex 8 t) (hex_clean 8 t));
-      colon = all_append (λ b. not (b == 58)) (distance z) (codes " # " ++ hex 8 t) (clean_lacks 58 (distance z) refl p.all)
-          (clean_lacks 58 (hex 8 t) refl (hex_clean 8 t));
+      feed = all_pass_in_append (λ b. not (b == 10)) (distance z) (codes " # " ++ hex 8 t) (clean_text_lacks_unclean_byte 10 (distance z) refl p.all)
+          (clean_text_lacks_unclean_byte 10 (hex 8 t) refl (hex_is_clean 8 t));
+      source = all_pass_in_append is_source_byte (distance z) (codes " # " ++ hex 8 t) (all_pass_weaker_test is_source_byte clean_byte_is_source_byte (distance z) p.all)
+          (all_pass_weaker_test is_source_byte clean_byte_is_source_byte (hex 8 t) (hex_is_clean 8 t));
+      colon = all_pass_in_append (λ b. not (b == 58)) (distance z) (codes " # " ++ hex 8 t) (clean_text_lacks_unclean_byte 58 (distance z) refl p.all)
+          (clean_text_lacks_unclean_byte 58 (hex 8 t) refl (hex_is_clean 8 t));
     }
 
-pub distance_again : (z : ℤ) → nat_abs z < 10 ^ 10 → distance_text (distance z) ≡ Some z
-distance_again (pos n) h = rw (decimal_again n h) refl
-distance_again (negsuc n) h = rw (decimal_again (suc n) h) refl
+pub distance_text_of_printed_distance : (z : ℤ) → nat_abs z < 10 ^ 10 → distance_text (distance z) ≡ Some z
+distance_text_of_printed_distance (pos n) h = rw (natural_of_decimal n h) refl
+distance_text_of_printed_distance (negsuc n) h = rw (natural_of_decimal (suc n) h) refl
 
-off_within : (z : ℤ) → negsuc 4095 ≤ℤ z → z ≤ℤ pos 4094 → (int_le (negsuc 4095) z && int_le z (pos 4094)) ≡ true
-off_within (pos n) h k = grind (arith, common_steps)
-off_within (negsuc n) h k = grind (arith, common_steps)
+branch_offset_within_range : (z : ℤ) → negsuc 4095 ≤ℤ z → z ≤ℤ pos 4094 → (int_le (negsuc 4095) z && int_le z (pos 4094)) ≡ true
+branch_offset_within_range (pos n) h k = grind (arith, common_steps)
+branch_offset_within_range (negsuc n) h k = grind (arith, common_steps)
 
-off_small : (z : ℤ) → negsuc 4095 ≤ℤ z → z ≤ℤ pos 4094 → nat_abs z < 2 ^ 33
-off_small (pos n) h k = grind (arith, common_steps)
-off_small (negsuc n) h k = grind (arith, common_steps)
+branch_offset_magnitude_is_small : (z : ℤ) → negsuc 4095 ≤ℤ z → z ≤ℤ pos 4094 → nat_abs z < 2 ^ 33
+branch_offset_magnitude_is_small (pos n) h k = grind (arith, common_steps)
+branch_offset_magnitude_is_small (negsuc n) h k = grind (arith, common_steps)
 
-pub off_even : (z : ℤ) → IsEven z → is_even z ≡ true
-off_even (pos n) h = grind (arith, common_steps)
-off_even (negsuc n) h = grind (arith, common_steps)
+pub is_even_if_even : (z : ℤ) → IsEven z → is_even z ≡ true
+is_even_if_even (pos n) h = grind (arith, common_steps)
+is_even_if_even (negsuc n) h = grind (arith, common_steps)
 
-reads_target : (op : BranchOp) (a b : Register) (z : ℤ) → distance_in (negsuc 4095) (pos 4094) (distance z) ≡ Ok z
+operands_of_printed_branch : (op : BranchOp) (a b : Register) (z : ℤ) → distance_in (negsuc 4095) (pos 4094) (distance z) ≡ Ok z
     → operands_of (Branches op) (register_name a.number ∷ register_name b.number ∷ distance z ∷ []) ≡ Ok
     (Index a ∷ Index b ∷ Integer z ∷ [])
-reads_target op a b (pos n) e = rw ((register_piece a).some, (register_piece b).some) (rw (register_again a, register_again b, e) refl)
-reads_target op a b (negsuc n) e = rw ((register_piece a).some, (register_piece b).some) (rw (register_again a, register_again b, e) refl)
+operands_of_printed_branch op a b (pos n) e = rw ((register_name_is_piece a).some, (register_name_is_piece b).some) (rw (register_of_printed_name a, register_of_printed_name b, e) refl)
+operands_of_printed_branch op a b (negsuc n) e = rw ((register_name_is_piece a).some, (register_name_is_piece b).some) (rw (register_of_printed_name a, register_of_printed_name b, e) refl)
 
-reads_distance : (i : BranchOffset) → distance_in (negsuc 4095) (pos 4094) (distance i.value) ≡ Ok i.value
-reads_distance i =
-    let small = off_small i.value i.low i.high in
-    rw (distance_again i.value (omega (arith, small))) (rw (off_even i.value i.even, off_within i.value i.low i.high) refl)
+distance_in_of_branch_offset : (i : BranchOffset) → distance_in (negsuc 4095) (pos 4094) (distance i.value) ≡ Ok i.value
+distance_in_of_branch_offset i =
+    let small = branch_offset_magnitude_is_small i.value i.low i.high in
+    rw (distance_text_of_printed_distance i.value (omega (arith, small))) (rw (is_even_if_even i.value i.even, branch_offset_within_range i.value i.low i.high) refl)
 
-pub branch_law : (pc : ℕ) (op : BranchOp) (rs1 rs2 : Register) (i : BranchOffset)
-    → IsWordGuest (assembled (printed pc (Branch op rs1 rs2 i))) (word_of (Branch op rs1 rs2 i))
-branch_law pc op rs1 rs2 i =
-    let small = off_small i.value i.low i.high in
-    one_statement _ _ _ (three_says (branch_name op) (register_name rs1.number) (register_name rs2.number) (far pc i.value)
+pub printed_branch_assembles : (pc : ℕ) (op : BranchOp) (rs1 rs2 : Register) (i : BranchOffset)
+    → IsWordGuest (assembled (instruction_text pc (Branch op rs1 rs2 i))) (word_of (Branch op rs1 rs2 i))
+printed_branch_assembles pc op rs1 rs2 i =
+    let small = branch_offset_magnitude_is_small i.value i.low i.high in
+    line_that_says_word_assembles _ _ _ (three_operands_say_word (branch_name op) (register_name rs1.number) (register_name rs2.number) (far pc i.value)
     (distance i.value) (word_of (Branch op rs1 rs2 i)) (Branches op) (Index rs1 ∷ Index rs2 ∷ Integer i.value ∷ [])
-    (branch_piece op) (register_piece rs1) (register_piece rs2) (far_end pc i.value (omega (arith, small)))
-    (branch_named op) refl (reads_target op rs1 rs2 i.value (reads_distance i))
-    (ap (λ (x : BranchOffset). instruction (Branch op rs1 rs2 x)) (branch_offset_kept i)))
+    (branch_name_is_piece op) (register_name_is_piece rs1) (register_name_is_piece rs2) (far_target_is_last_operand pc i.value (omega (arith, small)))
+    (form_of_branch_name op) refl (operands_of_printed_branch op rs1 rs2 i.value (distance_in_of_branch_offset i))
+    (ap (λ (x : BranchOffset). instruction (Branch op rs1 rs2 x)) (branch_offset_of_own_value i)))
 
 -- ---- .word
 
-pub one_text : (a : List ℕ) → IsPiece a → texts_of (trim (32 ∷ a)) ≡ a ∷ []
-one_text a p = ap texts_of (trim_clean a p.all) ∙ one_part a p
+pub texts_of_one_piece : (a : List ℕ) → IsPiece a → texts_of (trim (32 ∷ a)) ≡ a ∷ []
+texts_of_one_piece a p = ap texts_of (trim_of_clean_text a p.all) ∙ one_part a p
   where
     one_part : (a : List ℕ) → IsPiece a → texts_of a ≡ a ∷ []
-    one_part a p = rw (p.some, split_one 44 a (clean_lacks 44 a refl p.all)) (rw (trim_clean a p.all) refl)
+    one_part a p = rw (p.some, split_without_separator 44 a (clean_text_lacks_unclean_byte 44 a refl p.all)) (rw (trim_of_clean_text a p.all) refl)
 
-hex_piece : (n : ℕ) → IsPiece (codes "0x" ++ hex 8 n)
-hex_piece n = record { some = refl; all = hex_clean 8 n }
+hex_word_is_piece : (n : ℕ) → IsPiece (codes "0x" ++ hex 8 n)
+hex_word_is_piece n = record { some = refl; all = hex_is_clean 8 n }
 
-reads_word : (n : ℕ) → n < 2 ^ 32 → operands_of Words ((codes "0x" ++ hex 8 n) ∷ []) ≡ Ok (Integer (pos n) ∷ [])
-reads_word n h =
-    rw (hex_again n h) (rw (le-leb n 4294967295 (omega (arith, h))) refl)
+operands_of_printed_word : (n : ℕ) → n < 2 ^ 32 → operands_of Words ((codes "0x" ++ hex 8 n) ∷ []) ≡ Ok (Integer (pos n) ∷ [])
+operands_of_printed_word n h =
+    rw (natural_of_hex_word n h) (rw (le-leb n 4294967295 (omega (arith, h))) refl)
 
-low_word : (n : ℕ) → n < 2 ^ 32 → n % 2 ^ 32 ≡ n
-low_word n h = omega (arith, h)
+word_modulo_is_itself : (n : ℕ) → n < 2 ^ 32 → n % 2 ^ 32 ≡ n
+word_modulo_is_itself n h = omega (arith, h)
 
-pub word_says : (n : ℕ) → n < 2 ^ 32 → Says (one (codes ".word") (codes "0x" ++ hex 8 n)) (one (codes ".word") (codes "0x" ++ hex 8 n)) n
-word_says n h =
+pub word_line_says_word : (n : ℕ) → n < 2 ^ 32 → Says (one (codes ".word") (codes "0x" ++ hex 8 n)) (one (codes ".word") (codes "0x" ++ hex 8 n)) n
+word_line_says_word n h =
     let c : List ℕ = hex 8 n in
-    let k : list_all clean c ≡ true = hex_clean 8 n in
-    let p = hex_piece n in
+    let k : list_all clean c ≡ true = hex_is_clean 8 n in
+    let p = hex_word_is_piece n in
     record {
       form = Words;
       xs = Integer (pos n) ∷ [];
-      feed = clean_lacks 10 c refl k;
-      source = weaken is_source_byte clean_source c k;
-      colon = lacks_before 58 35 (one (codes ".word") (codes "0x" ++ c)) (clean_lacks 58 c refl k);
-      trimmed = ap trim (before_none 35 (one (codes ".word") (codes "0x" ++ c)) (clean_lacks 35 c refl k))
-          ∙ trim_under (codes ".word ") (codes "0x" ++ c) (codes "0x" ++ c) (end_clean (codes "0x" ++ c) p.all) refl;
+      feed = clean_text_lacks_unclean_byte 10 c refl k;
+      source = all_pass_weaker_test is_source_byte clean_byte_is_source_byte c k;
+      colon = before_lacks_byte 58 35 (one (codes ".word") (codes "0x" ++ c)) (clean_text_lacks_unclean_byte 58 c refl k);
+      trimmed = ap trim (before_without_separator 35 (one (codes ".word") (codes "0x" ++ c)) (clean_text_lacks_unclean_byte 35 c refl k))
+          ∙ trim_end_under_prefix (codes ".word ") (codes "0x" ++ c) (codes "0x" ++ c) (trim_end_of_clean_text (codes "0x" ++ c) p.all) refl;
       some = refl;
       named = refl;
       stands = refl;
-      read = ap (operands_of Words) (one_text (codes "0x" ++ c) p) ∙ reads_word n h;
-      means = ap (λ (w : ℕ). Code (w ∷ [])) (low_word n h);
+      read = ap (operands_of Words) (texts_of_one_piece (codes "0x" ++ c) p) ∙ operands_of_printed_word n h;
+      means = ap (λ (w : ℕ). Code (w ∷ [])) (word_modulo_is_itself n h);
     }
 
-pub word_law_illegal : (n : ℕ) → n < 2 ^ 32 → IsWordGuest (assembled (one (codes ".word") (codes "0x" ++ hex 8 n))) n
-word_law_illegal n h = one_statement _ _ _ (word_says n h)
+pub word_line_assembles_to_word : (n : ℕ) → n < 2 ^ 32 → IsWordGuest (assembled (one (codes ".word") (codes "0x" ++ hex 8 n))) n
+word_line_assembles_to_word n h = line_that_says_word_assembles _ _ _ (word_line_says_word n h)
 
 -- ---- shifts
 
-shift_named : (op : ShiftOp) → form_named (shift_name op) ≡ Some (Shifts op)
-shift_named Slli = refl
-shift_named Srli = refl
-shift_named Srai = refl
+form_of_shift_name : (op : ShiftOp) → form_named (shift_name op) ≡ Some (Shifts op)
+form_of_shift_name Slli = refl
+form_of_shift_name Srli = refl
+form_of_shift_name Srai = refl
 
-shift_piece : (op : ShiftOp) → IsPiece (shift_name op)
-shift_piece Slli = record { some = refl; all = refl }
-shift_piece Srli = record { some = refl; all = refl }
-shift_piece Srai = record { some = refl; all = refl }
+shift_name_is_piece : (op : ShiftOp) → IsPiece (shift_name op)
+shift_name_is_piece Slli = record { some = refl; all = refl }
+shift_name_is_piece Srli = record { some = refl; all = refl }
+shift_name_is_piece Srai = record { some = refl; all = refl }
 
-reads_shift : (op : ShiftOp) (a b : Register) (n : ℕ) → n < 32
+operands_of_printed_shift : (op : ShiftOp) (a b : Register) (n : ℕ) → n < 32
     → operands_of (Shifts op) (register_name a.number ∷ register_name b.number ∷ decimal n ∷ []) ≡ Ok
     (Index a ∷ Index b ∷ Integer (pos n) ∷ [])
-reads_shift op a b n l =
-    rw ((register_piece a).some, (register_piece b).some, (decimal_piece n (omega (arith, l))).some)
-    (rw (register_again a, register_again b, natural_number n (omega (arith, l)))
+operands_of_printed_shift op a b n l =
+    rw ((register_name_is_piece a).some, (register_name_is_piece b).some, (decimal_is_piece n (omega (arith, l))).some)
+    (rw (register_of_printed_name a, register_of_printed_name b, number_of_decimal n (omega (arith, l)))
     (rw (le-leb 0 n (omega arith), le-leb n 31 (omega (arith, l))) refl))
 
-pub shift_law : (pc : ℕ) (op : ShiftOp) (rd rs1 : Register) (a : ShiftAmount)
-    → IsWordGuest (assembled (printed pc (Shift op rd rs1 a))) (word_of (Shift op rd rs1 a))
-shift_law pc op rd rs1 a =
-    one_statement _ _ _ (three_says (shift_name op) (register_name rd.number) (register_name rs1.number) (decimal a.bits) (decimal a.bits)
+pub printed_shift_assembles : (pc : ℕ) (op : ShiftOp) (rd rs1 : Register) (a : ShiftAmount)
+    → IsWordGuest (assembled (instruction_text pc (Shift op rd rs1 a))) (word_of (Shift op rd rs1 a))
+printed_shift_assembles pc op rd rs1 a =
+    line_that_says_word_assembles _ _ _ (three_operands_say_word (shift_name op) (register_name rd.number) (register_name rs1.number) (decimal a.bits) (decimal a.bits)
     (word_of (Shift op rd rs1 a)) (Shifts op) (Index rd ∷ Index rs1 ∷ Integer (pos a.bits) ∷ [])
-    (shift_piece op) (register_piece rd) (register_piece rs1)
-    (plain_end (decimal a.bits) (decimal_piece a.bits (omega (arith, a.in_range))))
-    (shift_named op) refl (reads_shift op rd rs1 a.bits a.in_range)
-    (ap (λ (x : ShiftAmount). instruction (Shift op rd rs1 x)) (amount_kept a)))
+    (shift_name_is_piece op) (register_name_is_piece rd) (register_name_is_piece rs1)
+    (piece_is_last_operand (decimal a.bits) (decimal_is_piece a.bits (omega (arith, a.in_range))))
+    (form_of_shift_name op) refl (operands_of_printed_shift op rd rs1 a.bits a.in_range)
+    (ap (λ (x : ShiftAmount). instruction (Shift op rd rs1 x)) (amount_of_own_bits a)))

@@ -21,7 +21,7 @@ first_pass_append n (x ∷ xs) ys s t e = by_line (with_line n (line_of x) s) e 
         rw same (again u f)
     by_line (Err c) f again = absurd (cc f)
 
-pub first_fault : (xs ys : List (List ℕ)) (line : List ℕ) (s : Seen) (cause : Cause) → first_pass 1 xs nothing_seen ≡ Ok s
+pub assembled_lines_fault_at_refused_line : (xs ys : List (List ℕ)) (line : List ℕ) (s : Seen) (cause : Cause) → first_pass 1 xs nothing_seen ≡ Ok s
     → with_line (1 + length xs) (line_of line) s ≡ Err cause →
     assembled_lines (xs ++ line ∷ ys) ≡ Err (record { line = 1 + length xs; cause = cause })
-first_fault xs ys line s cause e f = rw (first_pass_append 1 xs (line ∷ ys) nothing_seen s e) (rw f refl)
+assembled_lines_fault_at_refused_line xs ys line s cause e f = rw (first_pass_append 1 xs (line ∷ ys) nothing_seen s e) (rw f refl)

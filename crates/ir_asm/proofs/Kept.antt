@@ -26,7 +26,7 @@ use Rattle.ir_asm.specs.Answered.{Answers, refused}
 use Rattle.ir_asm.specs.Source.{Seen, Fault, same_section, at_line}
 use Rattle.ir_asm.specs.Passes.{put, distance_to, value_of, text_address, with_code, with_object, second_pass}
 use Rattle.ir_asm.specs.Bounds.{HasFewWords}
-use Rattle.ir_asm.proofs.Steps.{ok_is, bind_ok, tested, or_ok}
+use Rattle.ir_asm.proofs.Steps.{ok_is_injective, parts_of_ok_bind, test_and_value_of_ok_unless, some_if_or_cause_is_ok}
 
 -- how many bytes of code an item is
 abbrev pub code_size : Item → ℕ
@@ -55,26 +55,26 @@ IsTextPlace Data address = Unit {0}
 abbrev pub LabelsFit : List (List ℕ × Place) → Type 0
 LabelsFit labels = AllByRecursion (λ l. IsTextPlace l.1.section l.1.address) labels
 
-pub all_push : {X : Type 0} (P : X → Type 0) (xs : List X) (x : X) → AllByRecursion P xs → P x → AllByRecursion P (xs ++ x ∷ [])
-all_push P [] x h p = (p, tt)
-all_push P (y ∷ ys) x h p = (h.0, all_push P ys x h.1 p)
+pub all_by_recursion_after_push : {X : Type 0} (P : X → Type 0) (xs : List X) (x : X) → AllByRecursion P xs → P x → AllByRecursion P (xs ++ x ∷ [])
+all_by_recursion_after_push P [] x h p = (p, tt)
+all_by_recursion_after_push P (y ∷ ys) x h p = (h.0, all_by_recursion_after_push P ys x h.1 p)
 
 -- what holds beside all names holds beside one
-pub all_named : {A : Type 0} (P : A → Type 0) (rows : List (List ℕ × A)) (name : List ℕ) (x : A) → AllByRecursion (λ r. P r.1) rows
+pub holds_beside_found_name : {A : Type 0} (P : A → Type 0) (rows : List (List ℕ × A)) (name : List ℕ) (x : A) → AllByRecursion (λ r. P r.1) rows
     → named rows name ≡ Some x → P x
-all_named P [] name x h e = absurd (cc e)
-all_named P (r ∷ rows) name x h e = by_test (bytes_eq name r.0) (λ f. all_named P rows name x h.1 f) e
+holds_beside_found_name P [] name x h e = absurd (cc e)
+holds_beside_found_name P (r ∷ rows) name x h e = by_test (bytes_eq name r.0) (λ f. holds_beside_found_name P rows name x h.1 f) e
   where
     by_test : (b : Bool) → (named rows name ≡ Some x → P x) → cond b (Some r.1) (named rows name) ≡ Some x → P x
     by_test true rest f = subst P (same_Some r.1 x f) h.0
     by_test false rest f = rest f
 
 -- the address of a label in text is a place there
-pub address_fits : (s : Seen) (label : List ℕ) (a : ℕ) → LabelsFit s.labels → text_address s label ≡ Ok a → (a % 4 ≡ 0) × (code_start ≤ a)
-address_fits s label a fits e =
-    let b = bind_ok (value_of s label) _ a e in
-    let t = tested (same_section b.0.section Text) WrongSection b.0.address a b.2 in
-    let p = all_named (λ (place : Place). IsTextPlace place.section place.address) s.labels label b.0 fits (or_ok LabelMissing _ b.0 b.1) in
+pub text_address_is_text_place : (s : Seen) (label : List ℕ) (a : ℕ) → LabelsFit s.labels → text_address s label ≡ Ok a → (a % 4 ≡ 0) × (code_start ≤ a)
+text_address_is_text_place s label a fits e =
+    let b = parts_of_ok_bind (value_of s label) _ a e in
+    let t = test_and_value_of_ok_unless (same_section b.0.section Text) WrongSection b.0.address a b.2 in
+    let p = holds_beside_found_name (λ (place : Place). IsTextPlace place.section place.address) s.labels label b.0 fits (some_if_or_cause_is_ok LabelMissing _ b.0 b.1) in
     subst (λ n. (n % 4 ≡ 0) × (code_start ≤ n)) t.1 (by_section b.0.section b.0.address t.0 p)
   where
     by_section : (section : Section) (n : ℕ) → same_section section Text ≡ true → IsTextPlace section n → (n % 4 ≡ 0) × (code_start ≤ n)
@@ -82,44 +82,44 @@ address_fits s label a fits e =
     by_section Data n f p = absurd (cc f)
 
 -- the first k of n words of zeros
-take_zeros : (k n : ℕ) → k ≤ n → take k (replicate {A = ℕ} n 0) ≡ replicate {A = ℕ} k 0
-take_zeros zero n l = refl
-take_zeros (suc k) zero l = absurd (omega (arith, l))
-take_zeros (suc k) (suc n) l = ap (λ (xs : List ℕ). 0 ∷ xs) (take_zeros k n (omega (arith, l)))
+take_of_zeros : (k n : ℕ) → k ≤ n → take k (replicate {A = ℕ} n 0) ≡ replicate {A = ℕ} k 0
+take_of_zeros zero n l = refl
+take_of_zeros (suc k) zero l = absurd (omega (arith, l))
+take_of_zeros (suc k) (suc n) l = ap (λ (xs : List ℕ). 0 ∷ xs) (take_of_zeros k n (omega (arith, l)))
 
-zeros_cut : (words : List ℕ) (k n : ℕ) → k ≤ n → take (length words + k) (words ++ replicate {A = ℕ} n 0) ≡ words ++ replicate {A = ℕ} k 0
-zeros_cut [] k n l = let e : 0 + k ≡ k = omega arith in rw e (take_zeros k n l)
-zeros_cut (w ∷ ws) k n l =
+take_of_words_and_zeros : (words : List ℕ) (k n : ℕ) → k ≤ n → take (length words + k) (words ++ replicate {A = ℕ} n 0) ≡ words ++ replicate {A = ℕ} k 0
+take_of_words_and_zeros [] k n l = let e : 0 + k ≡ k = omega arith in rw e (take_of_zeros k n l)
+take_of_words_and_zeros (w ∷ ws) k n l =
     let e : length (w ∷ ws) + k ≡ suc (length ws + k) = omega arith in
-    rw e (ap (λ (xs : List ℕ). w ∷ xs) (zeros_cut ws k n l))
+    rw e (ap (λ (xs : List ℕ). w ∷ xs) (take_of_words_and_zeros ws k n l))
 
 -- fewer words of an object
-pub shorter_words : (count most : ℕ) (words : List ℕ) → length words ≤ count → count ≤ most
+pub take_of_padded_words : (count most : ℕ) (words : List ℕ) → length words ≤ count → count ≤ most
     → take count (padded_to most words) ≡ padded_to count words
-shorter_words count most words l m =
+take_of_padded_words count most words l m =
     let e : length words + (count - length words) ≡ count = omega (arith, l) in
     ap (λ (k : ℕ). take k (padded_to most words)) (sym e)
-    ∙ zeros_cut words (count - length words) (most - length words) (omega (arith, m))
+    ∙ take_of_words_and_zeros words (count - length words) (most - length words) (omega (arith, m))
 
 -- an object has its place
-room_by : (form : ImageForm) (object objects : ℕ) → object < objects
+object_room_by_form : (form : ImageForm) (object objects : ℕ) → object < objects
     → (limits_of form).words * object + (limits_of form).words ≤ (limits_of form).words * objects
-room_by Small object objects l = omega (arith, l)
-room_by Large object objects l = omega (arith, l)
+object_room_by_form Small object objects l = omega (arith, l)
+object_room_by_form Large object objects l = omega (arith, l)
 
-pub room_for : (g : Guest) (object objects : ℕ) → object < objects → length g.words ≡ object_words g * objects
+pub object_has_room : (g : Guest) (object objects : ℕ) → object < objects → length g.words ≡ object_words g * objects
     → object_words g * object + object_words g ≤ length g.words
-room_for g object objects l there = let r = room_by g.form object objects l in omega (arith, r, there)
+object_has_room g object objects l there = let r = object_room_by_form g.form object objects l in omega (arith, r, there)
 
 -- words take the place of as many
-same_length : (all words : List ℕ) (start count : ℕ) → length words ≤ count → start + count ≤ length all
+length_after_words_replaced : (all words : List ℕ) (start count : ℕ) → length words ≤ count → start + count ≤ length all
     → length (take start all ++ (padded_to count words ++ drop (start + count) all)) ≡ length all
-same_length all words start count few there =
-    let prefix : List ℕ = take start all in
+length_after_words_replaced all words start count few there =
+    let drop_begins_with_get_or : List ℕ = take start all in
     let back : List ℕ = drop (start + count) all in
     omega (
       arith,
-      length-append prefix (padded_to count words ++ back),
+      length-append drop_begins_with_get_or (padded_to count words ++ back),
       length-append (padded_to count words) back,
       length-append words (replicate (count - length words) 0),
       length-replicate {A = ℕ} (count - length words) 0,
@@ -129,9 +129,9 @@ same_length all words start count few there =
       there,
     )
 
-pub object_length : (g : Guest) (object : ℕ) (words : List ℕ) → length words ≤ object_words g
+pub length_of_words_with_object : (g : Guest) (object : ℕ) (words : List ℕ) → length words ≤ object_words g
     → object_words g * object + object_words g ≤ length g.words → length (with_object g object words).words ≡ length g.words
-object_length g object words few there = same_length g.words words (object_words g * object) (object_words g) few there
+length_of_words_with_object g object words few there = length_after_words_replaced g.words words (object_words g * object) (object_words g) few there
 
 -- what an item adds to a guest
 pub record Adds (s : Seen) (item : Item) (g h : Guest) : Type 0 where
@@ -142,9 +142,9 @@ pub record Adds (s : Seen) (item : Item) (g h : Guest) : Type 0 where
   pub words : length h.words ≡ length g.words
   pub fit : LabelsFit s.labels → (n : ℕ) → 4 * n ≡ s.code → AllByRecursion (IsPlace n) g.entries → AllByRecursion (IsPlace n) h.entries
 
-more_code : (s : Seen) (item : Item) (g h : Guest) (words : List ℕ) → 4 * length words ≡ code_size item → data_size item ≡ 0
+adds_if_code_appended : (s : Seen) (item : Item) (g h : Guest) (words : List ℕ) → 4 * length words ≡ code_size item → data_size item ≡ 0
     → entry_count item ≡ 0 → with_code g words ≡ h → Adds s item g h
-more_code s item g h words c d n e = subst (Adds s item g) e (record {
+adds_if_code_appended s item g h words c d n e = subst (Adds s item g) e (record {
   form = refl;
   code = omega (arith, length-append g.code words, c);
   bytes = omega (arith, d);
@@ -153,24 +153,24 @@ more_code s item g h words c d n e = subst (Adds s item g) e (record {
   fit = λ fits k m all. all;
 })
 
-same_guest : (s : Seen) (item : Item) (g h : Guest) → code_size item ≡ 0 → data_size item ≡ 0 → entry_count item ≡ 0 → g ≡ h
+adds_if_guest_unchanged : (s : Seen) (item : Item) (g h : Guest) → code_size item ≡ 0 → data_size item ≡ 0 → entry_count item ≡ 0 → g ≡ h
     → Adds s item g h
-same_guest s item g h c d n e = subst (Adds s item g) e
+adds_if_guest_unchanged s item g h c d n e = subst (Adds s item g) e
     (record { form = refl; code = omega (arith, c); bytes = omega (arith, d); entries = omega (arith, n); words = refl; fit = λ fits k m all. all })
 
-pub put_adds : (s : Seen) (a : ℕ) (item : Item) (g h : Guest) → HasFewWords g.form item → length g.words ≡ object_words g * s.objects
+pub put_adds_item : (s : Seen) (a : ℕ) (item : Item) (g h : Guest) → HasFewWords g.form item → length g.words ≡ object_words g * s.objects
     → put s a item g ≡ Ok h → Adds s item g h
-put_adds s a (Code words) g h few there e = more_code s (Code words) g h words refl refl refl (ok_is _ h e)
-put_adds s a (BranchTo op rs1 rs2 label) g h few there e =
-    let b = bind_ok (distance_to s (negsuc 4095) (pos 4094) a label) _ h e in
-    more_code s (BranchTo op rs1 rs2 label) g h _ refl refl refl (ok_is _ h b.2)
-put_adds s a (JumpTo rd label) g h few there e =
-    let b = bind_ok (distance_to s (negsuc 1048575) (pos 1048574) a label) _ h e in
-    more_code s (JumpTo rd label) g h _ refl refl refl (ok_is _ h b.2)
-put_adds s a (LoadAddress rd label) g h few there e =
-    let b = bind_ok (value_of s label) _ h e in
-    more_code s (LoadAddress rd label) g h _ refl refl refl (ok_is _ h b.2)
-put_adds s a (Filled bytes) g h few there e = subst (Adds s (Filled bytes) g) (ok_is _ h e) (record {
+put_adds_item s a (Code words) g h few there e = adds_if_code_appended s (Code words) g h words refl refl refl (ok_is_injective _ h e)
+put_adds_item s a (BranchTo op rs1 rs2 label) g h few there e =
+    let b = parts_of_ok_bind (distance_to s (negsuc 4095) (pos 4094) a label) _ h e in
+    adds_if_code_appended s (BranchTo op rs1 rs2 label) g h _ refl refl refl (ok_is_injective _ h b.2)
+put_adds_item s a (JumpTo rd label) g h few there e =
+    let b = parts_of_ok_bind (distance_to s (negsuc 1048575) (pos 1048574) a label) _ h e in
+    adds_if_code_appended s (JumpTo rd label) g h _ refl refl refl (ok_is_injective _ h b.2)
+put_adds_item s a (LoadAddress rd label) g h few there e =
+    let b = parts_of_ok_bind (value_of s label) _ h e in
+    adds_if_code_appended s (LoadAddress rd label) g h _ refl refl refl (ok_is_injective _ h b.2)
+put_adds_item s a (Filled bytes) g h few there e = subst (Adds s (Filled bytes) g) (ok_is_injective _ h e) (record {
   form = refl;
   code = omega arith;
   bytes = length-append g.bytes bytes;
@@ -178,9 +178,9 @@ put_adds s a (Filled bytes) g h few there e = subst (Adds s (Filled bytes) g) (o
   words = refl;
   fit = λ fits k m all. all;
 })
-put_adds s a (Entry label) g h few there e =
-    let b = bind_ok (text_address s label) _ h e in
-    let t = tested (nat_lt b.0 (code_start + s.code)) WrongSection _ h b.2 in
+put_adds_item s a (Entry label) g h few there e =
+    let b = parts_of_ok_bind (text_address s label) _ h e in
+    let t = test_and_value_of_ok_unless (nat_lt b.0 (code_start + s.code)) WrongSection _ h b.2 in
     let below : b.0 < code_start + s.code = ltb-true b.0 (code_start + s.code) t.0 in
     subst (Adds s (Entry label) g) t.1 (record {
       form = refl;
@@ -188,64 +188,64 @@ put_adds s a (Entry label) g h few there e =
       bytes = omega arith;
       entries = length-append g.entries (b.0 ∷ []);
       words = refl;
-      fit = λ fits n m all. let p = address_fits s label b.0 fits b.1 in
-          all_push (IsPlace n) g.entries b.0 all (record { aligned = p.0; low = p.1; high = omega (arith, below, m) });
+      fit = λ fits n m all. let p = text_address_is_text_place s label b.0 fits b.1 in
+          all_by_recursion_after_push (IsPlace n) g.entries b.0 all (record { aligned = p.0; low = p.1; high = omega (arith, below, m) });
     })
-put_adds s a (First object words) g h few there e =
-    let t = tested (nat_lt object s.objects) BadCount _ h e in
+put_adds_item s a (First object words) g h few there e =
+    let t = test_and_value_of_ok_unless (nat_lt object s.objects) BadCount _ h e in
     let below : object < s.objects = ltb-true object s.objects t.0 in
     subst (Adds s (First object words) g) t.1 (record {
       form = refl;
       code = omega arith;
       bytes = omega arith;
       entries = omega arith;
-      words = object_length g object words few (room_for g object s.objects below there);
+      words = length_of_words_with_object g object words few (object_has_room g object s.objects below there);
       fit = λ fits k m all. all;
     })
-put_adds s a Enlarged g h few there e = same_guest s Enlarged g h refl refl refl (ok_is _ h e)
-put_adds s a (Within section) g h few there e = same_guest s (Within section) g h refl refl refl (ok_is _ h e)
-put_adds s a (Count n) g h few there e = same_guest s (Count n) g h refl refl refl (ok_is _ h e)
-put_adds s a Nothing g h few there e = same_guest s Nothing g h refl refl refl (ok_is _ h e)
+put_adds_item s a Enlarged g h few there e = adds_if_guest_unchanged s Enlarged g h refl refl refl (ok_is_injective _ h e)
+put_adds_item s a (Within section) g h few there e = adds_if_guest_unchanged s (Within section) g h refl refl refl (ok_is_injective _ h e)
+put_adds_item s a (Count n) g h few there e = adds_if_guest_unchanged s (Count n) g h refl refl refl (ok_is_injective _ h e)
+put_adds_item s a Nothing g h few there e = adds_if_guest_unchanged s Nothing g h refl refl refl (ok_is_injective _ h e)
 
 -- the form stays, and the number of words
-pub form_stays : (s : Seen) (a : ℕ) (item : Item) (g h : Guest) → HasFewWords g.form item → length g.words ≡ object_words g * s.objects
+pub put_keeps_form : (s : Seen) (a : ℕ) (item : Item) (g h : Guest) → HasFewWords g.form item → length g.words ≡ object_words g * s.objects
     → put s a item g ≡ Ok h → h.form ≡ g.form
-form_stays s a item g h few there e = (put_adds s a item g h few there e).form
+put_keeps_form s a item g h few there e = (put_adds_item s a item g h few there e).form
 
-pub words_stay : (s : Seen) (a : ℕ) (item : Item) (g h : Guest) → HasFewWords g.form item → length g.words ≡ object_words g * s.objects
+pub put_keeps_word_count : (s : Seen) (a : ℕ) (item : Item) (g h : Guest) → HasFewWords g.form item → length g.words ≡ object_words g * s.objects
     → put s a item g ≡ Ok h → length h.words ≡ object_words h * s.objects
-words_stay s a item g h few there e =
-    let a = put_adds s a item g h few there e in
+put_keeps_word_count s a item g h few there e =
+    let a = put_adds_item s a item g h few there e in
     a.words ∙ there ∙ ap (λ (f : ImageForm). (limits_of f).words * s.objects) (sym a.form)
 
 -- what holds of all holds of one
-pub all_here : {X : Type 0} (P : X → Type 0) (xs : List X) (i : ℕ) (d : X) → i < length xs → AllByRecursion P xs → P (get_or xs i d)
-all_here P [] i d l h = absurd (omega (arith, l))
-all_here P (y ∷ ys) zero d l h = h.0
-all_here P (y ∷ ys) (suc i) d l h = all_here P ys i d (omega (arith, l)) h.1
+pub all_hold_at_place : {X : Type 0} (P : X → Type 0) (xs : List X) (i : ℕ) (d : X) → i < length xs → AllByRecursion P xs → P (get_or xs i d)
+all_hold_at_place P [] i d l h = absurd (omega (arith, l))
+all_hold_at_place P (y ∷ ys) zero d l h = h.0
+all_hold_at_place P (y ∷ ys) (suc i) d l h = all_hold_at_place P ys i d (omega (arith, l)) h.1
 
-prefix : {X : Type 0} (xs : List X) (i : ℕ) (d : X) → i < length xs → drop i xs ≡ get_or xs i d ∷ drop (i + 1) xs
-prefix [] i d l = absurd (omega (arith, l))
-prefix (y ∷ ys) zero d l = refl
-prefix (y ∷ ys) (suc i) d l =
+drop_begins_with_get_or : {X : Type 0} (xs : List X) (i : ℕ) (d : X) → i < length xs → drop i xs ≡ get_or xs i d ∷ drop (i + 1) xs
+drop_begins_with_get_or [] i d l = absurd (omega (arith, l))
+drop_begins_with_get_or (y ∷ ys) zero d l = refl
+drop_begins_with_get_or (y ∷ ys) (suc i) d l =
     let n : suc i + 1 ≡ suc (i + 1) = omega arith in
-    rw n (prefix ys i d (omega (arith, l)))
+    rw n (drop_begins_with_get_or ys i d (omega (arith, l)))
 
 -- one step, and those that follow
-pub put_next : (s : Seen) (xs : List Placed) (i : ℕ) (x : Placed) (g h : Guest) (whole : Result Guest Fault) → i < length xs
+pub second_pass_step : (s : Seen) (xs : List Placed) (i : ℕ) (x : Placed) (g h : Guest) (whole : Result Guest Fault) → i < length xs
     → x ≡ get_or xs i x → put s x.address x.item g ≡ Ok h →
     second_pass s (drop i xs) g ≡ whole → second_pass s (drop (i + 1) xs) h ≡ whole
-put_next s xs i x g h whole l there e whole_is =
-    let cut : drop i xs ≡ x ∷ drop (i + 1) xs = prefix xs i x l ∙ ap (λ (y : Placed). y ∷ drop (i + 1) xs) (sym there) in
+second_pass_step s xs i x g h whole l there e whole_is =
+    let cut : drop i xs ≡ x ∷ drop (i + 1) xs = drop_begins_with_get_or xs i x l ∙ ap (λ (y : Placed). y ∷ drop (i + 1) xs) (sym there) in
     sym (ap (λ (l : List Placed). second_pass s l g) cut ∙ rw e refl) ∙ whole_is
 
 -- a step that is refused
-pub put_refused : {X : Type 0} (view : X → Guest) (s : Seen) (xs : List Placed) (i : ℕ) (x : Placed) (g state : Guest) (refusal : Refusal)
+pub second_pass_stops_at_refused_put : {X : Type 0} (view : X → Guest) (s : Seen) (xs : List Placed) (i : ℕ) (x : Placed) (g state : Guest) (refusal : Refusal)
     (error : AsmErr) (whole : Result Guest Fault) → i < length xs → x ≡ get_or xs i x → error ≡ refused x.line refusal →
     Makes {A = Unit {0}} state (Err refusal) (put s x.address x.item g) → second_pass s (drop i xs) g ≡ whole
     → Answers view (Err error) whole
-put_refused view s xs i x g state refusal error whole l there is e whole_is =
-    let cut : drop i xs ≡ x ∷ drop (i + 1) xs = prefix xs i x l ∙ ap (λ (y : Placed). y ∷ drop (i + 1) xs) (sym there) in
+second_pass_stops_at_refused_put view s xs i x g state refusal error whole l there is e whole_is =
+    let cut : drop i xs ≡ x ∷ drop (i + 1) xs = drop_begins_with_get_or xs i x l ∙ ap (λ (y : Placed). y ∷ drop (i + 1) xs) (sym there) in
     let again : second_pass s (x ∷ drop (i + 1) xs) g ≡ whole = sym (ap (λ (l : List Placed). second_pass s l g) cut) ∙ whole_is in
     subst (λ r. Answers view (Err r) whole) (sym is) (by_refusal refusal (put s x.address x.item g) e again)
   where

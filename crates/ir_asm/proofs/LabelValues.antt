@@ -25,51 +25,51 @@ use Rattle.ir_asm.specs.Names.{named}
 use Rattle.ir_asm.specs.Text.{is_name, is_nil}
 use Rattle.ir_asm.specs.Source.{Seen, nothing_seen, start_of, size_in, same_section, size_of, here, is_source_byte, at_line, name_of, operand_texts, may_stand, item_with, item_in, begun, grown, laid, entered, with_labels, with_statement, with_line, line_of, first_pass}
 use Rattle.ir_asm.specs.Standing.{item_or_nothing, placed_by, section_after, section_at_end, bytes_placed, place_after}
-use Rattle.ir_asm.proofs.Steps.{at_line_ok, ok_is, bind_ok, unless_ok, tested}
+use Rattle.ir_asm.proofs.Steps.{ok_if_at_line_is_ok, ok_is_injective, parts_of_ok_bind, parts_of_ok_unless, test_and_value_of_ok_unless}
 
 -- ---- an item
 
 -- what entering an item leaves
-record Enters (item : Item) (u t : Seen) : Type 0 where
+record ItemLeaves (item : Item) (u t : Seen) : Type 0 where
   section : t.section ≡ section_after item u.section
   code : t.code ≡ u.code
   filled : t.filled ≡ u.filled
   labels : t.labels ≡ u.labels
 
-entered_is : (section : Section) (line a : ℕ) (item : Item) (u t : Seen) → entered line a (laid section item) u ≡ Ok t → Enters item u t
-entered_is Data line a (Code words) u t e = subst (Enters (Code words) u) (ok_is _ t e)
+item_leaves_if_entered : (section : Section) (line a : ℕ) (item : Item) (u t : Seen) → entered line a (laid section item) u ≡ Ok t → ItemLeaves item u t
+item_leaves_if_entered Data line a (Code words) u t e = subst (ItemLeaves (Code words) u) (ok_is_injective _ t e)
     (record { section = refl; code = refl; filled = refl; labels = refl })
-entered_is section line a (Entry label) u t e =
-    let x = tested (nat_lt u.threads (limits_of (stated u.form)).threads) BadCount _ t e in
-    subst (Enters (Entry label) u) x.1 (record { section = refl; code = refl; filled = refl; labels = refl })
-entered_is section line a item u t e = subst (Enters item u) (ok_is _ t e)
+item_leaves_if_entered section line a (Entry label) u t e =
+    let x = test_and_value_of_ok_unless (nat_lt u.threads (limits_of (stated u.form)).threads) BadCount _ t e in
+    subst (ItemLeaves (Entry label) u) x.1 (record { section = refl; code = refl; filled = refl; labels = refl })
+item_leaves_if_entered section line a item u t e = subst (ItemLeaves item u) (ok_is_injective _ t e)
     (record { section = refl; code = refl; filled = refl; labels = refl })
 
 -- what growing a section leaves
-record Grows (section : Section) (n : ℕ) (s u : Seen) : Type 0 where
+record GrowthLeaves (section : Section) (n : ℕ) (s u : Seen) : Type 0 where
   stays : u.section ≡ s.section
   labels : u.labels ≡ s.labels
   sizes : (w : Section) → size_in w u ≡ size_in w s + (if same_section w section then n else 0)
 
-text_sizes : (s : Seen) (n : ℕ) (w : Section) → size_in w (record s { code = s.code + n }) ≡ size_in w s +
+size_in_after_code_growth : (s : Seen) (n : ℕ) (w : Section) → size_in w (record s { code = s.code + n }) ≡ size_in w s +
     (if same_section w Text then n else 0)
-text_sizes s n Text = refl
-text_sizes s n Data = omega arith
+size_in_after_code_growth s n Text = refl
+size_in_after_code_growth s n Data = omega arith
 
-data_sizes : (s : Seen) (n : ℕ) (w : Section) → size_in w (record s { filled = s.filled + n }) ≡ size_in w s +
+size_in_after_data_growth : (s : Seen) (n : ℕ) (w : Section) → size_in w (record s { filled = s.filled + n }) ≡ size_in w s +
     (if same_section w Data then n else 0)
-data_sizes s n Text = omega arith
-data_sizes s n Data = refl
+size_in_after_data_growth s n Text = omega arith
+size_in_after_data_growth s n Data = refl
 
-grown_is : (section : Section) (n : ℕ) (s u : Seen) → grown section n s ≡ Ok u → Grows section n s u
-grown_is Text n s u e = subst (Grows Text n s) (tested (nat_le (s.code + n) (4 * most_code_words)) BadSize _ u e).1
-    (record { stays = refl; labels = refl; sizes = text_sizes s n })
-grown_is Data n s u e = subst (Grows Data n s) (tested (nat_le (s.filled + n) memory_size) BadSize _ u e).1
-    (record { stays = refl; labels = refl; sizes = data_sizes s n })
+growth_leaves_if_grown : (section : Section) (n : ℕ) (s u : Seen) → grown section n s ≡ Ok u → GrowthLeaves section n s u
+growth_leaves_if_grown Text n s u e = subst (GrowthLeaves Text n s) (test_and_value_of_ok_unless (nat_le (s.code + n) (4 * most_code_words)) BadSize _ u e).1
+    (record { stays = refl; labels = refl; sizes = size_in_after_code_growth s n })
+growth_leaves_if_grown Data n s u e = subst (GrowthLeaves Data n s) (test_and_value_of_ok_unless (nat_le (s.filled + n) memory_size) BadSize _ u e).1
+    (record { stays = refl; labels = refl; sizes = size_in_after_data_growth s n })
 
-same_size : (w : Section) (u t : Seen) → t.code ≡ u.code → t.filled ≡ u.filled → size_in w t ≡ size_in w u
-same_size Text u t c f = c
-same_size Data u t c f = f
+size_in_of_equal_counts : (w : Section) (u t : Seen) → t.code ≡ u.code → t.filled ≡ u.filled → size_in w t ≡ size_in w u
+size_in_of_equal_counts Text u t c f = c
+size_in_of_equal_counts Data u t c f = f
 
 -- ---- the form of the image
 
@@ -82,150 +82,150 @@ record IsLike (item other : Item) : Type 0 where
 abbrev IsLight : Item → Type 0
 IsLight item = IsLike Nothing item
 
-both_light : (item other : Item) → IsLight item → IsLight other → IsLike item other
-both_light item other l m = record { size = m.size ∙ sym l.size; section = λ s. m.section s ∙ sym (l.section s) }
+light_items_are_alike : (item other : Item) → IsLight item → IsLight other → IsLike item other
+light_items_are_alike item other l m = record { size = m.size ∙ sym l.size; section = λ s. m.section s ∙ sym (l.section s) }
 
-objects_light : (image : ImageForm) (xs : List Operand) → IsLight (item_of (Objects image) xs)
-objects_light image (Integer z ∷ []) = record { size = refl; section = λ s. refl }
-objects_light image xs = record { size = refl; section = λ s. refl }
+objects_item_is_light : (image : ImageForm) (xs : List Operand) → IsLight (item_of (Objects image) xs)
+objects_item_is_light image (Integer z ∷ []) = record { size = refl; section = λ s. refl }
+objects_item_is_light image xs = record { size = refl; section = λ s. refl }
 
-object_light : (image : ImageForm) (xs : List Operand) → IsLight (item_of (Object image) xs)
-object_light image (Integer z ∷ xs) = record { size = refl; section = λ s. refl }
-object_light image xs = record { size = refl; section = λ s. refl }
+object_item_is_light : (image : ImageForm) (xs : List Operand) → IsLight (item_of (Object image) xs)
+object_item_is_light image (Integer z ∷ xs) = record { size = refl; section = λ s. refl }
+object_item_is_light image xs = record { size = refl; section = λ s. refl }
 
 -- what a form of light items gives is light, be it a fault or not
-or_light : (form : Form) (r : Result (List Operand) Cause) → ((xs : List Operand) → IsLight (item_of form xs))
+item_or_nothing_is_light : (form : Form) (r : Result (List Operand) Cause) → ((xs : List Operand) → IsLight (item_of form xs))
     → IsLight (item_or_nothing (r >>= λ xs. Ok (item_of form xs)))
-or_light form (Ok xs) each = each xs
-or_light form (Err cause) each = record { size = refl; section = λ s. refl }
+item_or_nothing_is_light form (Ok xs) each = each xs
+item_or_nothing_is_light form (Err cause) each = record { size = refl; section = λ s. refl }
 
-found_light : (form : Form) (texts : List (List ℕ)) (item : Item) → ((xs : List Operand) → IsLight (item_of form xs))
+found_item_is_light : (form : Form) (texts : List (List ℕ)) (item : Item) → ((xs : List Operand) → IsLight (item_of form xs))
     → item_with form texts ≡ Ok item → IsLight item
-found_light form texts item each e =
-    let o = bind_ok (operands_of form texts) _ item e in
-    subst IsLight (ok_is _ item o.2) (each o.0)
+found_item_is_light form texts item each e =
+    let o = parts_of_ok_bind (operands_of form texts) _ item e in
+    subst IsLight (ok_is_injective _ item o.2) (each o.0)
 
-found : (r : Result Item Cause) (item : Item) → r ≡ Ok item → IsLike item (item_or_nothing r)
-found (Ok x) item e =
-    let same : x ≡ item = ok_is x item e in
+item_or_nothing_is_like_found : (r : Result Item Cause) (item : Item) → r ≡ Ok item → IsLike item (item_or_nothing r)
+item_or_nothing_is_like_found (Ok x) item e =
+    let same : x ≡ item = ok_is_injective x item e in
     record { size = ap size_of same; section = λ s. ap (λ (y : Item). section_after y s) same }
-found (Err cause) item e = absurd (cc e)
+item_or_nothing_is_like_found (Err cause) item e = absurd (cc e)
 
 -- a form that has no fault in an image places the like of what it does in a small one
-like_by : (image : ImageForm) (form : Form) (texts : List (List ℕ)) (item : Item) → item_with (in_image image form) texts ≡ Ok item
+item_is_like_in_small_image : (image : ImageForm) (form : Form) (texts : List (List ℕ)) (item : Item) → item_with (in_image image form) texts ≡ Ok item
     → IsLike item (item_or_nothing (item_with (in_image Small form) texts))
-like_by image (Objects other) texts item e =
-    both_light item _ (found_light (Objects image) texts item (objects_light image) e)
-    (or_light (Objects Small) (operands_of (Objects Small) texts) (objects_light Small))
-like_by image (Object other) texts item e =
-    both_light item _ (found_light (Object image) texts item (object_light image) e)
-    (or_light (Object Small) (operands_of (Object Small) texts) (object_light Small))
-like_by image form texts item e = found _ item e
+item_is_like_in_small_image image (Objects other) texts item e =
+    light_items_are_alike item _ (found_item_is_light (Objects image) texts item (objects_item_is_light image) e)
+    (item_or_nothing_is_light (Objects Small) (operands_of (Objects Small) texts) (objects_item_is_light Small))
+item_is_like_in_small_image image (Object other) texts item e =
+    light_items_are_alike item _ (found_item_is_light (Object image) texts item (object_item_is_light image) e)
+    (item_or_nothing_is_light (Object Small) (operands_of (Object Small) texts) (object_item_is_light Small))
+item_is_like_in_small_image image form texts item e = item_or_nothing_is_like_found _ item e
 
 -- so does a statement, wherever it is
-like_first : (before : Option ImageForm) (section : Section) (statement : List ℕ) (item : Item)
+statement_item_is_like_standing_first : (before : Option ImageForm) (section : Section) (statement : List ℕ) (item : Item)
     → item_in before section statement ≡ Ok item → IsLike item (item_or_nothing (item_in None section statement))
-like_first before section statement item e =
-    let f = bind_ok (or_cause UnknownStatement (form_named (name_of statement))) _ item e in
-    let c = unless_ok (may_come before f.0) WrongSection _ item f.2 in
-    let u = unless_ok (may_stand (stands_in f.0) section) WrongSection _ item c.1 in
-    rw (f.1, u.0) (like_by (stated before) f.0 (operand_texts statement) item u.1)
+statement_item_is_like_standing_first before section statement item e =
+    let f = parts_of_ok_bind (or_cause UnknownStatement (form_named (name_of statement))) _ item e in
+    let c = parts_of_ok_unless (may_come before f.0) WrongSection _ item f.2 in
+    let u = parts_of_ok_unless (may_stand (stands_in f.0) section) WrongSection _ item c.1 in
+    rw (f.1, u.0) (item_is_like_in_small_image (stated before) f.0 (operand_texts statement) item u.1)
 
 -- ---- a statement
 
 -- what a statement that places an item in a section leaves
-record Stands (section : Section) (item : Item) (s t : Seen) : Type 0 where
+record StatementLeaves (section : Section) (item : Item) (s t : Seen) : Type 0 where
   goes_on : t.section ≡ section_after item s.section
   labels : t.labels ≡ s.labels
   sizes : (w : Section) → size_in w t ≡ size_in w s + (if same_section w section then size_of item else 0)
 
-item_is : (section : Section) (line a : ℕ) (item : Item) (s t : Seen)
-    → (grown section (size_of item) s >>= λ u. entered line a (laid section item) u) ≡ Ok t → Stands section item s t
-item_is section line a item s t e =
-    let b = bind_ok (grown section (size_of item) s) _ t e in
-    let g = grown_is section (size_of item) s b.0 b.1 in
-    let n = entered_is section line a item b.0 t b.2 in
+statement_leaves_if_item_entered : (section : Section) (line a : ℕ) (item : Item) (s t : Seen)
+    → (grown section (size_of item) s >>= λ u. entered line a (laid section item) u) ≡ Ok t → StatementLeaves section item s t
+statement_leaves_if_item_entered section line a item s t e =
+    let b = parts_of_ok_bind (grown section (size_of item) s) _ t e in
+    let g = growth_leaves_if_grown section (size_of item) s b.0 b.1 in
+    let n = item_leaves_if_entered section line a item b.0 t b.2 in
     record {
       goes_on = n.section ∙ ap (section_after item) g.stays;
       labels = n.labels ∙ g.labels;
-      sizes = λ w. same_size w b.0 t n.code n.filled ∙ g.sizes w;
+      sizes = λ w. size_in_of_equal_counts w b.0 t n.code n.filled ∙ g.sizes w;
     }
 
-no_more : (b : Bool) (n : ℕ) → n ≡ n + cond b 0 0
-no_more true n = omega arith
-no_more false n = omega arith
+plus_choice_of_zeros : (b : Bool) (n : ℕ) → n ≡ n + cond b 0 0
+plus_choice_of_zeros true n = omega arith
+plus_choice_of_zeros false n = omega arith
 
-statement_is : (line : ℕ) (statement : List ℕ) (s t : Seen) → with_statement line statement s ≡ Ok t
-    → Stands s.section (if is_nil statement then Nothing else item_or_nothing (item_in None s.section statement)) s t
-statement_is line [] s t e = subst (Stands s.section Nothing s) (ok_is s t e)
-    (record { goes_on = refl; labels = refl; sizes = λ w. no_more (same_section w s.section) (size_in w s) })
-statement_is line (b ∷ bs) s t e =
-    let i = bind_ok (item_in s.form s.section (b ∷ bs)) _ t e in
-    let l = like_first s.form s.section (b ∷ bs) i.0 i.1 in
-    let p = item_is s.section line _ i.0 (begun s) t i.2 in
+statement_leaves_if_passed : (line : ℕ) (statement : List ℕ) (s t : Seen) → with_statement line statement s ≡ Ok t
+    → StatementLeaves s.section (if is_nil statement then Nothing else item_or_nothing (item_in None s.section statement)) s t
+statement_leaves_if_passed line [] s t e = subst (StatementLeaves s.section Nothing s) (ok_is_injective s t e)
+    (record { goes_on = refl; labels = refl; sizes = λ w. plus_choice_of_zeros (same_section w s.section) (size_in w s) })
+statement_leaves_if_passed line (b ∷ bs) s t e =
+    let i = parts_of_ok_bind (item_in s.form s.section (b ∷ bs)) _ t e in
+    let l = statement_item_is_like_standing_first s.form s.section (b ∷ bs) i.0 i.1 in
+    let p = statement_leaves_if_item_entered s.section line _ i.0 (begun s) t i.2 in
     record {
       goes_on = p.goes_on ∙ sym (l.section s.section);
       labels = p.labels;
-      sizes = λ w. p.sizes w ∙ ap (λ n. n + (if same_section w s.section then size_of i.0 else 0)) (same_size w s (begun s) refl refl)
+      sizes = λ w. p.sizes w ∙ ap (λ n. n + (if same_section w s.section then size_of i.0 else 0)) (size_in_of_equal_counts w s (begun s) refl refl)
           ∙ ap (λ n. size_in w s + (if same_section w s.section then n else 0)) (sym l.size);
     }
 
 -- ---- labels
 
-named_append : {A : Type 0} (rows more : List (List ℕ × A)) (name : List ℕ) (p : A) → named rows name ≡ Some p
+named_stays_after_append : {A : Type 0} (rows more : List (List ℕ × A)) (name : List ℕ) (p : A) → named rows name ≡ Some p
     → named (rows ++ more) name ≡ Some p
-named_append [] more name p e = absurd (cc e)
-named_append (r ∷ rows) more name p e = by_test (bytes_eq name r.0) (named_append rows more name p) e
+named_stays_after_append [] more name p e = absurd (cc e)
+named_stays_after_append (r ∷ rows) more name p e = by_test (bytes_eq name r.0) (named_stays_after_append rows more name p) e
   where
     by_test : (b : Bool) → (named rows name ≡ Some p → named (rows ++ more) name ≡ Some p) → cond b (Some r.1) (named rows name) ≡ Some p
         → cond b (Some r.1) (named (rows ++ more) name) ≡ Some p
     by_test true rest f = f
     by_test false rest f = rest f
 
-named_last : {A : Type 0} (rows : List (List ℕ × A)) (name x : List ℕ) (p : A) → named rows name ≡ None → bytes_eq name x ≡ true
+named_finds_appended_row : {A : Type 0} (rows : List (List ℕ × A)) (name x : List ℕ) (p : A) → named rows name ≡ None → bytes_eq name x ≡ true
     → named (rows ++ (x, p) ∷ []) name ≡ Some p
-named_last [] name x p e same = ap (λ b. cond b (Some p) None) same
-named_last (r ∷ rows) name x p e same = by_test (bytes_eq name r.0) (λ f. named_last rows name x p f same) e
+named_finds_appended_row [] name x p e same = ap (λ b. cond b (Some p) None) same
+named_finds_appended_row (r ∷ rows) name x p e same = by_test (bytes_eq name r.0) (λ f. named_finds_appended_row rows name x p f same) e
   where
     by_test : (b : Bool) → (named rows name ≡ None → named (rows ++ (x, p) ∷ []) name ≡ Some p) → cond b (Some r.1) (named rows name) ≡ None
         → cond b (Some r.1) (named (rows ++ (x, p) ∷ []) name) ≡ Some p
     by_test true rest f = absurd (cc f)
     by_test false rest f = rest f
 
-is_none : {A : Type 0} (o : Option A) → not (is_some o) ≡ true → o ≡ None
-is_none None e = refl
-is_none (Some x) e = absurd (cc e)
+none_if_not_some : {A : Type 0} (o : Option A) → not (is_some o) ≡ true → o ≡ None
+none_if_not_some None e = refl
+none_if_not_some (Some x) e = absurd (cc e)
 
-same_here : (s : Seen) (rows : List (List ℕ × Place)) → here (record s { labels = rows }) ≡ here s
-same_here s rows = λ i. record {
+here_after_new_labels : (s : Seen) (rows : List (List ℕ × Place)) → here (record s { labels = rows }) ≡ here s
+here_after_new_labels s rows = λ i. record {
   section = s.section;
   address =
-      start_of s.section + same_size s.section s (record s { labels = rows }) refl refl i;
+      start_of s.section + size_in_of_equal_counts s.section s (record s { labels = rows }) refl refl i;
 }
 
 -- what labels leave
-record Labelled (labels : List (List ℕ)) (s t : Seen) : Type 0 where
+record LabelsLeave (labels : List (List ℕ)) (s t : Seen) : Type 0 where
   section : t.section ≡ s.section
   code : t.code ≡ s.code
   filled : t.filled ≡ s.filled
   kept : (name : List ℕ) (p : Place) → named s.labels name ≡ Some p → named t.labels name ≡ Some p
   found : (name : List ℕ) → list_any (bytes_eq name) labels ≡ true → named t.labels name ≡ Some (here s)
 
-labels_is : (labels : List (List ℕ)) (s t : Seen) → with_labels labels s ≡ Ok t → Labelled labels s t
-labels_is [] s t e = subst (Labelled [] s) (ok_is s t e)
+labels_leave_if_passed : (labels : List (List ℕ)) (s t : Seen) → with_labels labels s ≡ Ok t → LabelsLeave labels s t
+labels_leave_if_passed [] s t e = subst (LabelsLeave [] s) (ok_is_injective s t e)
     (record { section = refl; code = refl; filled = refl; kept = λ name p f. f; found = λ name f. absurd (cc f) })
-labels_is (x ∷ xs) s t e =
-    let u = unless_ok (not (is_some (named s.labels x))) LabelTwice _ t e in
-    let r = labels_is xs (record s { labels = s.labels ++ (x, here s) ∷ [] }) t u.1 in
+labels_leave_if_passed (x ∷ xs) s t e =
+    let u = parts_of_ok_unless (not (is_some (named s.labels x))) LabelTwice _ t e in
+    let r = labels_leave_if_passed xs (record s { labels = s.labels ++ (x, here s) ∷ [] }) t u.1 in
     record {
       section = r.section;
       code = r.code;
       filled = r.filled;
-      kept = λ name p f. r.kept name p (named_append s.labels ((x, here s) ∷ []) name p f);
+      kept = λ name p f. r.kept name p (named_stays_after_append s.labels ((x, here s) ∷ []) name p f);
       found = λ name f. by_test name (bytes_eq name x) refl f
-          (λ g. r.kept name (here s) (named_last s.labels name x (here s)
-          (ap (named s.labels) ((bytes_eq-Decides name x).0 g) ∙ is_none (named s.labels x) u.0) g))
-          (λ g. r.found name g ∙ ap (λ (q : Place). Some q) (same_here s (s.labels ++ (x, here s) ∷ [])));
+          (λ g. r.kept name (here s) (named_finds_appended_row s.labels name x (here s)
+          (ap (named s.labels) ((bytes_eq-Decides name x).0 g) ∙ none_if_not_some (named s.labels x) u.0) g))
+          (λ g. r.found name g ∙ ap (λ (q : Place). Some q) (here_after_new_labels s (s.labels ++ (x, here s) ∷ [])));
     }
   where
     by_test : (name : List ℕ) (b : Bool) → bytes_eq name x ≡ b → (b || list_any (bytes_eq name) xs) ≡ true
@@ -237,40 +237,40 @@ labels_is (x ∷ xs) s t e =
 -- ---- lines
 
 -- what a line leaves
-record Lined (line : List ℕ) (s t : Seen) : Type 0 where
+record LineLeaves (line : List ℕ) (s t : Seen) : Type 0 where
   section : t.section ≡ section_after (placed_by s.section line) s.section
   sizes : (w : Section) → size_in w t ≡ size_in w s + (if same_section w s.section then size_of (placed_by s.section line) else 0)
   kept : (name : List ℕ) (p : Place) → named s.labels name ≡ Some p → named t.labels name ≡ Some p
   found : (name : List ℕ) → list_any (bytes_eq name) (line_of line).labels ≡ true → named t.labels name ≡ Some (here s)
 
-line_is : (n : ℕ) (line : List ℕ) (s t : Seen) → with_line n (line_of line) s ≡ Ok t → Lined line s t
-line_is n line s t e =
-    let b = unless_ok (list_all is_source_byte line) BadByte _ t e in
-    let c = unless_ok (list_all is_name (line_of line).labels) BadLabel _ t b.1 in
-    let p = bind_ok (with_labels (line_of line).labels s) _ t c.1 in
-    let l = labels_is (line_of line).labels s p.0 p.1 in
-    let i = statement_is n (line_of line).statement p.0 t p.2 in
-    let j : Stands s.section (placed_by s.section line) p.0 t = subst (λ w. Stands w (placed_by w line) p.0 t) l.section i in
+line_leaves_if_passed : (n : ℕ) (line : List ℕ) (s t : Seen) → with_line n (line_of line) s ≡ Ok t → LineLeaves line s t
+line_leaves_if_passed n line s t e =
+    let b = parts_of_ok_unless (list_all is_source_byte line) BadByte _ t e in
+    let c = parts_of_ok_unless (list_all is_name (line_of line).labels) BadLabel _ t b.1 in
+    let p = parts_of_ok_bind (with_labels (line_of line).labels s) _ t c.1 in
+    let l = labels_leave_if_passed (line_of line).labels s p.0 p.1 in
+    let i = statement_leaves_if_passed n (line_of line).statement p.0 t p.2 in
+    let j : StatementLeaves s.section (placed_by s.section line) p.0 t = subst (λ w. StatementLeaves w (placed_by w line) p.0 t) l.section i in
     record {
       section = j.goes_on ∙ ap (section_after (placed_by s.section line)) l.section;
       sizes = λ w. j.sizes w ∙ ap (λ k. k + (if same_section w s.section then size_of (placed_by s.section line) else 0))
-          (same_size w s p.0 l.code l.filled);
+          (size_in_of_equal_counts w s p.0 l.code l.filled);
       kept = λ name q f. ap (λ rows. named rows name) j.labels ∙ l.kept name q f;
       found = λ name f. ap (λ rows. named rows name) j.labels ∙ l.found name f;
     }
 
 -- what lines leave
-record Passed (lines : List (List ℕ)) (s t : Seen) : Type 0 where
+record LinesLeave (lines : List (List ℕ)) (s t : Seen) : Type 0 where
   section : t.section ≡ section_at_end s.section lines
   sizes : (w : Section) → size_in w t ≡ size_in w s + bytes_placed w s.section lines
   kept : (name : List ℕ) (p : Place) → named s.labels name ≡ Some p → named t.labels name ≡ Some p
 
-lines_are : (n : ℕ) (lines : List (List ℕ)) (s t : Seen) → first_pass n lines s ≡ Ok t → Passed lines s t
-lines_are n [] s t e = subst (Passed [] s) (ok_is s t e) (record { section = refl; sizes = λ w. omega arith; kept = λ name p f. f })
-lines_are n (x ∷ xs) s t e =
-    let f = bind_ok (at_line n (with_line n (line_of x) s)) _ t e in
-    let l = line_is n x s f.0 (at_line_ok n _ f.0 f.1) in
-    let r = lines_are (n + 1) xs f.0 t f.2 in
+lines_leave_if_passed : (n : ℕ) (lines : List (List ℕ)) (s t : Seen) → first_pass n lines s ≡ Ok t → LinesLeave lines s t
+lines_leave_if_passed n [] s t e = subst (LinesLeave [] s) (ok_is_injective s t e) (record { section = refl; sizes = λ w. omega arith; kept = λ name p f. f })
+lines_leave_if_passed n (x ∷ xs) s t e =
+    let f = parts_of_ok_bind (at_line n (with_line n (line_of x) s)) _ t e in
+    let l = line_leaves_if_passed n x s f.0 (ok_if_at_line_is_ok n _ f.0 f.1) in
+    let r = lines_leave_if_passed (n + 1) xs f.0 t f.2 in
     record {
       section = r.section ∙ ap (λ w. section_at_end w xs) l.section;
       sizes = λ w. (let here_is = l.sizes w in
@@ -279,25 +279,25 @@ lines_are n (x ∷ xs) s t e =
       kept = λ name p g. r.kept name p (l.kept name p g);
     }
 
-cut_pass : (n : ℕ) (xs ys : List (List ℕ)) (s u : Seen) → first_pass n (xs ++ ys) s ≡ Ok u → (t : Seen) × (first_pass n xs s ≡ Ok t)
+first_pass_of_append_splits : (n : ℕ) (xs ys : List (List ℕ)) (s u : Seen) → first_pass n (xs ++ ys) s ≡ Ok u → (t : Seen) × (first_pass n xs s ≡ Ok t)
     × (first_pass (n + length xs) ys t ≡ Ok u)
-cut_pass n [] ys s u e =
+first_pass_of_append_splits n [] ys s u e =
     let same : n + 0 ≡ n = omega arith in
     (s, refl, rw same e)
-cut_pass n (x ∷ xs) ys s u e =
-    let f = bind_ok (at_line n (with_line n (line_of x) s)) _ u e in
-    let r = cut_pass (n + 1) xs ys f.0 u f.2 in
+first_pass_of_append_splits n (x ∷ xs) ys s u e =
+    let f = parts_of_ok_bind (at_line n (with_line n (line_of x) s)) _ u e in
+    let r = first_pass_of_append_splits (n + 1) xs ys f.0 u f.2 in
     let same : n + length (x ∷ xs) ≡ n + 1 + length xs = omega arith in
     (r.0, ap (λ q. q >>= λ v. first_pass (n + 1) xs v) f.1 ∙ r.1, rw same r.2)
 
-nothing_there : (w : Section) → size_in w nothing_seen ≡ 0
-nothing_there Text = refl
-nothing_there Data = refl
+size_in_nothing_seen : (w : Section) → size_in w nothing_seen ≡ 0
+size_in_nothing_seen Text = refl
+size_in_nothing_seen Data = refl
 
-place_is : (lines : List (List ℕ)) (t : Seen) → Passed lines nothing_seen t → here t ≡ place_after Text lines
-place_is lines t p =
+here_is_place_after_lines : (lines : List (List ℕ)) (t : Seen) → LinesLeave lines nothing_seen t → here t ≡ place_after Text lines
+here_is_place_after_lines lines t p =
     let w : Section = section_at_end Text lines in
-    let size : size_in w t ≡ bytes_placed w Text lines = (let n = nothing_there w in let s = p.sizes w in omega (arith, n, s)) in
+    let size : size_in w t ≡ bytes_placed w Text lines = (let n = size_in_nothing_seen w in let s = p.sizes w in omega (arith, n, s)) in
     (λ i. record { section = p.section i; address = start_of (p.section i) + size_in (p.section i) t })
     ∙ (λ i. record { section = w; address = start_of w + size i })
 
@@ -305,8 +305,8 @@ place_is lines t p =
 pub label_value : (xs ys : List (List ℕ)) (line name : List ℕ) (s : Seen) → first_pass 1 (xs ++ line ∷ ys) nothing_seen ≡ Ok s
     → list_any (bytes_eq name) (line_of line).labels ≡ true → named s.labels name ≡ Some (place_after Text xs)
 label_value xs ys line name s e h =
-    let c = cut_pass 1 xs (line ∷ ys) nothing_seen s e in
-    let f = bind_ok (at_line (1 + length xs) (with_line (1 + length xs) (line_of line) c.0)) _ s c.2 in
-    let l = line_is (1 + length xs) line c.0 f.0 (at_line_ok _ _ f.0 f.1) in
-    let r = lines_are _ ys f.0 s f.2 in
-    r.kept name (here c.0) (l.found name h) ∙ ap (λ (p : Place). Some p) (place_is xs c.0 (lines_are 1 xs nothing_seen c.0 c.1))
+    let c = first_pass_of_append_splits 1 xs (line ∷ ys) nothing_seen s e in
+    let f = parts_of_ok_bind (at_line (1 + length xs) (with_line (1 + length xs) (line_of line) c.0)) _ s c.2 in
+    let l = line_leaves_if_passed (1 + length xs) line c.0 f.0 (ok_if_at_line_is_ok _ _ f.0 f.1) in
+    let r = lines_leave_if_passed _ ys f.0 s f.2 in
+    r.kept name (here c.0) (l.found name h) ∙ ap (λ (p : Place). Some p) (here_is_place_after_lines xs c.0 (lines_leave_if_passed 1 xs nothing_seen c.0 c.1))

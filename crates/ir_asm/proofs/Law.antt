@@ -4,37 +4,37 @@ use Rattle.ir_isa.specs.Words.{word_of}
 use Rattle.ir_isa.specs.Decoded.{instruction_of}
 use Rattle.ir_isa.specs.declared.inst.Inst.{Inst}
 use Rattle.ir_isa.specs.declared.inst.Inst.TheVariants.{Lui, Auipc, Jal, Jalr, Branch, Load, Store, OpImm, Shift, Op, Fence, Ecall, Ebreak}
-use Rattle.ir_disasm.specs.Printed.{printed, text_by, text_of}
+use Rattle.ir_disasm.specs.Printed.{instruction_text, text_by, text_of}
 use Rattle.ir_asm.specs.Passes.{assembled, IsWordGuest}
-use Rattle.ir_asm.proofs.Formats.{reg_law, imm_law}
-use Rattle.ir_asm.proofs.Branches.{shift_law, branch_law, word_law_illegal}
-use Rattle.ir_asm.proofs.Pairs.{jump_law}
-use Rattle.ir_asm.proofs.Addresses.{jumps_to_law, load_law, store_law}
-use Rattle.ir_asm.proofs.Uppers.{lui_law, auipc_law, fence_law}
+use Rattle.ir_asm.proofs.Formats.{printed_register_operation_assembles, printed_immediate_operation_assembles}
+use Rattle.ir_asm.proofs.Branches.{printed_shift_assembles, printed_branch_assembles, word_line_assembles_to_word}
+use Rattle.ir_asm.proofs.Pairs.{printed_jump_assembles}
+use Rattle.ir_asm.proofs.Addresses.{printed_jalr_assembles, printed_load_assembles, printed_store_assembles}
+use Rattle.ir_asm.proofs.Uppers.{printed_lui_assembles, printed_auipc_assembles, printed_fence_assembles}
 
 -- the text of an instruction is assembled to its word
-pub by_inst : (pc : ℕ) (i : Inst) → IsWordGuest (assembled (printed pc i)) (word_of i)
-by_inst pc (Op op rd rs1 rs2) = reg_law pc op rd rs1 rs2
-by_inst pc (OpImm op rd rs1 i) = imm_law pc op rd rs1 i
-by_inst pc (Branch op rs1 rs2 i) = branch_law pc op rs1 rs2 i
-by_inst pc Ecall = refl
-by_inst pc Ebreak = refl
-by_inst pc (Shift op rd rs1 a) = shift_law pc op rd rs1 a
-by_inst pc (Jal rd i) = jump_law pc rd i
-by_inst pc (Jalr rd rs1 i) = jumps_to_law pc rd rs1 i
-by_inst pc (Load op rd rs1 i) = load_law pc op rd rs1 i
-by_inst pc (Store op rs1 rs2 i) = store_law pc op rs1 rs2 i
-by_inst pc (Lui rd i) = lui_law pc rd i
-by_inst pc (Auipc rd i) = auipc_law pc rd i
-by_inst pc (Fence rd rs1 i) = fence_law pc rd rs1 i
+pub printed_instruction_assembles : (pc : ℕ) (i : Inst) → IsWordGuest (assembled (instruction_text pc i)) (word_of i)
+printed_instruction_assembles pc (Op op rd rs1 rs2) = printed_register_operation_assembles pc op rd rs1 rs2
+printed_instruction_assembles pc (OpImm op rd rs1 i) = printed_immediate_operation_assembles pc op rd rs1 i
+printed_instruction_assembles pc (Branch op rs1 rs2 i) = printed_branch_assembles pc op rs1 rs2 i
+printed_instruction_assembles pc Ecall = refl
+printed_instruction_assembles pc Ebreak = refl
+printed_instruction_assembles pc (Shift op rd rs1 a) = printed_shift_assembles pc op rd rs1 a
+printed_instruction_assembles pc (Jal rd i) = printed_jump_assembles pc rd i
+printed_instruction_assembles pc (Jalr rd rs1 i) = printed_jalr_assembles pc rd rs1 i
+printed_instruction_assembles pc (Load op rd rs1 i) = printed_load_assembles pc op rd rs1 i
+printed_instruction_assembles pc (Store op rs1 rs2 i) = printed_store_assembles pc op rs1 rs2 i
+printed_instruction_assembles pc (Lui rd i) = printed_lui_assembles pc rd i
+printed_instruction_assembles pc (Auipc rd i) = printed_auipc_assembles pc rd i
+printed_instruction_assembles pc (Fence rd rs1 i) = printed_fence_assembles pc rd rs1 i
 
 -- by what is found for the word; again is that encoding what was decoded gives the word again
-by_option : (again : (w : ℕ) (i : Inst) → w < 2 ^ 32 → instruction_of w ≡ Some i → word_of i ≡ w) → (pc w : ℕ) (o : Option Inst)
+text_of_decoded_word_assembles : (again : (w : ℕ) (i : Inst) → w < 2 ^ 32 → instruction_of w ≡ Some i → word_of i ≡ w) → (pc w : ℕ) (o : Option Inst)
     → instruction_of w ≡ o → w < 2 ^ 32 → IsWordGuest (assembled (text_by pc w o)) w
-by_option again pc w (Some i) e h = rw (again w i h e) at (by_inst pc i)
-by_option again pc w None e h = word_law_illegal w h
+text_of_decoded_word_assembles again pc w (Some i) e h = rw (again w i h e) at (printed_instruction_assembles pc i)
+text_of_decoded_word_assembles again pc w None e h = word_line_assembles_to_word w h
 
 -- the word law
-pub word_law_from : (again : (w : ℕ) (i : Inst) → w < 2 ^ 32 → instruction_of w ≡ Some i → word_of i ≡ w) → (w pc : ℕ) → w < 2 ^ 32
+pub text_of_word_assembles : (again : (w : ℕ) (i : Inst) → w < 2 ^ 32 → instruction_of w ≡ Some i → word_of i ≡ w) → (w pc : ℕ) → w < 2 ^ 32
     → pc < 2 ^ 32 → IsWordGuest (assembled (text_of pc w)) w
-word_law_from again w pc h k = by_option again pc w (instruction_of w) refl h
+text_of_word_assembles again w pc h k = text_of_decoded_word_assembles again pc w (instruction_of w) refl h

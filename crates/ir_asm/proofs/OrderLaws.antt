@@ -14,83 +14,83 @@ use Rattle.ir_asm.specs.Names.{named}
 use Rattle.ir_asm.specs.Text.{is_name}
 use Rattle.ir_asm.specs.Source.{Seen, nothing_seen, size_of, here, is_source_byte, at_line, grown, laid, placed_at, entered, begun, with_labels, with_statement, with_line, line_of, first_pass, item_in}
 use Rattle.ir_asm.specs.Placing.{AreInOrder}
-use Rattle.ir_asm.proofs.Steps.{at_line_ok, ok_is, bind_ok, unless_ok, tested}
-use Rattle.ir_asm.proofs.Kept.{all_push}
+use Rattle.ir_asm.proofs.Steps.{ok_if_at_line_is_ok, ok_is_injective, parts_of_ok_bind, parts_of_ok_unless, test_and_value_of_ok_unless}
+use Rattle.ir_asm.proofs.Kept.{all_by_recursion_after_push}
 
 -- in order, and all before a line
-abbrev pub IsBefore : ℕ → List Placed → Type 0
-IsBefore line xs = AreInOrder 1 xs × AllByRecursion (λ y. y.line < line) xs
+abbrev pub AreInOrderBefore : ℕ → List Placed → Type 0
+AreInOrderBefore line xs = AreInOrder 1 xs × AllByRecursion (λ y. y.line < line) xs
 
-pushed : (low line : ℕ) (xs : List Placed) (x : Placed) → low ≤ line → x.line ≡ line → AllByRecursion (λ y. y.line < line) xs
+in_order_after_push : (low line : ℕ) (xs : List Placed) (x : Placed) → low ≤ line → x.line ≡ line → AllByRecursion (λ y. y.line < line) xs
     → AreInOrder low xs → AreInOrder low (xs ++ x ∷ [])
-pushed low line [] x l e b o = (omega (arith, l, e), tt)
-pushed low line (y ∷ ys) x l e b o = (o.0, pushed (y.line + 1) line ys x (omega (arith, b.0)) e b.1 o.1)
+in_order_after_push low line [] x l e b o = (omega (arith, l, e), tt)
+in_order_after_push low line (y ∷ ys) x l e b o = (o.0, in_order_after_push (y.line + 1) line ys x (omega (arith, b.0)) e b.1 o.1)
 
-all_later : (line : ℕ) (xs : List Placed) → AllByRecursion (λ y. y.line < line) xs → AllByRecursion (λ y. y.line < line + 1) xs
-all_later line [] b = tt
-all_later line (y ∷ ys) b = (omega (arith, b.0), all_later line ys b.1)
+before_line_is_before_next : (line : ℕ) (xs : List Placed) → AllByRecursion (λ y. y.line < line) xs → AllByRecursion (λ y. y.line < line + 1) xs
+before_line_is_before_next line [] b = tt
+before_line_is_before_next line (y ∷ ys) b = (omega (arith, b.0), before_line_is_before_next line ys b.1)
 
 -- a line that places nothing
-passed : (line : ℕ) (xs : List Placed) → IsBefore line xs → IsBefore (line + 1) xs
-passed line xs o = (o.0, all_later line xs o.1)
+in_order_before_next_line : (line : ℕ) (xs : List Placed) → AreInOrderBefore line xs → AreInOrderBefore (line + 1) xs
+in_order_before_next_line line xs o = (o.0, before_line_is_before_next line xs o.1)
 
 -- a line that places a statement
-one_more : (line a : ℕ) (item : Item) (s : Seen) → 1 ≤ line → IsBefore line s.placed → IsBefore (line + 1) (placed_at line a item s).placed
-one_more line a item s l o =
+in_order_after_placed_item : (line a : ℕ) (item : Item) (s : Seen) → 1 ≤ line → AreInOrderBefore line s.placed → AreInOrderBefore (line + 1) (placed_at line a item s).placed
+in_order_after_placed_item line a item s l o =
     let x : Placed = record { line = line; address = a; item = item } in
-    (pushed 1 line s.placed x l refl o.1 o.0, all_push (λ y. y.line < line + 1) s.placed x (all_later line s.placed o.1) (omega arith))
+    (in_order_after_push 1 line s.placed x l refl o.1 o.0, all_by_recursion_after_push (λ y. y.line < line + 1) s.placed x (before_line_is_before_next line s.placed o.1) (omega arith))
 
-by_item : (line a : ℕ) (item : Item) (s t : Seen) → 1 ≤ line → IsBefore line s.placed → entered line a item s ≡ Ok t
-    → IsBefore (line + 1) t.placed
-by_item line a Enlarged s t l o e = subst (λ u. IsBefore (line + 1) u.placed) (ok_is _ t e) (passed line s.placed o)
-by_item line a (Within section) s t l o e = subst (λ u. IsBefore (line + 1) u.placed) (ok_is _ t e) (passed line s.placed o)
-by_item line a (Count objects) s t l o e = subst (λ u. IsBefore (line + 1) u.placed) (ok_is _ t e) (passed line s.placed o)
-by_item line a Nothing s t l o e = subst (λ u. IsBefore (line + 1) u.placed) (ok_is _ t e) (passed line s.placed o)
-by_item line a (Entry label) s t l o e = subst (λ u. IsBefore (line + 1) u.placed)
-    (tested (nat_lt s.threads (limits_of (stated s.form)).threads) BadCount _ t e).1
-    (one_more line a (Entry label) s l o)
-by_item line a (Code words) s t l o e = subst (λ u. IsBefore (line + 1) u.placed) (ok_is _ t e) (one_more line a (Code words) s l o)
-by_item line a (BranchTo op rs1 rs2 label) s t l o e =
-    subst (λ u. IsBefore (line + 1) u.placed) (ok_is _ t e) (one_more line a (BranchTo op rs1 rs2 label) s l o)
-by_item line a (JumpTo rd label) s t l o e = subst (λ u. IsBefore (line + 1) u.placed) (ok_is _ t e)
-    (one_more line a (JumpTo rd label) s l o)
-by_item line a (LoadAddress rd label) s t l o e =
-    subst (λ u. IsBefore (line + 1) u.placed) (ok_is _ t e) (one_more line a (LoadAddress rd label) s l o)
-by_item line a (Filled bytes) s t l o e = subst (λ u. IsBefore (line + 1) u.placed) (ok_is _ t e) (one_more line a (Filled bytes) s l o)
-by_item line a (First object words) s t l o e =
-    subst (λ u. IsBefore (line + 1) u.placed) (ok_is _ t e) (one_more line a (First object words) s l o)
+in_order_after_entered_item : (line a : ℕ) (item : Item) (s t : Seen) → 1 ≤ line → AreInOrderBefore line s.placed → entered line a item s ≡ Ok t
+    → AreInOrderBefore (line + 1) t.placed
+in_order_after_entered_item line a Enlarged s t l o e = subst (λ u. AreInOrderBefore (line + 1) u.placed) (ok_is_injective _ t e) (in_order_before_next_line line s.placed o)
+in_order_after_entered_item line a (Within section) s t l o e = subst (λ u. AreInOrderBefore (line + 1) u.placed) (ok_is_injective _ t e) (in_order_before_next_line line s.placed o)
+in_order_after_entered_item line a (Count objects) s t l o e = subst (λ u. AreInOrderBefore (line + 1) u.placed) (ok_is_injective _ t e) (in_order_before_next_line line s.placed o)
+in_order_after_entered_item line a Nothing s t l o e = subst (λ u. AreInOrderBefore (line + 1) u.placed) (ok_is_injective _ t e) (in_order_before_next_line line s.placed o)
+in_order_after_entered_item line a (Entry label) s t l o e = subst (λ u. AreInOrderBefore (line + 1) u.placed)
+    (test_and_value_of_ok_unless (nat_lt s.threads (limits_of (stated s.form)).threads) BadCount _ t e).1
+    (in_order_after_placed_item line a (Entry label) s l o)
+in_order_after_entered_item line a (Code words) s t l o e = subst (λ u. AreInOrderBefore (line + 1) u.placed) (ok_is_injective _ t e) (in_order_after_placed_item line a (Code words) s l o)
+in_order_after_entered_item line a (BranchTo op rs1 rs2 label) s t l o e =
+    subst (λ u. AreInOrderBefore (line + 1) u.placed) (ok_is_injective _ t e) (in_order_after_placed_item line a (BranchTo op rs1 rs2 label) s l o)
+in_order_after_entered_item line a (JumpTo rd label) s t l o e = subst (λ u. AreInOrderBefore (line + 1) u.placed) (ok_is_injective _ t e)
+    (in_order_after_placed_item line a (JumpTo rd label) s l o)
+in_order_after_entered_item line a (LoadAddress rd label) s t l o e =
+    subst (λ u. AreInOrderBefore (line + 1) u.placed) (ok_is_injective _ t e) (in_order_after_placed_item line a (LoadAddress rd label) s l o)
+in_order_after_entered_item line a (Filled bytes) s t l o e = subst (λ u. AreInOrderBefore (line + 1) u.placed) (ok_is_injective _ t e) (in_order_after_placed_item line a (Filled bytes) s l o)
+in_order_after_entered_item line a (First object words) s t l o e =
+    subst (λ u. AreInOrderBefore (line + 1) u.placed) (ok_is_injective _ t e) (in_order_after_placed_item line a (First object words) s l o)
 
-grown_places : (section : Section) (n : ℕ) (s t : Seen) → grown section n s ≡ Ok t → s.placed ≡ t.placed
-grown_places Text n s t e = ap (λ (u : Seen). u.placed) (tested (nat_le (s.code + n) (4 * most_code_words)) BadSize _ t e).1
-grown_places Data n s t e = ap (λ (u : Seen). u.placed) (tested (nat_le (s.filled + n) memory_size) BadSize _ t e).1
+grown_places_nothing : (section : Section) (n : ℕ) (s t : Seen) → grown section n s ≡ Ok t → s.placed ≡ t.placed
+grown_places_nothing Text n s t e = ap (λ (u : Seen). u.placed) (test_and_value_of_ok_unless (nat_le (s.code + n) (4 * most_code_words)) BadSize _ t e).1
+grown_places_nothing Data n s t e = ap (λ (u : Seen). u.placed) (test_and_value_of_ok_unless (nat_le (s.filled + n) memory_size) BadSize _ t e).1
 
-by_statement : (line : ℕ) (statement : List ℕ) (s t : Seen) → 1 ≤ line → IsBefore line s.placed → with_statement line statement s ≡ Ok t
-    → IsBefore (line + 1) t.placed
-by_statement line [] s t l o e = subst (λ u. IsBefore (line + 1) u.placed) (ok_is s t e) (passed line s.placed o)
-by_statement line (b ∷ bs) s t l o e =
-    let i = bind_ok (item_in s.form s.section (b ∷ bs)) _ t e in
-    let g = bind_ok (grown s.section (size_of i.0) (begun s)) _ t i.2 in
-    by_item line (here (begun s)).address (laid s.section i.0) g.0 t l
-    (subst (IsBefore line) (grown_places s.section (size_of i.0) (begun s) g.0 g.1) o) g.2
+in_order_after_statement : (line : ℕ) (statement : List ℕ) (s t : Seen) → 1 ≤ line → AreInOrderBefore line s.placed → with_statement line statement s ≡ Ok t
+    → AreInOrderBefore (line + 1) t.placed
+in_order_after_statement line [] s t l o e = subst (λ u. AreInOrderBefore (line + 1) u.placed) (ok_is_injective s t e) (in_order_before_next_line line s.placed o)
+in_order_after_statement line (b ∷ bs) s t l o e =
+    let i = parts_of_ok_bind (item_in s.form s.section (b ∷ bs)) _ t e in
+    let g = parts_of_ok_bind (grown s.section (size_of i.0) (begun s)) _ t i.2 in
+    in_order_after_entered_item line (here (begun s)).address (laid s.section i.0) g.0 t l
+    (subst (AreInOrderBefore line) (grown_places_nothing s.section (size_of i.0) (begun s) g.0 g.1) o) g.2
 
-labels_place : (labels : List (List ℕ)) (s t : Seen) → with_labels labels s ≡ Ok t → s.placed ≡ t.placed
-labels_place [] s t e = ap (λ (u : Seen). u.placed) (ok_is s t e)
-labels_place (x ∷ xs) s t e =
-    let u = unless_ok (not (is_some (named s.labels x))) LabelTwice _ t e in
-    labels_place xs (record s { labels = s.labels ++ (x, here s) ∷ [] }) t u.1
+labels_place_nothing : (labels : List (List ℕ)) (s t : Seen) → with_labels labels s ≡ Ok t → s.placed ≡ t.placed
+labels_place_nothing [] s t e = ap (λ (u : Seen). u.placed) (ok_is_injective s t e)
+labels_place_nothing (x ∷ xs) s t e =
+    let u = parts_of_ok_unless (not (is_some (named s.labels x))) LabelTwice _ t e in
+    labels_place_nothing xs (record s { labels = s.labels ++ (x, here s) ∷ [] }) t u.1
 
-by_lines : (number : ℕ) (lines : List (List ℕ)) (s t : Seen) → 1 ≤ number → IsBefore number s.placed → first_pass number lines s ≡ Ok t
+in_order_after_lines : (number : ℕ) (lines : List (List ℕ)) (s t : Seen) → 1 ≤ number → AreInOrderBefore number s.placed → first_pass number lines s ≡ Ok t
     → AreInOrder 1 t.placed
-by_lines number [] s t l o e = subst (λ u. AreInOrder 1 u.placed) (ok_is s t e) o.0
-by_lines number (x ∷ xs) s t l o e =
-    let f = bind_ok (at_line number (with_line number (line_of x) s)) _ t e in
-    let w = at_line_ok number (with_line number (line_of x) s) f.0 f.1 in
-    let b = unless_ok (list_all is_source_byte x) BadByte _ f.0 w in
-    let n = unless_ok (list_all is_name (line_of x).labels) BadLabel _ f.0 b.1 in
-    let p = bind_ok (with_labels (line_of x).labels s) _ f.0 n.1 in
-    by_lines (number + 1) xs f.0 t (omega (arith, l))
-    (by_statement number (line_of x).statement p.0 f.0 l (subst (IsBefore number) (labels_place (line_of x).labels s p.0 p.1) o) p.2)
+in_order_after_lines number [] s t l o e = subst (λ u. AreInOrder 1 u.placed) (ok_is_injective s t e) o.0
+in_order_after_lines number (x ∷ xs) s t l o e =
+    let f = parts_of_ok_bind (at_line number (with_line number (line_of x) s)) _ t e in
+    let w = ok_if_at_line_is_ok number (with_line number (line_of x) s) f.0 f.1 in
+    let b = parts_of_ok_unless (list_all is_source_byte x) BadByte _ f.0 w in
+    let n = parts_of_ok_unless (list_all is_name (line_of x).labels) BadLabel _ f.0 b.1 in
+    let p = parts_of_ok_bind (with_labels (line_of x).labels s) _ f.0 n.1 in
+    in_order_after_lines (number + 1) xs f.0 t (omega (arith, l))
+    (in_order_after_statement number (line_of x).statement p.0 f.0 l (subst (AreInOrderBefore number) (labels_place_nothing (line_of x).labels s p.0 p.1) o) p.2)
     f.2
 
-pub in_order : (lines : List (List ℕ)) (s : Seen) → first_pass 1 lines nothing_seen ≡ Ok s → AreInOrder 1 s.placed
-in_order lines s e = by_lines 1 lines nothing_seen s (omega arith) (tt, tt) e
+pub first_pass_places_in_order : (lines : List (List ℕ)) (s : Seen) → first_pass 1 lines nothing_seen ≡ Ok s → AreInOrder 1 s.placed
+first_pass_places_in_order lines s e = in_order_after_lines 1 lines nothing_seen s (omega arith) (tt, tt) e

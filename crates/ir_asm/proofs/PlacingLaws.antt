@@ -17,63 +17,63 @@ use Rattle.ir_asm.specs.Placing.{fault_in, item_fault, IsPut, IsFirstFault}
 
 -- ---- an item, whatever guest it is put into
 
-of_value : {A B : Type 0} (r : Result A Cause) (f : A → B) → fault_in (r >>= λ x. Ok (f x)) ≡ fault_in r
-of_value (Ok x) f = refl
-of_value (Err c) f = refl
+fault_in_mapped_step : {A B : Type 0} (r : Result A Cause) (f : A → B) → fault_in (r >>= λ x. Ok (f x)) ≡ fault_in r
+fault_in_mapped_step (Ok x) f = refl
+fault_in_mapped_step (Err c) f = refl
 
-of_test : {A B : Type 0} (b : Bool) (c : Cause) (x : A) (y : B) → fault_in (unless b c (Ok x)) ≡ fault_in (unless b c (Ok y))
-of_test true c x y = refl
-of_test false c x y = refl
+fault_in_test_ignores_value : {A B : Type 0} (b : Bool) (c : Cause) (x : A) (y : B) → fault_in (unless b c (Ok x)) ≡ fault_in (unless b c (Ok y))
+fault_in_test_ignores_value true c x y = refl
+fault_in_test_ignores_value false c x y = refl
 
-of_tested : {A B : Type 0} (r : Result A Cause) (p : A → Bool) (c : Cause) (f : A → B)
+fault_in_tested_mapped_step : {A B : Type 0} (r : Result A Cause) (p : A → Bool) (c : Cause) (f : A → B)
     → fault_in (r >>= λ x. unless (p x) c (Ok (f x))) ≡ fault_in (r >>= λ x. unless (p x) c (Ok x))
-of_tested (Ok x) p c f = of_test (p x) c (f x) x
-of_tested (Err d) p c f = refl
+fault_in_tested_mapped_step (Ok x) p c f = fault_in_test_ignores_value (p x) c (f x) x
+fault_in_tested_mapped_step (Err d) p c f = refl
 
-of_number : {A : Type 0} (b : Bool) (x : A) → fault_in (unless b BadCount (Ok x)) ≡ (if b then None else Some BadCount)
-of_number true x = refl
-of_number false x = refl
+fault_in_count_test : {A : Type 0} (b : Bool) (x : A) → fault_in (unless b BadCount (Ok x)) ≡ (if b then None else Some BadCount)
+fault_in_count_test true x = refl
+fault_in_count_test false x = refl
 
-put_fault : (s : Seen) (a : ℕ) (item : Item) (g : Guest) → fault_in (put s a item g) ≡ item_fault s a item
-put_fault s a (Code words) g = refl
-put_fault s a (BranchTo op rs1 rs2 label) g = of_value (distance_to s (negsuc 4095) (pos 4094) a label) _
-put_fault s a (JumpTo rd label) g = of_value (distance_to s (negsuc 1048575) (pos 1048574) a label) _
-put_fault s a (LoadAddress rd label) g = of_value (value_of s label) _
-put_fault s a (Filled bytes) g = refl
-put_fault s a Enlarged g = refl
-put_fault s a (Within section) g = refl
-put_fault s a (Entry label) g = of_tested (text_address s label) (λ n. nat_lt n (code_start + s.code)) WrongSection _
-put_fault s a (Count n) g = refl
-put_fault s a (First object words) g = of_number (nat_lt object s.objects) (with_object g object words)
-put_fault s a Nothing g = refl
+fault_in_put_is_item_fault : (s : Seen) (a : ℕ) (item : Item) (g : Guest) → fault_in (put s a item g) ≡ item_fault s a item
+fault_in_put_is_item_fault s a (Code words) g = refl
+fault_in_put_is_item_fault s a (BranchTo op rs1 rs2 label) g = fault_in_mapped_step (distance_to s (negsuc 4095) (pos 4094) a label) _
+fault_in_put_is_item_fault s a (JumpTo rd label) g = fault_in_mapped_step (distance_to s (negsuc 1048575) (pos 1048574) a label) _
+fault_in_put_is_item_fault s a (LoadAddress rd label) g = fault_in_mapped_step (value_of s label) _
+fault_in_put_is_item_fault s a (Filled bytes) g = refl
+fault_in_put_is_item_fault s a Enlarged g = refl
+fault_in_put_is_item_fault s a (Within section) g = refl
+fault_in_put_is_item_fault s a (Entry label) g = fault_in_tested_mapped_step (text_address s label) (λ n. nat_lt n (code_start + s.code)) WrongSection _
+fault_in_put_is_item_fault s a (Count n) g = refl
+fault_in_put_is_item_fault s a (First object words) g = fault_in_count_test (nat_lt object s.objects) (with_object g object words)
+fault_in_put_is_item_fault s a Nothing g = refl
 
 -- ---- one after the other
 
-no_fault : {A : Type 0} (r : Result A Cause) → fault_in r ≡ None → (x : A) × (r ≡ Ok x)
-no_fault (Ok x) e = (x, refl)
-no_fault (Err c) e = absurd (cc e)
+step_is_ok_without_fault : {A : Type 0} (r : Result A Cause) → fault_in r ≡ None → (x : A) × (r ≡ Ok x)
+step_is_ok_without_fault (Ok x) e = (x, refl)
+step_is_ok_without_fault (Err c) e = absurd (cc e)
 
-some_fault : {A : Type 0} (r : Result A Cause) (c : Cause) → fault_in r ≡ Some c → r ≡ Err c
-some_fault (Ok x) c e = absurd (cc e)
-some_fault (Err d) c e = ap (λ k. Err k) (same_Some d c e)
+step_is_err_with_fault : {A : Type 0} (r : Result A Cause) (c : Cause) → fault_in r ≡ Some c → r ≡ Err c
+step_is_err_with_fault (Ok x) c e = absurd (cc e)
+step_is_err_with_fault (Err d) c e = ap (λ k. Err k) (same_Some d c e)
 
-fails_there : (s : Seen) (before after : List Placed) (x : Placed) (cause : Cause) (g : Guest) → AllByRecursion (IsPut s) before
+second_pass_fails_at_first_fault : (s : Seen) (before after : List Placed) (x : Placed) (cause : Cause) (g : Guest) → AllByRecursion (IsPut s) before
     → item_fault s x.address x.item ≡ Some cause →
     second_pass s (before ++ x ∷ after) g ≡ Err (record { line = x.line; cause = cause })
-fails_there s [] after x cause g n f = rw (some_fault (put s x.address x.item g) cause (put_fault s x.address x.item g ∙ f)) refl
-fails_there s (y ∷ ys) after x cause g n f =
-    let o = no_fault (put s y.address y.item g) (put_fault s y.address y.item g ∙ n.0) in
-    rw o.1 (fails_there s ys after x cause o.0 n.1 f)
+second_pass_fails_at_first_fault s [] after x cause g n f = rw (step_is_err_with_fault (put s x.address x.item g) cause (fault_in_put_is_item_fault s x.address x.item g ∙ f)) refl
+second_pass_fails_at_first_fault s (y ∷ ys) after x cause g n f =
+    let o = step_is_ok_without_fault (put s y.address y.item g) (fault_in_put_is_item_fault s y.address y.item g ∙ n.0) in
+    rw o.1 (second_pass_fails_at_first_fault s ys after x cause o.0 n.1 f)
 
-err_is : {A : Type 0} (e f : Fault) → (let r : Result A Fault = Err e in r) ≡ Err f → e ≡ f
-err_is {A} e f h = ap fault h
+err_is_injective : {A : Type 0} (e f : Fault) → (let r : Result A Fault = Err e in r) ≡ Err f → e ≡ f
+err_is_injective {A} e f h = ap fault h
   where
     fault : Result A Fault → Fault
     fault (Ok x) = e
     fault (Err d) = d
 
-later : (s : Seen) (x : Placed) (xs : List Placed) (fault : Fault) → IsPut s x → IsFirstFault s xs fault → IsFirstFault s (x ∷ xs) fault
-later s x xs fault p f = record {
+first_fault_after_put_statement : (s : Seen) (x : Placed) (xs : List Placed) (fault : Fault) → IsPut s x → IsFirstFault s xs fault → IsFirstFault s (x ∷ xs) fault
+first_fault_after_put_statement s x xs fault p f = record {
   before = x ∷ f.before;
   statement = f.statement;
   after = f.after;
@@ -83,17 +83,17 @@ later s x xs fault p f = record {
   line = f.line;
 }
 
-first_there : (s : Seen) (xs : List Placed) (g : Guest) (fault : Fault) → second_pass s xs g ≡ Err fault → IsFirstFault s xs fault
-first_there s [] g fault e = absurd (cc e)
-first_there s (x ∷ xs) g fault e = by_put (put s x.address x.item g) (sym (put_fault s x.address x.item g)) e
-    (λ h f. first_there s xs h fault f)
+second_pass_fault_is_first_fault : (s : Seen) (xs : List Placed) (g : Guest) (fault : Fault) → second_pass s xs g ≡ Err fault → IsFirstFault s xs fault
+second_pass_fault_is_first_fault s [] g fault e = absurd (cc e)
+second_pass_fault_is_first_fault s (x ∷ xs) g fault e = by_put (put s x.address x.item g) (sym (fault_in_put_is_item_fault s x.address x.item g)) e
+    (λ h f. second_pass_fault_is_first_fault s xs h fault f)
   where
     by_put : (r : Result Guest Cause) → item_fault s x.address x.item ≡ fault_in r
         → (at_line x.line r >>= λ h. second_pass s xs h) ≡ Err fault
         → ((h : Guest) → second_pass s xs h ≡ Err fault → IsFirstFault s xs fault) → IsFirstFault s (x ∷ xs) fault
-    by_put (Ok h) p f again = later s x xs fault p (again h f)
+    by_put (Ok h) p f again = first_fault_after_put_statement s x xs fault p (again h f)
     by_put (Err c) p f again =
-        let same : record { line = x.line; cause = c } ≡ fault = err_is {A = Guest} _ fault f in
+        let same : record { line = x.line; cause = c } ≡ fault = err_is_injective {A = Guest} _ fault f in
         record {
           before = [];
           statement = x;
@@ -107,25 +107,25 @@ first_there s (x ∷ xs) g fault e = by_put (put s x.address x.item g) (sym (put
 
 -- ---- the whole
 
-kept_fault : {A B : Type 0} (r : Result A Fault) (f : A → B) (fault : Fault) → (r >>= λ x. Ok (f x)) ≡ Err fault → r ≡ Err fault
-kept_fault (Ok x) f fault e = absurd (cc e)
-kept_fault (Err d) f fault e = ap (λ k. Err k) (err_is _ fault e)
+fault_before_mapped_step : {A B : Type 0} (r : Result A Fault) (f : A → B) (fault : Fault) → (r >>= λ x. Ok (f x)) ≡ Err fault → r ≡ Err fault
+fault_before_mapped_step (Ok x) f fault e = absurd (cc e)
+fault_before_mapped_step (Err d) f fault e = ap (λ k. Err k) (err_is_injective _ fault e)
 
-with_code : (n : ℕ) → 0 < n → (n == 0) ≡ false
-with_code n h = by_test (n == 0) refl
+positive_is_not_zero : (n : ℕ) → 0 < n → (n == 0) ≡ false
+positive_is_not_zero n h = by_test (n == 0) refl
   where
     by_test : (b : Bool) → (n == 0) ≡ b → (n == 0) ≡ false
     by_test true e = let none = eqb-true n 0 e in absurd (omega (arith, none, h))
     by_test false e = e
 
-by_second : (lines : List (List ℕ)) (s : Seen) → first_pass 1 lines nothing_seen ≡ Ok s → 0 < s.code → assembled_lines lines ≡ guest_of s
-by_second lines s e some = rw e (rw (with_code s.code some) refl)
+assembled_lines_is_guest_of_seen : (lines : List (List ℕ)) (s : Seen) → first_pass 1 lines nothing_seen ≡ Ok s → 0 < s.code → assembled_lines lines ≡ guest_of s
+assembled_lines_is_guest_of_seen lines s e some = rw e (rw (positive_is_not_zero s.code some) refl)
 
-pub second_fault : (lines : List (List ℕ)) (s : Seen) (fault : Fault) → first_pass 1 lines nothing_seen ≡ Ok s → 0 < s.code
+pub assembled_lines_fault_is_first_fault : (lines : List (List ℕ)) (s : Seen) (fault : Fault) → first_pass 1 lines nothing_seen ≡ Ok s → 0 < s.code
     → (assembled_lines lines ≡ Err fault) ↔ IsFirstFault s s.placed fault
-second_fault lines s fault e some =
-    let whole = by_second lines s e some in (
-      (λ h. first_there s s.placed (started s) fault (kept_fault (second_pass s s.placed (started s)) with_entry fault (sym whole ∙ h))),
+assembled_lines_fault_is_first_fault lines s fault e some =
+    let whole = assembled_lines_is_guest_of_seen lines s e some in (
+      (λ h. second_pass_fault_is_first_fault s s.placed (started s) fault (fault_before_mapped_step (second_pass s s.placed (started s)) with_entry fault (sym whole ∙ h))),
       (λ f. whole ∙ back f),
     )
   where
@@ -133,7 +133,7 @@ second_fault lines s fault e some =
     back f =
         let there : second_pass s s.placed (started s) ≡ Err (record { line = f.statement.line; cause = fault.cause }) =
         ap (λ l. second_pass s l (started s)) f.stands
-        ∙ fails_there s f.before f.after f.statement fault.cause (started s) f.earlier f.fails in
+        ∙ second_pass_fails_at_first_fault s f.before f.after f.statement fault.cause (started s) f.earlier f.fails in
         let whole_is : second_pass s s.placed (started s) ≡ Err fault = there
         ∙ ap (λ n. Err (record { line = n; cause = fault.cause })) f.line in
         rw whole_is refl

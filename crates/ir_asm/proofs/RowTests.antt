@@ -5,87 +5,87 @@ use Rattle.ir_image.specs.declared.form.ImageForm.TheVariants.{Small, Large}
 use Rattle.ir_asm.specs.Passes.{assembled}
 use Rattle.ir_asm.specs.declared.cause.Cause.TheVariants.{BadByte, UnknownStatement, WrongOperands, UnknownRegister, BadNumber, LabelTwice, LabelMissing, WrongSection, BadSize, BadCount, BadLabel}
 
-row_8 : assembled (codes "nop,") ≡ Err (record { line = 1; cause = UnknownStatement })
-row_8 = refl
+comma_after_name_is_unknown_statement : assembled (codes "nop,") ≡ Err (record { line = 1; cause = UnknownStatement })
+comma_after_name_is_unknown_statement = refl
 
-row_9 : assembled (codes "lw a0, (a0)") ≡ Err (record { line = 1; cause = BadNumber })
-row_9 = refl
+address_without_offset_is_bad_number : assembled (codes "lw a0, (a0)") ≡ Err (record { line = 1; cause = BadNumber })
+address_without_offset_is_bad_number = refl
 
-row_10 : assembled (codes "lw a0, 4()") ≡ Err (record { line = 1; cause = UnknownRegister })
-row_10 = refl
+address_without_register_is_unknown_register : assembled (codes "lw a0, 4()") ≡ Err (record { line = 1; cause = UnknownRegister })
+address_without_register_is_unknown_register = refl
 
-row_11 : assembled (codes "lw a0, 2048(zer)") ≡ Err (record { line = 1; cause = BadNumber })
-row_11 = refl
+offset_is_read_before_register : assembled (codes "lw a0, 2048(zer)") ≡ Err (record { line = 1; cause = BadNumber })
+offset_is_read_before_register = refl
 
-row_12 : assembled (codes "addi a0, (zero), 1") ≡ Err (record { line = 1; cause = UnknownRegister })
-row_12 = refl
+register_in_parentheses_is_unknown : assembled (codes "addi a0, (zero), 1") ≡ Err (record { line = 1; cause = UnknownRegister })
+register_in_parentheses_is_unknown = refl
 
-row_13 : assembled (codes "beq zer, a1, $x") ≡ Err (record { line = 1; cause = WrongOperands })
-row_13 = refl
+operand_shapes_are_tested_before_registers : assembled (codes "beq zer, a1, $x") ≡ Err (record { line = 1; cause = WrongOperands })
+operand_shapes_are_tested_before_registers = refl
 
-row_14 : assembled (codes "beq zer, a1, 5") ≡ Err (record { line = 1; cause = UnknownRegister })
-row_14 = refl
+registers_are_read_before_distance : assembled (codes "beq zer, a1, 5") ≡ Err (record { line = 1; cause = UnknownRegister })
+registers_are_read_before_distance = refl
 
-row_15 : assembled (codes ".word") ≡ Err (record { line = 1; cause = WrongOperands })
-row_15 = refl
+word_without_operand_is_wrong : assembled (codes ".word") ≡ Err (record { line = 1; cause = WrongOperands })
+word_without_operand_is_wrong = refl
 
-row_16 : assembled (codes "nop\r") ≡ Err (record { line = 1; cause = BadByte })
-row_16 = refl
+return_without_feed_is_bad_byte : assembled (codes "nop\r") ≡ Err (record { line = 1; cause = BadByte })
+return_without_feed_is_bad_byte = refl
 
-row_17 : assembled (codes "9: nop") ≡ Err (record { line = 1; cause = BadLabel })
-row_17 = refl
+digit_label_is_bad_label : assembled (codes "9: nop") ≡ Err (record { line = 1; cause = BadLabel })
+digit_label_is_bad_label = refl
 
-row_18 : assembled (codes ".data\n.space 65537") ≡ Err (record { line = 2; cause = BadNumber })
-row_18 = refl
+space_beyond_memory_is_bad_number : assembled (codes ".data\n.space 65537") ≡ Err (record { line = 2; cause = BadNumber })
+space_beyond_memory_is_bad_number = refl
 
-row_19 : assembled (codes "nop\n.object 0, 1") ≡ Err (record { line = 2; cause = BadCount })
-row_19 = refl
+object_beyond_count_is_bad_count : assembled (codes "nop\n.object 0, 1") ≡ Err (record { line = 2; cause = BadCount })
+object_beyond_count_is_bad_count = refl
 
-pub li_row : assembled (codes "li a0, 0x12345FFF # x: y") ≡ Ok
+pub li_with_comment_assembles : assembled (codes "li a0, 0x12345FFF # x: y") ≡ Ok
     (record { form = Small; entries = 0x00010000 ∷ []; code = 0x12346537 ∷ 0xFFF50513 ∷ []; bytes = []; words = [] })
-li_row = refl
+li_with_comment_assembles = refl
 
-lw_row : assembled (codes "a:b: lw a0 , 4 ( sp )\r\n beq a0, x0, a") ≡ Ok
+labels_blanks_and_returns_assemble : assembled (codes "a:b: lw a0 , 4 ( sp )\r\n beq a0, x0, a") ≡ Ok
     (record { form = Small; entries = 0x00010000 ∷ []; code = 0x00412503 ∷ 0xFE050EE3 ∷ []; bytes = []; words = [] })
-lw_row = refl
+labels_blanks_and_returns_assemble = refl
 
-pub empty : assembled (codes "") ≡ Err (record { line = 2; cause = BadSize })
-empty = refl
+pub empty_source_is_bad_size : assembled (codes "") ≡ Err (record { line = 2; cause = BadSize })
+empty_source_is_bad_size = refl
 
-pub unknown : assembled (codes "x\n") ≡ Err (record { line = 1; cause = UnknownStatement })
-unknown = refl
+pub unknown_statement_is_fault : assembled (codes "x\n") ≡ Err (record { line = 1; cause = UnknownStatement })
+unknown_statement_is_fault = refl
 
-pub twice : assembled (codes "a: a: nop\n") ≡ Err (record { line = 1; cause = LabelTwice })
-twice = refl
+pub label_twice_is_fault : assembled (codes "a: a: nop\n") ≡ Err (record { line = 1; cause = LabelTwice })
+label_twice_is_fault = refl
 
-pub register : assembled (codes "addi a0, zer, 2048\n") ≡ Err (record { line = 1; cause = UnknownRegister })
-register = refl
+pub unknown_register_is_fault : assembled (codes "addi a0, zer, 2048\n") ≡ Err (record { line = 1; cause = UnknownRegister })
+unknown_register_is_fault = refl
 
-pub number : assembled (codes "addi a0, zero, 2048\n") ≡ Err (record { line = 1; cause = BadNumber })
-number = refl
+pub number_out_of_range_is_fault : assembled (codes "addi a0, zero, 2048\n") ≡ Err (record { line = 1; cause = BadNumber })
+number_out_of_range_is_fault = refl
 
-pub missing : assembled (codes "beq a0, a1, far\n") ≡ Err (record { line = 1; cause = LabelMissing })
-missing = refl
+pub missing_label_is_fault : assembled (codes "beq a0, a1, far\n") ≡ Err (record { line = 1; cause = LabelMissing })
+missing_label_is_fault = refl
 
-pub section : assembled (codes "nop\n.space 1\n") ≡ Err (record { line = 2; cause = WrongSection })
-section = refl
+pub space_in_text_is_wrong_section : assembled (codes "nop\n.space 1\n") ≡ Err (record { line = 2; cause = WrongSection })
+space_in_text_is_wrong_section = refl
 
 pub end : assembled (codes "nop\nend: .thread end\n") ≡ Err (record { line = 2; cause = WrongSection })
 end = refl
 
-pub carried : assembled (codes "li a0, 0x12345FFF") ≡ Ok
+pub li_carries_into_upper_bits : assembled (codes "li a0, 0x12345FFF") ≡ Ok
     (record { form = Small; entries = 0x00010000 ∷ []; code = 0x12346537 ∷ 0xFFF50513 ∷ []; bytes = []; words = [] })
-carried = refl
+li_carries_into_upper_bits = refl
 
-data_row : assembled (codes ".data\n.byte 1, 255\n.word 258\n.space 2\n.byte 9\n.text\nnop") ≡ Ok
+data_directives_assemble : assembled (codes ".data\n.byte 1, 255\n.word 258\n.space 2\n.byte 9\n.text\nnop") ≡ Ok
     (record { form = Small; entries = 0x00010000 ∷ []; code = 0x13 ∷ []; bytes = 0x01 ∷ 0xff ∷ 0x02 ∷ 0x01 ∷ 0 ∷ 0 ∷ 0 ∷ 0 ∷ 0x09 ∷ []; words = [] })
-data_row = refl
+data_directives_assemble = refl
 
-threads_row : assembled (codes "nop\na: nop\n.thread a\n.thread b\nb: nop") ≡ Ok
+thread_entries_assemble : assembled (codes "nop\na: nop\n.thread a\n.thread b\nb: nop") ≡ Ok
     (record { form = Small; entries = 0x10004 ∷ 0x10008 ∷ []; code = 0x13 ∷ 0x13 ∷ 0x13 ∷ []; bytes = []; words = [] })
-threads_row = refl
+thread_entries_assemble = refl
 
-objects_row : assembled (codes ".object 1, 5, -1\n.objects 1\n.objects 2\nnop") ≡ Ok
+object_words_assemble : assembled (codes ".object 1, 5, -1\n.objects 1\n.objects 2\nnop") ≡ Ok
     (record {
       form = Small;
       entries = 0x10000 ∷ [];
@@ -94,28 +94,28 @@ objects_row : assembled (codes ".object 1, 5, -1\n.objects 1\n.objects 2\nnop") 
       words = 0 ∷ 0 ∷ 0 ∷ 0 ∷ 0 ∷ 0 ∷ 0 ∷ 0 ∷ 5 ∷ 0xFFFFFFFF ∷ 0 ∷ 0 ∷ 0 ∷ 0
           ∷ 0 ∷ 0 ∷ [];
     })
-objects_row = refl
+object_words_assemble = refl
 
-label_row : assembled (codes ".data\n.byte 1\nx: .byte 2\n.text\nli a0, x") ≡ Ok
+address_of_data_label_assembles : assembled (codes ".data\n.byte 1\nx: .byte 2\n.text\nli a0, x") ≡ Ok
     (record { form = Small; entries = 0x10000 ∷ []; code = 0x00100537 ∷ 0x00150513 ∷ []; bytes = 1 ∷ 2 ∷ []; words = [] })
-label_row = refl
+address_of_data_label_assembles = refl
 
-object_fault : assembled (codes ".objects 2\n.object 1, 1\n.objects 1\nnop\n") ≡ Err (record { line = 2; cause = BadCount })
-object_fault = refl
+object_beyond_last_count_is_fault : assembled (codes ".objects 2\n.object 1, 1\n.objects 1\nnop\n") ≡ Err (record { line = 2; cause = BadCount })
+object_beyond_last_count_is_fault = refl
 
-data_label : assembled (codes "beq a0, a1, far\n.data\nfar: .byte 1\n") ≡ Err (record { line = 1; cause = WrongSection })
-data_label = refl
+branch_to_data_label_is_fault : assembled (codes "beq a0, a1, far\n.data\nfar: .byte 1\n") ≡ Err (record { line = 1; cause = WrongSection })
+branch_to_data_label_is_fault = refl
 
-later_label_form : assembled (codes "a: a: 9: nop\n") ≡ Err (record { line = 1; cause = BadLabel })
-later_label_form = refl
+bad_label_comes_before_label_twice : assembled (codes "a: a: 9: nop\n") ≡ Err (record { line = 1; cause = BadLabel })
+bad_label_comes_before_label_twice = refl
 
-section_first : assembled (codes ".data\naddi zer") ≡ Err (record { line = 2; cause = WrongSection })
-section_first = refl
+section_is_tested_before_operands : assembled (codes ".data\naddi zer") ≡ Err (record { line = 2; cause = WrongSection })
+section_is_tested_before_operands = refl
 
-first_pass_first : assembled (codes "jal ra, far\nfoo\n") ≡ Err (record { line = 2; cause = UnknownStatement })
-first_pass_first = refl
+first_pass_fault_comes_before_second : assembled (codes "jal ra, far\nfoo\n") ≡ Err (record { line = 2; cause = UnknownStatement })
+first_pass_fault_comes_before_second = refl
 
-large_row : assembled (codes "a: # large\nb: .large\n.objects 1\n.object 0, 1, 2, 3, 4, 5, 6, 7, 8, 9, 10, 11, 12, 13, 14, 15, 16\nnop") ≡ Ok
+large_object_of_sixteen_words_assembles : assembled (codes "a: # large\nb: .large\n.objects 1\n.object 0, 1, 2, 3, 4, 5, 6, 7, 8, 9, 10, 11, 12, 13, 14, 15, 16\nnop") ≡ Ok
     (record {
       form = Large;
       entries = 0x10000 ∷ [];
@@ -123,39 +123,39 @@ large_row : assembled (codes "a: # large\nb: .large\n.objects 1\n.object 0, 1, 2
       bytes = [];
       words = 1 ∷ 2 ∷ 3 ∷ 4 ∷ 5 ∷ 6 ∷ 7 ∷ 8 ∷ 9 ∷ 10 ∷ 11 ∷ 12 ∷ 13 ∷ 14 ∷ 15 ∷ 16 ∷ [];
     })
-large_row = refl
+large_object_of_sixteen_words_assembles = refl
 
 pub large : assembled (codes ".large\nnop") ≡ Ok
     (record { form = Large; entries = 0x00010000 ∷ []; code = 0x13 ∷ []; bytes = []; words = [] })
 large = refl
 
-pub late : assembled (codes "nop\n.large\n") ≡ Err (record { line = 2; cause = WrongSection })
-late = refl
+pub late_large_is_wrong_section : assembled (codes "nop\n.large\n") ≡ Err (record { line = 2; cause = WrongSection })
+late_large_is_wrong_section = refl
 
-large_twice : assembled (codes ".large\n.large\nnop") ≡ Err (record { line = 2; cause = WrongSection })
-large_twice = refl
+second_large_is_wrong_section : assembled (codes ".large\n.large\nnop") ≡ Err (record { line = 2; cause = WrongSection })
+second_large_is_wrong_section = refl
 
-large_with_operand : assembled (codes ".large 1\nnop") ≡ Err (record { line = 1; cause = WrongOperands })
-large_with_operand = refl
+large_with_operand_is_fault : assembled (codes ".large 1\nnop") ≡ Err (record { line = 1; cause = WrongOperands })
+large_with_operand_is_fault = refl
 
-late_with_operand : assembled (codes "nop\n.large 1") ≡ Err (record { line = 2; cause = WrongSection })
-late_with_operand = refl
+late_large_is_tested_before_operands : assembled (codes "nop\n.large 1") ≡ Err (record { line = 2; cause = WrongSection })
+late_large_is_tested_before_operands = refl
 
-eight_words : assembled (codes ".object 0, 1, 2, 3, 4, 5, 6, 7, x") ≡ Err (record { line = 1; cause = BadNumber })
-eight_words = refl
+eight_words_fit_small_object : assembled (codes ".object 0, 1, 2, 3, 4, 5, 6, 7, x") ≡ Err (record { line = 1; cause = BadNumber })
+eight_words_fit_small_object = refl
 
-nine_words : assembled (codes ".object 0, 1, 2, 3, 4, 5, 6, 7, 8, x") ≡ Err (record { line = 1; cause = WrongOperands })
-nine_words = refl
+nine_words_exceed_small_object : assembled (codes ".object 0, 1, 2, 3, 4, 5, 6, 7, 8, x") ≡ Err (record { line = 1; cause = WrongOperands })
+nine_words_exceed_small_object = refl
 
-seventeen_words : assembled (codes ".large\n.object 0, 1, 2, 3, 4, 5, 6, 7, 8, 9, 10, 11, 12, 13, 14, 15, 16, 17\nnop") ≡ Err
+seventeen_words_exceed_large_object : assembled (codes ".large\n.object 0, 1, 2, 3, 4, 5, 6, 7, 8, 9, 10, 11, 12, 13, 14, 15, 16, 17\nnop") ≡ Err
     (record { line = 2; cause = WrongOperands })
-seventeen_words = refl
+seventeen_words_exceed_large_object = refl
 
-many_objects : assembled (codes ".objects 17\nnop") ≡ Err (record { line = 1; cause = BadNumber })
-many_objects = refl
+seventeen_objects_exceed_small_image : assembled (codes ".objects 17\nnop") ≡ Err (record { line = 1; cause = BadNumber })
+seventeen_objects_exceed_small_image = refl
 
-many_large_objects : assembled (codes ".large\n.objects 65\nnop") ≡ Err (record { line = 2; cause = BadNumber })
-many_large_objects = refl
+sixty_five_objects_exceed_large_image : assembled (codes ".large\n.objects 65\nnop") ≡ Err (record { line = 2; cause = BadNumber })
+sixty_five_objects_exceed_large_image = refl
 
-most_large_objects : assembled (codes ".large\n.objects 64\n") ≡ Err (record { line = 4; cause = BadSize })
-most_large_objects = refl
+sixty_four_objects_fit_large_image : assembled (codes ".large\n.objects 64\n") ≡ Err (record { line = 4; cause = BadSize })
+sixty_four_objects_fit_large_image = refl

@@ -10,7 +10,7 @@ use Rattle.ir_image.specs.declared.form.ImageForm.{ImageForm}
 use Rattle.ir_image.specs.declared.form.ImageForm.TheVariants.{Large}
 use Rattle.ir_image.specs.Guest.{limits_of, Guest, IsWord, IsByte, code_start, memory_size, most_code_words, object_words, object_count}
 use Rattle.ir_image.specs.Within.{IsGuest, IsPlace}
-use Rattle.ir_image.proofs.CallerLemmas.{most_words, some_threads, threads_of, objects_of, count_of, whole_of}
+use Rattle.ir_image.proofs.CallerLemmas.{words_of_form_at_most_limit, form_has_threads, threads_of_form_at_most_limit, objects_of_form_at_most_limit, object_count_of_whole_objects, words_of_whole_objects_divide}
 use Rattle.ir_asm.specs.declared.cause.Cause.TheVariants.{UnknownStatement, WrongSection, WrongOperands, BadNumber, BadSize, BadCount, BadByte, BadLabel, LabelTwice}
 use Rattle.ir_asm.specs.declared.form.Section.{Section}
 use Rattle.ir_asm.specs.declared.form.Section.TheVariants.{Text, Data}
@@ -32,13 +32,13 @@ use Rattle.ir_asm.specs.Items.{values, item_of}
 use Rattle.ir_asm.specs.Source.{Seen, nothing_seen, size_of, here, start_of, size_in, is_source_byte, at_line, grown, laid, placed_at, entered, with_labels, with_statement, with_line, line_of, first_pass, may_stand, item_in, begun, name_of, operand_texts}
 use Rattle.ir_asm.specs.Passes.{put, second_pass, started, with_entry, guest_of}
 use Rattle.ir_asm.specs.Bounds.{HasFewWords, HaveFewWords, HasLimits}
-use Rattle.ir_asm.proofs.Steps.{at_line_ok, ok_is, bind_ok, unless_ok, tested}
-use Rattle.ir_asm.proofs.Kept.{code_size, data_size, entry_count, LabelsFit, IsTextPlace, all_push, put_adds}
+use Rattle.ir_asm.proofs.Steps.{ok_if_at_line_is_ok, ok_is_injective, parts_of_ok_bind, parts_of_ok_unless, test_and_value_of_ok_unless}
+use Rattle.ir_asm.proofs.Kept.{code_size, data_size, entry_count, LabelsFit, IsTextPlace, all_by_recursion_after_push, put_adds_item}
 
 -- what holds of each element holds of all
-pub all_fit : (P : ℕ → Type 0) (xs : List ℕ) → ((i : ℕ) → P (slice_index xs i)) → AllByRecursion P xs
-all_fit P [] each = tt
-all_fit P (x ∷ xs) each = (each 0, all_fit P xs (λ i. each (suc i)))
+pub all_hold_if_each_holds : (P : ℕ → Type 0) (xs : List ℕ) → ((i : ℕ) → P (slice_index xs i)) → AllByRecursion P xs
+all_hold_if_each_holds P [] each = tt
+all_hold_if_each_holds P (x ∷ xs) each = (each 0, all_hold_if_each_holds P xs (λ i. each (suc i)))
 
 -- ---- what a statement of a section may be
 
@@ -53,46 +53,46 @@ MayStand image section (First object words) = length words ≤ (limits_of image)
 MayStand image section item = Unit {0}
 
 -- as many operands as texts
-pub read_length : (form : Form) (place : ℕ) (texts : List (List ℕ)) (xs : List Operand) → read_all form place texts ≡ Ok xs
+pub length_of_read_all : (form : Form) (place : ℕ) (texts : List (List ℕ)) (xs : List Operand) → read_all form place texts ≡ Ok xs
     → length xs ≡ length texts
-read_length form place [] xs e = ap length (sym (ok_is [] xs e))
-read_length form place (t ∷ texts) xs e =
-    let b = bind_ok (read (kind_at form place) t) _ xs e in
-    let d = bind_ok (read_all form (place + 1) texts) _ xs b.2 in
-    ap length (sym (ok_is _ xs d.2)) ∙ ap suc (read_length form (place + 1) texts d.0 d.1)
+length_of_read_all form place [] xs e = ap length (sym (ok_is_injective [] xs e))
+length_of_read_all form place (t ∷ texts) xs e =
+    let b = parts_of_ok_bind (read (kind_at form place) t) _ xs e in
+    let d = parts_of_ok_bind (read_all form (place + 1) texts) _ xs b.2 in
+    ap length (sym (ok_is_injective _ xs d.2)) ∙ ap suc (length_of_read_all form (place + 1) texts d.0 d.1)
 
-values_length : (bits : ℕ) (xs : List Operand) → length (values bits xs) ≤ length xs
-values_length bits [] = omega arith
-values_length bits (Integer z ∷ xs) = omega (arith, values_length bits xs)
-values_length bits (Index r ∷ xs) = omega (arith, values_length bits xs)
-values_length bits (Offset z r ∷ xs) = omega (arith, values_length bits xs)
-values_length bits (Symbol label ∷ xs) = omega (arith, values_length bits xs)
+length_of_values : (bits : ℕ) (xs : List Operand) → length (values bits xs) ≤ length xs
+length_of_values bits [] = omega arith
+length_of_values bits (Integer z ∷ xs) = omega (arith, length_of_values bits xs)
+length_of_values bits (Index r ∷ xs) = omega (arith, length_of_values bits xs)
+length_of_values bits (Offset z r ∷ xs) = omega (arith, length_of_values bits xs)
+length_of_values bits (Symbol label ∷ xs) = omega (arith, length_of_values bits xs)
 
-and_left : (a b : Bool) → (a && b) ≡ true → a ≡ true
-and_left true b e = refl
-and_left false b e = e
+left_of_true_and : (a b : Bool) → (a && b) ≡ true → a ≡ true
+left_of_true_and true b e = refl
+left_of_true_and false b e = e
 
-and_right : (a b : Bool) → (a && b) ≡ true → b ≡ true
-and_right true b e = e
-and_right false b e = absurd (true≢false (sym e))
+right_of_true_and : (a b : Bool) → (a && b) ≡ true → b ≡ true
+right_of_true_and true b e = e
+right_of_true_and false b e = absurd (true≢false (sym e))
 
 -- an object has no more first words than words
-few_first : (image : ImageForm) (texts : List (List ℕ)) (z : ℤ) (xs : List Operand) → operands_of (Object image) texts ≡ Ok (Integer z ∷ xs)
+object_words_within_limit : (image : ImageForm) (texts : List (List ℕ)) (z : ℤ) (xs : List Operand) → operands_of (Object image) texts ≡ Ok (Integer z ∷ xs)
     → length (values 32 xs) ≤ (limits_of image).words
-few_first image texts z xs e =
-    let u = unless_ok (takes (Object image) (length texts) && are_formed (Object image) 0 texts) WrongOperands
+object_words_within_limit image texts z xs e =
+    let u = parts_of_ok_unless (takes (Object image) (length texts) && are_formed (Object image) 0 texts) WrongOperands
     (read_all (Object image) 0 texts) _ e in
     let most : length texts ≤ 1 + (limits_of image).words = leb-true (length texts) (1 + (limits_of image).words)
-    (and_right (nat_le 2 (length texts)) _ (and_left (takes (Object image) (length texts)) _ u.0)) in
-    let count : suc (length xs) ≡ length texts = read_length (Object image) 0 texts (Integer z ∷ xs) u.1 in
-    omega (arith, most, count, values_length 32 xs)
+    (right_of_true_and (nat_le 2 (length texts)) _ (left_of_true_and (takes (Object image) (length texts)) _ u.0)) in
+    let count : suc (length xs) ≡ length texts = length_of_read_all (Object image) 0 texts (Integer z ∷ xs) u.1 in
+    omega (arith, most, count, length_of_values 32 xs)
 
 -- a number within limits
-number_within : (high : ℕ) (text : List ℕ) (z : ℤ) → number_in (pos 0) (pos high) text ≡ Ok z → high < 2 ^ 32 → low_bits 32 z ≤ high
-number_within high text z e small =
-    let b = bind_ok (or_cause BadNumber (number text)) _ z e in
-    let t = tested (int_le (pos 0) b.0 && int_le b.0 (pos high)) BadNumber b.0 z b.2 in
-    subst (λ y. low_bits 32 y ≤ high) t.1 (by_sign b.0 (and_left _ _ t.0) (and_right (int_le (pos 0) b.0) _ t.0) small)
+low_bits_of_bounded_number : (high : ℕ) (text : List ℕ) (z : ℤ) → number_in (pos 0) (pos high) text ≡ Ok z → high < 2 ^ 32 → low_bits 32 z ≤ high
+low_bits_of_bounded_number high text z e small =
+    let b = parts_of_ok_bind (or_cause BadNumber (number text)) _ z e in
+    let t = test_and_value_of_ok_unless (int_le (pos 0) b.0 && int_le b.0 (pos high)) BadNumber b.0 z b.2 in
+    subst (λ y. low_bits 32 y ≤ high) t.1 (by_sign b.0 (left_of_true_and _ _ t.0) (right_of_true_and (int_le (pos 0) b.0) _ t.0) small)
   where
     by_sign : (y : ℤ) → int_le (pos 0) y ≡ true → int_le y (pos high) ≡ true → high < 2 ^ 32 → low_bits 32 y ≤ high
     by_sign (pos n) l h k = let m : n ≤ high = leb-true n high h in omega (arith, m)
@@ -105,84 +105,84 @@ first_number (Integer z ∷ xs) = z
 first_number (x ∷ xs) = pos 0
 
 -- a number of objects is within its limit
-few_objects : (image : ImageForm) (texts : List (List ℕ)) (z : ℤ) → operands_of (Objects image) texts ≡ Ok (Integer z ∷ [])
+object_count_within_limit : (image : ImageForm) (texts : List (List ℕ)) (z : ℤ) → operands_of (Objects image) texts ≡ Ok (Integer z ∷ [])
     → low_bits 32 z ≤ (limits_of image).objects
-few_objects image [] z e = absurd (cc e)
-few_objects image (t ∷ texts) z e =
+object_count_within_limit image [] z e = absurd (cc e)
+object_count_within_limit image (t ∷ texts) z e =
     let most : ℕ = (limits_of image).objects in
-    let u = unless_ok (takes (Objects image) (length (t ∷ texts)) && are_formed (Objects image) 0 (t ∷ texts)) WrongOperands
+    let u = parts_of_ok_unless (takes (Objects image) (length (t ∷ texts)) && are_formed (Objects image) 0 (t ∷ texts)) WrongOperands
     (read_all (Objects image) 0 (t ∷ texts)) _ e in
-    let b = bind_ok (read (Number (pos 0) (pos most)) t) _ _ u.1 in
-    let d = bind_ok (read_all (Objects image) 1 texts) _ _ b.2 in
-    let n = bind_ok (number_in (pos 0) (pos most) t) _ _ b.1 in
-    let same : n.0 ≡ z = ap (λ x. first_number (x ∷ d.0)) (ok_is _ _ n.2) ∙ ap first_number (ok_is _ _ d.2) in
-    let small : most < 2 ^ 32 = let all = objects_of image in omega (arith, all) in
-    subst (λ y. low_bits 32 y ≤ most) same (number_within most t n.0 n.1 small)
+    let b = parts_of_ok_bind (read (Number (pos 0) (pos most)) t) _ _ u.1 in
+    let d = parts_of_ok_bind (read_all (Objects image) 1 texts) _ _ b.2 in
+    let n = parts_of_ok_bind (number_in (pos 0) (pos most) t) _ _ b.1 in
+    let same : n.0 ≡ z = ap (λ x. first_number (x ∷ d.0)) (ok_is_injective _ _ n.2) ∙ ap first_number (ok_is_injective _ _ d.2) in
+    let small : most < 2 ^ 32 = let all = objects_of_form_at_most_limit image in omega (arith, all) in
+    subst (λ y. low_bits 32 y ≤ most) same (low_bits_of_bounded_number most t n.0 n.1 small)
 
-form_stands : (image : ImageForm) (section : Section) (form : Form) (texts : List (List ℕ)) (xs : List Operand)
+item_of_form_may_stand : (image : ImageForm) (section : Section) (form : Form) (texts : List (List ℕ)) (xs : List Operand)
     → may_stand (stands_in form) section ≡ true → operands_of (in_image image form) texts ≡ Ok xs
     → MayStand image section (item_of (in_image image form) xs)
-form_stands image Text Bytes texts xs m e = absurd (cc m)
-form_stands image Text Space texts xs m e = absurd (cc m)
-form_stands image Data (Registers op) texts xs m e = absurd (cc m)
-form_stands image Data (Immediates op) texts xs m e = absurd (cc m)
-form_stands image Data (Shifts op) texts xs m e = absurd (cc m)
-form_stands image Data (Loads op) texts xs m e = absurd (cc m)
-form_stands image Data JumpsTo texts xs m e = absurd (cc m)
-form_stands image Data (Stores op) texts xs m e = absurd (cc m)
-form_stands image Data (Branches op) texts xs m e = absurd (cc m)
-form_stands image Data Jumps texts xs m e = absurd (cc m)
-form_stands image Data LoadsUpper texts xs m e = absurd (cc m)
-form_stands image Data AddsUpper texts xs m e = absurd (cc m)
-form_stands image Data Fences texts xs m e = absurd (cc m)
-form_stands image Data Calls texts xs m e = absurd (cc m)
-form_stands image Data Breaks texts xs m e = absurd (cc m)
-form_stands image Data DoesNothing texts xs m e = absurd (cc m)
-form_stands image Data LoadsValue texts xs m e = absurd (cc m)
-form_stands image section (Objects other) texts (Integer z ∷ []) m e = few_objects image texts z e
-form_stands image section (Object other) texts (Integer z ∷ xs) m e = few_first image texts z xs e
-form_stands image Text (Registers op) texts (Index rd ∷ Index rs1 ∷ Index rs2 ∷ []) m e = tt
-form_stands image Text (Immediates op) texts (Index rd ∷ Index rs1 ∷ Integer imm ∷ []) m e = tt
-form_stands image Text (Shifts op) texts (Index rd ∷ Index rs1 ∷ Integer n ∷ []) m e = tt
-form_stands image Text (Loads op) texts (Index rd ∷ Offset imm rs1 ∷ []) m e = tt
-form_stands image Text JumpsTo texts (Index rd ∷ Offset imm rs1 ∷ []) m e = tt
-form_stands image Text (Stores op) texts (Index rs2 ∷ Offset imm rs1 ∷ []) m e = tt
-form_stands image Text (Branches op) texts (Index rs1 ∷ Index rs2 ∷ Integer z ∷ []) m e = tt
-form_stands image Text (Branches op) texts (Index rs1 ∷ Index rs2 ∷ Symbol label ∷ []) m e = tt
-form_stands image Text Jumps texts (Index rd ∷ Integer z ∷ []) m e = tt
-form_stands image Text Jumps texts (Index rd ∷ Symbol label ∷ []) m e = tt
-form_stands image Text LoadsUpper texts (Index rd ∷ Integer z ∷ []) m e = tt
-form_stands image Text AddsUpper texts (Index rd ∷ Integer z ∷ []) m e = tt
-form_stands image Text Fences texts [] m e = tt
-form_stands image Text Fences texts (Index rd ∷ Index rs1 ∷ Integer z ∷ []) m e = tt
-form_stands image Text Calls texts [] m e = tt
-form_stands image Text Breaks texts [] m e = tt
-form_stands image Text DoesNothing texts [] m e = tt
-form_stands image Text LoadsValue texts (Index rd ∷ Integer z ∷ []) m e = tt
-form_stands image Text LoadsValue texts (Index rd ∷ Symbol label ∷ []) m e = tt
-form_stands image section Enlarges texts [] m e = tt
-form_stands image section (Sections other) texts [] m e = tt
-form_stands image Data Space texts (Integer z ∷ []) m e = tt
-form_stands image section Thread texts (Symbol label ∷ []) m e = tt
-form_stands image section form texts xs m e = tt
+item_of_form_may_stand image Text Bytes texts xs m e = absurd (cc m)
+item_of_form_may_stand image Text Space texts xs m e = absurd (cc m)
+item_of_form_may_stand image Data (Registers op) texts xs m e = absurd (cc m)
+item_of_form_may_stand image Data (Immediates op) texts xs m e = absurd (cc m)
+item_of_form_may_stand image Data (Shifts op) texts xs m e = absurd (cc m)
+item_of_form_may_stand image Data (Loads op) texts xs m e = absurd (cc m)
+item_of_form_may_stand image Data JumpsTo texts xs m e = absurd (cc m)
+item_of_form_may_stand image Data (Stores op) texts xs m e = absurd (cc m)
+item_of_form_may_stand image Data (Branches op) texts xs m e = absurd (cc m)
+item_of_form_may_stand image Data Jumps texts xs m e = absurd (cc m)
+item_of_form_may_stand image Data LoadsUpper texts xs m e = absurd (cc m)
+item_of_form_may_stand image Data AddsUpper texts xs m e = absurd (cc m)
+item_of_form_may_stand image Data Fences texts xs m e = absurd (cc m)
+item_of_form_may_stand image Data Calls texts xs m e = absurd (cc m)
+item_of_form_may_stand image Data Breaks texts xs m e = absurd (cc m)
+item_of_form_may_stand image Data DoesNothing texts xs m e = absurd (cc m)
+item_of_form_may_stand image Data LoadsValue texts xs m e = absurd (cc m)
+item_of_form_may_stand image section (Objects other) texts (Integer z ∷ []) m e = object_count_within_limit image texts z e
+item_of_form_may_stand image section (Object other) texts (Integer z ∷ xs) m e = object_words_within_limit image texts z xs e
+item_of_form_may_stand image Text (Registers op) texts (Index rd ∷ Index rs1 ∷ Index rs2 ∷ []) m e = tt
+item_of_form_may_stand image Text (Immediates op) texts (Index rd ∷ Index rs1 ∷ Integer imm ∷ []) m e = tt
+item_of_form_may_stand image Text (Shifts op) texts (Index rd ∷ Index rs1 ∷ Integer n ∷ []) m e = tt
+item_of_form_may_stand image Text (Loads op) texts (Index rd ∷ Offset imm rs1 ∷ []) m e = tt
+item_of_form_may_stand image Text JumpsTo texts (Index rd ∷ Offset imm rs1 ∷ []) m e = tt
+item_of_form_may_stand image Text (Stores op) texts (Index rs2 ∷ Offset imm rs1 ∷ []) m e = tt
+item_of_form_may_stand image Text (Branches op) texts (Index rs1 ∷ Index rs2 ∷ Integer z ∷ []) m e = tt
+item_of_form_may_stand image Text (Branches op) texts (Index rs1 ∷ Index rs2 ∷ Symbol label ∷ []) m e = tt
+item_of_form_may_stand image Text Jumps texts (Index rd ∷ Integer z ∷ []) m e = tt
+item_of_form_may_stand image Text Jumps texts (Index rd ∷ Symbol label ∷ []) m e = tt
+item_of_form_may_stand image Text LoadsUpper texts (Index rd ∷ Integer z ∷ []) m e = tt
+item_of_form_may_stand image Text AddsUpper texts (Index rd ∷ Integer z ∷ []) m e = tt
+item_of_form_may_stand image Text Fences texts [] m e = tt
+item_of_form_may_stand image Text Fences texts (Index rd ∷ Index rs1 ∷ Integer z ∷ []) m e = tt
+item_of_form_may_stand image Text Calls texts [] m e = tt
+item_of_form_may_stand image Text Breaks texts [] m e = tt
+item_of_form_may_stand image Text DoesNothing texts [] m e = tt
+item_of_form_may_stand image Text LoadsValue texts (Index rd ∷ Integer z ∷ []) m e = tt
+item_of_form_may_stand image Text LoadsValue texts (Index rd ∷ Symbol label ∷ []) m e = tt
+item_of_form_may_stand image section Enlarges texts [] m e = tt
+item_of_form_may_stand image section (Sections other) texts [] m e = tt
+item_of_form_may_stand image Data Space texts (Integer z ∷ []) m e = tt
+item_of_form_may_stand image section Thread texts (Symbol label ∷ []) m e = tt
+item_of_form_may_stand image section form texts xs m e = tt
 
 -- what a statement places is an item that its section may have
-pub item_stands : (before : Option ImageForm) (section : Section) (statement : List ℕ) (item : Item)
+pub item_of_statement_may_stand : (before : Option ImageForm) (section : Section) (statement : List ℕ) (item : Item)
     → item_in before section statement ≡ Ok item → MayStand (stated before) section item
-item_stands before section statement item e =
-    let f = bind_ok (or_cause UnknownStatement (form_named (name_of statement))) _ item e in
-    let c = unless_ok (may_come before f.0) WrongSection _ item f.2 in
-    let u = unless_ok (may_stand (stands_in f.0) section) WrongSection _ item c.1 in
-    let o = bind_ok (operands_of (in_image (stated before) f.0) (operand_texts statement)) _ item u.1 in
-    subst (MayStand (stated before) section) (ok_is _ item o.2)
-    (form_stands (stated before) section f.0 (operand_texts statement) o.0 u.0 o.1)
+item_of_statement_may_stand before section statement item e =
+    let f = parts_of_ok_bind (or_cause UnknownStatement (form_named (name_of statement))) _ item e in
+    let c = parts_of_ok_unless (may_come before f.0) WrongSection _ item f.2 in
+    let u = parts_of_ok_unless (may_stand (stands_in f.0) section) WrongSection _ item c.1 in
+    let o = parts_of_ok_bind (operands_of (in_image (stated before) f.0) (operand_texts statement)) _ item u.1 in
+    subst (MayStand (stated before) section) (ok_is_injective _ item o.2)
+    (item_of_form_may_stand (stated before) section f.0 (operand_texts statement) o.0 u.0 o.1)
 
 -- ---- the whole guest
 
 -- within its limits, and all of it fits
-pub guest_fits : (g : Guest) → HasLimits g → AllByRecursion IsWord g.code → AllByRecursion IsByte g.bytes → AllByRecursion IsWord g.words
+pub guest_within_limits_is_guest : (g : Guest) → HasLimits g → AllByRecursion IsWord g.code → AllByRecursion IsByte g.bytes → AllByRecursion IsWord g.words
     → IsGuest g
-guest_fits g l code bytes words = record {
+guest_within_limits_is_guest g l code bytes words = record {
   some_thread = l.some_thread;
   few_threads = l.few_threads;
   short_code = l.short_code;
@@ -214,8 +214,8 @@ pub record IsSound (s : Seen) : Type 0 where
   pub labels : LabelsFit s.labels
   pub few : HaveFewWords (stated s.form) s.placed
 
-pub nothing_sound : IsSound nothing_seen
-nothing_sound = record {
+pub nothing_seen_is_sound : IsSound nothing_seen
+nothing_seen_is_sound = record {
   code = refl;
   bytes = refl;
   entries = refl;
@@ -229,33 +229,33 @@ nothing_sound = record {
   few = tt;
 }
 
-total_push : (size : Item → ℕ) (placed : List Placed) (x : Placed) → total size (placed ++ x ∷ []) ≡ total size placed + size x.item
-total_push size placed x = sum_by-append (λ y. size y.item) placed (x ∷ []) ∙ omega arith
+total_after_push : (size : Item → ℕ) (placed : List Placed) (x : Placed) → total size (placed ++ x ∷ []) ≡ total size placed + size x.item
+total_after_push size placed x = sum_by-append (λ y. size y.item) placed (x ∷ []) ∙ omega arith
 
 -- one item more
-item_sound : (s : Seen) (line a c d n : ℕ) (item : Item) → IsSound s → HasFewWords (stated s.form) item → code_size item % 4 ≡ 0
+sound_after_item : (s : Seen) (line a c d n : ℕ) (item : Item) → IsSound s → HasFewWords (stated s.form) item → code_size item % 4 ≡ 0
     → c ≡ s.code + code_size item → d ≡ s.filled + data_size item → n ≡ s.threads + entry_count item → c ≤ 4 * most_code_words
     → d ≤ memory_size → n ≤ (limits_of (stated s.form)).threads
     → IsSound (placed_at line a item (record s { code = c; filled = d; threads = n }))
-item_sound s line a c d n item h few whole is_code is_data is_entry short_code short_data few_threads =
+sound_after_item s line a c d n item h few whole is_code is_data is_entry short_code short_data few_threads =
     let x : Placed = record { line = line; address = a; item = item } in
     record {
-      code = omega (arith, total_push code_size s.placed x, h.code, is_code);
-      bytes = omega (arith, total_push data_size s.placed x, h.bytes, is_data);
-      entries = omega (arith, total_push entry_count s.placed x, h.entries, is_entry);
+      code = omega (arith, total_after_push code_size s.placed x, h.code, is_code);
+      bytes = omega (arith, total_after_push data_size s.placed x, h.bytes, is_data);
+      entries = omega (arith, total_after_push entry_count s.placed x, h.entries, is_entry);
       aligned = omega (arith, h.aligned, whole, is_code);
       short_code = short_code;
       short_data = short_data;
       few_threads = few_threads;
       few_objects = h.few_objects;
       labels = h.labels;
-      few = all_push (λ y. HasFewWords (stated s.form) y.item) s.placed x h.few few;
+      few = all_by_recursion_after_push (λ y. HasFewWords (stated s.form) y.item) s.placed x h.few few;
     }
 
 -- nothing more
-other_sound : (s : Seen) (section : Section) (c d o : ℕ) → IsSound s → c ≡ s.code → d ≡ s.filled → o ≤ (limits_of (stated s.form)).objects
+sound_without_new_item : (s : Seen) (section : Section) (c d o : ℕ) → IsSound s → c ≡ s.code → d ≡ s.filled → o ≤ (limits_of (stated s.form)).objects
     → IsSound (record s { section = section; code = c; filled = d; objects = o })
-other_sound s section c d o h is_code is_data few = record {
+sound_without_new_item s section c d o h is_code is_data few = record {
   code = h.code ∙ sym is_code;
   bytes = h.bytes ∙ sym is_data;
   entries = h.entries;
@@ -269,8 +269,8 @@ other_sound s section c d o h is_code is_data few = record {
 }
 
 -- once there is a statement
-begun_sound : (s : Seen) → IsSound s → IsSound (begun s)
-begun_sound s h = record {
+sound_once_begun : (s : Seen) → IsSound s → IsSound (begun s)
+sound_once_begun s h = record {
   code = h.code;
   bytes = h.bytes;
   entries = h.entries;
@@ -284,124 +284,124 @@ begun_sound s h = record {
 }
 
 -- what is few in any form is few in a large one
-wider : (image : ImageForm) (item : Item) → HasFewWords image item → HasFewWords Large item
-wider image (First object words) h = let most = most_words image in omega (arith, most, h)
-wider image item h = tt
+few_words_in_large_image : (image : ImageForm) (item : Item) → HasFewWords image item → HasFewWords Large item
+few_words_in_large_image image (First object words) h = let most = words_of_form_at_most_limit image in omega (arith, most, h)
+few_words_in_large_image image item h = tt
 
-all_wider : (image : ImageForm) (xs : List Placed) → HaveFewWords image xs → HaveFewWords Large xs
-all_wider image [] h = tt
-all_wider image (x ∷ xs) h = (wider image x.item h.0, all_wider image xs h.1)
+all_few_words_in_large_image : (image : ImageForm) (xs : List Placed) → HaveFewWords image xs → HaveFewWords Large xs
+all_few_words_in_large_image image [] h = tt
+all_few_words_in_large_image image (x ∷ xs) h = (few_words_in_large_image image x.item h.0, all_few_words_in_large_image image xs h.1)
 
 -- a large image
-large_sound : (s : Seen) (c d : ℕ) → IsSound s → c ≡ s.code → d ≡ s.filled
+sound_after_large : (s : Seen) (c d : ℕ) → IsSound s → c ≡ s.code → d ≡ s.filled
     → IsSound (record s { form = Some Large; code = c; filled = d })
-large_sound s c d h is_code is_data = record {
+sound_after_large s c d h is_code is_data = record {
   code = h.code ∙ sym is_code;
   bytes = h.bytes ∙ sym is_data;
   entries = h.entries;
   aligned = omega (arith, h.aligned, is_code);
   short_code = omega (arith, h.short_code, is_code);
   short_data = omega (arith, h.short_data, is_data);
-  few_threads = let most = threads_of (stated s.form) in let few = h.few_threads in omega (arith, most, few);
-  few_objects = let most = objects_of (stated s.form) in let few = h.few_objects in omega (arith, most, few);
+  few_threads = let most = threads_of_form_at_most_limit (stated s.form) in let few = h.few_threads in omega (arith, most, few);
+  few_objects = let most = objects_of_form_at_most_limit (stated s.form) in let few = h.few_objects in omega (arith, most, few);
   labels = h.labels;
-  few = all_wider (stated s.form) s.placed h.few;
+  few = all_few_words_in_large_image (stated s.form) s.placed h.few;
 }
 
 -- an item of text
-text_item : (s t : Seen) (line a : ℕ) (item : Item) → IsSound s → MayStand (stated s.form) Text item → s.code + size_of item ≤ 4 * most_code_words
+sound_after_text_item : (s t : Seen) (line a : ℕ) (item : Item) → IsSound s → MayStand (stated s.form) Text item → s.code + size_of item ≤ 4 * most_code_words
     → entered line a (laid Text item) (record s { code = s.code + size_of item }) ≡ Ok t → IsSound t
-text_item s t line a (Code words) h m l e = subst IsSound (ok_is _ t e)
-    (item_sound s line a (s.code + 4 * length words) s.filled s.threads (Code words) h tt (omega arith) refl (omega arith) (omega arith) l
+sound_after_text_item s t line a (Code words) h m l e = subst IsSound (ok_is_injective _ t e)
+    (sound_after_item s line a (s.code + 4 * length words) s.filled s.threads (Code words) h tt (omega arith) refl (omega arith) (omega arith) l
     h.short_data h.few_threads)
-text_item s t line a (BranchTo op rs1 rs2 label) h m l e =
-    subst IsSound (ok_is _ t e) (item_sound s line a (s.code + 4) s.filled s.threads (BranchTo op rs1 rs2 label) h tt
+sound_after_text_item s t line a (BranchTo op rs1 rs2 label) h m l e =
+    subst IsSound (ok_is_injective _ t e) (sound_after_item s line a (s.code + 4) s.filled s.threads (BranchTo op rs1 rs2 label) h tt
     refl refl (omega arith) (omega arith) l h.short_data h.few_threads)
-text_item s t line a (JumpTo rd label) h m l e =
-    subst IsSound (ok_is _ t e) (item_sound s line a (s.code + 4) s.filled s.threads (JumpTo rd label) h tt refl refl (omega arith)
+sound_after_text_item s t line a (JumpTo rd label) h m l e =
+    subst IsSound (ok_is_injective _ t e) (sound_after_item s line a (s.code + 4) s.filled s.threads (JumpTo rd label) h tt refl refl (omega arith)
     (omega arith) l h.short_data h.few_threads)
-text_item s t line a (LoadAddress rd label) h m l e =
-    subst IsSound (ok_is _ t e) (item_sound s line a (s.code + 8) s.filled s.threads (LoadAddress rd label) h tt refl refl (omega arith)
+sound_after_text_item s t line a (LoadAddress rd label) h m l e =
+    subst IsSound (ok_is_injective _ t e) (sound_after_item s line a (s.code + 8) s.filled s.threads (LoadAddress rd label) h tt refl refl (omega arith)
     (omega arith) l h.short_data h.few_threads)
-text_item s t line a (Filled bytes) h m l e = absurd m
-text_item s t line a Enlarged h m l e = subst IsSound (ok_is _ t e) (large_sound s (s.code + 0) s.filled h (omega arith) refl)
-text_item s t line a (Within section) h m l e =
-    subst IsSound (ok_is _ t e) (other_sound s section (s.code + 0) s.filled s.objects h (omega arith) refl h.few_objects)
-text_item s t line a (Entry label) h m l e =
-    let u = tested (nat_lt s.threads (limits_of (stated s.form)).threads) BadCount _ t e in
+sound_after_text_item s t line a (Filled bytes) h m l e = absurd m
+sound_after_text_item s t line a Enlarged h m l e = subst IsSound (ok_is_injective _ t e) (sound_after_large s (s.code + 0) s.filled h (omega arith) refl)
+sound_after_text_item s t line a (Within section) h m l e =
+    subst IsSound (ok_is_injective _ t e) (sound_without_new_item s section (s.code + 0) s.filled s.objects h (omega arith) refl h.few_objects)
+sound_after_text_item s t line a (Entry label) h m l e =
+    let u = test_and_value_of_ok_unless (nat_lt s.threads (limits_of (stated s.form)).threads) BadCount _ t e in
     let below : s.threads < (limits_of (stated s.form)).threads = ltb-true s.threads (limits_of (stated s.form)).threads u.0 in
-    subst IsSound u.1 (item_sound s line a (s.code + 0) s.filled (s.threads + 1) (Entry label) h tt refl refl (omega arith) refl l
+    subst IsSound u.1 (sound_after_item s line a (s.code + 0) s.filled (s.threads + 1) (Entry label) h tt refl refl (omega arith) refl l
     h.short_data (omega (arith, below)))
-text_item s t line a (Count n) h m l e = subst IsSound (ok_is _ t e)
-    (other_sound s s.section (s.code + 0) s.filled n h (omega arith) refl m)
-text_item s t line a (First object words) h m l e =
-    subst IsSound (ok_is _ t e) (item_sound s line a (s.code + 0) s.filled s.threads (First object words) h m refl refl (omega arith)
+sound_after_text_item s t line a (Count n) h m l e = subst IsSound (ok_is_injective _ t e)
+    (sound_without_new_item s s.section (s.code + 0) s.filled n h (omega arith) refl m)
+sound_after_text_item s t line a (First object words) h m l e =
+    subst IsSound (ok_is_injective _ t e) (sound_after_item s line a (s.code + 0) s.filled s.threads (First object words) h m refl refl (omega arith)
     (omega arith) l h.short_data h.few_threads)
-text_item s t line a Nothing h m l e = subst IsSound (ok_is _ t e)
-    (other_sound s s.section (s.code + 0) s.filled s.objects h (omega arith) refl h.few_objects)
+sound_after_text_item s t line a Nothing h m l e = subst IsSound (ok_is_injective _ t e)
+    (sound_without_new_item s s.section (s.code + 0) s.filled s.objects h (omega arith) refl h.few_objects)
 
-spelled_length : (words : List ℕ) → length (flat_map (little_bytes 4) words) ≡ 4 * length words
-spelled_length [] = refl
-spelled_length (w ∷ words) = omega (arith, length-append (little_bytes 4 w) (flat_map (little_bytes 4) words), spelled_length words)
+length_of_little_bytes_of_words : (words : List ℕ) → length (flat_map (little_bytes 4) words) ≡ 4 * length words
+length_of_little_bytes_of_words [] = refl
+length_of_little_bytes_of_words (w ∷ words) = omega (arith, length-append (little_bytes 4 w) (flat_map (little_bytes 4) words), length_of_little_bytes_of_words words)
 
 -- an item of data
-data_item : (s t : Seen) (line a : ℕ) (item : Item) → IsSound s → MayStand (stated s.form) Data item → s.filled + size_of item ≤ memory_size
+sound_after_data_item : (s t : Seen) (line a : ℕ) (item : Item) → IsSound s → MayStand (stated s.form) Data item → s.filled + size_of item ≤ memory_size
     → entered line a (laid Data item) (record s { filled = s.filled + size_of item }) ≡ Ok t → IsSound t
-data_item s t line a (Code words) h m l e = subst IsSound (ok_is _ t e)
-    (item_sound s line a s.code (s.filled + 4 * length words) s.threads (Filled (flat_map (little_bytes 4) words)) h tt refl (omega arith)
-    (omega (arith, spelled_length words)) (omega arith) h.short_code l h.few_threads)
-data_item s t line a (BranchTo op rs1 rs2 label) h m l e = absurd m
-data_item s t line a (JumpTo rd label) h m l e = absurd m
-data_item s t line a (LoadAddress rd label) h m l e = absurd m
-data_item s t line a (Filled bytes) h m l e = subst IsSound (ok_is _ t e)
-    (item_sound s line a s.code (s.filled + length bytes) s.threads (Filled bytes) h tt refl (omega arith) refl (omega arith) h.short_code l
+sound_after_data_item s t line a (Code words) h m l e = subst IsSound (ok_is_injective _ t e)
+    (sound_after_item s line a s.code (s.filled + 4 * length words) s.threads (Filled (flat_map (little_bytes 4) words)) h tt refl (omega arith)
+    (omega (arith, length_of_little_bytes_of_words words)) (omega arith) h.short_code l h.few_threads)
+sound_after_data_item s t line a (BranchTo op rs1 rs2 label) h m l e = absurd m
+sound_after_data_item s t line a (JumpTo rd label) h m l e = absurd m
+sound_after_data_item s t line a (LoadAddress rd label) h m l e = absurd m
+sound_after_data_item s t line a (Filled bytes) h m l e = subst IsSound (ok_is_injective _ t e)
+    (sound_after_item s line a s.code (s.filled + length bytes) s.threads (Filled bytes) h tt refl (omega arith) refl (omega arith) h.short_code l
     h.few_threads)
-data_item s t line a Enlarged h m l e = subst IsSound (ok_is _ t e) (large_sound s s.code (s.filled + 0) h refl (omega arith))
-data_item s t line a (Within section) h m l e =
-    subst IsSound (ok_is _ t e) (other_sound s section s.code (s.filled + 0) s.objects h refl (omega arith) h.few_objects)
-data_item s t line a (Entry label) h m l e =
-    let u = tested (nat_lt s.threads (limits_of (stated s.form)).threads) BadCount _ t e in
+sound_after_data_item s t line a Enlarged h m l e = subst IsSound (ok_is_injective _ t e) (sound_after_large s s.code (s.filled + 0) h refl (omega arith))
+sound_after_data_item s t line a (Within section) h m l e =
+    subst IsSound (ok_is_injective _ t e) (sound_without_new_item s section s.code (s.filled + 0) s.objects h refl (omega arith) h.few_objects)
+sound_after_data_item s t line a (Entry label) h m l e =
+    let u = test_and_value_of_ok_unless (nat_lt s.threads (limits_of (stated s.form)).threads) BadCount _ t e in
     let below : s.threads < (limits_of (stated s.form)).threads = ltb-true s.threads (limits_of (stated s.form)).threads u.0 in
-    subst IsSound u.1 (item_sound s line a s.code (s.filled + 0) (s.threads + 1) (Entry label) h tt refl (omega arith)
+    subst IsSound u.1 (sound_after_item s line a s.code (s.filled + 0) (s.threads + 1) (Entry label) h tt refl (omega arith)
     refl refl h.short_code l (omega (arith, below)))
-data_item s t line a (Count n) h m l e = subst IsSound (ok_is _ t e)
-    (other_sound s s.section s.code (s.filled + 0) n h refl (omega arith) m)
-data_item s t line a (First object words) h m l e =
-    subst IsSound (ok_is _ t e) (item_sound s line a s.code (s.filled + 0) s.threads (First object words) h m refl (omega arith)
+sound_after_data_item s t line a (Count n) h m l e = subst IsSound (ok_is_injective _ t e)
+    (sound_without_new_item s s.section s.code (s.filled + 0) n h refl (omega arith) m)
+sound_after_data_item s t line a (First object words) h m l e =
+    subst IsSound (ok_is_injective _ t e) (sound_after_item s line a s.code (s.filled + 0) s.threads (First object words) h m refl (omega arith)
     refl (omega arith) h.short_code l h.few_threads)
-data_item s t line a Nothing h m l e = subst IsSound (ok_is _ t e)
-    (other_sound s s.section s.code (s.filled + 0) s.objects h refl (omega arith) h.few_objects)
+sound_after_data_item s t line a Nothing h m l e = subst IsSound (ok_is_injective _ t e)
+    (sound_without_new_item s s.section s.code (s.filled + 0) s.objects h refl (omega arith) h.few_objects)
 
 -- an item of a section
-section_item : (section : Section) (s t : Seen) (line a : ℕ) (item : Item) → IsSound s → MayStand (stated s.form) section item
+sound_after_section_item : (section : Section) (s t : Seen) (line a : ℕ) (item : Item) → IsSound s → MayStand (stated s.form) section item
     → (grown section (size_of item) s >>= λ u. entered line a (laid section item) u) ≡ Ok t → IsSound t
-section_item Text s t line a item h m e =
-    let b = bind_ok (grown Text (size_of item) s) _ t e in
-    let u = tested (nat_le (s.code + size_of item) (4 * most_code_words)) BadSize _ b.0 b.1 in
-    text_item s t line a item h m (leb-true _ (4 * most_code_words) u.0)
+sound_after_section_item Text s t line a item h m e =
+    let b = parts_of_ok_bind (grown Text (size_of item) s) _ t e in
+    let u = test_and_value_of_ok_unless (nat_le (s.code + size_of item) (4 * most_code_words)) BadSize _ b.0 b.1 in
+    sound_after_text_item s t line a item h m (leb-true _ (4 * most_code_words) u.0)
     (subst (λ v. entered line a (laid Text item) v ≡ Ok t) (sym u.1) b.2)
-section_item Data s t line a item h m e =
-    let b = bind_ok (grown Data (size_of item) s) _ t e in
-    let u = tested (nat_le (s.filled + size_of item) memory_size) BadSize _ b.0 b.1 in
-    data_item s t line a item h m (leb-true _ memory_size u.0) (subst (λ v. entered line a (laid Data item) v ≡ Ok t) (sym u.1) b.2)
+sound_after_section_item Data s t line a item h m e =
+    let b = parts_of_ok_bind (grown Data (size_of item) s) _ t e in
+    let u = test_and_value_of_ok_unless (nat_le (s.filled + size_of item) memory_size) BadSize _ b.0 b.1 in
+    sound_after_data_item s t line a item h m (leb-true _ memory_size u.0) (subst (λ v. entered line a (laid Data item) v ≡ Ok t) (sym u.1) b.2)
 
 -- a statement
-statement_sound : (line : ℕ) (statement : List ℕ) (s t : Seen) → IsSound s → with_statement line statement s ≡ Ok t → IsSound t
-statement_sound line [] s t h e = subst IsSound (ok_is s t e) h
-statement_sound line (b ∷ bs) s t h e =
-    let i = bind_ok (item_in s.form s.section (b ∷ bs)) _ t e in
-    section_item s.section (begun s) t line (here (begun s)).address i.0 (begun_sound s h) (item_stands s.form s.section (b ∷ bs) i.0 i.1)
+sound_after_statement : (line : ℕ) (statement : List ℕ) (s t : Seen) → IsSound s → with_statement line statement s ≡ Ok t → IsSound t
+sound_after_statement line [] s t h e = subst IsSound (ok_is_injective s t e) h
+sound_after_statement line (b ∷ bs) s t h e =
+    let i = parts_of_ok_bind (item_in s.form s.section (b ∷ bs)) _ t e in
+    sound_after_section_item s.section (begun s) t line (here (begun s)).address i.0 (sound_once_begun s h) (item_of_statement_may_stand s.form s.section (b ∷ bs) i.0 i.1)
     i.2
 
-here_fits : (s : Seen) → IsSound s → IsTextPlace (here s).section (here s).address
-here_fits s h = by_section s.section
+here_is_text_place : (s : Seen) → IsSound s → IsTextPlace (here s).section (here s).address
+here_is_text_place s h = by_section s.section
   where
     by_section : (section : Section) → IsTextPlace section (start_of section + size_in section s)
     by_section Text = (omega (arith, h.aligned), omega arith)
     by_section Data = tt
 
-label_sound : (s : Seen) (x : List ℕ) → IsSound s → IsSound (record s { labels = s.labels ++ (x, here s) ∷ [] })
-label_sound s x h = record {
+sound_after_label : (s : Seen) (x : List ℕ) → IsSound s → IsSound (record s { labels = s.labels ++ (x, here s) ∷ [] })
+sound_after_label s x h = record {
   code = h.code;
   bytes = h.bytes;
   entries = h.entries;
@@ -410,32 +410,32 @@ label_sound s x h = record {
   short_data = h.short_data;
   few_threads = h.few_threads;
   few_objects = h.few_objects;
-  labels = all_push (λ l. IsTextPlace l.1.section l.1.address) s.labels (x, here s) h.labels (here_fits s h);
+  labels = all_by_recursion_after_push (λ l. IsTextPlace l.1.section l.1.address) s.labels (x, here s) h.labels (here_is_text_place s h);
   few = h.few;
 }
 
 -- labels
-labels_sound : (labels : List (List ℕ)) (s t : Seen) → IsSound s → with_labels labels s ≡ Ok t → IsSound t
-labels_sound [] s t h e = subst IsSound (ok_is s t e) h
-labels_sound (x ∷ xs) s t h e =
-    let u = unless_ok (not (is_some (named s.labels x))) LabelTwice _ t e in
-    labels_sound xs (record s { labels = s.labels ++ (x, here s) ∷ [] }) t (label_sound s x h) u.1
+sound_after_labels : (labels : List (List ℕ)) (s t : Seen) → IsSound s → with_labels labels s ≡ Ok t → IsSound t
+sound_after_labels [] s t h e = subst IsSound (ok_is_injective s t e) h
+sound_after_labels (x ∷ xs) s t h e =
+    let u = parts_of_ok_unless (not (is_some (named s.labels x))) LabelTwice _ t e in
+    sound_after_labels xs (record s { labels = s.labels ++ (x, here s) ∷ [] }) t (sound_after_label s x h) u.1
 
 -- lines
-lines_sound : (number : ℕ) (lines : List (List ℕ)) (s t : Seen) → IsSound s → first_pass number lines s ≡ Ok t → IsSound t
-lines_sound number [] s t h e = subst IsSound (ok_is s t e) h
-lines_sound number (x ∷ xs) s t h e =
-    let f = bind_ok (at_line number (with_line number (line_of x) s)) _ t e in
-    let l = at_line_ok number (with_line number (line_of x) s) f.0 f.1 in
-    let b = unless_ok (list_all is_source_byte x) BadByte _ f.0 l in
-    let n = unless_ok (list_all is_name (line_of x).labels) BadLabel _ f.0 b.1 in
-    let p = bind_ok (with_labels (line_of x).labels s) _ f.0 n.1 in
-    lines_sound (number + 1) xs f.0 t (statement_sound number (line_of x).statement p.0 f.0 (labels_sound (line_of x).labels s p.0 h p.1)
+sound_after_lines : (number : ℕ) (lines : List (List ℕ)) (s t : Seen) → IsSound s → first_pass number lines s ≡ Ok t → IsSound t
+sound_after_lines number [] s t h e = subst IsSound (ok_is_injective s t e) h
+sound_after_lines number (x ∷ xs) s t h e =
+    let f = parts_of_ok_bind (at_line number (with_line number (line_of x) s)) _ t e in
+    let l = ok_if_at_line_is_ok number (with_line number (line_of x) s) f.0 f.1 in
+    let b = parts_of_ok_unless (list_all is_source_byte x) BadByte _ f.0 l in
+    let n = parts_of_ok_unless (list_all is_name (line_of x).labels) BadLabel _ f.0 b.1 in
+    let p = parts_of_ok_bind (with_labels (line_of x).labels s) _ f.0 n.1 in
+    sound_after_lines (number + 1) xs f.0 t (sound_after_statement number (line_of x).statement p.0 f.0 (sound_after_labels (line_of x).labels s p.0 h p.1)
     p.2) f.2
 
 -- what the first pass saw
-pub seen_sound : (lines : List (List ℕ)) (s t : Seen) → s ≡ nothing_seen → first_pass 1 lines s ≡ Ok t → IsSound t
-seen_sound lines s t e f = lines_sound 1 lines s t (subst IsSound (sym e) nothing_sound) f
+pub first_pass_is_sound : (lines : List (List ℕ)) (s t : Seen) → s ≡ nothing_seen → first_pass 1 lines s ≡ Ok t → IsSound t
+first_pass_is_sound lines s t e f = sound_after_lines 1 lines s t (subst IsSound (sym e) nothing_seen_is_sound) f
 
 -- ---- what is put
 
@@ -448,51 +448,51 @@ record Puts (s : Seen) (xs : List Placed) (g h : Guest) : Type 0 where
   words : length h.words ≡ length g.words
   fit : (n : ℕ) → 4 * n ≡ s.code → AllByRecursion (IsPlace n) g.entries → AllByRecursion (IsPlace n) h.entries
 
-total_next : (size : Item → ℕ) (x : Placed) (xs : List Placed) → total size (x ∷ xs) ≡ size x.item + total size xs
-total_next size x xs = sum_by-append (λ y. size y.item) (x ∷ []) xs ∙ omega arith
+total_of_cons : (size : Item → ℕ) (x : Placed) (xs : List Placed) → total size (x ∷ xs) ≡ size x.item + total size xs
+total_of_cons size x xs = sum_by-append (λ y. size y.item) (x ∷ []) xs ∙ omega arith
 
-all_put : (s : Seen) (xs : List Placed) (g h : Guest) → LabelsFit s.labels → HaveFewWords g.form xs
+second_pass_puts_all : (s : Seen) (xs : List Placed) (g h : Guest) → LabelsFit s.labels → HaveFewWords g.form xs
     → length g.words ≡ object_words g * s.objects → second_pass s xs g ≡ Ok h → Puts s xs g h
-all_put s [] g h fits few there e = subst (Puts s [] g) (ok_is g h e)
+second_pass_puts_all s [] g h fits few there e = subst (Puts s [] g) (ok_is_injective g h e)
     (record { form = refl; code = omega arith; bytes = omega arith; entries = omega arith; words = refl; fit = λ n m all. all })
-all_put s (x ∷ xs) g h fits few there e =
-    let b = bind_ok (at_line x.line (put s x.address x.item g)) _ h e in
-    let a = put_adds s x.address x.item g b.0 few.0 there (at_line_ok x.line _ b.0 b.1) in
+second_pass_puts_all s (x ∷ xs) g h fits few there e =
+    let b = parts_of_ok_bind (at_line x.line (put s x.address x.item g)) _ h e in
+    let a = put_adds_item s x.address x.item g b.0 few.0 there (ok_if_at_line_is_ok x.line _ b.0 b.1) in
     let count : length b.0.words ≡ object_words b.0 * s.objects = a.words ∙ there
     ∙ ap (λ (f : ImageForm). (limits_of f).words * s.objects) (sym a.form) in
-    let p = all_put s xs b.0 h fits (subst (λ (f : ImageForm). HaveFewWords f xs) (sym a.form) few.1) count b.2 in
+    let p = second_pass_puts_all s xs b.0 h fits (subst (λ (f : ImageForm). HaveFewWords f xs) (sym a.form) few.1) count b.2 in
     record {
       form = p.form ∙ a.form;
-      code = omega (arith, a.code, p.code, total_next code_size x xs);
-      bytes = omega (arith, a.bytes, p.bytes, total_next data_size x xs);
-      entries = omega (arith, a.entries, p.entries, total_next entry_count x xs);
+      code = omega (arith, a.code, p.code, total_of_cons code_size x xs);
+      bytes = omega (arith, a.bytes, p.bytes, total_of_cons data_size x xs);
+      entries = omega (arith, a.entries, p.entries, total_of_cons entry_count x xs);
       words = p.words ∙ a.words;
       fit = λ n m all. p.fit n m (a.fit fits n m all);
     }
 
 -- the objects that were announced
-whole_words : (s : Seen) (g : Guest) → Puts s s.placed (started s) g → length g.words ≡ object_words g * s.objects
-whole_words s g p = p.words ∙ length-replicate {A = ℕ} ((limits_of (stated s.form)).words * s.objects) 0
+word_count_of_announced_objects : (s : Seen) (g : Guest) → Puts s s.placed (started s) g → length g.words ≡ object_words g * s.objects
+word_count_of_announced_objects s g p = p.words ∙ length-replicate {A = ℕ} ((limits_of (stated s.form)).words * s.objects) 0
     ∙ ap (λ (f : ImageForm). (limits_of f).words * s.objects) (sym p.form)
 
-few_counted : (s : Seen) (g : Guest) → IsSound s → Puts s s.placed (started s) g → object_count g ≤ (limits_of g.form).objects
-few_counted s g h p =
-    let count = count_of g.form (length g.words) s.objects (whole_words s g p) in
+put_object_count_within_limit : (s : Seen) (g : Guest) → IsSound s → Puts s s.placed (started s) g → object_count g ≤ (limits_of g.form).objects
+put_object_count_within_limit s g h p =
+    let count = object_count_of_whole_objects g.form (length g.words) s.objects (word_count_of_announced_objects s g p) in
     let few = h.few_objects in
     subst (λ (f : ImageForm). object_count g ≤ (limits_of f).objects) (sym p.form) (omega (arith, count, few))
 
 -- with an entry, a guest is within the limits
-entry_limits : (s : Seen) (g : Guest) → IsSound s → 1 ≤ s.code → Puts s s.placed (started s) g → HasLimits (with_entry g)
-entry_limits s g h some p = by_test (length g.entries == 0) refl
+guest_with_entry_has_limits : (s : Seen) (g : Guest) → IsSound s → 1 ≤ s.code → Puts s s.placed (started s) g → HasLimits (with_entry g)
+guest_with_entry_has_limits s g h some p = by_test (length g.entries == 0) refl
   where
     by_test : (b : Bool) → (length g.entries == 0) ≡ b → HasLimits (cond b (record g { entries = code_start ∷ [] }) g)
     by_test true e = record {
       some_thread = omega arith;
-      few_threads = let one = some_threads g.form in omega (arith, one);
+      few_threads = let one = form_has_threads g.form in omega (arith, one);
       short_code = omega (arith, p.code, h.code, h.short_code);
       short_data = omega (arith, p.bytes, h.bytes, h.short_data);
-      whole_objects = whole_of g.form (length g.words) s.objects (whole_words s g p);
-      few_objects = few_counted s g h p;
+      whole_objects = words_of_whole_objects_divide g.form (length g.words) s.objects (word_count_of_announced_objects s g p);
+      few_objects = put_object_count_within_limit s g h p;
       entries_fit = (record { aligned = refl; low = omega arith; high = omega (arith, p.code, h.code, some) }, tt);
     }
     by_test false e = record {
@@ -501,18 +501,18 @@ entry_limits s g h some p = by_test (length g.entries == 0) refl
           (omega (arith, p.entries, h.entries, h.few_threads));
       short_code = omega (arith, p.code, h.code, h.short_code);
       short_data = omega (arith, p.bytes, h.bytes, h.short_data);
-      whole_objects = whole_of g.form (length g.words) s.objects (whole_words s g p);
-      few_objects = few_counted s g h p;
+      whole_objects = words_of_whole_objects_divide g.form (length g.words) s.objects (word_count_of_announced_objects s g p);
+      few_objects = put_object_count_within_limit s g h p;
       entries_fit = p.fit (length g.code) (omega (arith, p.code, h.code)) tt;
     }
 
 -- what the first pass saw and the second put is within the limits
-pub guest_limits : (s : Seen) (g : Guest) → IsSound s → not (s.code == 0) ≡ true → guest_of s ≡ Ok g → HasLimits g
-guest_limits s g h some e =
+pub guest_of_seen_has_limits : (s : Seen) (g : Guest) → IsSound s → not (s.code == 0) ≡ true → guest_of s ≡ Ok g → HasLimits g
+guest_of_seen_has_limits s g h some e =
     let there = length-replicate {A = ℕ} ((limits_of (stated s.form)).words * s.objects) 0 in
-    let b = bind_ok (second_pass s s.placed (started s)) _ g e in
-    subst HasLimits (ok_is _ g b.2) (entry_limits s b.0 h (some_code s.code some)
-    (all_put s s.placed (started s) b.0 h.labels h.few there b.1))
+    let b = parts_of_ok_bind (second_pass s s.placed (started s)) _ g e in
+    subst HasLimits (ok_is_injective _ g b.2) (guest_with_entry_has_limits s b.0 h (some_code s.code some)
+    (second_pass_puts_all s s.placed (started s) b.0 h.labels h.few there b.1))
   where
     some_code : (n : ℕ) → not (n == 0) ≡ true → 1 ≤ n
     some_code zero f = absurd (cc f)

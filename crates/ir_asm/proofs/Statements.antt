@@ -12,7 +12,7 @@ use Rattle.ir_asm.specs.Operands.{operands_of}
 use Rattle.ir_asm.specs.Items.{item_of}
 use Rattle.ir_asm.specs.Source.{line_of, name_of, operand_texts, is_source_byte, may_stand, nothing_seen, begun, with_statement, with_item, with_line}
 use Rattle.ir_asm.specs.Passes.{assembled, IsWordGuest}
-use Rattle.ir_asm.proofs.Pieces.{lacks, split_one}
+use Rattle.ir_asm.proofs.Pieces.{lacks, split_without_separator}
 
 -- the text is a line whose statement st is an instruction with this word
 pub record Says (text st : List ℕ) (word : ℕ) : Type 0 where
@@ -28,13 +28,13 @@ pub record Says (text st : List ℕ) (word : ℕ) : Type 0 where
   pub read : operands_of (in_image Small form) (operand_texts st) ≡ Ok xs
   pub means : item_of (in_image Small form) xs ≡ Code (word ∷ [])
 
-statement_says : (text st : List ℕ) (word : ℕ) (s : Says text st word)
+with_statement_places_said_word : (text st : List ℕ) (word : ℕ) (s : Says text st word)
     → with_statement 1 st nothing_seen ≡ with_item 1 (Code (word ∷ [])) (begun nothing_seen)
-statement_says text st word s = rw (s.some, s.named) (rw (s.stands, s.read) (rw (s.means) refl))
+with_statement_places_said_word text st word s = rw (s.some, s.named) (rw (s.stands, s.read) (rw (s.means) refl))
 
-line_says : (text st : List ℕ) (word : ℕ) (s : Says text st word)
+with_line_places_said_word : (text st : List ℕ) (word : ℕ) (s : Says text st word)
     → with_line 1 (line_of text) nothing_seen ≡ with_item 1 (Code (word ∷ [])) (begun nothing_seen)
-line_says text st word s = rw (s.source, split_one 58 (before 35 text) s.colon) (rw s.trimmed (statement_says text st word s))
+with_line_places_said_word text st word s = rw (s.source, split_without_separator 58 (before 35 text) s.colon) (rw s.trimmed (with_statement_places_said_word text st word s))
 
-pub one_statement : (text st : List ℕ) (word : ℕ) (s : Says text st word) → IsWordGuest (assembled text) word
-one_statement text st word s = rw (split_one 10 text s.feed) (rw (line_says text st word s) refl)
+pub line_that_says_word_assembles : (text st : List ℕ) (word : ℕ) (s : Says text st word) → IsWordGuest (assembled text) word
+line_that_says_word_assembles text st word s = rw (split_without_separator 10 text s.feed) (rw (with_line_places_said_word text st word s) refl)

@@ -25,31 +25,31 @@ onto done (Ok xs) = Ok (done ++ xs)
 onto done (Err e) = Err e
 
 -- one more operand
-pub one_more : (form : Form) (place : ℕ) (done : List Operand) (x : Operand) (text : List ℕ) (texts : List (List ℕ))
+pub onto_read_all_step : (form : Form) (place : ℕ) (done : List Operand) (x : Operand) (text : List ℕ) (texts : List (List ℕ))
     → read (kind_at form place) text ≡ Ok x → onto done (read_all form place (text ∷ texts)) ≡ onto (done ++ x ∷ [])
     (read_all form (place + 1) texts)
-one_more form place done x text texts e = rw e (by_rest (read_all form (place + 1) texts))
+onto_read_all_step form place done x text texts e = rw e (by_rest (read_all form (place + 1) texts))
   where
     by_rest : (r : Result (List Operand) Cause) → onto done (r >>= λ xs. Ok (x ∷ xs)) ≡ onto (done ++ x ∷ []) r
     by_rest (Ok xs) = ap (λ (l : List Operand). Ok l) (sym (append_assoc done (x ∷ []) xs))
     by_rest (Err e) = refl
 
 -- a fault of an operand
-pub one_fault : (form : Form) (place : ℕ) (done : List Operand) (cause : Cause) (text : List ℕ) (texts : List (List ℕ))
+pub onto_read_all_of_faulty_operand : (form : Form) (place : ℕ) (done : List Operand) (cause : Cause) (text : List ℕ) (texts : List (List ℕ))
     → read (kind_at form place) text ≡ Err cause → onto done (read_all form place (text ∷ texts)) ≡ Err cause
-one_fault form place done cause text texts e = rw e refl
+onto_read_all_of_faulty_operand form place done cause text texts e = rw e refl
 
 pub onto_nil : (r : Result (List Operand) Cause) → onto [] r ≡ r
 onto_nil (Ok xs) = refl
 onto_nil (Err e) = refl
 
 -- an operand that is refused
-pub one_refusal : {X : Type 0} (view : X → List Operand) (e : Refusal) (form : Form) (place : ℕ) (done : List Operand) (rest part : List ℕ)
+pub refused_operand_refuses_all : {X : Type 0} (view : X → List Operand) (e : Refusal) (form : Form) (place : ℕ) (done : List Operand) (rest part : List ℕ)
     (whole : Result (List Operand) Cause) →
     split 44 rest ≡ part ∷ drop 1 (split 44 rest)
     → Gives {X = Operand} {Y = Operand} (λ x. x) (Err e) (read (kind_at form place) (trim part)) →
     onto done (read_all form place (map trim (split 44 rest))) ≡ whole → Gives view (Err e) whole
-one_refusal view (Faulty cause) form place done rest part whole s g whole_is =
+refused_operand_refuses_all view (Faulty cause) form place done rest part whole s g whole_is =
     sym whole_is ∙ ap (λ (l : List (List ℕ)). onto done (read_all form place (map trim l))) s
-    ∙ one_fault form place done cause (trim part) (map trim (drop 1 (split 44 rest))) g
-one_refusal view NoMem form place done rest part whole s g whole_is = tt
+    ∙ onto_read_all_of_faulty_operand form place done cause (trim part) (map trim (drop 1 (split 44 rest))) g
+refused_operand_refuses_all view NoMem form place done rest part whole s g whole_is = tt

@@ -16,7 +16,7 @@ use crate::text::{before, first_part, trim};
 use std::alloc::Global;
 
 // After the labels of a line.
-#[tactic(auto, using(crate::proofs::Lines::more_labels, crate::proofs::Lines::no_label, crate::proofs::Passing::label_taken, crate::proofs::Passing::label_refused))]
+#[tactic(auto, using(crate::proofs::Lines::all_but_last_after_first_part, crate::proofs::Lines::all_but_last_of_single, crate::proofs::Passing::with_labels_after_taken_label, crate::proofs::Passing::with_labels_of_refused_label))]
 fn with_labels(alloc: Global, scan: &mut Scan, text: &[u8]) -> Result<(), Refusal>
     ensures { Makes scan.new result (with_labels (map trim (all_but_last (split 58 text.now))) scan.old) }
 {
@@ -61,7 +61,7 @@ fn with_line(alloc: Global, scan: &mut Scan, number: usize, line: &[u8]) -> Resu
 }
 
 // A line without the carriage return at its end.
-#[tactic(auto, using(crate::proofs::Passing::return_gone, crate::proofs::Passing::return_kept))]
+#[tactic(auto, using(crate::proofs::Passing::without_return_drops_last_return, crate::proofs::Passing::without_return_keeps_other_end))]
 fn without_return(line: &[u8]) -> &[u8]
     ensures { result.now ≡ without_return line.now }
 {
@@ -72,7 +72,7 @@ fn without_return(line: &[u8]) -> &[u8]
 }
 
 // The first line, and what follows its line feed, if it is not the last.
-#[tactic(auto, using(crate::proofs::Passing::line_taken))]
+#[tactic(auto, using(crate::proofs::Passing::without_returns_of_first_line))]
 fn first_line(text: &[u8]) -> (&[u8], Option<&[u8]>)
     ensures lines { MatchOption result.1 (lines_of text.now ≡ result.0.now ∷ []) (λ rest. lines_of text.now ≡ result.0.now ∷ lines_of rest.now) }
     ensures shorter { IfSome result.1 (λ rest. length rest.now < length text.now) }

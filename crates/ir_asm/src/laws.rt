@@ -21,7 +21,7 @@ pub fn word_law()
 }
 
 /// The first line with a fault of the first pass is the one that is named, whatever follows it.
-#[tactic(auto, using(crate::proofs::Firsts::first_fault))]
+#[tactic(auto, using(crate::proofs::Firsts::assembled_lines_fault_at_refused_line))]
 pub fn first_fault()
     ensures { (before after : List (List ℕ)) (line : List ℕ) (s : Seen) (cause : Cause) →
         first_pass 1 before nothing_seen ≡ Ok s →
@@ -32,7 +32,7 @@ pub fn first_fault()
 /// If the first pass has no fault and there is code, the fault of a source is that of the first of its placed
 /// statements, in the order of their lines, that has one. Its label is missing, in the wrong section or too far away,
 /// or its object isn't there.
-#[tactic(auto, using(crate::proofs::OrderLaws::in_order))]
+#[tactic(auto, using(crate::proofs::OrderLaws::first_pass_places_in_order))]
 pub fn second_fault()
     ensures order { (lines : List (List ℕ)) (s : Seen) → first_pass 1 lines nothing_seen ≡ Ok s → AreInOrder 1 s.placed }
     ensures exact { (lines : List (List ℕ)) (s : Seen) (fault : Fault) →

@@ -17,7 +17,7 @@ fn digit(byte: u8, radix: u32) -> Option<u64>
 }
 
 // The value of at least one and at most `most` digits to a base.
-#[tactic(auto, using(crate::proofs::Numerals::grows, crate::proofs::Numerals::ten_digits))]
+#[tactic(auto, using(crate::proofs::Numerals::value_bound_after_next_digit, crate::proofs::Numerals::ten_hex_digits_within_40_bits))]
 fn numeral(radix: u32, most: usize, digits: &[u8]) -> Option<u64>
     requires base { (radix ≡ 10) ⊎ (radix ≡ 16) }
     requires few { most ≤ 10 }

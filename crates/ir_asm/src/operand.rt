@@ -71,7 +71,7 @@ fn name(alloc: Global, text: &[u8]) -> Result<Name, AllocError>
 }
 
 // What comes before the one closing parenthesis, which ends the text.
-#[tactic(auto, using(crate::proofs::Cuts::goes_on))]
+#[tactic(auto, using(crate::proofs::Cuts::no_parentheses_if_text_follows))]
 fn before_closing(text: &[u8]) -> Option<&[u8]>
     ensures { MatchOption result ((imm : List ℕ) → in_parentheses (imm ∷ []) (split 41 text.now) ≡ None) (λ base. split 41 text.now ≡ base.now ∷ [] ∷ []) }
 {
@@ -82,7 +82,7 @@ fn before_closing(text: &[u8]) -> Option<&[u8]>
 }
 
 // The text, if it is the only part between such bytes.
-#[tactic(auto, using(crate::proofs::Cuts::not_single))]
+#[tactic(auto, using(crate::proofs::Cuts::split_is_not_single_part))]
 fn only_part(text: &[u8], byte: u8) -> Option<&[u8]>
     ensures { MatchOption result ((p : List ℕ) → split byte text.now ≡ p ∷ [] → ⊥) (λ part. split byte text.now ≡ part.now ∷ []) }
 {
@@ -93,7 +93,7 @@ fn only_part(text: &[u8], byte: u8) -> Option<&[u8]>
 }
 
 // The parts of an address, which are a number and a register in parentheses.
-#[tactic(auto, using(crate::proofs::Cuts::opened_twice, crate::proofs::Cuts::closed_early))]
+#[tactic(auto, using(crate::proofs::Cuts::no_address_if_opened_twice, crate::proofs::Cuts::no_address_if_closed_early))]
 fn address(text: &[u8]) -> Option<(&[u8], &[u8])>
     ensures { MatchOption result (address text.now ≡ None) (λ parts. address text.now ≡ Some (parts.0.now, parts.1.now)) }
 {

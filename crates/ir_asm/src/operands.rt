@@ -54,7 +54,7 @@ fn are_formed(form: Form, text: &[u8]) -> bool
 }
 
 // What the operands say.
-#[tactic(auto, using(crate::proofs::Texts::one_more, crate::proofs::Texts::onto_nil, crate::proofs::Texts::one_refusal))]
+#[tactic(auto, using(crate::proofs::Texts::onto_read_all_step, crate::proofs::Texts::onto_nil, crate::proofs::Texts::refused_operand_refuses_all))]
 fn read_all(alloc: Global, form: Form, text: &[u8]) -> Result<Vec<Operand>, Refusal>
     ensures { Gives (λ v. v.items) result (read_all form 0 (texts_of text.now)) }
 {

@@ -119,7 +119,7 @@ fn put_entry(scan: &Scan, parts: &mut Parts, label: &Name) -> Result<(), Refusal
 }
 
 // The first words of an object, which has to be one.
-#[tactic(auto, using(crate::proofs::Kept::room_for))]
+#[tactic(auto, using(crate::proofs::Kept::object_has_room))]
 fn put_object(scan: &Scan, parts: &mut Parts, object: u32, words: &[u32]) -> Result<(), Refusal>
     requires few { length words.now ≤ object_words parts.old }
     requires there { length parts.old.words ≡ object_words parts.old * scan.now.objects }

@@ -46,7 +46,7 @@ pub fn trim(text: &[u8]) -> &[u8]
 }
 
 // How many bytes come before the first that is this one.
-#[tactic(auto, using(crate::proofs::Cuts::cut_before, crate::proofs::Cuts::cut_after))]
+#[tactic(auto, using(crate::proofs::Cuts::take_is_until_first_match, crate::proofs::Cuts::drop_is_from_first_match))]
 fn length_before(text: &[u8], byte: u8) -> usize
     ensures within { result ≤ length text.now }
     ensures before { take result text.now ≡ until (λ b. b == byte) text.now }
@@ -67,7 +67,7 @@ pub fn before(text: &[u8], byte: u8) -> &[u8]
 }
 
 // The first of the parts between such bytes, and what follows it, if it is not the last.
-#[tactic(auto, using(crate::proofs::Cuts::split_by, crate::proofs::Cuts::first_is))]
+#[tactic(auto, using(crate::proofs::Cuts::split_is_split_rest, crate::proofs::Cuts::split_begins_with_part))]
 pub fn first_part(text: &[u8], byte: u8) -> (&[u8], Option<&[u8]>)
     ensures parts { MatchOption result.1 (split byte text.now ≡ result.0.now ∷ []) (λ rest. split byte text.now ≡ result.0.now ∷ split byte rest.now) }
     ensures first { split byte text.now ≡ result.0.now ∷ drop 1 (split byte text.now) }
@@ -81,7 +81,7 @@ pub fn first_part(text: &[u8], byte: u8) -> (&[u8], Option<&[u8]>)
 }
 
 // How many bytes come before the first blank.
-#[tactic(auto, using(crate::proofs::Cuts::cut_before, crate::proofs::Cuts::cut_after))]
+#[tactic(auto, using(crate::proofs::Cuts::take_is_until_first_match, crate::proofs::Cuts::drop_is_from_first_match))]
 fn length_unblank(text: &[u8]) -> usize
     ensures within { result ≤ length text.now }
     ensures before { take result text.now ≡ until is_blank text.now }

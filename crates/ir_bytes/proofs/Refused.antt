@@ -25,103 +25,103 @@ Refuses short trailing read format = (bytes : List ℕ) → fault_of (read bytes
 
 -- ---- one field
 
-judged_by : {X E : Type 0} (o : Option E) (x : X) (later : X → Option E) → or_later o (later x) ≡ after_reading (judged o x) later
-judged_by (Some e) x later = refl
-judged_by None x later = refl
+fault_after_judged : {X E : Type 0} (o : Option E) (x : X) (later : X → Option E) → or_later o (later x) ≡ after_reading (judged o x) later
+fault_after_judged (Some e) x later = refl
+fault_after_judged None x later = refl
 
-field_by : {E : Type 0} (b : Bool) (short : E) (fault : ℕ → Option E) (x : ℕ × List ℕ) (later : ℕ × List ℕ → Option E)
+fault_after_conditional_field : {E : Type 0} (b : Bool) (short : E) (fault : ℕ → Option E) (x : ℕ × List ℕ) (later : ℕ × List ℕ → Option E)
     → cond b (Some short) (or_later (fault x.0) (later x)) ≡ after_reading (cond b (Err short) (Ok x) >>= λ n. judged (fault n.0) n) later
-field_by true short fault x later = refl
-field_by false short fault x later = judged_by (fault x.0) x later
+fault_after_conditional_field true short fault x later = refl
+fault_after_conditional_field false short fault x later = fault_after_judged (fault x.0) x later
 
-pub field_follows : {E : Type 0} (short trailing : E) (f : Field E) → Follows short trailing (field_at short f) (next f)
+pub field_at_follows_field : {E : Type 0} (short trailing : E) (f : Field E) → Follows short trailing (field_at short f) (next f)
 unfolding field_at number_at
-field_follows short trailing f after bytes =
-    field_by (ltb (length bytes) f.size) short f.fault (little_number f.size bytes, drop f.size bytes)
+field_at_follows_field short trailing f after bytes =
+    fault_after_conditional_field (ltb (length bytes) f.size) short f.fault (little_number f.size bytes, drop f.size bytes)
     (λ x. first_refused short trailing (after x.0) x.1)
 
-plain_by : {A E : Type 0} (b : Bool) (short : E) (x : A) (later : A → Option E)
+fault_after_conditional_number : {A E : Type 0} (b : Bool) (short : E) (x : A) (later : A → Option E)
     → cond b (Some short) (later x) ≡ after_reading (cond b (Err short) (Ok x)) later
-plain_by true short x later = refl
-plain_by false short x later = refl
+fault_after_conditional_number true short x later = refl
+fault_after_conditional_number false short x later = refl
 
-pub number_follows : {E : Type 0} (short trailing : E) (size : ℕ) → Follows short trailing (number_at short size) (next (plain size))
+pub number_at_follows_plain_field : {E : Type 0} (short trailing : E) (size : ℕ) → Follows short trailing (number_at short size) (next (plain size))
 unfolding number_at
-number_follows short trailing size after bytes =
-    plain_by (ltb (length bytes) size) short (little_number size bytes, drop size bytes)
+number_at_follows_plain_field short trailing size after bytes =
+    fault_after_conditional_number (ltb (length bytes) size) short (little_number size bytes, drop size bytes)
     (λ x. first_refused short trailing (after x.0) x.1)
 
-pub bytes_begin : {E : Type 0} (short trailing : E) (n : ℕ) → Begins short trailing (bytes_at short n) (before (plain n))
+pub bytes_at_begins_with_plain_field : {E : Type 0} (short trailing : E) (n : ℕ) → Begins short trailing (bytes_at short n) (before (plain n))
 unfolding bytes_at
-bytes_begin short trailing n rest bytes =
-    plain_by (ltb (length bytes) n) short (take n bytes, drop n bytes) (λ x. first_refused short trailing rest x.1)
+bytes_at_begins_with_plain_field short trailing n rest bytes =
+    fault_after_conditional_number (ltb (length bytes) n) short (take n bytes, drop n bytes) (λ x. first_refused short trailing rest x.1)
 
-pub field_begins : {E : Type 0} (short trailing : E) (f : Field E) → Begins short trailing (field_at short f) (before f)
-field_begins short trailing f rest = field_follows short trailing f (λ _. rest)
+pub field_at_begins_with_field : {E : Type 0} (short trailing : E) (f : Field E) → Begins short trailing (field_at short f) (before f)
+field_at_begins_with_field short trailing f rest = field_at_follows_field short trailing f (λ _. rest)
 
-pub number_begins : {E : Type 0} (short trailing : E) (size : ℕ) → Begins short trailing (number_at short size) (before (plain size))
-number_begins short trailing size rest = number_follows short trailing size (λ _. rest)
+pub number_at_begins_with_plain_field : {E : Type 0} (short trailing : E) (size : ℕ) → Begins short trailing (number_at short size) (before (plain size))
+number_at_begins_with_plain_field short trailing size rest = number_at_follows_plain_field short trailing size (λ _. rest)
 
 -- ---- one after the other
 
-joined : {A B E : Type 0} (r : Result A E) (s : A → Result B E) (now : A → Option E) (later : B → Option E)
+after_reading_of_sequence : {A B E : Type 0} (r : Result A E) (s : A → Result B E) (now : A → Option E) (later : B → Option E)
     → ((a : A) → now a ≡ after_reading (s a) later) → after_reading r now ≡ after_reading (r >>= s) later
-joined (Ok a) s now later h = h a
-joined (Err e) s now later h = refl
+after_reading_of_sequence (Ok a) s now later h = h a
+after_reading_of_sequence (Err e) s now later h = refl
 
-settled : {A Y E : Type 0} (r : Result A E) (s : A → Result Y E) (later : A → Option E) → ((a : A) → fault_of (s a) ≡ later a)
+fault_of_sequence : {A Y E : Type 0} (r : Result A E) (s : A → Result Y E) (later : A → Option E) → ((a : A) → fault_of (s a) ≡ later a)
     → fault_of (r >>= s) ≡ after_reading r later
-settled (Ok a) s later h = h a
-settled (Err e) s later h = refl
+fault_of_sequence (Ok a) s later h = h a
+fault_of_sequence (Err e) s later h = refl
 
-pub then_follows : {X Y E : Type 0} (short trailing : E) (r : Reader X E) (first : (X → Format E) → Format E) (s : X → Reader Y E)
+pub sequence_follows_fields : {X Y E : Type 0} (short trailing : E) (r : Reader X E) (first : (X → Format E) → Format E) (s : X → Reader Y E)
     (second : X → (Y → Format E) → Format E)
     → Follows short trailing r first → ((x : X) → Follows short trailing (s x) (second x))
     → Follows short trailing (λ bytes. r bytes >>= λ x. s x.0 x.1) (λ after. first (λ x. second x after))
-then_follows short trailing r first s second p q after bytes =
-    p (λ x. second x after) bytes ∙ joined (r bytes) (λ x. s x.0 x.1) (λ x. first_refused short trailing (second x.0 after) x.1)
+sequence_follows_fields short trailing r first s second p q after bytes =
+    p (λ x. second x after) bytes ∙ after_reading_of_sequence (r bytes) (λ x. s x.0 x.1) (λ x. first_refused short trailing (second x.0 after) x.1)
     (λ y. first_refused short trailing (after y.0) y.1) (λ x. q x.0 after x.1)
 
-pub then_begins : {X Y E : Type 0} (short trailing : E) (r : Reader X E) (first : (X → Format E) → Format E) (s : X → Reader Y E)
+pub sequence_begins_with_fields : {X Y E : Type 0} (short trailing : E) (r : Reader X E) (first : (X → Format E) → Format E) (s : X → Reader Y E)
     (second : X → Format E → Format E)
     → Follows short trailing r first → ((x : X) → Begins short trailing (s x) (second x))
     → Begins short trailing (λ bytes. r bytes >>= λ x. s x.0 x.1) (λ rest. first (λ x. second x rest))
-then_begins short trailing r first s second p q rest bytes =
-    p (λ x. second x rest) bytes ∙ joined (r bytes) (λ x. s x.0 x.1) (λ x. first_refused short trailing (second x.0 rest) x.1)
+sequence_begins_with_fields short trailing r first s second p q rest bytes =
+    p (λ x. second x rest) bytes ∙ after_reading_of_sequence (r bytes) (λ x. s x.0 x.1) (λ x. first_refused short trailing (second x.0 rest) x.1)
     (λ y. first_refused short trailing rest y.1) (λ x. q x.0 rest x.1)
 
-pub both_begin : {X Y E : Type 0} (short trailing : E) (r : Reader X E) (first : Format E → Format E) (s : X → Reader Y E)
+pub independent_sequence_begins_with_fields : {X Y E : Type 0} (short trailing : E) (r : Reader X E) (first : Format E → Format E) (s : X → Reader Y E)
     (second : Format E → Format E)
     → Begins short trailing r first → ((x : X) → Begins short trailing (s x) second)
     → Begins short trailing (λ bytes. r bytes >>= λ x. s x.0 x.1) (λ rest. first (second rest))
-both_begin short trailing r first s second p q rest bytes =
-    p (second rest) bytes ∙ joined (r bytes) (λ x. s x.0 x.1) (λ x. first_refused short trailing (second rest) x.1)
+independent_sequence_begins_with_fields short trailing r first s second p q rest bytes =
+    p (second rest) bytes ∙ after_reading_of_sequence (r bytes) (λ x. s x.0 x.1) (λ x. first_refused short trailing (second rest) x.1)
     (λ y. first_refused short trailing rest y.1) (λ x. q x.0 rest x.1)
 
-pub then_refuses : {X Y E : Type 0} (short trailing : E) (r : Reader X E) (first : (X → Format E) → Format E)
+pub sequence_refuses_format : {X Y E : Type 0} (short trailing : E) (r : Reader X E) (first : (X → Format E) → Format E)
     (s : X → List ℕ → Result Y E) (second : X → Format E)
     → Follows short trailing r first → ((x : X) → Refuses short trailing (s x) (second x))
     → Refuses short trailing (λ bytes. r bytes >>= λ x. s x.0 x.1) (first second)
-then_refuses short trailing r first s second p q bytes =
-    settled (r bytes) (λ x. s x.0 x.1) (λ x. first_refused short trailing (second x.0) x.1) (λ x. q x.0 x.1) ∙ sym (p second bytes)
+sequence_refuses_format short trailing r first s second p q bytes =
+    fault_of_sequence (r bytes) (λ x. s x.0 x.1) (λ x. first_refused short trailing (second x.0) x.1) (λ x. q x.0 x.1) ∙ sym (p second bytes)
 
-pub before_refuses : {X Y E : Type 0} (short trailing : E) (r : Reader X E) (first : Format E → Format E) (s : X → List ℕ → Result Y E)
+pub independent_sequence_refuses_format : {X Y E : Type 0} (short trailing : E) (r : Reader X E) (first : Format E → Format E) (s : X → List ℕ → Result Y E)
     (rest : Format E)
     → Begins short trailing r first → ((x : X) → Refuses short trailing (s x) rest)
     → Refuses short trailing (λ bytes. r bytes >>= λ x. s x.0 x.1) (first rest)
-before_refuses short trailing r first s rest p q bytes =
-    settled (r bytes) (λ x. s x.0 x.1) (λ x. first_refused short trailing rest x.1) (λ x. q x.0 x.1) ∙ sym (p rest bytes)
+independent_sequence_refuses_format short trailing r first s rest p q bytes =
+    fault_of_sequence (r bytes) (λ x. s x.0 x.1) (λ x. first_refused short trailing rest x.1) (λ x. q x.0 x.1) ∙ sym (p rest bytes)
 
 -- nothing follows the last
-pub end_refuses : {Y E : Type 0} (trailing : E) (y : Y) (b : Bool) → fault_of (cond b (Ok y) (Err trailing)) ≡ cond b None (Some trailing)
-end_refuses trailing y true = refl
-end_refuses trailing y false = refl
+pub fault_of_trailing_test : {Y E : Type 0} (trailing : E) (y : Y) (b : Bool) → fault_of (cond b (Ok y) (Err trailing)) ≡ cond b None (Some trailing)
+fault_of_trailing_test trailing y true = refl
+fault_of_trailing_test trailing y false = refl
 
-pub fields_begin : {X E : Type 0} (short trailing : E) (r : Reader X E) (one : Format E → Format E) (n : ℕ) → Begins short trailing r one
+pub fields_at_begins_with_repeated : {X E : Type 0} (short trailing : E) (r : Reader X E) (one : Format E → Format E) (n : ℕ) → Begins short trailing r one
     → Begins short trailing (fields_at r n) (repeated n one)
 unfolding fields_at
-fields_begin short trailing r one zero p rest bytes = refl
-fields_begin {X} {E} short trailing r one (suc n) p rest bytes =
-    both_begin short trailing r one (λ x all. fields_at r n all >>= λ others. Ok (x ∷ others.0, others.1)) (repeated n one) p
-    (λ x. both_begin short trailing (fields_at r n) (repeated n one) (λ others all. Ok (x ∷ others, all)) (λ f. f)
-    (fields_begin short trailing r one n p) (λ others f all. refl)) rest bytes
+fields_at_begins_with_repeated short trailing r one zero p rest bytes = refl
+fields_at_begins_with_repeated {X} {E} short trailing r one (suc n) p rest bytes =
+    independent_sequence_begins_with_fields short trailing r one (λ x all. fields_at r n all >>= λ others. Ok (x ∷ others.0, others.1)) (repeated n one) p
+    (λ x. independent_sequence_begins_with_fields short trailing (fields_at r n) (repeated n one) (λ others all. Ok (x ∷ others, all)) (λ f. f)
+    (fields_at_begins_with_repeated short trailing r one n p) (λ others f all. refl)) rest bytes

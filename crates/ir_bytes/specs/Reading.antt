@@ -3,9 +3,9 @@ use Rattle.std.specs.Prelude.{◌≡◌, ℕ, zero, suc, Bool, List, [], ◌∷�
 use Rattle.byteorder.specs.Endian.{little_number}
 
 -- an answer, seen by a view, is what reading gives
-abbrev pub Reads : {X Y E : Type 0} → (X → Y) → Result X E → Result Y E → Type 0
-Reads view (Ok x) read = read ≡ Ok (view x)
-Reads view (Err e) read = read ≡ Err e
+abbrev pub IsRead : {X Y E : Type 0} → (X → Y) → Result X E → Result Y E → Type 0
+IsRead view (Ok x) read = read ≡ Ok (view x)
+IsRead view (Err e) read = read ≡ Err e
 
 -- what takes something from the prefix: it gives that and the bytes after it, or a fault
 abbrev pub Reader : Type 0 → Type 0 → Type 0

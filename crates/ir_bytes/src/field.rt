@@ -1,7 +1,7 @@
 //! Fields at the prefix of bytes, over any type of errors. Each call gives what the field holds, and the bytes after it.
 
 ghost use Rattle.std.specs.Prelude.{◌≡◌, ◌≤◌, ◌+◌, length, IfOk};
-ghost use Rattle.ir_bytes.specs.Reading.{Reads, number_at, bytes_at, field_at, fixed, within};
+ghost use Rattle.ir_bytes.specs.Reading.{IsRead, number_at, bytes_at, field_at, fixed, within};
 
 use byteorder::{ByteOrder, LittleEndian};
 
@@ -11,7 +11,7 @@ use byteorder::{ByteOrder, LittleEndian};
 /// `short` where there is none.
 #[tactic(auto, unfolding(crate::specs::Reading::number_at))]
 pub fn byte<E: Drop>(bytes: &[u8], short: E) -> Result<(u8, &[u8]), E>
-    ensures exact { Reads (λ x. (x.0, x.1.now)) result (number_at short 1 bytes.now) }
+    ensures exact { IsRead (λ x. (x.0, x.1.now)) result (number_at short 1 bytes.now) }
     ensures taken { IfOk result (λ x. length x.1.now + 1 ≡ length bytes.now) }
 {
     match bytes {
@@ -26,7 +26,7 @@ pub fn byte<E: Drop>(bytes: &[u8], short: E) -> Result<(u8, &[u8]), E>
 /// `short` where there are fewer.
 #[tactic(auto, unfolding(crate::specs::Reading::number_at))]
 pub fn half<E: Drop>(bytes: &[u8], short: E) -> Result<(u16, &[u8]), E>
-    ensures { Reads (λ x. (x.0, x.1.now)) result (number_at short 2 bytes.now) }
+    ensures { IsRead (λ x. (x.0, x.1.now)) result (number_at short 2 bytes.now) }
 {
     if bytes.len() < 2 {
         return Err(short);
@@ -40,7 +40,7 @@ pub fn half<E: Drop>(bytes: &[u8], short: E) -> Result<(u16, &[u8]), E>
 /// `short` where there are fewer.
 #[tactic(auto, unfolding(crate::specs::Reading::number_at))]
 pub fn word<E: Drop>(bytes: &[u8], short: E) -> Result<(u32, &[u8]), E>
-    ensures exact { Reads (λ x. (x.0, x.1.now)) result (number_at short 4 bytes.now) }
+    ensures exact { IsRead (λ x. (x.0, x.1.now)) result (number_at short 4 bytes.now) }
     ensures taken { IfOk result (λ x. length x.1.now + 4 ≡ length bytes.now) }
 {
     if bytes.len() < 4 {
@@ -55,7 +55,7 @@ pub fn word<E: Drop>(bytes: &[u8], short: E) -> Result<(u32, &[u8]), E>
 /// `short` where there are fewer.
 #[tactic(auto, unfolding(crate::specs::Reading::number_at))]
 pub fn double<E: Drop>(bytes: &[u8], short: E) -> Result<(u64, &[u8]), E>
-    ensures { Reads (λ x. (x.0, x.1.now)) result (number_at short 8 bytes.now) }
+    ensures { IsRead (λ x. (x.0, x.1.now)) result (number_at short 8 bytes.now) }
 {
     if bytes.len() < 8 {
         return Err(short);
@@ -69,7 +69,7 @@ pub fn double<E: Drop>(bytes: &[u8], short: E) -> Result<(u64, &[u8]), E>
 /// `short` where there are fewer.
 #[tactic(auto, unfolding(crate::specs::Reading::bytes_at))]
 pub fn bytes<E: Drop>(count: usize, bytes: &[u8], short: E) -> Result<(&[u8], &[u8]), E>
-    ensures exact { Reads (λ x. (x.0.now, x.1.now)) result (bytes_at short count bytes.now) }
+    ensures exact { IsRead (λ x. (x.0.now, x.1.now)) result (bytes_at short count bytes.now) }
     ensures count { IfOk result (λ x. length x.0.now ≡ count) }
 {
     if bytes.len() < count {
@@ -90,7 +90,7 @@ pub fn byte_within<E: Drop>(
     short: E,
     other: E,
 ) -> Result<(u8, &[u8]), E>
-    ensures { Reads (λ x. (x.0, x.1.now)) result (field_at short (within 1 low high other) bytes.now) }
+    ensures { IsRead (λ x. (x.0, x.1.now)) result (field_at short (within 1 low high other) bytes.now) }
 {
     let (number, rest) = byte(bytes, short)?;
     if low <= number && number <= high {
@@ -106,7 +106,7 @@ pub fn byte_within<E: Drop>(
 /// `short` where there are fewer, `other` where it is over this limit.
 #[tactic(auto, unfolding(crate::specs::Reading::field_at))]
 pub fn word_within<E: Drop>(high: u32, bytes: &[u8], short: E, other: E) -> Result<(u32, &[u8]), E>
-    ensures exact { Reads (λ x. (x.0, x.1.now)) result (field_at short (within 4 0 high other) bytes.now) }
+    ensures exact { IsRead (λ x. (x.0, x.1.now)) result (field_at short (within 4 0 high other) bytes.now) }
     ensures most { IfOk result (λ x. x.0 ≤ high) }
 {
     let (number, rest) = word(bytes, short)?;
@@ -128,7 +128,7 @@ pub fn double_within<E: Drop>(
     short: E,
     other: E,
 ) -> Result<(u64, &[u8]), E>
-    ensures exact { Reads (λ x. (x.0, x.1.now)) result (field_at short (within 8 0 high other) bytes.now) }
+    ensures exact { IsRead (λ x. (x.0, x.1.now)) result (field_at short (within 8 0 high other) bytes.now) }
     ensures most { IfOk result (λ x. x.0 ≤ high) }
 {
     let (number, rest) = double(bytes, short)?;
@@ -145,7 +145,7 @@ pub fn double_within<E: Drop>(
 /// `short` where there are fewer, `other` where they hold another number.
 #[tactic(auto, unfolding(crate::specs::Reading::field_at))]
 pub fn fixed_half<E: Drop>(number: u16, bytes: &[u8], short: E, other: E) -> Result<&[u8], E>
-    ensures { Reads (λ x. (number, x.now)) result (field_at short (fixed 2 number other) bytes.now) }
+    ensures { IsRead (λ x. (number, x.now)) result (field_at short (fixed 2 number other) bytes.now) }
 {
     let (found, rest) = half(bytes, short)?;
     if found == number {
@@ -161,7 +161,7 @@ pub fn fixed_half<E: Drop>(number: u16, bytes: &[u8], short: E, other: E) -> Res
 /// `short` where there are fewer, `other` where they hold another number.
 #[tactic(auto, unfolding(crate::specs::Reading::field_at))]
 pub fn fixed_word<E: Drop>(number: u32, bytes: &[u8], short: E, other: E) -> Result<&[u8], E>
-    ensures { Reads (λ x. (number, x.now)) result (field_at short (fixed 4 number other) bytes.now) }
+    ensures { IsRead (λ x. (number, x.now)) result (field_at short (fixed 4 number other) bytes.now) }
 {
     let (found, rest) = word(bytes, short)?;
     if found == number {

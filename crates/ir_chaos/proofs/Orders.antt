@@ -8,23 +8,23 @@ use Rattle.ir_chaos.specs.Laws.{SchedulesAreOrders, SchedulesAreOfThreads}
 use Rattle.ir_chaos.specs.Schedules.{Leads, threads_of}
 use Rattle.ir_chaos.specs.declared.chooser.Chooser.{Chooser}
 
-leads_turns : {T : Type 0} (tries : Bool) (m : Machine T) (n : ℕ) (s : State T) (c : Chooser) (run : List Step) (d : Chooser)
+led_run_is_in_turn : {T : Type 0} (tries : Bool) (m : Machine T) (n : ℕ) (s : State T) (c : Chooser) (run : List Step) (d : Chooser)
     → Leads tries m n s c run d → InTurn m s (threads_of run) run
-leads_turns tries m n s c [] d h = refl
-leads_turns tries m n s c (e ∷ run) d h =
-    inr (e.1, run, refl, h.1.1, h.1.2, leads_turns tries m n (after m s e) h.0 run d h.2)
+led_run_is_in_turn tries m n s c [] d h = refl
+led_run_is_in_turn tries m n s c (e ∷ run) d h =
+    inr (e.1, run, refl, h.1.1, h.1.2, led_run_is_in_turn tries m n (after m s e) h.0 run d h.2)
 
-leads_threads : {T : Type 0} (tries : Bool) (m : Machine T) (n : ℕ) (s : State T) (c : Chooser) (run : List Step) (d : Chooser)
+led_run_is_of_threads : {T : Type 0} (tries : Bool) (m : Machine T) (n : ℕ) (s : State T) (c : Chooser) (run : List Step) (d : Chooser)
     → Leads tries m n s c run d → AllByRecursion (λ t. t < n) (threads_of run)
-leads_threads tries m n s c [] d h = tt
-leads_threads tries m n s c (e ∷ run) d h = (h.1.0, leads_threads tries m n (after m s e) h.0 run d h.2)
+led_run_is_of_threads tries m n s c [] d h = tt
+led_run_is_of_threads tries m n s c (e ∷ run) d h = (h.1.0, led_run_is_of_threads tries m n (after m s e) h.0 run d h.2)
 
 pub schedules_are_orders : SchedulesAreOrders
 schedules_are_orders tries m n s c run h = record {
   count = 0;
-  turns = subst (λ order. InTurn m s order run) (sym (append-nil (threads_of run))) (leads_turns tries m n s c run h.last h.leads);
+  turns = subst (λ order. InTurn m s order run) (sym (append-nil (threads_of run))) (led_run_is_in_turn tries m n s c run h.last h.leads);
   done = h.done;
 }
 
 pub schedules_are_of_threads : SchedulesAreOfThreads
-schedules_are_of_threads tries m n s c run h = leads_threads tries m n s c run h.last h.leads
+schedules_are_of_threads tries m n s c run h = led_run_is_of_threads tries m n s c run h.last h.leads

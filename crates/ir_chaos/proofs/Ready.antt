@@ -3,10 +3,10 @@ use Rattle.std.proofs.Common.{◌≡◌, ◌≢◌, ℕ, zero, suc, ◌+◌, ◌
 use Rattle.std.proofs.lemmas.Bool.{cases_eq, cases_lt}
 use Rattle.std.proofs.lemmas.List.Elements.{All-append, All-contains}
 use Rattle.std.specs.List.{All, Contains}
-use Rattle.ir_flat.proofs.CallerLemmas.{nothing_is_stuck, start_idle, threads_length}
+use Rattle.ir_flat.proofs.CallerLemmas.{nothing_is_stuck, guest_start_is_idle, length_of_start_threads}
 use Rattle.ir_flat.specs.Flat.{Flat, start_flat, tables, machine}
 use Rattle.ir_image.specs.Guest.{Guest}
-use Rattle.ir_runs.proofs.CallerLemmas.{run_idle}
+use Rattle.ir_runs.proofs.CallerLemmas.{idle_after_run}
 use Rattle.ir_runs.specs.Machine as machine
 use Rattle.ir_runs.specs.Machine.{Machine, Admits, target}
 use Rattle.ir_runs.specs.Run.{State, Step, asked, Can, after, IsRun, end, IsDone}
@@ -18,11 +18,11 @@ use Rattle.ir_chaos.specs.Schedules.{AreReady, Leads}
 use Rattle.ir_chaos.specs.declared.chooser.Chooser.{Chooser}
 
 -- each that is ready is a thread that has a step
-abbrev pub Steps : {T : Type 0} → Machine T → State T → ℕ → ℕ → Type 0
-Steps m s n t = (t < n) × Can m s (t, 0)
+abbrev pub HasStep : {T : Type 0} → Machine T → State T → ℕ → ℕ → Type 0
+HasStep m s n t = (t < n) × Can m s (t, 0)
 
 module _ {T : Type 0} (m : Machine T) (s : State T) where
-  more : (n : ℕ) (ready : List ℕ) → All (Steps m s n) ready → All (Steps m s (suc n)) ready
+  more : (n : ℕ) (ready : List ℕ) → All (HasStep m s n) ready → All (HasStep m s (suc n)) ready
   more n ready h k d l = (let less = (h k d l).0 in omega (arith, less), (h k d l).1)
 
   -- no more are ready than there are threads
@@ -35,12 +35,12 @@ module _ {T : Type 0} (m : Machine T) (s : State T) where
       omega (arith, rest, size, both)
   few_ready (suc n) ready (inr none) = let rest = few_ready n ready none.0 in omega (arith, rest)
 
-  pub each_ready : (n : ℕ) (ready : List ℕ) → AreReady m s n ready → All (Steps m s n) ready
-  each_ready zero ready e = subst (All (Steps m s zero)) (sym e) (λ k d l. absurd (omega arith))
-  each_ready (suc n) ready (inl some) = subst (All (Steps m s (suc n))) (sym some.3)
-      (All-append (Steps m s (suc n)) some.0 (n ∷ []) (more n some.0 (each_ready n some.0 some.1)) last)
+  pub each_ready : (n : ℕ) (ready : List ℕ) → AreReady m s n ready → All (HasStep m s n) ready
+  each_ready zero ready e = subst (All (HasStep m s zero)) (sym e) (λ k d l. absurd (omega arith))
+  each_ready (suc n) ready (inl some) = subst (All (HasStep m s (suc n))) (sym some.3)
+      (All-append (HasStep m s (suc n)) some.0 (n ∷ []) (more n some.0 (each_ready n some.0 some.1)) last)
     where
-      last : All (Steps m s (suc n)) (n ∷ [])
+      last : All (HasStep m s (suc n)) (n ∷ [])
       last zero d l = (omega arith, some.2)
       last (suc k) d l = absurd (omega (arith, l))
   each_ready (suc n) ready (inr none) = more n ready (each_ready n ready none.0)
@@ -59,8 +59,8 @@ module _ {T : Type 0} (m : Machine T) (s : State T) where
   ]
 
   -- who is chosen has a step
-  pub chosen_steps : (n : ℕ) (ready : List ℕ) (t : ℕ) → AreReady m s n ready → Contains ready t → Steps m s n t
-  chosen_steps n ready t h c = All-contains (Steps m s n) ready t (each_ready n ready h) c
+  pub chosen_steps : (n : ℕ) (ready : List ℕ) (t : ℕ) → AreReady m s n ready → Contains ready t → HasStep m s n t
+  chosen_steps n ready t h c = All-contains (HasStep m s n) ready t (each_ready n ready h) c
 
   -- one thread more is looked at
   pub ready_more : (n : ℕ) (ready new : List ℕ) → AreReady m s n ready → Can m s (n, 0) → new ≡ ready ++ n ∷ [] → AreReady m s (n + 1) new
@@ -71,25 +71,25 @@ module _ {T : Type 0} (m : Machine T) (s : State T) where
 
 -- ---- the end
 
-done_or : (q : machine.Ask) → (q ≡ machine.Done) ⊎ (q ≢ machine.Done)
-done_or machine.Private = inr (λ e. cc e)
-done_or (machine.Env k) = inr (λ e. cc e)
-done_or (machine.Enter o a) = inr (λ e. cc e)
-done_or (machine.Try o) = inr (λ e. cc e)
-done_or (machine.Leave o a) = inr (λ e. cc e)
-done_or (machine.Get o i) = inr (λ e. cc e)
-done_or (machine.Put o i w) = inr (λ e. cc e)
-done_or machine.Done = inl refl
+done_is_decidable : (q : machine.Ask) → (q ≡ machine.Done) ⊎ (q ≢ machine.Done)
+done_is_decidable machine.Private = inr (λ e. cc e)
+done_is_decidable (machine.Env k) = inr (λ e. cc e)
+done_is_decidable (machine.Enter o a) = inr (λ e. cc e)
+done_is_decidable (machine.Try o) = inr (λ e. cc e)
+done_is_decidable (machine.Leave o a) = inr (λ e. cc e)
+done_is_decidable (machine.Get o i) = inr (λ e. cc e)
+done_is_decidable (machine.Put o i w) = inr (λ e. cc e)
+done_is_decidable machine.Done = inl refl
 
 -- where none of the guest's threads has a step, all threads are done
-all_done : (guest : Guest) (budget : ℕ) (profile : Profile) (run : List Step)
+done_if_no_guest_thread_steps : (guest : Guest) (budget : ℕ) (profile : Profile) (run : List Step)
     → IsRun (thread_machine guest.code) (tables (start_flat guest budget profile)) run
     → ((t : ℕ) → t < length guest.entries → Can (thread_machine guest.code)
     (end (thread_machine guest.code) (tables (start_flat guest budget profile)) run) (t, 0) → ⊥)
     → IsDone (thread_machine guest.code) (end (thread_machine guest.code) (tables (start_flat guest budget profile)) run)
-all_done guest budget profile run ok none t =
-    let s : State thread.State = end (thread_machine guest.code) (tables (start_flat guest budget profile)) run in
-    elim (done_or (asked (thread_machine guest.code) s t)) [
+done_if_no_guest_thread_steps guest budget profile run ok none t =
+    let s : State thread.ThreadState = end (thread_machine guest.code) (tables (start_flat guest budget profile)) run in
+    elim (done_is_decidable (asked (thread_machine guest.code) s t)) [
       | inl e ↦ e
       | inr ne ↦ absurd (stuck (nothing_is_stuck guest budget profile run ok t ne))
     ]
@@ -99,19 +99,19 @@ all_done guest budget profile run ok none t =
       | inl l ↦ none step.0 l step.1
       | inr past ↦ subst (λ q. Admits (thread_machine guest.code) (machine.act_of q 0)
           ((end (thread_machine guest.code) (tables (start_flat guest budget profile)) run).objects (target (machine.act_of q 0))))
-          (run_idle (thread_machine guest.code) (tables (start_flat guest budget profile)) (length guest.entries) (start_idle guest budget profile) run ok
+          (idle_after_run (thread_machine guest.code) (tables (start_flat guest budget profile)) (length guest.entries) (guest_start_is_idle guest budget profile) run ok
           step.0 past) step.1
     ]
 
-leads_run : {T : Type 0} (tries : Bool) (m : Machine T) (n : ℕ) (s : State T) (c : Chooser) (run : List Step) (d : Chooser)
+led_run_is_run : {T : Type 0} (tries : Bool) (m : Machine T) (n : ℕ) (s : State T) (c : Chooser) (run : List Step) (d : Chooser)
     → Leads tries m n s c run d → IsRun m s run
-leads_run tries m n s c [] d h = tt
-leads_run tries m n s c (e ∷ run) d h = (h.1.1, leads_run tries m n (after m s e) h.0 run d h.2)
+led_run_is_run tries m n s c [] d h = tt
+led_run_is_run tries m n s c (e ∷ run) d h = (h.1.1, led_run_is_run tries m n (after m s e) h.0 run d h.2)
 
 -- a run by a chooser is over where no thread is ready
-pub ran_to_end : (tries : Bool) (a b : Moment) (c d : Chooser) (ready : List ℕ) → IsStartOfGuest a.flat → Ran tries a c b d
+pub ran_to_end_if_none_ready : (tries : Bool) (a b : Moment) (c d : Chooser) (ready : List ℕ) → IsStartOfGuest a.flat → Ran tries a c b d
     → AreReady (machine b.flat) (tables b.flat) (length b.flat.threads) ready → ready ≡ [] → RanToEnd tries a c b
-ran_to_end tries a b c d ready start r are e = record {
+ran_to_end_if_none_ready tries a b c d ready start r are e = record {
   run = r.run;
   schedule = record { last = d; leads = r.leads; done = done };
   gained = r.gained;
@@ -121,7 +121,7 @@ ran_to_end tries a b c d ready start r are e = record {
     guest = start.0
 
     runs : IsRun (machine a.flat) (tables a.flat) r.run
-    runs = leads_run tries (machine a.flat) (length a.flat.threads) (tables a.flat) c r.run d r.leads
+    runs = led_run_is_run tries (machine a.flat) (length a.flat.threads) (tables a.flat) c r.run d r.leads
 
     none : (t : ℕ) → t < length a.flat.threads → Can (machine a.flat) (end (machine a.flat) (tables a.flat) r.run) (t, 0) → ⊥
     none t l can = none_ready (machine b.flat) (tables b.flat) (length b.flat.threads) ready are e t
@@ -133,27 +133,27 @@ ran_to_end tries a b c d ready start r are e = record {
     done = subst (λ f. IsRun (machine f) (tables f) r.run
         → ((t : ℕ) → t < length f.threads → Can (machine f) (end (machine f) (tables f) r.run) (t, 0) → ⊥)
         → IsDone (machine f) (end (machine f) (tables f) r.run)) (sym start.3)
-        (λ ok nobody. all_done guest start.1 start.2 r.run ok (λ t l. nobody t
-        (let n = threads_length guest start.1 start.2 0 (length guest.entries) in omega (arith, n, l)))) runs none
+        (λ ok nobody. done_if_no_guest_thread_steps guest start.1 start.2 r.run ok (λ t l. nobody t
+        (let n = length_of_start_threads guest start.1 start.2 0 (length guest.entries) in omega (arith, n, l)))) runs none
 
 -- one thread more rests
-pub rest_more : (tries : Bool) (t : ℕ) (f g : Flat) → ((u : ℕ) → u < t → IsAtRest tries f u) → OthersRest tries t f g → IsAtRest tries g t
+pub lower_threads_rest_step : (tries : Bool) (t : ℕ) (f g : Flat) → ((u : ℕ) → u < t → IsAtRest tries f u) → OthersRest tries t f g → IsAtRest tries g t
     → (u : ℕ) → u < t + 1 → IsAtRest tries g u
-rest_more tries t f g lower others here u l = elim (cases_eq u t) [
+lower_threads_rest_step tries t f g lower others here u l = elim (cases_eq u t) [
   | inl e ↦ subst (IsAtRest tries g) (sym e) here
   | inr ne ↦ others u ne ∙ lower u (omega (arith, l, ne))
 ]
 
 -- each thread rests again
-pub rest_again : (tries : Bool) (t : ℕ) (f g : Flat) → length g.threads ≡ length f.threads → AllRest tries f → OthersRest tries t f g
+pub all_rest_after_thread_rests : (tries : Bool) (t : ℕ) (f g : Flat) → length g.threads ≡ length f.threads → AllRest tries f → OthersRest tries t f g
     → IsAtRest tries g t → AllRest tries g
-rest_again tries t f g same rest others here u l = elim (cases_eq u t) [
+all_rest_after_thread_rests tries t f g same rest others here u l = elim (cases_eq u t) [
   | inl e ↦ subst (IsAtRest tries g) (sym e) here
   | inr ne ↦ others u ne ∙ rest u (omega (arith, l, same))
 ]
 
 -- whoever is chosen of the threads that are ready has a step
-pub chosen_there : (f : Flat) (xs ready : List ℕ) (t : ℕ) → xs ≡ ready → AreReady (machine f) (tables f) (length f.threads) ready
-    → Contains xs t → Steps (machine f) (tables f) (length f.threads) t
-chosen_there f xs ready t e are c = chosen_steps (machine f) (tables f) (length f.threads) xs t
+pub chosen_ready_thread_has_step : (f : Flat) (xs ready : List ℕ) (t : ℕ) → xs ≡ ready → AreReady (machine f) (tables f) (length f.threads) ready
+    → Contains xs t → HasStep (machine f) (tables f) (length f.threads) t
+chosen_ready_thread_has_step f xs ready t e are c = chosen_steps (machine f) (tables f) (length f.threads) xs t
     (subst (AreReady (machine f) (tables f) (length f.threads)) (sym e) are) c

@@ -8,7 +8,7 @@ use Rattle.ir_record.specs.Progress.{all_left}
 use Rattle.ir_record.specs.Worlds.{answers_at, Answered, answers_in, NoneFailed}
 use Rattle.ir_record.specs.Recording.{order_of_turns}
 use Rattle.ir_record.specs.declared.turns.Turns.{Turns}
-use Rattle.ir_runs.proofs.CallerLemmas.{end_append, log_append, upd_other}
+use Rattle.ir_runs.proofs.CallerLemmas.{end_append, log_append, upd_at_other_place}
 use Rattle.ir_runs.specs.InOrder.{EntersIfFree}
 use Rattle.ir_runs.specs.Machine.{Label, Quiet, Answer, In, Out, Refused, logged, Machine, Private, Try, act_of, Object, Admits, emitted, target}
 use Rattle.ir_runs.specs.Machine as machine
@@ -21,7 +21,7 @@ use Rattle.ir_thread.specs.Instance.{shared_ask, is_result, thread_machine}
 use Rattle.ir_thread.specs.State as thread
 use Rattle.ir_thread.specs.declared.ask.Ask.{Ask}
 use Rattle.ir_thread.specs.declared.ask.Ask.TheVariants as asks
-use Rattle.ir_record.proofs.CallerLemmas.{flat_few, step_less, alone_less}
+use Rattle.ir_record.proofs.CallerLemmas.{hold_few_objects_if_flat, step_leaves_all_fewer, steps_of_thread_leave_all_fewer}
 use Rattle.ir_chaos.specs.Moments.{Moment, moment_of, IsReady, Moved, Gained, Took, Ran, IsAtRest, OthersRest, TookSome, IsNoTry, IsNoCall}
 use Rattle.ir_chaos.specs.Schedules.{is_rest, rests, IsChosen, Leads, threads_of}
 use Rattle.ir_chaos.specs.declared.chooser.Chooser.{Chooser}
@@ -34,29 +34,29 @@ leads_append : {T : Type 0} (tries : Bool) (m : Machine T) (n : ℕ) (s : State 
 leads_append tries m n s c d e [] more h k = subst (λ z. Leads tries m n s z more e) h k
 leads_append tries m n s c d e (x ∷ run) more h k = (h.0, h.1, leads_append tries m n (after m s x) h.0 d e run more h.2 k)
 
-answers_logged : (k : Label) (ys : List Label) → answers_in (logged k ys) ≡ answers_in (logged k []) ++ answers_in ys
-answers_logged Quiet ys = refl
-answers_logged (Answer i v) ys = refl
-answers_logged (In o a v l) ys = refl
-answers_logged (Refused o) ys = refl
-answers_logged (Out o a v) ys = refl
+answers_in_logged : (k : Label) (ys : List Label) → answers_in (logged k ys) ≡ answers_in (logged k []) ++ answers_in ys
+answers_in_logged Quiet ys = refl
+answers_in_logged (Answer i v) ys = refl
+answers_in_logged (In o a v l) ys = refl
+answers_in_logged (Refused o) ys = refl
+answers_in_logged (Out o a v) ys = refl
 
-answers_append : (xs ys : List Label) → answers_in (xs ++ ys) ≡ answers_in xs ++ answers_in ys
-answers_append [] ys = refl
-answers_append (Quiet ∷ xs) ys = answers_append xs ys
-answers_append (Answer i v ∷ xs) ys = ap (λ z. (i, v) ∷ z) (answers_append xs ys)
-answers_append (In o a v l ∷ xs) ys = answers_append xs ys
-answers_append (Refused o ∷ xs) ys = answers_append xs ys
-answers_append (Out o a v ∷ xs) ys = answers_append xs ys
+answers_in_append : (xs ys : List Label) → answers_in (xs ++ ys) ≡ answers_in xs ++ answers_in ys
+answers_in_append [] ys = refl
+answers_in_append (Quiet ∷ xs) ys = answers_in_append xs ys
+answers_in_append (Answer i v ∷ xs) ys = ap (λ z. (i, v) ∷ z) (answers_in_append xs ys)
+answers_in_append (In o a v l ∷ xs) ys = answers_in_append xs ys
+answers_in_append (Refused o ∷ xs) ys = answers_in_append xs ys
+answers_in_append (Out o a v ∷ xs) ys = answers_in_append xs ys
 
 -- the same run on the machine and state at which it begins
-log_there : (a b : Moment) (first more : List Step) (t : ℕ) → Gained first a b
+log_after_gained_run : (a b : Moment) (first more : List Step) (t : ℕ) → Gained first a b
     → log (machine b.flat) (tables b.flat) more t ≡ log (machine a.flat) (end (machine a.flat) (tables a.flat) first) more t
-log_there a b first more t g = ap (λ c. log (thread_machine c) (tables b.flat) more t) g.code
+log_after_gained_run a b first more t g = ap (λ c. log (thread_machine c) (tables b.flat) more t) g.code
     ∙ ap (λ s. log (machine a.flat) s more t) g.ends
 
-gained_nothing : (a : Moment) → Gained [] a a
-gained_nothing a = record {
+gained_reflexive : (a : Moment) → Gained [] a a
+gained_reflexive a = record {
   ends = refl;
   code = refl;
   threads = refl;
@@ -65,12 +65,12 @@ gained_nothing a = record {
   answers = λ t l. sym (append-nil (answers_at a.answers t));
 }
 
-gained_both : (run more : List Step) (a b c : Moment) → Gained run a b → Gained more b c → Gained (run ++ more) a c
-gained_both run more a b c p q =
+gained_append : (run more : List Step) (a b c : Moment) → Gained run a b → Gained more b c → Gained (run ++ more) a c
+gained_append run more a b c p q =
     let logs_of : (t : ℕ) → log (machine a.flat) (tables a.flat) (run ++ more) t ≡ log (machine a.flat) (tables a.flat) run t ++ log
     (machine b.flat) (tables b.flat) more t =
     λ t. log_append (machine a.flat) (tables a.flat) run more t
-    ∙ ap (λ z. log (machine a.flat) (tables a.flat) run t ++ z) (sym (log_there a b run more t p)) in
+    ∙ ap (λ z. log (machine a.flat) (tables a.flat) run t ++ z) (sym (log_after_gained_run a b run more t p)) in
     record {
       ends = q.ends ∙ ap (λ k. end (thread_machine k) (tables b.flat) more) p.code ∙ ap (λ s. end (machine a.flat) s more) p.ends
           ∙ sym (end_append (machine a.flat) (tables a.flat) run more);
@@ -85,72 +85,72 @@ gained_both run more a b c p q =
           ∙ append_assoc (answers_at a.answers t) (answers_in (log (machine a.flat) (tables a.flat) run t))
           (answers_in (log (machine b.flat) (tables b.flat) more t))
           ∙ ap (λ z. answers_at a.answers t ++ z)
-          (sym (answers_append (log (machine a.flat) (tables a.flat) run t) (log (machine b.flat) (tables b.flat) more t))
+          (sym (answers_in_append (log (machine a.flat) (tables a.flat) run t) (log (machine b.flat) (tables b.flat) more t))
           ∙ ap answers_in (sym (logs_of t)));
     }
 
-pub ran_nothing : (tries : Bool) (a : Moment) (c : Chooser) → Ran tries a c a c
-ran_nothing tries a c = record { run = []; leads = refl; gained = gained_nothing a }
+pub ran_reflexive : (tries : Bool) (a : Moment) (c : Chooser) → Ran tries a c a c
+ran_reflexive tries a c = record { run = []; leads = refl; gained = gained_reflexive a }
 
 -- what leads on from where a run leads
-leads_there : (tries : Bool) (a b : Moment) (c d : Chooser) (run more : List Step) → Gained run a b
+leads_after_gained_run : (tries : Bool) (a b : Moment) (c d : Chooser) (run more : List Step) → Gained run a b
     → Leads tries (machine b.flat) (length b.flat.threads) (tables b.flat) c more d
     → Leads tries (machine a.flat) (length a.flat.threads) (end (machine a.flat) (tables a.flat) run) c more d
-leads_there tries a b c d run more g h =
+leads_after_gained_run tries a b c d run more g h =
     subst (λ s. Leads tries (machine a.flat) (length a.flat.threads) s c more d) g.ends
     (subst (λ k. Leads tries (thread_machine k) (length a.flat.threads) (tables b.flat) c more d) g.code
     (subst (λ n. Leads tries (machine b.flat) n (tables b.flat) c more d) g.threads h))
 
-pub ran_both : (tries : Bool) (a b e : Moment) (c d x : Chooser) → Ran tries a c b d → Ran tries b d e x → Ran tries a c e x
-ran_both tries a b e c d x p q = record {
+pub ran_transitive : (tries : Bool) (a b e : Moment) (c d x : Chooser) → Ran tries a c b d → Ran tries b d e x → Ran tries a c e x
+ran_transitive tries a b e c d x p q = record {
   run = p.run ++ q.run;
   leads = leads_append tries (machine a.flat) (length a.flat.threads) (tables a.flat) c d x p.run q.run p.leads
-      (leads_there tries a b d x p.run q.run p.gained q.leads);
-  gained = gained_both p.run q.run a b e p.gained q.gained;
+      (leads_after_gained_run tries a b d x p.run q.run p.gained q.leads);
+  gained = gained_append p.run q.run a b e p.gained q.gained;
 }
 
 -- ---- one step
 
 -- thread t is under way, and each lower thread rests
-pub ran_under_way : (tries : Bool) (a b : Moment) (t : ℕ) (c : Chooser) → t < length a.flat.threads
+pub ran_by_thread_under_way : (tries : Bool) (a b : Moment) (t : ℕ) (c : Chooser) → t < length a.flat.threads
     → rests tries (machine a.flat) (tables a.flat) t ≡ false → ((u : ℕ) → u < t → IsAtRest tries a.flat u) → Took t a b
     → Ran tries a c b c
-ran_under_way tries a b t c l under lower s = record {
+ran_by_thread_under_way tries a b t c l under lower s = record {
   run = (t, s.result) ∷ [];
   leads = (c, (l, s.can, s.enters, inl ((under, lower), refl)), refl);
   gained = s.gained;
 }
 
 -- thread t is chosen
-pub ran_chosen : (tries : Bool) (a b : Moment) (t : ℕ) (c d : Chooser) → t < length a.flat.threads
+pub ran_by_chosen_thread : (tries : Bool) (a b : Moment) (t : ℕ) (c d : Chooser) → t < length a.flat.threads
     → IsChosen tries (machine a.flat) (length a.flat.threads) (tables a.flat) c t d → Took t a b → Ran tries a c b d
-ran_chosen tries a b t c d l chosen s = record {
+ran_by_chosen_thread tries a b t c d l chosen s = record {
   run = (t, s.result) ∷ [];
   leads = (d, (l, s.can, s.enters, inr chosen), refl);
   gained = s.gained;
 }
 
-log_own : (f : Flat) (t r : ℕ) → log (machine f) (tables f) ((t, r) ∷ []) t ≡ logged (label (machine f) (tables f) (t, r)) []
-log_own f t r = ap (λ b. events (join_if b (thread_of f t, label (machine f) (tables f) (t, r)) [])) (eq-eqb t t refl)
+log_of_own_step : (f : Flat) (t r : ℕ) → log (machine f) (tables f) ((t, r) ∷ []) t ≡ logged (label (machine f) (tables f) (t, r)) []
+log_of_own_step f t r = ap (λ b. events (join_if b (thread_of f t, label (machine f) (tables f) (t, r)) [])) (eq-eqb t t refl)
 
-log_other : (f : Flat) (t r u : ℕ) → u ≢ t → log (machine f) (tables f) ((t, r) ∷ []) u ≡ []
-log_other f t r u ne = ap (λ b. events (join_if b (thread_of f u, label (machine f) (tables f) (t, r)) [])) (ne_eqb u t ne)
+log_of_step_of_other : (f : Flat) (t r u : ℕ) → u ≢ t → log (machine f) (tables f) ((t, r) ∷ []) u ≡ []
+log_of_step_of_other f t r u ne = ap (λ b. events (join_if b (thread_of f u, label (machine f) (tables f) (t, r)) [])) (ne_eqb u t ne)
 
 -- nothing is answered at a step that is no call of the environment
-unanswered : (q : Ask) (r : ℕ) (b : Object) → IsNoCall q → answers_in (logged (emitted (act_of (shared_ask q) r) b) []) ≡ []
-unanswered asks.Private r b h = refl
-unanswered (asks.Env kind) r b h = absurd h
-unanswered (asks.Enter o Reading) r b h = refl
-unanswered (asks.Enter o Writing) r b h = refl
-unanswered (asks.Try o) zero b h = refl
-unanswered (asks.Try o) (suc zero) b h = refl
-unanswered (asks.Try o) (suc (suc r)) b h = refl
-unanswered (asks.Leave o a) r b h = refl
-unanswered (asks.Get o i) r b h = refl
-unanswered (asks.Put o i w) r b h = refl
-unanswered asks.Print r b h = refl
-unanswered (asks.End e) r b h = refl
-unanswered asks.Done r b h = refl
+no_answer_unless_call : (q : Ask) (r : ℕ) (b : Object) → IsNoCall q → answers_in (logged (emitted (act_of (shared_ask q) r) b) []) ≡ []
+no_answer_unless_call asks.Private r b h = refl
+no_answer_unless_call (asks.Env kind) r b h = absurd h
+no_answer_unless_call (asks.Enter o Reading) r b h = refl
+no_answer_unless_call (asks.Enter o Writing) r b h = refl
+no_answer_unless_call (asks.Try o) zero b h = refl
+no_answer_unless_call (asks.Try o) (suc zero) b h = refl
+no_answer_unless_call (asks.Try o) (suc (suc r)) b h = refl
+no_answer_unless_call (asks.Leave o a) r b h = refl
+no_answer_unless_call (asks.Get o i) r b h = refl
+no_answer_unless_call (asks.Put o i w) r b h = refl
+no_answer_unless_call asks.Print r b h = refl
+no_answer_unless_call (asks.End e) r b h = refl
+no_answer_unless_call asks.Done r b h = refl
 
 -- thread t of the guest took a step, and its world answered it if it was a call of the environment
 pub record Acted {W : Type 0} (answers : W → List Answered) (broken : W → Bool) (t : ℕ) (old new : Runner W) : Type 0 where
@@ -163,16 +163,16 @@ pub record Acted {W : Type 0} (answers : W → List Answered) (broken : W → Bo
   pub ready : IsReady broken new
 
 -- no world is asked
-pub acted_quiet : {W : Type 0} (answers : W → List Answered) (broken : W → Bool) (t r : ℕ) (q : Ask) (old new : Runner W)
+pub acted_without_call : {W : Type 0} (answers : W → List Answered) (broken : W → Bool) (t r : ℕ) (q : Ask) (old new : Runner W)
     → IsReady broken old → Moved t r old.flat new.flat → q ≡ ask_of old.flat.code (thread_of old.flat t) → IsNoCall q
     → new.turns ≡ old.turns → new.worlds ≡ old.worlds → Acted answers broken t old new
-acted_quiet answers broken t r q old new ready s is quiet turns same = record {
+acted_without_call answers broken t r q old new ready s is quiet turns same = record {
   result = r;
   moved = s;
   turns = turns;
   own = ap (λ z. answers_at (map answers z.items) t) same ∙ sym (append-nil (answers_at (map answers old.worlds.items) t))
       ∙ ap (λ z. answers_at (map answers old.worlds.items) t ++ z)
-      (sym (unanswered (ask_of old.flat.code (thread_of old.flat t)) r
+      (sym (no_answer_unless_call (ask_of old.flat.code (thread_of old.flat t)) r
       ((tables old.flat).objects (target (act_of (shared_ask (ask_of old.flat.code (thread_of old.flat t))) r))) (subst IsNoCall is quiet)));
   others = λ u ne. ap (λ z. answers_at (map answers z.items) u) same;
   ready = record {
@@ -181,36 +181,36 @@ acted_quiet answers broken t r q old new ready s is quiet turns same = record {
   };
 }
 
-answer_label : (f : Flat) (t r : ℕ) (kind : EnvKind) → asks.Env kind ≡ ask_of f.code (thread_of f t)
+label_of_answered_call : (f : Flat) (t r : ℕ) (kind : EnvKind) → asks.Env kind ≡ ask_of f.code (thread_of f t)
     → label (machine f) (tables f) (t, r) ≡ Answer kind r
-answer_label f t r kind is =
+label_of_answered_call f t r kind is =
     ap (λ (z : Ask). emitted (act_of (shared_ask z) r) ((tables f).objects (target (act_of (shared_ask z) r)))) (sym is)
 
 -- its world answers
-pub acted_answer : {W : Type 0} (answers : W → List Answered) (broken : W → Bool) (t r : ℕ) (kind : EnvKind) (old new : Runner W)
+pub acted_by_answered_call : {W : Type 0} (answers : W → List Answered) (broken : W → Bool) (t r : ℕ) (kind : EnvKind) (old new : Runner W)
     → IsReady broken old → t < length old.flat.threads → Moved t r old.flat new.flat
     → asks.Env kind ≡ ask_of old.flat.code (thread_of old.flat t) → new.turns ≡ old.turns
     → map answers new.worlds.items ≡ set (map answers old.worlds.items) t (answers_at (map answers old.worlds.items) t ++ (kind, r) ∷ [])
     → length new.worlds.items ≡ length old.worlds.items → NoneFailed (map broken new.worlds.items)
     → Acted answers broken t old new
-acted_answer answers broken t r kind old new ready l s is turns gained each works = record {
+acted_by_answered_call answers broken t r kind old new ready l s is turns gained each works = record {
   result = r;
   moved = s;
   turns = turns;
   own = ap (λ z. answers_at z t) gained
       ∙ get_or-set_same (map answers old.worlds.items) t (answers_at (map answers old.worlds.items) t ++ (kind, r) ∷ []) []
       (let n = length-map old.worlds.items answers in let m = ready.worlds in omega (arith, n, m, l))
-      ∙ ap (λ z. answers_at (map answers old.worlds.items) t ++ answers_in (logged z [])) (sym (answer_label old.flat t r kind is));
+      ∙ ap (λ z. answers_at (map answers old.worlds.items) t ++ answers_in (logged z [])) (sym (label_of_answered_call old.flat t r kind is));
   others = λ u ne. ap (λ z. answers_at z u) gained
       ∙ get_or-set_other (map answers old.worlds.items) t u (answers_at (map answers old.worlds.items) t ++ (kind, r) ∷ []) [] ne;
   ready = record { worlds = each ∙ ready.worlds ∙ sym s.threads; works = works };
 }
 
 -- it is noted
-pub took_acted : {W : Type 0} (answers : W → List Answered) (broken : W → Bool) (t : ℕ) (old new : Runner W) (turns : List Turns)
+pub took_if_acted_and_noted : {W : Type 0} (answers : W → List Answered) (broken : W → Bool) (t : ℕ) (old new : Runner W) (turns : List Turns)
     → Acted answers broken t old new → order_of_turns turns ≡ order_of_turns new.turns.items ++ replicate 1 t
     → Took t (moment_of answers old) (record (moment_of answers new) { turns = turns })
-took_acted answers broken t old new turns a order = record {
+took_if_acted_and_noted answers broken t old new turns a order = record {
   result = a.result;
   can = a.moved.can;
   enters = a.moved.enters;
@@ -223,67 +223,67 @@ took_acted answers broken t old new turns a order = record {
     answers = λ u l. elim (cases_eq u t) [
       | inl e ↦ subst (λ z. answers_at (map answers new.worlds.items) z ≡ answers_at (map answers old.worlds.items) z ++ answers_in
           (log (machine old.flat) (tables old.flat) ((t, a.result) ∷ []) z)) (sym e)
-          (a.own ∙ ap (λ z. answers_at (map answers old.worlds.items) t ++ answers_in z) (sym (log_own old.flat t a.result)))
+          (a.own ∙ ap (λ z. answers_at (map answers old.worlds.items) t ++ answers_in z) (sym (log_of_own_step old.flat t a.result)))
       | inr ne ↦ a.others u ne ∙ sym (append-nil (answers_at (map answers old.worlds.items) u))
-          ∙ ap (λ z. answers_at (map answers old.worlds.items) u ++ answers_in z) (sym (log_other old.flat t a.result u ne))
+          ∙ ap (λ z. answers_at (map answers old.worlds.items) u ++ answers_in z) (sym (log_of_step_of_other old.flat t a.result u ne))
     ];
   };
 }
 
 -- a step that was taken leaves fewer
-pub took_fewer : (a b : Moment) (t : ℕ) → IsFlat a.flat → t < length a.flat.threads → Took t a b → TookSome 1 a.flat b.flat
-took_fewer a b t flat l s = subst (λ z. all_left (length a.flat.threads) z.now + 1 ≤ all_left (length a.flat.threads) (tables a.flat).now)
-    (sym s.gained.ends) (step_less a.flat.code (length a.flat.threads) (tables a.flat) (t, s.result) (flat_few a.flat flat) l s.can)
+pub step_taken_leaves_fewer : (a b : Moment) (t : ℕ) → IsFlat a.flat → t < length a.flat.threads → Took t a b → TookSome 1 a.flat b.flat
+step_taken_leaves_fewer a b t flat l s = subst (λ z. all_left (length a.flat.threads) z.now + 1 ≤ all_left (length a.flat.threads) (tables a.flat).now)
+    (sym s.gained.ends) (step_leaves_all_fewer a.flat.code (length a.flat.threads) (tables a.flat) (t, s.result) (hold_few_objects_if_flat a.flat flat) l s.can)
 
-pub some_both : (i j : ℕ) (f g h : Flat) → length g.threads ≡ length f.threads → TookSome i f g → TookSome j g h → TookSome (i + j) f h
-some_both i j f g h same p q =
+pub took_some_append : (i j : ℕ) (f g h : Flat) → length g.threads ≡ length f.threads → TookSome i f g → TookSome j g h → TookSome (i + j) f h
+took_some_append i j f g h same p q =
     let more = subst (λ n. all_left n (tables h).now + j ≤ all_left n (tables g).now) same q in
     omega (arith, p, more)
 
 -- ---- private steps of one thread
 
-other_now : {T : Type 0} (m : Machine T) (s : State T) (t r u : ℕ) → u ≢ t → (after m s (t, r)).now u ≡ s.now u
+thread_after_step_of_other : {T : Type 0} (m : Machine T) (s : State T) (t r u : ℕ) → u ≢ t → (after m s (t, r)).now u ≡ s.now u
 unfolding after
-other_now m s t r u ne = upd_other s.now t u _ ne
+thread_after_step_of_other m s t r u ne = upd_at_other_place s.now t u _ ne
 
-other_end : {T : Type 0} (m : Machine T) (t k u : ℕ) → u ≢ t → (s : State T) → (end m s (replicate k (t, 0))).now u ≡ s.now u
-other_end m t zero u ne s = refl
-other_end m t (suc k) u ne s = other_end m t k u ne (after m s (t, 0)) ∙ other_now m s t 0 u ne
+other_thread_after_repeated_steps : {T : Type 0} (m : Machine T) (t k u : ℕ) → u ≢ t → (s : State T) → (end m s (replicate k (t, 0))).now u ≡ s.now u
+other_thread_after_repeated_steps m t zero u ne s = refl
+other_thread_after_repeated_steps m t (suc k) u ne s = other_thread_after_repeated_steps m t k u ne (after m s (t, 0)) ∙ thread_after_step_of_other m s t 0 u ne
 
-lower_after : {T : Type 0} (tries : Bool) (m : Machine T) (s : State T) (t r : ℕ) → ((u : ℕ) → u < t → rests tries m s u ≡ true)
+lower_threads_rest_after_step : {T : Type 0} (tries : Bool) (m : Machine T) (s : State T) (t r : ℕ) → ((u : ℕ) → u < t → rests tries m s u ≡ true)
     → (u : ℕ) → u < t → rests tries m (after m s (t, r)) u ≡ true
-lower_after tries m s t r lower u l = ap (λ x. is_rest tries (m.ask x)) (other_now m s t r u (λ e. omega (arith, e, l))) ∙ lower u l
+lower_threads_rest_after_step tries m s t r lower u l = ap (λ x. is_rest tries (m.ask x)) (thread_after_step_of_other m s t r u (λ e. omega (arith, e, l))) ∙ lower u l
 
-leads_alone : {T : Type 0} (tries : Bool) (m : Machine T) (n t k : ℕ) (s : State T) (c : Chooser) → t < n → IsRun m s (replicate k (t, 0))
+leads_by_private_steps : {T : Type 0} (tries : Bool) (m : Machine T) (n t k : ℕ) (s : State T) (c : Chooser) → t < n → IsRun m s (replicate k (t, 0))
     → ((j : ℕ) → j < k → m.ask ((end m s (replicate j (t, 0))).now t) ≡ Private) → ((u : ℕ) → u < t → rests tries m s u ≡ true)
     → Leads tries m n s c (replicate k (t, 0)) c
-leads_alone tries m n t zero s c l ok each lower = refl
-leads_alone tries m n t (suc k) s c l ok each lower =
+leads_by_private_steps tries m n t zero s c l ok each lower = refl
+leads_by_private_steps tries m n t (suc k) s c l ok each lower =
     let private : asked m s t ≡ Private = each 0 (omega arith) in (
       c,
       (l, ok.0, λ o tried can. absurd (cc (private, tried)), inl ((ap (is_rest tries) private, lower), refl)),
-      leads_alone tries m n t k (after m s (t, 0)) c l ok.1 (λ j less. each (suc j) (omega (arith, less)))
-          (lower_after tries m s t 0 lower),
+      leads_by_private_steps tries m n t k (after m s (t, 0)) c l ok.1 (λ j less. each (suc j) (omega (arith, less)))
+          (lower_threads_rest_after_step tries m s t 0 lower),
     )
 
-threads_alone : (k t : ℕ) → threads_of (replicate k (t, 0)) ≡ replicate k t
-threads_alone zero t = refl
-threads_alone (suc k) t = ap (λ z. t ∷ z) (threads_alone k t)
+threads_of_repeated_steps : (k t : ℕ) → threads_of (replicate k (t, 0)) ≡ replicate k t
+threads_of_repeated_steps zero t = refl
+threads_of_repeated_steps (suc k) t = ap (λ z. t ∷ z) (threads_of_repeated_steps k t)
 
 -- so many private steps of thread t
-pub ran_alone : (tries : Bool) (a b : Moment) (t k : ℕ) (c : Chooser) → t < length a.flat.threads
+pub ran_by_private_steps : (tries : Bool) (a b : Moment) (t k : ℕ) (c : Chooser) → t < length a.flat.threads
     → ((u : ℕ) → u < t → IsAtRest tries a.flat u) → WentAlone a.flat b.flat t k
     → order_of_turns b.turns ≡ order_of_turns a.turns ++ replicate k t → b.answers ≡ a.answers → Ran tries a c b c
-ran_alone tries a b t k c l lower w order same = record {
+ran_by_private_steps tries a b t k c l lower w order same = record {
   run = replicate k (t, 0);
-  leads = leads_alone tries (machine a.flat) (length a.flat.threads) t k (tables a.flat) c l w.runs
+  leads = leads_by_private_steps tries (machine a.flat) (length a.flat.threads) t k (tables a.flat) c l w.runs
       (λ j less. ap shared_ask (w.each j less)) lower;
   gained = record {
     ends = w.ends;
     code = w.code;
     threads = w.threads;
     objects = w.objects;
-    order = order ∙ ap (λ z. order_of_turns a.turns ++ z) (sym (threads_alone k t));
+    order = order ∙ ap (λ z. order_of_turns a.turns ++ z) (sym (threads_of_repeated_steps k t));
     answers = λ u below. ap (λ z. answers_at z u) same ∙ sym (append-nil (answers_at a.answers u))
         ∙ ap (λ z. answers_at a.answers u ++ answers_in z) (sym (w.quiet u));
   };
@@ -292,63 +292,63 @@ ran_alone tries a b t k c l lower w order same = record {
 -- ---- who rests
 
 -- a thread that is left alone asks what it asked
-same_rest : (tries : Bool) (f g : Flat) (u : ℕ) → g.code ≡ f.code → (tables g).now u ≡ (tables f).now u
+rests_equal_if_thread_equal : (tries : Bool) (f g : Flat) (u : ℕ) → g.code ≡ f.code → (tables g).now u ≡ (tables f).now u
     → rests tries (machine g) (tables g) u ≡ rests tries (machine f) (tables f) u
-same_rest tries f g u code now = ap (λ c. is_rest tries ((thread_machine c).ask ((tables g).now u))) code
+rests_equal_if_thread_equal tries f g u code now = ap (λ c. is_rest tries ((thread_machine c).ask ((tables g).now u))) code
     ∙ ap (λ x. is_rest tries ((machine f).ask x)) now
 
-pub took_others : (tries : Bool) (a b : Moment) (t : ℕ) → Took t a b → OthersRest tries t a.flat b.flat
-took_others tries a b t s u ne = same_rest tries a.flat b.flat u s.gained.code
-    (ap (λ z. z.now u) s.gained.ends ∙ other_now (machine a.flat) (tables a.flat) t s.result u ne)
+pub others_rest_after_step_taken : (tries : Bool) (a b : Moment) (t : ℕ) → Took t a b → OthersRest tries t a.flat b.flat
+others_rest_after_step_taken tries a b t s u ne = rests_equal_if_thread_equal tries a.flat b.flat u s.gained.code
+    (ap (λ z. z.now u) s.gained.ends ∙ thread_after_step_of_other (machine a.flat) (tables a.flat) t s.result u ne)
 
-pub alone_others : (tries : Bool) (f g : Flat) (t k : ℕ) → WentAlone f g t k → OthersRest tries t f g
-alone_others tries f g t k w u ne = same_rest tries f g u w.code
-    (ap (λ z. z.now u) w.ends ∙ other_end (machine f) t k u ne (tables f))
+pub others_rest_after_private_steps : (tries : Bool) (f g : Flat) (t k : ℕ) → WentAlone f g t k → OthersRest tries t f g
+others_rest_after_private_steps tries f g t k w u ne = rests_equal_if_thread_equal tries f g u w.code
+    (ap (λ z. z.now u) w.ends ∙ other_thread_after_repeated_steps (machine f) t k u ne (tables f))
 
-pub others_both : (tries : Bool) (t : ℕ) (f g h : Flat) → OthersRest tries t f g → OthersRest tries t g h → OthersRest tries t f h
-others_both tries t f g h p q u ne = q u ne ∙ p u ne
+pub others_rest_transitive : (tries : Bool) (t : ℕ) (f g h : Flat) → OthersRest tries t f g → OthersRest tries t g h → OthersRest tries t f h
+others_rest_transitive tries t f g h p q u ne = q u ne ∙ p u ne
 
 -- the lower threads rest where they did
-pub lower_rest : (tries : Bool) (t : ℕ) (f g : Flat) → OthersRest tries t f g → ((u : ℕ) → u < t → IsAtRest tries f u)
+pub lower_threads_rest_if_others_rest : (tries : Bool) (t : ℕ) (f g : Flat) → OthersRest tries t f g → ((u : ℕ) → u < t → IsAtRest tries f u)
     → (u : ℕ) → u < t → IsAtRest tries g u
-lower_rest tries t f g others lower u l = others u (λ e. omega (arith, e, l)) ∙ lower u l
+lower_threads_rest_if_others_rest tries t f g others lower u l = others u (λ e. omega (arith, e, l)) ∙ lower u l
 
 -- what the thread asks says whether it rests
-pub rest_of : (tries : Bool) (f : Flat) (t : ℕ) (q : Ask) (b : Bool) → q ≡ ask_of f.code (thread_of f t) → b ≡ is_rest tries (shared_ask q)
+pub rests_is_rest_of_ask : (tries : Bool) (f : Flat) (t : ℕ) (q : Ask) (b : Bool) → q ≡ ask_of f.code (thread_of f t) → b ≡ is_rest tries (shared_ask q)
     → rests tries (machine f) (tables f) t ≡ b
-rest_of tries f t q b is e = ap (λ (z : Ask). is_rest tries (shared_ask z)) (sym is) ∙ sym e
+rests_is_rest_of_ask tries f t q b is e = ap (λ (z : Ask). is_rest tries (shared_ask z)) (sym is) ∙ sym e
 
-zero_suits : (kind : EnvKind) → is_result kind 0 ≡ true
-zero_suits Clock = refl
-zero_suits Random = refl
-zero_suits Input = refl
+zero_is_environment_result : (kind : EnvKind) → is_result kind 0 ≡ true
+zero_is_environment_result Clock = refl
+zero_is_environment_result Random = refl
+zero_is_environment_result Input = refl
 
-unrest_admits : (tries : Bool) (m : Machine thread.State) (q : machine.Ask) (objects : ℕ → Object)
+unrest_ask_is_admitted : (tries : Bool) (m : Machine thread.ThreadState) (q : machine.Ask) (objects : ℕ → Object)
     → ((kind : EnvKind) → m.fits kind 0 ≡ true) → is_rest tries q ≡ false → Admits m (act_of q 0) (objects (target (act_of q 0)))
-unrest_admits tries m machine.Private objects fits e = tt
-unrest_admits tries m (machine.Env kind) objects fits e = fits kind
-unrest_admits tries m (machine.Enter o a) objects fits e = absurd (cc e)
-unrest_admits tries m (machine.Try o) objects fits e = absurd (cc e)
-unrest_admits tries m (machine.Leave o a) objects fits e = tt
-unrest_admits tries m (machine.Get o i) objects fits e = tt
-unrest_admits tries m (machine.Put o i w) objects fits e = tt
-unrest_admits tries m machine.Done objects fits e = absurd (cc e)
+unrest_ask_is_admitted tries m machine.Private objects fits e = tt
+unrest_ask_is_admitted tries m (machine.Env kind) objects fits e = fits kind
+unrest_ask_is_admitted tries m (machine.Enter o a) objects fits e = absurd (cc e)
+unrest_ask_is_admitted tries m (machine.Try o) objects fits e = absurd (cc e)
+unrest_ask_is_admitted tries m (machine.Leave o a) objects fits e = tt
+unrest_ask_is_admitted tries m (machine.Get o i) objects fits e = tt
+unrest_ask_is_admitted tries m (machine.Put o i w) objects fits e = tt
+unrest_ask_is_admitted tries m machine.Done objects fits e = absurd (cc e)
 
 -- a thread that is not at rest has a step
-pub unrest_can : (tries : Bool) (f : Flat) (t : ℕ) → rests tries (machine f) (tables f) t ≡ false → Can (machine f) (tables f) (t, 0)
-unrest_can tries f t e = unrest_admits tries (machine f) (asked (machine f) (tables f) t) (tables f).objects zero_suits e
+pub can_step_unless_at_rest : (tries : Bool) (f : Flat) (t : ℕ) → rests tries (machine f) (tables f) t ≡ false → Can (machine f) (tables f) (t, 0)
+can_step_unless_at_rest tries f t e = unrest_ask_is_admitted tries (machine f) (asked (machine f) (tables f) t) (tables f).objects zero_is_environment_result e
 
 -- ---- steps that are taken
 
 -- there was the step, so it was taken
-pub taken_so : {X E : Type 0} (result : Result X E) (P Q : Type 0) → P → OnErr result (P → ⊥) → OnOk result Q → Q
-taken_so (Ok x) P Q p err ok = ok
-taken_so (Err e) P Q p err ok = absurd (err p)
+pub on_ok_holds_if_can : {X E : Type 0} (result : Result X E) (P Q : Type 0) → P → OnErr result (P → ⊥) → OnOk result Q → Q
+on_ok_holds_if_can (Ok x) P Q p err ok = ok
+on_ok_holds_if_can (Err e) P Q p err ok = absurd (err p)
 
 -- what is no try enters nothing
-pub no_try_enters : (f : Flat) (t r : ℕ) (q : Ask) → q ≡ ask_of f.code (thread_of f t) → IsNoTry q
+pub no_try_enters_if_free : (f : Flat) (t r : ℕ) (q : Ask) → q ≡ ask_of f.code (thread_of f t) → IsNoTry q
     → EntersIfFree (machine f) (tables f) (t, r)
-no_try_enters f t r q is h o tried can = absurd (never q h (ap shared_ask is ∙ tried))
+no_try_enters_if_free f t r q is h o tried can = absurd (never q h (ap shared_ask is ∙ tried))
   where
     never : (z : Ask) → IsNoTry z → shared_ask z ≡ Try o → ⊥
     never asks.Private h e = cc e
@@ -363,37 +363,37 @@ no_try_enters f t r q is h o tried can = absurd (never q h (ap shared_ask is ∙
     never asks.Done h e = cc e
 
 -- there is the call of the environment, with a result that suits it
-pub answer_can : (f : Flat) (t value : ℕ) (kind : EnvKind) → asks.Env kind ≡ ask_of f.code (thread_of f t) → is_result kind value ≡ true
+pub can_answer_call_with_result : (f : Flat) (t value : ℕ) (kind : EnvKind) → asks.Env kind ≡ ask_of f.code (thread_of f t) → is_result kind value ≡ true
     → Can (machine f) (tables f) (t, value)
-answer_can f t value kind is fits = subst (λ (q : Ask). Admits (machine f) (act_of (shared_ask q) value)
+can_answer_call_with_result f t value kind is fits = subst (λ (q : Ask). Admits (machine f) (act_of (shared_ask q) value)
     ((tables f).objects (target (act_of (shared_ask q) value)))) is fits
 
 -- private steps leave no more
-pub alone_fewer : (f g : Flat) (t k : ℕ) → IsFlat f → t < length f.threads → WentAlone f g t k → TookSome 0 f g
-alone_fewer f g t k flat l w =
-    let less = alone_less f.code (length f.threads) t k (tables f) (flat_few f flat) l w.runs in
+pub private_steps_leave_no_more : (f g : Flat) (t k : ℕ) → IsFlat f → t < length f.threads → WentAlone f g t k → TookSome 0 f g
+private_steps_leave_no_more f g t k flat l w =
+    let less = steps_of_thread_leave_all_fewer f.code (length f.threads) t k (tables f) (hold_few_objects_if_flat f flat) l w.runs in
     let same : all_left (length f.threads) (tables g).now ≡ all_left (length f.threads)
     (end (machine f) (tables f) (replicate k (t, 0))).now = ap (λ s. all_left (length f.threads) s.now) w.ends in
     omega (arith, less, same)
 
 -- whatever is no call of the environment
-pub no_call : (q : Ask) → ((kind : EnvKind) → q ≡ asks.Env kind → ⊥) → IsNoCall q
-no_call asks.Private h = tt
-no_call (asks.Env kind) h = h kind refl
-no_call (asks.Enter o a) h = tt
-no_call (asks.Try o) h = tt
-no_call (asks.Leave o a) h = tt
-no_call (asks.Get o i) h = tt
-no_call (asks.Put o i w) h = tt
-no_call asks.Print h = tt
-no_call (asks.End e) h = tt
-no_call asks.Done h = tt
+pub is_no_call_unless_environment : (q : Ask) → ((kind : EnvKind) → q ≡ asks.Env kind → ⊥) → IsNoCall q
+is_no_call_unless_environment asks.Private h = tt
+is_no_call_unless_environment (asks.Env kind) h = h kind refl
+is_no_call_unless_environment (asks.Enter o a) h = tt
+is_no_call_unless_environment (asks.Try o) h = tt
+is_no_call_unless_environment (asks.Leave o a) h = tt
+is_no_call_unless_environment (asks.Get o i) h = tt
+is_no_call_unless_environment (asks.Put o i w) h = tt
+is_no_call_unless_environment asks.Print h = tt
+is_no_call_unless_environment (asks.End e) h = tt
+is_no_call_unless_environment asks.Done h = tt
 
 -- a measure that falls
-pub left_less : (f g : Flat) → length g.threads ≡ length f.threads → TookSome 1 f g
+pub steps_left_fall_after_step : (f g : Flat) → length g.threads ≡ length f.threads → TookSome 1 f g
     → all_left (length g.threads) (tables g).now < all_left (length f.threads) (tables f).now
-left_less f g same h = subst (λ n. all_left n (tables g).now < all_left (length f.threads) (tables f).now) (sym same) (omega (arith, h))
+steps_left_fall_after_step f g same h = subst (λ n. all_left n (tables g).now < all_left (length f.threads) (tables f).now) (sym same) (omega (arith, h))
 
 -- a step and more
-pub some_more : (f g : Flat) → TookSome 1 f g → TookSome 0 f g
-some_more f g h = omega (arith, h)
+pub took_some_weaker : (f g : Flat) → TookSome 1 f g → TookSome 0 f g
+took_some_weaker f g h = omega (arith, h)

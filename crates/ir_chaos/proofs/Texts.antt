@@ -6,52 +6,52 @@ use Rattle.ir_chaos.specs.Conditions.{occurs_in, some_is}
 use Rattle.ir_chaos.specs.Spelling.{word_length, marks}
 
 -- at one place, or behind it
-occurs_split : (text bytes : List ℕ) (start : ℕ) → start < length bytes
+occurs_in_drop_step : (text bytes : List ℕ) (start : ℕ) → start < length bytes
     → occurs_in text (drop start bytes) ≡ (starts_with eqb (drop start bytes) text || occurs_in text (drop (suc start) bytes))
-occurs_split text [] start l = absurd (omega (arith, l))
-occurs_split text (x ∷ bytes) zero l = refl
-occurs_split text (x ∷ bytes) (suc start) l = occurs_split text bytes start (omega (arith, l))
+occurs_in_drop_step text [] start l = absurd (omega (arith, l))
+occurs_in_drop_step text (x ∷ bytes) zero l = refl
+occurs_in_drop_step text (x ∷ bytes) (suc start) l = occurs_in_drop_step text bytes start (omega (arith, l))
 
-whole : (text bytes : List ℕ) (start : ℕ)
+starts_with_of_whole_remainder : (text bytes : List ℕ) (start : ℕ)
     → starts_with eqb (take (length bytes - start) (drop start bytes)) text ≡ starts_with eqb (drop start bytes) text
-whole text bytes start = ap (λ xs. starts_with eqb xs text)
+starts_with_of_whole_remainder text bytes start = ap (λ xs. starts_with eqb xs text)
     (take_all (length bytes - start) (drop start bytes) (let n = length-drop start bytes in omega (arith, n)))
 
 -- it stands here
-pub occurs_here : (text bytes : List ℕ) (start : ℕ) (b : Bool) → start < length bytes → b ≡ starts_with eqb (take (length bytes - start) (drop start bytes)) text → b ≡ true
+pub occurs_if_text_starts_at_place : (text bytes : List ℕ) (start : ℕ) (b : Bool) → start < length bytes → b ≡ starts_with eqb (take (length bytes - start) (drop start bytes)) text → b ≡ true
     → occurs_in text (drop start bytes) ≡ occurs_in text bytes → true ≡ occurs_in text bytes
-occurs_here text bytes start b l e is h =
-    sym (occurs_split text bytes start l ∙ ap (λ z. z || occurs_in text (drop (suc start) bytes)) (sym (e ∙ whole text bytes start) ∙ is)) ∙ h
+occurs_if_text_starts_at_place text bytes start b l e is h =
+    sym (occurs_in_drop_step text bytes start l ∙ ap (λ z. z || occurs_in text (drop (suc start) bytes)) (sym (e ∙ starts_with_of_whole_remainder text bytes start) ∙ is)) ∙ h
 
 -- it doesn't stand here
-pub occurs_later : (text bytes : List ℕ) (start : ℕ) (b : Bool) → start < length bytes → b ≡ starts_with eqb (take (length bytes - start) (drop start bytes)) text
+pub occurs_after_place_unless_starts : (text bytes : List ℕ) (start : ℕ) (b : Bool) → start < length bytes → b ≡ starts_with eqb (take (length bytes - start) (drop start bytes)) text
     → b ≡ false → occurs_in text (drop start bytes) ≡ occurs_in text bytes → occurs_in text (drop (start + 1) bytes) ≡ occurs_in text bytes
-occurs_later text bytes start b l e is h =
+occurs_after_place_unless_starts text bytes start b l e is h =
     ap (λ k. occurs_in text (drop k bytes)) (let same : start + 1 ≡ suc start = omega arith in same)
-    ∙ sym (occurs_split text bytes start l ∙ ap (λ z. z || occurs_in text (drop (suc start) bytes)) (sym (e ∙ whole text bytes start) ∙ is)) ∙ h
+    ∙ sym (occurs_in_drop_step text bytes start l ∙ ap (λ z. z || occurs_in text (drop (suc start) bytes)) (sym (e ∙ starts_with_of_whole_remainder text bytes start) ∙ is)) ∙ h
 
-empty_text : (text : List ℕ) (b : Bool) → b ≡ (length text == 0) → b ≡ occurs_in text []
-empty_text [] b e = e
-empty_text (x ∷ text) b e = e ∙ ne_eqb (suc (length text)) 0 (λ is. omega (arith, is))
+occurs_in_empty_if_text_empty : (text : List ℕ) (b : Bool) → b ≡ (length text == 0) → b ≡ occurs_in text []
+occurs_in_empty_if_text_empty [] b e = e
+occurs_in_empty_if_text_empty (x ∷ text) b e = e ∙ ne_eqb (suc (length text)) 0 (λ is. omega (arith, is))
 
 -- it stands nowhere but at the end, if it is empty
-pub occurs_last : (text bytes : List ℕ) (start : ℕ) (b : Bool) → length bytes ≤ start → b ≡ (length text == 0)
+pub occurs_at_end_if_text_empty : (text bytes : List ℕ) (start : ℕ) (b : Bool) → length bytes ≤ start → b ≡ (length text == 0)
     → occurs_in text (drop start bytes) ≡ occurs_in text bytes → b ≡ occurs_in text bytes
-occurs_last text bytes start b l e h = empty_text text b e ∙ ap (occurs_in text) (sym (drop_all start bytes l)) ∙ h
+occurs_at_end_if_text_empty text bytes start b l e h = occurs_in_empty_if_text_empty text b e ∙ ap (occurs_in text) (sym (drop_all start bytes l)) ∙ h
 
 -- ---- words
 
-word_split : (text : List ℕ) (index : ℕ) → index < length text
+word_length_of_drop_step : (text : List ℕ) (index : ℕ) → index < length text
     → word_length (drop index text) ≡ (if get_or text index 0 == 32 then 0 else suc (word_length (drop (suc index) text)))
-word_split [] index l = absurd (omega (arith, l))
-word_split (b ∷ text) zero l = refl
-word_split (b ∷ text) (suc index) l = word_split text index (omega (arith, l))
+word_length_of_drop_step [] index l = absurd (omega (arith, l))
+word_length_of_drop_step (b ∷ text) zero l = refl
+word_length_of_drop_step (b ∷ text) (suc index) l = word_length_of_drop_step text index (omega (arith, l))
 
-pub word_ends : (text : List ℕ) (index b : ℕ) → index < length text → b ≡ get_or text index b → b ≡ 32
+pub word_length_at_space : (text : List ℕ) (index b : ℕ) → index < length text → b ≡ get_or text index b → b ≡ 32
     → index + word_length (drop index text) ≡ word_length text → index ≡ word_length text
-word_ends text index b l e is h =
+word_length_at_space text index b l e is h =
     let here : get_or text index 0 ≡ 32 = sym (read text index b l e) ∙ is in
-    let none : word_length (drop index text) ≡ 0 = word_split text index l
+    let none : word_length (drop index text) ≡ 0 = word_length_of_drop_step text index l
     ∙ ap (λ z. if z then 0 else suc (word_length (drop (suc index) text))) (eq-eqb (get_or text index 0) 32 here) in
     omega (arith, none, h)
   where
@@ -60,11 +60,11 @@ word_ends text index b l e is h =
     read (y ∷ xs) zero x l e = e
     read (y ∷ xs) (suc i) x l e = read xs i x (omega (arith, l)) e
 
-pub word_goes_on : (text : List ℕ) (index b : ℕ) → index < length text → b ≡ get_or text index b → b ≢ 32
+pub word_length_step : (text : List ℕ) (index b : ℕ) → index < length text → b ≡ get_or text index b → b ≢ 32
     → index + word_length (drop index text) ≡ word_length text → index + 1 + word_length (drop (index + 1) text) ≡ word_length text
-word_goes_on text index b l e ne h =
+word_length_step text index b l e ne h =
     let here : get_or text index 0 ≢ 32 = λ is. ne (read text index b l e ∙ is) in
-    let more : word_length (drop index text) ≡ suc (word_length (drop (suc index) text)) = word_split text index l
+    let more : word_length (drop index text) ≡ suc (word_length (drop (suc index) text)) = word_length_of_drop_step text index l
     ∙ ap (λ z. if z then 0 else suc (word_length (drop (suc index) text))) (ne_eqb (get_or text index 0) 32 here) in
     let same : word_length (drop (index + 1) text) ≡ word_length (drop (suc index) text) =
     ap (λ k. word_length (drop k text)) (let k : index + 1 ≡ suc index = omega arith in k) in
@@ -75,69 +75,69 @@ word_goes_on text index b l e ne h =
     read (y ∷ xs) zero x l e = e
     read (y ∷ xs) (suc i) x l e = read xs i x (omega (arith, l)) e
 
-pub word_all : (text : List ℕ) (index : ℕ) → length text ≤ index → index ≤ length text
+pub word_length_at_text_end : (text : List ℕ) (index : ℕ) → length text ≤ index → index ≤ length text
     → index + word_length (drop index text) ≡ word_length text → length text ≡ word_length text
-word_all text index l m h =
+word_length_at_text_end text index l m h =
     let none : word_length (drop index text) ≡ 0 = ap word_length (drop_all index text l) in
     omega (arith, l, m, none, h)
 
 -- ---- marks
 
-marks_split : (text : List ℕ) (index : ℕ) → index < length text
+marks_of_drop_step : (text : List ℕ) (index : ℕ) → index < length text
     → marks (drop index text) ≡ (if get_or text index 0 == 33 then suc (marks (drop (suc index) text)) else 0)
-marks_split [] index l = absurd (omega (arith, l))
-marks_split (b ∷ text) zero l = refl
-marks_split (b ∷ text) (suc index) l = marks_split text index (omega (arith, l))
+marks_of_drop_step [] index l = absurd (omega (arith, l))
+marks_of_drop_step (b ∷ text) zero l = refl
+marks_of_drop_step (b ∷ text) (suc index) l = marks_of_drop_step text index (omega (arith, l))
 
 read : (xs : List ℕ) (i x : ℕ) → i < length xs → x ≡ get_or xs i x → x ≡ get_or xs i 0
 read [] i x l e = absurd (omega (arith, l))
 read (y ∷ xs) zero x l e = e
 read (y ∷ xs) (suc i) x l e = read xs i x (omega (arith, l)) e
 
-pub marks_end : (text : List ℕ) (index b : ℕ) → index < length text → b ≡ get_or text index b → b ≢ 33
+pub marks_at_other_byte : (text : List ℕ) (index b : ℕ) → index < length text → b ≡ get_or text index b → b ≢ 33
     → index + marks (drop index text) ≡ marks text → index ≡ marks text
-marks_end text index b l e ne h =
-    let none : marks (drop index text) ≡ 0 = marks_split text index l
+marks_at_other_byte text index b l e ne h =
+    let none : marks (drop index text) ≡ 0 = marks_of_drop_step text index l
     ∙ ap (λ z. if z then suc (marks (drop (suc index) text)) else 0)
     (ne_eqb (get_or text index 0) 33 (λ is. ne (read text index b l e ∙ is))) in
     omega (arith, none, h)
 
-pub marks_go_on : (text : List ℕ) (index b : ℕ) → index < length text → b ≡ get_or text index b → b ≡ 33
+pub marks_step : (text : List ℕ) (index b : ℕ) → index < length text → b ≡ get_or text index b → b ≡ 33
     → index + marks (drop index text) ≡ marks text → index + 1 + marks (drop (index + 1) text) ≡ marks text
-marks_go_on text index b l e is h =
-    let more : marks (drop index text) ≡ suc (marks (drop (suc index) text)) = marks_split text index l
+marks_step text index b l e is h =
+    let more : marks (drop index text) ≡ suc (marks (drop (suc index) text)) = marks_of_drop_step text index l
     ∙ ap (λ z. if z then suc (marks (drop (suc index) text)) else 0)
     (eq-eqb (get_or text index 0) 33 (sym (read text index b l e) ∙ is)) in
     let same : marks (drop (index + 1) text) ≡ marks (drop (suc index) text) =
     ap (λ k. marks (drop k text)) (let k : index + 1 ≡ suc index = omega arith in k) in
     omega (arith, more, same, h)
 
-pub marks_all : (text : List ℕ) (index : ℕ) → length text ≤ index → index ≤ length text
+pub marks_at_text_end : (text : List ℕ) (index : ℕ) → length text ≤ index → index ≤ length text
     → index + marks (drop index text) ≡ marks text → length text ≡ marks text
-marks_all text index l m h =
+marks_at_text_end text index l m h =
     let none : marks (drop index text) ≡ 0 = ap marks (drop_all index text l) in
     omega (arith, l, m, none, h)
 
 -- ---- some element
 
-some_split : {A B : Type 0} (test : B → Bool) (f : A → B) (xs : List A) (i : ℕ) (d : A) → i < length xs
+some_is_of_drop_step : {A B : Type 0} (test : B → Bool) (f : A → B) (xs : List A) (i : ℕ) (d : A) → i < length xs
     → some_is test (map f (drop i xs)) ≡ (test (f (get_or xs i d)) || some_is test (map f (drop (suc i) xs)))
-some_split test f [] i d l = absurd (omega (arith, l))
-some_split test f (x ∷ xs) zero d l = refl
-some_split test f (x ∷ xs) (suc i) d l = some_split test f xs i d (omega (arith, l))
+some_is_of_drop_step test f [] i d l = absurd (omega (arith, l))
+some_is_of_drop_step test f (x ∷ xs) zero d l = refl
+some_is_of_drop_step test f (x ∷ xs) (suc i) d l = some_is_of_drop_step test f xs i d (omega (arith, l))
 
-pub some_here : {A B : Type 0} (test : B → Bool) (f : A → B) (xs : List A) (i : ℕ) (x : A) → i < length xs → x ≡ get_or xs i x
+pub some_is_true_at_place : {A B : Type 0} (test : B → Bool) (f : A → B) (xs : List A) (i : ℕ) (x : A) → i < length xs → x ≡ get_or xs i x
     → test (f x) ≡ true → some_is test (map f (drop i xs)) ≡ some_is test (map f xs) → true ≡ some_is test (map f xs)
-some_here test f xs i x l e is h =
-    sym (some_split test f xs i x l ∙ ap (λ z. z || some_is test (map f (drop (suc i) xs))) (ap (λ y. test (f y)) (sym e) ∙ is)) ∙ h
+some_is_true_at_place test f xs i x l e is h =
+    sym (some_is_of_drop_step test f xs i x l ∙ ap (λ z. z || some_is test (map f (drop (suc i) xs))) (ap (λ y. test (f y)) (sym e) ∙ is)) ∙ h
 
-pub some_later : {A B : Type 0} (test : B → Bool) (f : A → B) (xs : List A) (i : ℕ) (x : A) → i < length xs → x ≡ get_or xs i x
+pub some_is_step : {A B : Type 0} (test : B → Bool) (f : A → B) (xs : List A) (i : ℕ) (x : A) → i < length xs → x ≡ get_or xs i x
     → test (f x) ≡ false → some_is test (map f (drop i xs)) ≡ some_is test (map f xs)
     → some_is test (map f (drop (i + 1) xs)) ≡ some_is test (map f xs)
-some_later test f xs i x l e is h =
+some_is_step test f xs i x l e is h =
     ap (λ k. some_is test (map f (drop k xs))) (let same : i + 1 ≡ suc i = omega arith in same)
-    ∙ sym (some_split test f xs i x l ∙ ap (λ z. z || some_is test (map f (drop (suc i) xs))) (ap (λ y. test (f y)) (sym e) ∙ is)) ∙ h
+    ∙ sym (some_is_of_drop_step test f xs i x l ∙ ap (λ z. z || some_is test (map f (drop (suc i) xs))) (ap (λ y. test (f y)) (sym e) ∙ is)) ∙ h
 
-pub some_last : {A B : Type 0} (test : B → Bool) (f : A → B) (xs : List A) (i : ℕ) → length xs ≤ i
+pub some_is_false_at_end : {A B : Type 0} (test : B → Bool) (f : A → B) (xs : List A) (i : ℕ) → length xs ≤ i
     → some_is test (map f (drop i xs)) ≡ some_is test (map f xs) → false ≡ some_is test (map f xs)
-some_last test f xs i l h = ap (λ ys. some_is test (map f ys)) (sym (drop_all i xs l)) ∙ h
+some_is_false_at_end test f xs i l h = ap (λ ys. some_is test (map f ys)) (sym (drop_all i xs l)) ∙ h

@@ -66,7 +66,7 @@ pub fn word_at(flat: &Flat<'_>, object: u32, index: u32) -> u32
 }
 
 // Whether some thread has ended, and not by an exit.
-#[tactic(auto, using(crate::proofs::Texts::some_here, crate::proofs::Texts::some_later, crate::proofs::Texts::some_last))]
+#[tactic(auto, using(crate::proofs::Texts::some_is_true_at_place, crate::proofs::Texts::some_is_step, crate::proofs::Texts::some_is_false_at_end))]
 pub fn some_fault(threads: &[Thread]) -> bool
     ensures { result ≡ some_is is_fault (map (λ x. x.ended) threads.now) }
 {
@@ -81,7 +81,7 @@ pub fn some_fault(threads: &[Thread]) -> bool
 }
 
 // Whether some thread has spent its budget.
-#[tactic(auto, using(crate::proofs::Texts::some_here, crate::proofs::Texts::some_later, crate::proofs::Texts::some_last))]
+#[tactic(auto, using(crate::proofs::Texts::some_is_true_at_place, crate::proofs::Texts::some_is_step, crate::proofs::Texts::some_is_false_at_end))]
 pub fn some_spent(threads: &[Thread]) -> bool
     ensures { result ≡ some_is is_spent (map (λ x. x.ended) threads.now) }
 {

@@ -14,10 +14,10 @@ use Rattle.ir_checkpoint.specs.Checkpoints.{Stands}
 use Rattle.ir_checkpoint.specs.Parts.{IsOnWay}
 
 -- the least cut with a thread further lies below each such that is above
-pub further : (f : FittedTrace) (low : Cut) (target cut new : List ℕ) (t k : ℕ) → HasRun f → IsConsistentCut f target
+pub way_after_least_cut : (f : FittedTrace) (low : Cut) (target cut new : List ℕ) (t k : ℕ) → HasRun f → IsConsistentCut f target
     → IsOnWay f low (cut_of target) cut → k ≤ cut_of target t → IsLeastCut f cut t k new → IsConsistentCut f new
     → IsOnWay f low (cut_of target) new
-further f low target cut new t k h target_is way le least consistent =
+way_after_least_cut f low target cut new t k h target_is way le least consistent =
     let one = least.1 h.run h.whole in
     let aim = target_is h.run h.whole in
     record {
@@ -28,40 +28,40 @@ further f low target cut new t k h target_is way le least consistent =
     }
 
 -- the threads' own positions, as a list
-pub own_position : (threads : List thread.State) (t : ℕ) → cut_of (map (λ x. x.steps) threads) t ≡ (slice_index_or threads t idle).steps
-own_position threads t = get_or-map (λ (x : thread.State). x.steps) threads t idle
+pub position_in_list_of_steps : (threads : List thread.ThreadState) (t : ℕ) → cut_of (map (λ x. x.steps) threads) t ≡ (slice_index_or threads t idle).steps
+position_in_list_of_steps threads t = get_or-map (λ (x : thread.ThreadState). x.steps) threads t idle
 
-pub own_cut : (f : FittedTrace) (s : Standing) (cut : List ℕ) → cut ≡ map (λ t. t.steps) s.threads → cut_of cut ≡ positions (flat_in f s)
-own_cut f s cut is = fun_ext (λ t. ap (λ (c : List ℕ). cut_of c t) is ∙ own_position s.threads t)
+pub list_of_steps_is_own_cut : (f : FittedTrace) (s : Standing) (cut : List ℕ) → cut ≡ map (λ t. t.steps) s.threads → cut_of cut ≡ positions (flat_in f s)
+list_of_steps_is_own_cut f s cut is = fun_ext (λ t. ap (λ (c : List ℕ). cut_of c t) is ∙ position_in_list_of_steps s.threads t)
 
-own_consistent : (f : FittedTrace) (s : Standing) (cut : List ℕ) → Stands f s → cut_of cut ≡ positions (flat_in f s) → IsConsistentCut f cut
-own_consistent f s cut h same run whole =
+own_cut_is_consistent : (f : FittedTrace) (s : Standing) (cut : List ℕ) → Stands f s → cut_of cut ≡ positions (flat_in f s) → IsConsistentCut f cut
+own_cut_is_consistent f s cut h same run whole =
     let at = h.at.each run whole in
     subst (λ (q : Cut). IsCut (machine_of f) (start_of f) run q × Consistent (machine_of f) (start_of f) run q) (sym same)
     (at.cut, at.consistent)
 
 -- they are the beginning of the way
-pub begins : (f : FittedTrace) (s : Standing) (target cut : List ℕ) → Stands f s → cut ≡ map (λ t. t.steps) s.threads
+pub way_begins_at_own_cut : (f : FittedTrace) (s : Standing) (target cut : List ℕ) → Stands f s → cut ≡ map (λ t. t.steps) s.threads
     → ((t : ℕ) → positions (flat_in f s) t ≤ cut_of target t) → IsOnWay f (cut_of cut) (cut_of target) cut
-begins f s target cut h is below =
-    let same = own_cut f s cut is in
+way_begins_at_own_cut f s target cut h is below =
+    let same = list_of_steps_is_own_cut f s cut is in
     record {
-      size = ap length is ∙ length-map s.threads (λ (x : thread.State). x.steps) ∙ h.at.threads;
-      consistent = own_consistent f s cut h same;
+      size = ap length is ∙ length-map s.threads (λ (x : thread.ThreadState). x.steps) ∙ h.at.threads;
+      consistent = own_cut_is_consistent f s cut h same;
       above = λ t. omega arith;
       below = subst (λ (q : Cut). (t : ℕ) → q t ≤ cut_of target t) (sym same) below;
     }
 
-pub from_own : (f : FittedTrace) (s : Standing) (target from cut : List ℕ) → from ≡ map (λ t. t.steps) s.threads
+pub way_from_own_positions : (f : FittedTrace) (s : Standing) (target from cut : List ℕ) → from ≡ map (λ t. t.steps) s.threads
     → IsOnWay f (cut_of from) (cut_of target) cut → IsOnWay f (positions (flat_in f s)) (cut_of target) cut
-from_own f s target from cut is way = subst (λ (q : Cut). IsOnWay f q (cut_of target) cut) (own_cut f s from is) way
+way_from_own_positions f s target from cut is way = subst (λ (q : Cut). IsOnWay f q (cut_of target) cut) (list_of_steps_is_own_cut f s from is) way
 
 -- what is at such a cut isn't past the target
-pub below_target : (f : FittedTrace) (low : Cut) (target cut : List ℕ) (s : Standing) → IsOnWay f low (cut_of target) cut
+pub standing_on_way_below_target : (f : FittedTrace) (low : Cut) (target cut : List ℕ) (s : Standing) → IsOnWay f low (cut_of target) cut
     → StandsAt f (cut_of cut) s → (t : ℕ) → positions (flat_in f s) t ≤ cut_of target t
-below_target f low target cut s way at t = let same = at.at.steps t in let le = way.below t in omega (arith, same, le)
+standing_on_way_below_target f low target cut s way at t = let same = at.at.steps t in let le = way.below t in omega (arith, same, le)
 
 -- what is between isn't either
-pub between_target : (f : FittedTrace) (low : Cut) (target cut : List ℕ) (old new : Standing) → IsOnWay f low (cut_of target) cut
+pub standing_between_on_way_below_target : (f : FittedTrace) (low : Cut) (target cut : List ℕ) (old new : Standing) → IsOnWay f low (cut_of target) cut
     → IsBetween f cut old new → (t : ℕ) → positions (flat_in f new) t ≤ cut_of target t
-between_target f low target cut old new way between t = let b = between.below t in let le = way.below t in omega (arith, b, le)
+standing_between_on_way_below_target f low target cut old new way between t = let b = between.below t in let le = way.below t in omega (arith, b, le)

@@ -13,7 +13,7 @@ use crate::bringing::{gap_of, is_past, is_there, next_stop, steps_before, steps_
 use crate::passed::{MOST_PASSED, Passed, PassedCut};
 use ir_cut::Cut;
 use ir_fit::Fitted;
-use ir_keep::{KeepErr, Keeper};
+use ir_keep::{KeepErr, Keeper, MOST_STATES};
 use ir_object::Hands;
 use ir_replay::{Pace, State, advance};
 use std::alloc::{AllocError, Global};
@@ -63,6 +63,25 @@ fn drop_in(fitted: &Fitted, keeper: &mut Keeper, number: u32)
     if number != 0 && keeper.cut(number).is_some() {
         keeper.drop_kept(number);
     }
+}
+
+// Whether a state is kept as this number at a cut.
+fn is_at(keeper: &Keeper, number: u32, cut: &Cut) -> bool {
+    match keeper.cut(number) {
+        None => false,
+        Some(own) => own.positions() == cut.positions(),
+    }
+}
+
+// The greatest number of a state that is kept at a cut, but for the start's.
+fn last_at(keeper: &Keeper, cut: &Cut) -> Option<u32> {
+    for place in 0..MOST_STATES {
+        let number = keeper.number_at(place)?;
+        if number != 0 && is_at(keeper, number, cut) {
+            return Some(number);
+        }
+    }
+    None
 }
 
 // The number of the nearest state at or below the target.
@@ -142,8 +161,8 @@ impl Checkpoints {
         were_any
     }
 
-    /// Keeps a state, under the next number from 1 on. Where 64 are kept beside the start, or all numbers were given, it isn't kept. Where
-    /// memory runs out those that moves have passed are given up, and it is tried again.
+    /// Keeps a state. Where 64 are kept beside the start, or all numbers of the keeper were given, it isn't kept. Where memory runs out
+    /// those that moves have passed are given up, and it is tried again.
     ///
     /// # Errors
     /// Out of memory; the states that were asked for stay.
@@ -161,12 +180,14 @@ impl Checkpoints {
         Ok(())
     }
 
-    /// Gives up the state kept as this number, if it is kept, and isn't the start.
-    pub fn drop_kept(&mut self, fitted: &Fitted, number: u32)
+    /// Gives up a state that was asked for at this cut, if there is one that isn't the start; of several the last that was kept.
+    pub fn drop_kept(&mut self, fitted: &Fitted, cut: &Cut)
         requires { AreCheckpoints fitted.now self.old }
         ensures { AreCheckpoints fitted.now self.new }
     {
-        drop_in(fitted, &mut self.asked, number);
+        if let Some(number) = last_at(&self.asked, cut) {
+            drop_in(fitted, &mut self.asked, number);
+        }
     }
 
     // How many steps are before the nearest state at or below the target.

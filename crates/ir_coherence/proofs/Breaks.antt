@@ -12,7 +12,7 @@ use Rattle.ir_log.specs.Logging.{label_of}
 use Rattle.ir_log.specs.declared.event.Event.{Event}
 use Rattle.ir_trace.specs.Recorded.{Recorded, RecordedThread, absent, recorded_thread, trace_of}
 use Rattle.ir_trace.specs.Within.{IsRecorded, IsEvent, IsRecordedThread}
-use Rattle.ir_trace.proofs.CallerLemmas.{most_recorded_threads}
+use Rattle.ir_trace.proofs.CallerLemmas.{recorded_threads_at_most_limit}
 use Rattle.ir_runs.specs.Coherent.{reads, IsCoherent}
 use Rattle.ir_coherence.specs.Counting.{MayStand, writes, reads_in, writes_in, reads_of, writes_of, cause_by, CountsMore, CountsAll, HasRoom, FirstCause, NoCause}
 use Rattle.ir_runs.specs.Cuts.{At}
@@ -20,9 +20,9 @@ use Rattle.ir_coherence.specs.Breaking.{HasCause, IsBefore, IsFirstBreak}
 use Rattle.ir_coherence.specs.declared.cause.Cause.{Cause}
 use Rattle.ir_coherence.specs.declared.cause.Cause.TheVariants.{Unmade, Twice, Readers}
 use Rattle.ir_coherence.specs.declared.entry_counts.EntryCounts.{EntryCounts}
-use Rattle.ir_coherence.proofs.Writes.{IsOf, is_thread}
-use Rattle.ir_coherence.proofs.Causes.{named, unnamed, silent_coherent}
-use Rattle.ir_coherence.proofs.Logs.{reads_le, writes_le, sum_bound, sum_next}
+use Rattle.ir_coherence.proofs.Writes.{HasLogsOfThreads, thread_of_label_below_count}
+use Rattle.ir_coherence.proofs.Causes.{has_cause_if_named_by_counts, no_cause_if_counts_name_none, coherent_if_no_cause_by_counts}
+use Rattle.ir_coherence.proofs.Logs.{reads_at_most_length, writes_at_most_length, sum_below_at_most_product, sum_below_of_successor}
 
 -- the entries of the first n threads are counted
 pub record CountsFirst (r : Recorded) (n : ℕ) (c : EntryCounts) : Type 0 where
@@ -30,120 +30,120 @@ pub record CountsFirst (r : Recorded) (n : ℕ) (c : EntryCounts) : Type 0 where
   pub reads : (o v : ℕ) → reads_of c o v ≡ reads_in n (trace_of r) o v
   pub writes : (o v : ℕ) → writes_of c o v ≡ writes_in n (trace_of r) o v
 
-each : {X : Type 0} (P : X → Type 0) (xs : List X) (i : ℕ) (d : X) → AllByRecursion P xs → i < length xs → P (get_or xs i d)
-each P [] i d all l = absurd (omega arith)
-each P (x ∷ xs) zero d all l = all.0
-each P (x ∷ xs) (suc i) d all l = each P xs i d all.1 (omega arith)
+element_of_all_by_recursion : {X : Type 0} (P : X → Type 0) (xs : List X) (i : ℕ) (d : X) → AllByRecursion P xs → i < length xs → P (get_or xs i d)
+element_of_all_by_recursion P [] i d all l = absurd (omega arith)
+element_of_all_by_recursion P (x ∷ xs) zero d all l = all.0
+element_of_all_by_recursion P (x ∷ xs) (suc i) d all l = element_of_all_by_recursion P xs i d all.1 (omega arith)
 
-past : {X : Type 0} (xs : List X) (i : ℕ) (d : X) → length xs ≤ i → get_or xs i d ≡ d
-past [] i d l = refl
-past (x ∷ xs) zero d l = absurd (omega arith)
-past (x ∷ xs) (suc i) d l = past xs i d (omega arith)
+get_or_past_end_is_default : {X : Type 0} (xs : List X) (i : ℕ) (d : X) → length xs ≤ i → get_or xs i d ≡ d
+get_or_past_end_is_default [] i d l = refl
+get_or_past_end_is_default (x ∷ xs) zero d l = absurd (omega arith)
+get_or_past_end_is_default (x ∷ xs) (suc i) d l = get_or_past_end_is_default xs i d (omega arith)
 
-pub thread_fits : (r : Recorded) → IsRecorded r → (i : ℕ) → i < length r.threads → IsRecordedThread r.profile r.objects (recorded_thread r i)
-thread_fits r fits i l = each (IsRecordedThread r.profile r.objects) r.threads i absent fits.threads_fit l
+pub recorded_thread_at_number_is_recorded : (r : Recorded) → IsRecorded r → (i : ℕ) → i < length r.threads → IsRecordedThread r.profile r.objects (recorded_thread r i)
+recorded_thread_at_number_is_recorded r fits i l = element_of_all_by_recursion (IsRecordedThread r.profile r.objects) r.threads i absent fits.threads_fit l
 
-may_stand : (profile : Profile) (objects : ℕ) (es : List Event) → AllByRecursion (IsEvent profile objects) es
+events_may_stand : (profile : Profile) (objects : ℕ) (es : List Event) → AllByRecursion (IsEvent profile objects) es
     → AllByRecursion (MayStand objects) es
-may_stand profile objects [] all = tt
-may_stand profile objects (e ∷ es) all = ((profile, all.0), may_stand profile objects es all.1)
+events_may_stand profile objects [] all = tt
+events_may_stand profile objects (e ∷ es) all = ((profile, all.0), events_may_stand profile objects es all.1)
 
 -- the events of a thread may be in a trace of as many objects as are counted
-pub thread_stands : (r : Recorded) → IsRecorded r → (i : ℕ) (c : EntryCounts) → i < length r.threads → CountsFirst r i c
+pub thread_events_may_stand_in_counts : (r : Recorded) → IsRecorded r → (i : ℕ) (c : EntryCounts) → i < length r.threads → CountsFirst r i c
     → AllByRecursion (MayStand (vec_len c.objects)) (recorded_thread r i).events
-thread_stands r fits i c l first = subst (λ n. AllByRecursion (MayStand n) (recorded_thread r i).events) (sym first.objects)
-    (may_stand r.profile r.objects (recorded_thread r i).events (thread_fits r fits i l).events_fit)
+thread_events_may_stand_in_counts r fits i c l first = subst (λ n. AllByRecursion (MayStand n) (recorded_thread r i).events) (sym first.objects)
+    (events_may_stand r.profile r.objects (recorded_thread r i).events (recorded_thread_at_number_is_recorded r fits i l).events_fit)
 
-is_of : (r : Recorded) → IsOf (length r.threads) (trace_of r)
-is_of r t l = ap (λ (x : RecordedThread). map label_of x.events) (past r.threads t absent l)
+trace_has_logs_of_threads : (r : Recorded) → HasLogsOfThreads (length r.threads) (trace_of r)
+trace_has_logs_of_threads r t l = ap (λ (x : RecordedThread). map label_of x.events) (get_or_past_end_is_default r.threads t absent l)
 
-pub thread_room : (r : Recorded) → IsRecorded r → (i : ℕ) (c : EntryCounts) → i < length r.threads → CountsFirst r i c
+pub counts_have_room_for_thread : (r : Recorded) → IsRecorded r → (i : ℕ) (c : EntryCounts) → i < length r.threads → CountsFirst r i c
     → HasRoom c (length (recorded_thread r i).events)
-thread_room r fits i c l first = record {
+counts_have_room_for_thread r fits i c l first = record {
   reads = λ o v. omega (
     arith,
     first.reads o v,
-    sum_bound i (λ u. reads o v ((trace_of r).logs u))
-        (λ u less. omega (arith, reads_le o v ((trace_of r).logs u), of_thread u (omega arith))),
-    (thread_fits r fits i l).few_events,
-    most_recorded_threads r fits,
+    sum_below_at_most_product i (λ u. reads o v ((trace_of r).logs u))
+        (λ u less. omega (arith, reads_at_most_length o v ((trace_of r).logs u), of_thread u (omega arith))),
+    (recorded_thread_at_number_is_recorded r fits i l).few_events,
+    recorded_threads_at_most_limit r fits,
   );
   writes = λ o v. omega (
     arith,
     first.writes o v,
-    sum_bound i (λ u. writes o v ((trace_of r).logs u))
-        (λ u less. omega (arith, writes_le o v ((trace_of r).logs u), of_thread u (omega arith))),
-    (thread_fits r fits i l).few_events,
-    most_recorded_threads r fits,
+    sum_below_at_most_product i (λ u. writes o v ((trace_of r).logs u))
+        (λ u less. omega (arith, writes_at_most_length o v ((trace_of r).logs u), of_thread u (omega arith))),
+    (recorded_thread_at_number_is_recorded r fits i l).few_events,
+    recorded_threads_at_most_limit r fits,
   );
 }
   where
     of_thread : (u : ℕ) → u < length r.threads → length ((trace_of r).logs u) ≤ most_events
-    of_thread u less = omega (arith, length-map (recorded_thread r u).events label_of, (thread_fits r fits u less).few_events)
+    of_thread u less = omega (arith, length-map (recorded_thread r u).events label_of, (recorded_thread_at_number_is_recorded r fits u less).few_events)
 
-pub thread_counted : (r : Recorded) (i : ℕ) (a b : EntryCounts) → CountsFirst r i a
+pub counts_after_thread : (r : Recorded) (i : ℕ) (a b : EntryCounts) → CountsFirst r i a
     → CountsMore a b (map label_of (recorded_thread r i).events) → CountsFirst r (i + 1) b
-thread_counted r i a b first more = record {
+counts_after_thread r i a b first more = record {
   objects = more.objects ∙ first.objects;
-  reads = λ o v. omega (arith, more.reads o v, first.reads o v, sum_next i (λ u. reads o v ((trace_of r).logs u)));
-  writes = λ o v. omega (arith, more.writes o v, first.writes o v, sum_next i (λ u. writes o v ((trace_of r).logs u)));
+  reads = λ o v. omega (arith, more.reads o v, first.reads o v, sum_below_of_successor i (λ u. reads o v ((trace_of r).logs u)));
+  writes = λ o v. omega (arith, more.writes o v, first.writes o v, sum_below_of_successor i (λ u. writes o v ((trace_of r).logs u)));
 }
 
-at_event : (es : List Event) (i : ℕ) (e : Event) → slice_get es i ≡ Some e → At (map label_of es) i (label_of e)
-at_event [] i e is = absurd (let bad : None ≡ Some e = is in cc)
-at_event (x ∷ xs) zero e is = ap label_of (same_Some x e is)
-at_event (x ∷ xs) (suc i) e is = at_event xs i e is
+at_of_mapped_label : (es : List Event) (i : ℕ) (e : Event) → slice_get es i ≡ Some e → At (map label_of es) i (label_of e)
+at_of_mapped_label [] i e is = absurd (let bad : None ≡ Some e = is in cc)
+at_of_mapped_label (x ∷ xs) zero e is = ap label_of (same_Some x e is)
+at_of_mapped_label (x ∷ xs) (suc i) e is = at_of_mapped_label xs i e is
 
-event_at : (es : List Event) (i : ℕ) (m : Label) → At (map label_of es) i m → (e : Event) × (slice_get es i ≡ Some e) × (label_of e ≡ m)
-event_at [] i m at = absurd at
-event_at (x ∷ xs) zero m at = (x, refl, at)
-event_at (x ∷ xs) (suc i) m at = event_at xs i m at
+event_of_label_at : (es : List Event) (i : ℕ) (m : Label) → At (map label_of es) i m → (e : Event) × (slice_get es i ≡ Some e) × (label_of e ≡ m)
+event_of_label_at [] i m at = absurd at
+event_of_label_at (x ∷ xs) zero m at = (x, refl, at)
+event_of_label_at (x ∷ xs) (suc i) m at = event_of_label_at xs i m at
 
 -- the tables' counts name what the trace's counts name
-as_counted : (n : ℕ) (emitted : Trace) (c : EntryCounts) → CountsAll n emitted c → (m : Label)
+cause_by_counts_is_trace_cause : (n : ℕ) (emitted : Trace) (c : EntryCounts) → CountsAll n emitted c → (m : Label)
     → cause_by (reads_of c) (writes_of c) m ≡ cause_by (reads_in n emitted) (writes_in n emitted) m
-as_counted n emitted c all m = λ i. cause_by (λ o v. all.reads o v i) (λ o v. all.writes o v i) m
+cause_by_counts_is_trace_cause n emitted c all m = λ i. cause_by (λ o v. all.reads o v i) (λ o v. all.writes o v i) m
 
 -- what has a cause is in the trace
-entry_of : (n : ℕ) (emitted : Trace) (t i : ℕ) (d : Cause) → HasCause n emitted t i d → (m : Label) × At (emitted.logs t) i m
-entry_of n emitted t i Unmade has = (In has.object has.access (suc has.version) has.left, has.entry)
-entry_of n emitted t i Twice has = (In has.1.object Writing has.1.version has.1.left, has.1.entry)
-entry_of n emitted t i Readers has = (In has.2.object Writing has.2.version has.2.left, has.2.entry)
+cause_is_at_label : (n : ℕ) (emitted : Trace) (t i : ℕ) (d : Cause) → HasCause n emitted t i d → (m : Label) × At (emitted.logs t) i m
+cause_is_at_label n emitted t i Unmade has = (In has.object has.access (suc has.version) has.left, has.entry)
+cause_is_at_label n emitted t i Twice has = (In has.1.object Writing has.1.version has.1.left, has.1.entry)
+cause_is_at_label n emitted t i Readers has = (In has.2.object Writing has.2.version has.2.left, has.2.entry)
 
-silent : (r : Recorded) (c : EntryCounts) → CountsAll (length r.threads) (trace_of r) c → (t i : ℕ) (m : Label)
+no_trace_cause_without_counted_cause : (r : Recorded) (c : EntryCounts) → CountsAll (length r.threads) (trace_of r) c → (t i : ℕ) (m : Label)
     → At ((trace_of r).logs t) i m → ((e : Event) → slice_get (recorded_thread r t).events i ≡ Some e
     → cause_by (reads_of c) (writes_of c) (label_of e) ≡ None)
     → cause_by (reads_in (length r.threads) (trace_of r)) (writes_in (length r.threads) (trace_of r)) m ≡ None
-silent r c all t i m at none =
-    let e = event_at (recorded_thread r t).events i m at in
-    sym (as_counted (length r.threads) (trace_of r) c all m) ∙ ap (cause_by (reads_of c) (writes_of c)) (sym e.2) ∙ none e.0 e.1
+no_trace_cause_without_counted_cause r c all t i m at none =
+    let e = event_of_label_at (recorded_thread r t).events i m at in
+    sym (cause_by_counts_is_trace_cause (length r.threads) (trace_of r) c all m) ∙ ap (cause_by (reads_of c) (writes_of c)) (sym e.2) ∙ none e.0 e.1
 
-unbroken : (r : Recorded) (c : EntryCounts) → CountsAll (length r.threads) (trace_of r) c → (t i : ℕ)
+no_cause_without_counted_cause : (r : Recorded) (c : EntryCounts) → CountsAll (length r.threads) (trace_of r) c → (t i : ℕ)
     → ((e : Event) → slice_get (recorded_thread r t).events i ≡ Some e → cause_by (reads_of c) (writes_of c) (label_of e) ≡ None)
     → (d : Cause) → HasCause (length r.threads) (trace_of r) t i d → ⊥
-unbroken r c all t i none d has =
-    let m = entry_of (length r.threads) (trace_of r) t i d has in
-    unnamed (length r.threads) (trace_of r) (is_of r) t i m.0 m.1 (silent r c all t i m.0 m.1 none) d has
+no_cause_without_counted_cause r c all t i none d has =
+    let m = cause_is_at_label (length r.threads) (trace_of r) t i d has in
+    no_cause_if_counts_name_none (length r.threads) (trace_of r) (trace_has_logs_of_threads r) t i m.0 m.1 (no_trace_cause_without_counted_cause r c all t i m.0 m.1 none) d has
 
 -- where no thread's log has an event with a cause
-pub all_silent : (r : Recorded) (c : EntryCounts) → CountsAll (length r.threads) (trace_of r) c
+pub coherent_if_no_log_has_cause : (r : Recorded) (c : EntryCounts) → CountsAll (length r.threads) (trace_of r) c
     → ((t : ℕ) → t < length r.threads → NoCause (reads_of c) (writes_of c) (recorded_thread r t).events)
     → IsCoherent (length r.threads) (trace_of r)
-all_silent r c all none = silent_coherent (length r.threads) (trace_of r) (is_of r)
-    (λ t i m at. silent r c all t i m at (none t (is_thread (length r.threads) (trace_of r) (is_of r) t i m at) i))
+coherent_if_no_log_has_cause r c all none = coherent_if_no_cause_by_counts (length r.threads) (trace_of r) (trace_has_logs_of_threads r)
+    (λ t i m at. no_trace_cause_without_counted_cause r c all t i m at (none t (thread_of_label_below_count (length r.threads) (trace_of r) (trace_has_logs_of_threads r) t i m at) i))
 
 -- the first event with a cause
-pub first_named : (r : Recorded) (c : EntryCounts) → CountsAll (length r.threads) (trace_of r) c → (t i : ℕ) (cause : Cause)
+pub first_break_if_first_cause : (r : Recorded) (c : EntryCounts) → CountsAll (length r.threads) (trace_of r) c → (t i : ℕ) (cause : Cause)
     → ((u : ℕ) → u < t → NoCause (reads_of c) (writes_of c) (recorded_thread r u).events)
     → FirstCause (reads_of c) (writes_of c) (recorded_thread r t).events i cause → IsFirstBreak (length r.threads) (trace_of r) t i cause
-first_named r c all t i cause none found = record {
-  breaks = named (length r.threads) (trace_of r) (is_of r) t i (label_of found.event) cause
-      (at_event (recorded_thread r t).events i found.event found.stands)
-      (sym (as_counted (length r.threads) (trace_of r) c all (label_of found.event)) ∙ found.cause);
+first_break_if_first_cause r c all t i cause none found = record {
+  breaks = has_cause_if_named_by_counts (length r.threads) (trace_of r) (trace_has_logs_of_threads r) t i (label_of found.event) cause
+      (at_of_mapped_label (recorded_thread r t).events i found.event found.stands)
+      (sym (cause_by_counts_is_trace_cause (length r.threads) (trace_of r) c all (label_of found.event)) ∙ found.cause);
   first = λ u j d before has. earlier u j d before has;
 }
   where
     earlier : (u j : ℕ) (d : Cause) → IsBefore u j t i → HasCause (length r.threads) (trace_of r) u j d → ⊥
-    earlier u j d (inl less) has = unbroken r c all u j (none u less j) d has
-    earlier u j d (inr here) has = unbroken r c all u j
+    earlier u j d (inl less) has = no_cause_without_counted_cause r c all u j (none u less j) d has
+    earlier u j d (inr here) has = no_cause_without_counted_cause r c all u j
         (λ e is. found.first j e here.1 (subst (λ z. slice_get (recorded_thread r z).events j ≡ Some e) here.0 is)) d has

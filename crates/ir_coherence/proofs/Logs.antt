@@ -10,68 +10,68 @@ use Rattle.ir_runs.specs.Coherent.{reads_one, reads, sum_below}
 use Rattle.ir_coherence.specs.Counting.{writes_one, writes, CountsMore, HasRoom}
 use Rattle.ir_coherence.specs.declared.entry_counts.EntryCounts.{EntryCounts}
 
-reads-append : (o v : ℕ) (xs ys : List Label) → reads o v (xs ++ ys) ≡ reads o v xs + reads o v ys
-reads-append o v [] ys = let e : reads o v ys ≡ 0 + reads o v ys = omega arith in e
-reads-append o v (x ∷ xs) ys = omega (arith, reads-append o v xs ys)
+reads_of_append : (o v : ℕ) (xs ys : List Label) → reads o v (xs ++ ys) ≡ reads o v xs + reads o v ys
+reads_of_append o v [] ys = let e : reads o v ys ≡ 0 + reads o v ys = omega arith in e
+reads_of_append o v (x ∷ xs) ys = omega (arith, reads_of_append o v xs ys)
 
-writes-append : (o v : ℕ) (xs ys : List Label) → writes o v (xs ++ ys) ≡ writes o v xs + writes o v ys
-writes-append o v [] ys = let e : writes o v ys ≡ 0 + writes o v ys = omega arith in e
-writes-append o v (x ∷ xs) ys = omega (arith, writes-append o v xs ys)
+writes_of_append : (o v : ℕ) (xs ys : List Label) → writes o v (xs ++ ys) ≡ writes o v xs + writes o v ys
+writes_of_append o v [] ys = let e : writes o v ys ≡ 0 + writes o v ys = omega arith in e
+writes_of_append o v (x ∷ xs) ys = omega (arith, writes_of_append o v xs ys)
 
-test_le : (b d : Bool) → ◌≤◌ (cond b (cond d 1 0) 0) 1
-test_le true true = omega arith
-test_le true false = omega arith
-test_le false d = omega arith
+nested_condition_at_most_one : (b d : Bool) → ◌≤◌ (cond b (cond d 1 0) 0) 1
+nested_condition_at_most_one true true = omega arith
+nested_condition_at_most_one true false = omega arith
+nested_condition_at_most_one false d = omega arith
 
-reads_one_le : (o v : ℕ) (m : Label) → reads_one o v m ≤ 1
-reads_one_le o v Quiet = omega arith
-reads_one_le o v (Answer k x) = omega arith
-reads_one_le o v (In p Reading w l) = test_le (eqb p o) (eqb w v)
-reads_one_le o v (In p Writing w l) = omega arith
-reads_one_le o v (Refused p) = omega arith
-reads_one_le o v (Out p a w) = omega arith
+reads_one_at_most_one : (o v : ℕ) (m : Label) → reads_one o v m ≤ 1
+reads_one_at_most_one o v Quiet = omega arith
+reads_one_at_most_one o v (Answer k x) = omega arith
+reads_one_at_most_one o v (In p Reading w l) = nested_condition_at_most_one (eqb p o) (eqb w v)
+reads_one_at_most_one o v (In p Writing w l) = omega arith
+reads_one_at_most_one o v (Refused p) = omega arith
+reads_one_at_most_one o v (Out p a w) = omega arith
 
-writes_one_le : (o v : ℕ) (m : Label) → writes_one o v m ≤ 1
-writes_one_le o v Quiet = omega arith
-writes_one_le o v (Answer k x) = omega arith
-writes_one_le o v (In p Reading w l) = omega arith
-writes_one_le o v (In p Writing w l) = test_le (eqb p o) (eqb w v)
-writes_one_le o v (Refused p) = omega arith
-writes_one_le o v (Out p a w) = omega arith
+writes_one_at_most_one : (o v : ℕ) (m : Label) → writes_one o v m ≤ 1
+writes_one_at_most_one o v Quiet = omega arith
+writes_one_at_most_one o v (Answer k x) = omega arith
+writes_one_at_most_one o v (In p Reading w l) = omega arith
+writes_one_at_most_one o v (In p Writing w l) = nested_condition_at_most_one (eqb p o) (eqb w v)
+writes_one_at_most_one o v (Refused p) = omega arith
+writes_one_at_most_one o v (Out p a w) = omega arith
 
-pub reads_le : (o v : ℕ) (ks : List Label) → reads o v ks ≤ length ks
-reads_le o v [] = omega arith
-reads_le o v (k ∷ ks) = omega (arith, reads_one_le o v k, reads_le o v ks)
+pub reads_at_most_length : (o v : ℕ) (ks : List Label) → reads o v ks ≤ length ks
+reads_at_most_length o v [] = omega arith
+reads_at_most_length o v (k ∷ ks) = omega (arith, reads_one_at_most_one o v k, reads_at_most_length o v ks)
 
-pub writes_le : (o v : ℕ) (ks : List Label) → writes o v ks ≤ length ks
-writes_le o v [] = omega arith
-writes_le o v (k ∷ ks) = omega (arith, writes_one_le o v k, writes_le o v ks)
+pub writes_at_most_length : (o v : ℕ) (ks : List Label) → writes o v ks ≤ length ks
+writes_at_most_length o v [] = omega arith
+writes_at_most_length o v (k ∷ ks) = omega (arith, writes_one_at_most_one o v k, writes_at_most_length o v ks)
 
 -- what room is left
-pub room_left : (a b : EntryCounts) (ks : List Label) (n k : ℕ) → HasRoom a n → CountsMore a b ks → length ks + k ≤ n → HasRoom b k
-room_left a b ks n k room more l = record {
-  reads = λ o v. omega (arith, room.reads o v, more.reads o v, reads_le o v ks);
-  writes = λ o v. omega (arith, room.writes o v, more.writes o v, writes_le o v ks);
+pub room_after_counted_labels : (a b : EntryCounts) (ks : List Label) (n k : ℕ) → HasRoom a n → CountsMore a b ks → length ks + k ≤ n → HasRoom b k
+room_after_counted_labels a b ks n k room more l = record {
+  reads = λ o v. omega (arith, room.reads o v, more.reads o v, reads_at_most_length o v ks);
+  writes = λ o v. omega (arith, room.writes o v, more.writes o v, writes_at_most_length o v ks);
 }
 
-both_counted : (a b d : EntryCounts) (xs ys : List Label) → CountsMore a b xs → CountsMore b d ys → CountsMore a d (xs ++ ys)
-both_counted a b d xs ys m k = record {
+counts_after_appended_labels : (a b d : EntryCounts) (xs ys : List Label) → CountsMore a b xs → CountsMore b d ys → CountsMore a d (xs ++ ys)
+counts_after_appended_labels a b d xs ys m k = record {
   objects = k.objects ∙ m.objects;
-  reads = λ o v. omega (arith, k.reads o v, m.reads o v, reads-append o v xs ys);
-  writes = λ o v. omega (arith, k.writes o v, m.writes o v, writes-append o v xs ys);
+  reads = λ o v. omega (arith, k.reads o v, m.reads o v, reads_of_append o v xs ys);
+  writes = λ o v. omega (arith, k.writes o v, m.writes o v, writes_of_append o v xs ys);
 }
 
 -- one event further
-pub one_counted : (a b d : EntryCounts) (es : List Event) (i : ℕ) (e : Event) → i < length es → CountsMore a b (map label_of (take i es))
+pub counts_after_taken_events_step : (a b d : EntryCounts) (es : List Event) (i : ℕ) (e : Event) → i < length es → CountsMore a b (map label_of (take i es))
     → CountsMore b d (label_of (get_or es i e) ∷ []) → CountsMore a d (map label_of (take (i + 1) es))
-one_counted a b d es i e l m k =
+counts_after_taken_events_step a b d es i e l m k =
     subst (CountsMore a d) (sym (ap (map label_of) (take_more es i e l) ∙ map-append label_of (take i es) (get_or es i e ∷ [])))
-    (both_counted a b d (map label_of (take i es)) (label_of (get_or es i e) ∷ []) m k)
+    (counts_after_appended_labels a b d (map label_of (take i es)) (label_of (get_or es i e) ∷ []) m k)
 
 -- a sum of n numbers, each of at most as many events as a log has
-pub sum_bound : (n : ℕ) (f : ℕ → ℕ) → ((t : ℕ) → t < n → f t ≤ most_events) → sum_below n f ≤ n * most_events
-sum_bound zero f h = omega arith
-sum_bound (suc n) f h = omega (arith, h n (omega arith), sum_bound n f (λ t l. h t (omega arith)))
+pub sum_below_at_most_product : (n : ℕ) (f : ℕ → ℕ) → ((t : ℕ) → t < n → f t ≤ most_events) → sum_below n f ≤ n * most_events
+sum_below_at_most_product zero f h = omega arith
+sum_below_at_most_product (suc n) f h = omega (arith, h n (omega arith), sum_below_at_most_product n f (λ t l. h t (omega arith)))
 
-pub sum_next : (n : ℕ) (f : ℕ → ℕ) → sum_below (n + 1) f ≡ f n + sum_below n f
-sum_next n f = rw add-one refl
+pub sum_below_of_successor : (n : ℕ) (f : ℕ → ℕ) → sum_below (n + 1) f ≡ f n + sum_below n f
+sum_below_of_successor n f = rw add-one refl

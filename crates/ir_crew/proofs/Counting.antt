@@ -6,9 +6,9 @@ use Rattle.ir_runs.specs.Machine.{Machine, Object}
 use Rattle.ir_object.specs.Order.{Shared, keep_if, of_thread, objects_then, IsLegal}
 use Rattle.ir_crew.specs.Rule.{one_if_entry, entries}
 
-pub entries_more : (xs : List Shared) (x : Shared) → entries (xs ++ x ∷ []) ≡ entries xs + one_if_entry x.0
-entries_more [] x = omega arith
-entries_more (y ∷ xs) x = let r = entries_more xs x in omega (arith, r)
+pub entries_with_step_added : (xs : List Shared) (x : Shared) → entries (xs ++ x ∷ []) ≡ entries xs + one_if_entry x.0
+entries_with_step_added [] x = omega arith
+entries_with_step_added (y ∷ xs) x = let r = entries_with_step_added xs x in omega (arith, r)
 
 -- the entries of all threads
 abbrev pub all_entries : List (ℕ × Shared) → ℕ
@@ -20,34 +20,34 @@ abbrev pub total : ℕ → (ℕ → ℕ) → ℕ
 total zero f = 0
 total (suc n) f = total n f + f n
 
-pub total_le : (n k : ℕ) (f : ℕ → ℕ) → ((t : ℕ) → f t ≤ k) → n ≤ most_threads → total n f ≤ n * k
-total_le zero k f h l = omega arith
-total_le (suc n) k f h l = let r = total_le n k f h (omega arith) in let e = h n in omega (arith, r, e)
+pub total_within_product : (n k : ℕ) (f : ℕ → ℕ) → ((t : ℕ) → f t ≤ k) → n ≤ most_threads → total n f ≤ n * k
+total_within_product zero k f h l = omega arith
+total_within_product (suc n) k f h l = let r = total_within_product n k f h (omega arith) in let e = h n in omega (arith, r, e)
 
-total_none : (n : ℕ) → total n (λ t. 0) ≡ 0
-total_none zero = refl
-total_none (suc n) = let r = total_none n in omega (arith, r)
+total_of_zeros : (n : ℕ) → total n (λ t. 0) ≡ 0
+total_of_zeros zero = refl
+total_of_zeros (suc n) = let r = total_of_zeros n in omega (arith, r)
 
-total_same : (n : ℕ) (f g : ℕ → ℕ) → ((t : ℕ) → t < n → f t ≡ g t) → total n f ≡ total n g
-total_same zero f g h = refl
-total_same (suc n) f g h = let r = total_same n f g (λ t lt. h t (omega arith)) in let s = h n (omega arith) in omega (arith, r, s)
+total_of_equal_functions : (n : ℕ) (f g : ℕ → ℕ) → ((t : ℕ) → t < n → f t ≡ g t) → total n f ≡ total n g
+total_of_equal_functions zero f g h = refl
+total_of_equal_functions (suc n) f g h = let r = total_of_equal_functions n f g (λ t lt. h t (omega arith)) in let s = h n (omega arith) in omega (arith, r, s)
 
 -- where f is k more than g at u, and the same elsewhere
-total_bump : (n u k : ℕ) (f g : ℕ → ℕ) → u < n → f u ≡ g u + k → ((t : ℕ) → t ≢ u → f t ≡ g t) → total n f ≡ total n g + k
-total_bump zero u k f g lt here others = absurd (omega arith)
-total_bump (suc n) u k f g lt here others = elim (cases_eq u n) [
-  | inl is ↦ let r = total_same n f g (λ t small. others t (λ e. omega (arith, e, small, is))) in let s : f n ≡ g n + k =
+total_with_one_increased : (n u k : ℕ) (f g : ℕ → ℕ) → u < n → f u ≡ g u + k → ((t : ℕ) → t ≢ u → f t ≡ g t) → total n f ≡ total n g + k
+total_with_one_increased zero u k f g lt here others = absurd (omega arith)
+total_with_one_increased (suc n) u k f g lt here others = elim (cases_eq u n) [
+  | inl is ↦ let r = total_of_equal_functions n f g (λ t small. others t (λ e. omega (arith, e, small, is))) in let s : f n ≡ g n + k =
       subst (λ z. f z ≡ g z + k) is here in omega (arith, r, s)
-  | inr ne ↦ let r = total_bump n u k f g (omega (arith, ne, lt)) here others in let s = others n (λ e. ne (sym e)) in omega (arith, r, s)
+  | inr ne ↦ let r = total_with_one_increased n u k f g (omega (arith, ne, lt)) here others in let s = others n (λ e. ne (sym e)) in omega (arith, r, s)
 ]
 
 -- the entries are those of the threads
-pub entries_total : {T : Type 0} (m : Machine T) (n count : ℕ) (f : ℕ → Object) (xs : List (ℕ × Shared)) → IsLegal m n count f xs
+pub entries_total_over_threads : {T : Type 0} (m : Machine T) (n count : ℕ) (f : ℕ → Object) (xs : List (ℕ × Shared)) → IsLegal m n count f xs
     → total n (λ t. entries (of_thread t xs)) ≡ all_entries xs
-entries_total m n count f [] l = total_none n
-entries_total m n count f (x ∷ xs) l =
-    let r = entries_total m n count (objects_then f x) xs l.1 in
-    let s = total_bump n x.0 (one_if_entry x.1.0) (λ t. entries (of_thread t (x ∷ xs))) (λ t. entries (of_thread t xs)) l.0.thread
+entries_total_over_threads m n count f [] l = total_of_zeros n
+entries_total_over_threads m n count f (x ∷ xs) l =
+    let r = entries_total_over_threads m n count (objects_then f x) xs l.1 in
+    let s = total_with_one_increased n x.0 (one_if_entry x.1.0) (λ t. entries (of_thread t (x ∷ xs))) (λ t. entries (of_thread t xs)) l.0.thread
     (let e : entries (keep_if (eqb x.0 x.0) x.1 (of_thread x.0 xs)) ≡ one_if_entry x.1.0 + entries (of_thread x.0 xs) =
     ap (λ b. entries (keep_if b x.1 (of_thread x.0 xs))) (eq-eqb x.0 x.0 refl) in omega (arith, e))
     (λ t ne. ap (λ b. entries (keep_if b x.1 (of_thread t xs))) (ne_eqb t x.0 ne)) in

@@ -11,7 +11,7 @@ use Rattle.ir_image.specs.Guest.{limits_of, Guest, most_object_words, object_cou
 use Rattle.ir_image.specs.Within.{IsGuest}
 use Rattle.ir_image.specs.declared.form.ImageForm.{ImageForm}
 use Rattle.ir_image.specs.declared.form.ImageForm.TheVariants.{Small, Large}
-use Rattle.ir_image.proofs.CallerLemmas.{padded_at}
+use Rattle.ir_image.proofs.CallerLemmas.{element_of_padded}
 use Rattle.ir_object.specs.Cell.{Cell}
 use Rattle.ir_object.specs.Standing.{StandsFor}
 use Rattle.ir_runs.specs.Machine.{Object}
@@ -21,50 +21,50 @@ use Rattle.ir_object.specs.Word.{fields_of}
 use Rattle.ir_crew.specs.Ends.{empty, AreSeats, AreTracks, IsEnd, IsLaid, IsObjectOf}
 use Rattle.ir_crew.specs.Plays.{M, all_but_first, first_alone}
 use Rattle.ir_crew.specs.Rule.{View, start_objects, Represents, IsTable, Fits, Kept, tracks_from}
-use Rattle.ir_crew.proofs.Known.{nothing_represents, small_now}
+use Rattle.ir_crew.proofs.Known.{zero_fields_represent_fresh_object, small_words_by_legal_steps}
 use Rattle.ir_crew.proofs.Steps.{track}
 
 -- ---- the words before the first step
 
-pub starts : (g : Guest) (ws : List ℕ) → IsLaid g ws → IsTable (length g.entries) (object_count g) (start_objects g) ws
-starts g ws laid = record {
+pub laid_words_are_start_table : (g : Guest) (ws : List ℕ) → IsLaid g ws → IsTable (length g.entries) (object_count g) (start_objects g) ws
+laid_words_are_start_table g ws laid = record {
   size = laid.size;
   words = λ o lt. subst (λ z. Represents (length g.entries) (fields_of z) (start_objects g o)) (sym (laid.free o lt))
-      (nothing_represents (length g.entries) (start_objects g o).words);
+      (zero_fields_represent_fresh_object (length g.entries) (start_objects g o).words);
   contents = laid.contents;
 }
 
 -- the place of word `at` of the guest
-abbrev pub place_of : ImageForm → ℕ → ℕ
-place_of form at = content_place (at / (limits_of form).words) (at % (limits_of form).words)
+abbrev pub guest_word_place : ImageForm → ℕ → ℕ
+guest_word_place form at = content_place (at / (limits_of form).words) (at % (limits_of form).words)
 
-place_is : (form : ImageForm) (o i at : ℕ) → i < (limits_of form).words → (limits_of form).words * o + i ≡ at
-    → content_place o i ≡ place_of form at
-place_is Small o i at small e = omega (arith, small, e)
-place_is Large o i at small e = omega (arith, small, e)
+content_place_of_guest_word : (form : ImageForm) (o i at : ℕ) → i < (limits_of form).words → (limits_of form).words * o + i ≡ at
+    → content_place o i ≡ guest_word_place form at
+content_place_of_guest_word Small o i at small e = omega (arith, small, e)
+content_place_of_guest_word Large o i at small e = omega (arith, small, e)
 
-place_of_another : (form : ImageForm) (o i at : ℕ) → i < (limits_of form).words → (limits_of form).words * o + i ≢ at
-    → content_place o i ≢ place_of form at
-place_of_another Small o i at small ne e = ne (omega (arith, small, e))
-place_of_another Large o i at small ne e = ne (omega (arith, small, e))
+content_place_of_other_word : (form : ImageForm) (o i at : ℕ) → i < (limits_of form).words → (limits_of form).words * o + i ≢ at
+    → content_place o i ≢ guest_word_place form at
+content_place_of_other_word Small o i at small ne e = ne (omega (arith, small, e))
+content_place_of_other_word Large o i at small ne e = ne (omega (arith, small, e))
 
-place_of_none : (form : ImageForm) (o i at : ℕ) → (limits_of form).words ≤ i → i < most_object_words → content_place o i ≢ place_of form at
-place_of_none Small o i at large small e = omega (arith, large, small, e)
-place_of_none Large o i at large small e = omega (arith, large, small, e)
+unused_place_is_no_guest_word : (form : ImageForm) (o i at : ℕ) → (limits_of form).words ≤ i → i < most_object_words → content_place o i ≢ guest_word_place form at
+unused_place_is_no_guest_word Small o i at large small e = omega (arith, large, small, e)
+unused_place_is_no_guest_word Large o i at large small e = omega (arith, large, small, e)
 
-place_of_contents : (form : ImageForm) (o at : ℕ) → word_place o ≢ place_of form at
-place_of_contents Small o at e = omega (arith, e)
-place_of_contents Large o at e = omega (arith, e)
+word_place_is_no_guest_word : (form : ImageForm) (o at : ℕ) → word_place o ≢ guest_word_place form at
+word_place_is_no_guest_word Small o at e = omega (arith, e)
+word_place_is_no_guest_word Large o at e = omega (arith, e)
 
-pub place_within : (form : ImageForm) (words at : ℕ) → words % (limits_of form).words ≡ 0 → at < words
-    → place_of form at < table_length (words / (limits_of form).words)
-place_within Small words at whole lt = omega (arith, whole, lt)
-place_within Large words at whole lt = omega (arith, whole, lt)
+pub guest_word_place_within_table : (form : ImageForm) (words at : ℕ) → words % (limits_of form).words ≡ 0 → at < words
+    → guest_word_place form at < table_length (words / (limits_of form).words)
+guest_word_place_within_table Small words at whole lt = omega (arith, whole, lt)
+guest_word_place_within_table Large words at whole lt = omega (arith, whole, lt)
 
-is_below : (form : ImageForm) (words o i : ℕ) → words % (limits_of form).words ≡ 0 → o < words / (limits_of form).words
+guest_word_number_below_count : (form : ImageForm) (words o i : ℕ) → words % (limits_of form).words ≡ 0 → o < words / (limits_of form).words
     → i < (limits_of form).words → (limits_of form).words * o + i < words
-is_below Small words o i whole lt small = omega (arith, whole, lt, small)
-is_below Large words o i whole lt small = omega (arith, whole, lt, small)
+guest_word_number_below_count Small words o i whole lt small = omega (arith, whole, lt, small)
+guest_word_number_below_count Large words o i whole lt small = omega (arith, whole, lt, small)
 
 -- the guest's words below this one are laid, and nothing else
 pub record IsLaying (g : Guest) (laid : List ℕ) (at : ℕ) : Type 0 where
@@ -74,46 +74,46 @@ pub record IsLaying (g : Guest) (laid : List ℕ) (at : ℕ) : Type 0 where
       → get_or laid (content_place o i) 0 ≡ get_or g.words (object_words g * o + i) 0
   pub others : (o i : ℕ) → object_words g ≤ i → i < most_object_words → get_or laid (content_place o i) 0 ≡ 0
 
-pub laying_starts : (g : Guest) (laid : List ℕ) (count : ℕ) → count ≡ object_count g → length laid ≡ table_length count
+pub laying_before_first_word : (g : Guest) (laid : List ℕ) (count : ℕ) → count ≡ object_count g → length laid ≡ table_length count
     → ((k : ℕ) → get_or laid k 0 ≡ 0) → IsLaying g laid 0
-laying_starts g laid count is size none = record {
+laying_before_first_word g laid count is size none = record {
   size = omega (arith, is, size);
   free = λ o. none (word_place o);
   contents = λ o i small l. absurd (omega (arith, l));
   others = λ o i large small. none (content_place o i);
 }
 
-pub laying_more : (g : Guest) (laid more : List ℕ) (at word : ℕ) → IsGuest g → at < length g.words → IsLaying g laid at
-    → word ≡ get_or g.words at 0 → more ≡ set laid (place_of g.form at) word → IsLaying g more (at + 1)
-laying_more g laid more at word guest lt h is new = subst (λ z. IsLaying g z (at + 1)) (sym new) (record {
+pub laying_with_word_added : (g : Guest) (laid more : List ℕ) (at word : ℕ) → IsGuest g → at < length g.words → IsLaying g laid at
+    → word ≡ get_or g.words at 0 → more ≡ set laid (guest_word_place g.form at) word → IsLaying g more (at + 1)
+laying_with_word_added g laid more at word guest lt h is new = subst (λ z. IsLaying g z (at + 1)) (sym new) (record {
   size = length-set laid place word ∙ h.size;
-  free = λ o. get_or-set_other laid place (word_place o) word 0 (place_of_contents g.form o at) ∙ h.free o;
+  free = λ o. get_or-set_other laid place (word_place o) word 0 (word_place_is_no_guest_word g.form o at) ∙ h.free o;
   contents = λ o i small l. elim (cases_eq (object_words g * o + i) at) [
-    | inl e ↦ ap (λ z. get_or (set laid place word) z 0) (place_is g.form o i at small e)
+    | inl e ↦ ap (λ z. get_or (set laid place word) z 0) (content_place_of_guest_word g.form o i at small e)
         ∙ get_or-set_same laid place word 0 within ∙ is ∙ ap (λ z. get_or g.words z 0) (sym e)
-    | inr ne ↦ get_or-set_other laid place (content_place o i) word 0 (place_of_another g.form o i at small ne)
+    | inr ne ↦ get_or-set_other laid place (content_place o i) word 0 (content_place_of_other_word g.form o i at small ne)
         ∙ h.contents o i small (omega (arith, l, ne))
   ];
-  others = λ o i large small. get_or-set_other laid place (content_place o i) word 0 (place_of_none g.form o i at large small)
+  others = λ o i large small. get_or-set_other laid place (content_place o i) word 0 (unused_place_is_no_guest_word g.form o i at large small)
       ∙ h.others o i large small;
 })
   where
     place : ℕ
-    place = place_of g.form at
+    place = guest_word_place g.form at
 
     within : place < length laid
-    within = subst (λ z. place < z) (sym h.size) (place_within g.form (length g.words) at guest.whole_objects lt)
+    within = subst (λ z. place < z) (sym h.size) (guest_word_place_within_table g.form (length g.words) at guest.whole_objects lt)
 
 -- an object's words at the start are the guest's, and 0 after them
-pub laying_ends : (g : Guest) (laid : List ℕ) → IsGuest g → IsLaying g laid (length g.words) → IsLaid g laid
-laying_ends g laid guest h = record {
+pub full_laying_is_laid : (g : Guest) (laid : List ℕ) → IsGuest g → IsLaying g laid (length g.words) → IsLaid g laid
+full_laying_is_laid g laid guest h = record {
   size = h.size;
   free = λ o lt. h.free o;
   contents = λ o i lt small. elim (cases_lt i (object_words g)) [
-    | inl l ↦ h.contents o i l (is_below g.form (length g.words) o i guest.whole_objects lt l)
-        ∙ sym (padded_at (own o) i ∙ get_or-take (object_words g) (drop (object_words g * o) g.words) i 0 l
+    | inl l ↦ h.contents o i l (guest_word_number_below_count g.form (length g.words) o i guest.whole_objects lt l)
+        ∙ sym (element_of_padded (own o) i ∙ get_or-take (object_words g) (drop (object_words g * o) g.words) i 0 l
         ∙ get_or-drop (object_words g * o) g.words i 0)
-    | inr large ↦ h.others o i large small ∙ sym (padded_at (own o) i ∙ get_or_past (own o) i 0
+    | inr large ↦ h.others o i large small ∙ sym (element_of_padded (own o) i ∙ get_or_past (own o) i 0
         (let short = length-take (object_words g) (drop (object_words g * o) g.words) in omega (arith, short, large)))
   ];
 }
@@ -123,80 +123,80 @@ laying_ends g laid guest h = record {
 
 -- ---- seats
 
-pub seats_more : (id : TableId) (t u : ℕ) (xs : List (Seat (Unit {0}) View)) (x : Seat (Unit {0}) View) → AreSeats id t xs
+pub seats_with_last_added : (id : TableId) (t u : ℕ) (xs : List (Seat (Unit {0}) View)) (x : Seat (Unit {0}) View) → AreSeats id t xs
     → u ≡ t + length xs → x.table_id ≡ id → x.me ≡ (track u [] ∷ [], []) → AreSeats id t (xs ++ x ∷ [])
-seats_more id t u [] x h e i m = ((i, m ∙ (λ j. (track ((let q : u ≡ t = omega (arith, e) in q) j) [] ∷ [], []))), tt)
-seats_more id t u (y ∷ ys) x h e i m = (h.0, seats_more id (suc t) u ys x h.1 (omega (arith, e)) i m)
+seats_with_last_added id t u [] x h e i m = ((i, m ∙ (λ j. (track ((let q : u ≡ t = omega (arith, e) in q) j) [] ∷ [], []))), tt)
+seats_with_last_added id t u (y ∷ ys) x h e i m = (h.0, seats_with_last_added id (suc t) u ys x h.1 (omega (arith, e)) i m)
 
-pub dealt : (l m n : ℕ) (me w : M) → me ≡ (tracks_from l (suc m), []) → w ≡ (all_but_first me.0, me.1) → n ≡ suc l
+pub view_after_dealing_first : (l m n : ℕ) (me w : M) → me ≡ (tracks_from l (suc m), []) → w ≡ (all_but_first me.0, me.1) → n ≡ suc l
     → w ≡ (tracks_from n m, [])
-dealt l m n me w is emitted long = emitted ∙ (λ i. (all_but_first (is i).0, (is i).1)) ∙ (λ i. (tracks_from (sym long i) m, []))
+view_after_dealing_first l m n me w is emitted long = emitted ∙ (λ i. (all_but_first (is i).0, (is i).1)) ∙ (λ i. (tracks_from (sym long i) m, []))
 
-pub dealt_first : (l m : ℕ) (me w : M) → me ≡ (tracks_from l (suc m), []) → w ≡ (first_alone me.0, []) → w ≡ (track l [] ∷ [], [])
-dealt_first l m me w is emitted = emitted ∙ (λ i. (first_alone (is i).0, []))
+pub dealt_view_is_first_thread : (l m : ℕ) (me w : M) → me ≡ (tracks_from l (suc m), []) → w ≡ (first_alone me.0, []) → w ≡ (track l [] ∷ [], [])
+dealt_view_is_first_thread l m me w is emitted = emitted ∙ (λ i. (first_alone (is i).0, []))
 
-pub all_but : (l m k : ℕ) (me : M) → me ≡ (tracks_from l m, []) → m ≡ suc k → me ≡ (tracks_from l (suc k), [])
-all_but l m k me is e = is ∙ (λ i. (tracks_from l (e i), []))
+pub tracks_by_successor : (l m k : ℕ) (me : M) → me ≡ (tracks_from l m, []) → m ≡ suc k → me ≡ (tracks_from l (suc k), [])
+tracks_by_successor l m k me is e = is ∙ (λ i. (tracks_from l (e i), []))
 
 -- ---- the end
 
-elem_or : (xs : List ℕ) (k y : ℕ) → get_elem? xs k ≡ some y → get_or xs k 0 ≡ y
-elem_or [] k y e = absurd (some-ne-none y (sym e))
-elem_or (x ∷ xs) zero y e = some-injective x y e
-elem_or (x ∷ xs) (suc k) y e = elem_or xs k y e
+get_or_of_found_word : (xs : List ℕ) (k y : ℕ) → get_elem? xs k ≡ some y → get_or xs k 0 ≡ y
+get_or_of_found_word [] k y e = absurd (some-ne-none y (sym e))
+get_or_of_found_word (x ∷ xs) zero y e = some-injective x y e
+get_or_of_found_word (x ∷ xs) (suc k) y e = get_or_of_found_word xs k y e
 
-stands : (n count o : ℕ) (f : ℕ → Object) (ws : List ℕ) (c : Cell) → IsTable n count f ws → o < count → IsObjectOf ws o c
+object_of_words_stands_for : (n count o : ℕ) (f : ℕ → Object) (ws : List ℕ) (c : Cell) → IsTable n count f ws → o < count → IsObjectOf ws o c
     → StandsFor n c (f o)
-stands n count o f ws c r lt is =
+object_of_words_stands_for n count o f ws c r lt is =
     let represents : Represents n c.fields (f o) = subst (λ z. Represents n z (f o))
-    (ap fields_of (elem_or ws (word_place o) is.word is.head) ∙ sym is.fields) (r.words o lt) in record {
+    (ap fields_of (get_or_of_found_word ws (word_place o) is.word is.head) ∙ sym is.fields) (r.words o lt) in record {
       version = represents.version;
       left = represents.left;
       inside = represents.inside;
-      words = λ i small. sym (elem_or ws (content_place o i) (get_or c.words i 0) (is.contents i small)) ∙ r.contents o i lt small;
+      words = λ i small. sym (get_or_of_found_word ws (content_place o i) (get_or c.words i 0) (is.contents i small)) ∙ r.contents o i lt small;
     }
 
-tracks_of : (g : Guest) (seat : ℕ → ℕ) (es : List (ℕ × Shared)) (id : ℕ) (v : View) → Fits (length g.entries) (start_objects g) es seat id v
+fitting_view_has_tracks : (g : Guest) (seat : ℕ → ℕ) (es : List (ℕ × Shared)) (id : ℕ) (v : View) → Fits (length g.entries) (start_objects g) es seat id v
     → AreTracks g es v
-tracks_of g seat es id [] f = tt
-tracks_of g seat es id (k ∷ ks) f = (f.0.0, tracks_of g seat es id ks f.1)
+fitting_view_has_tracks g seat es id [] f = tt
+fitting_view_has_tracks g seat es id (k ∷ ks) f = (f.0.0, fitting_view_has_tracks g seat es id ks f.1)
 
-pub ends : (g : Guest) (id : ℕ) (v : View) (ws : List ℕ) (xs : List (Unit {0})) (objects : List Cell) → Final (Seen (Kept g) id v) ws xs
+pub final_table_is_end : (g : Guest) (id : ℕ) (v : View) (ws : List ℕ) (xs : List (Unit {0})) (objects : List Cell) → Final (Seen (Kept g) id v) ws xs
     → ((o : ℕ) → o < object_count g → IsObjectOf ws o (get_or objects o empty)) → IsEnd g v objects
-ends g id v ws xs objects f are =
+final_table_is_end g id v ws xs objects f are =
     let k = f.1.0 in
     let table : IsTable (length g.entries) (object_count g) (objects_after (start_objects g) k.steps) ws =
     subst (IsTable (length g.entries) (object_count g) (objects_after (start_objects g) k.steps)) f.2 k.table in record {
       steps = k.steps;
       legal = k.legal;
       few = k.few;
-      tracks = tracks_of g k.seat k.steps id v (k.fits id v f.1.1);
-      stand = λ o lt. stands (length g.entries) (object_count g) o (objects_after (start_objects g) k.steps) ws (get_or objects o empty)
+      tracks = fitting_view_has_tracks g k.seat k.steps id v (k.fits id v f.1.1);
+      stand = λ o lt. object_of_words_stands_for (length g.entries) (object_count g) o (objects_after (start_objects g) k.steps) ws (get_or objects o empty)
           table lt (are o lt);
     }
 
-pub cell_small : (g : Guest) (id : ℕ) (v : View) (ws : List ℕ) (xs : List (Unit {0})) → Final (Seen (Kept g) id v) ws xs → (o i word : ℕ)
+pub final_content_is_32_bits : (g : Guest) (id : ℕ) (v : View) (ws : List ℕ) (xs : List (Unit {0})) → Final (Seen (Kept g) id v) ws xs → (o i word : ℕ)
     → o < object_count g → i < most_object_words → get_elem? ws (content_place o i) ≡ some word → word < 2 ^ 32
-cell_small g id v ws xs f o i word lt small e =
+final_content_is_32_bits g id v ws xs f o i word lt small e =
     let k = f.1.0 in
     subst (λ z. z < 2 ^ 32) (sym (k.table.contents o i lt small) ∙ ap (λ z. get_or z (content_place o i) 0) f.2
-    ∙ elem_or ws (content_place o i) word e) (small_now g k.steps k.guest k.legal o i)
+    ∙ get_or_of_found_word ws (content_place o i) word e) (small_words_by_legal_steps g k.steps k.guest k.legal o i)
 
 -- one word of an object's contents more
-pub one_word_more : (ws old : List ℕ) (o i word : ℕ)
+pub contents_with_word_added : (ws old : List ℕ) (o i word : ℕ)
     → ((k : ℕ) → k < i → get_elem? ws (content_place o k) ≡ some (get_or old k 0)) → i < length old
     → get_elem? ws (content_place o i) ≡ some word
     → (k : ℕ) → k < i + 1 → get_elem? ws (content_place o k) ≡ some (get_or (set old i word) k 0)
-one_word_more ws old o i word h lt is k l = elim (cases_eq k i) [
+contents_with_word_added ws old o i word h lt is k l = elim (cases_eq k i) [
   | inl e ↦ subst (λ z. get_elem? ws (content_place o z) ≡ some (get_or (set old i word) z 0)) (sym e)
       (is ∙ ap some (sym (get_or-set_same old i word 0 lt)))
   | inr ne ↦ h k (omega (arith, l, ne)) ∙ ap some (sym (get_or-set_other old i k word 0 ne))
 ]
 
 -- one object more
-pub one_more : (ws : List ℕ) (old more : List Cell) (o : ℕ) (c : Cell) → ((k : ℕ) → k < o → IsObjectOf ws k (get_or old k empty))
+pub objects_with_one_added : (ws : List ℕ) (old more : List Cell) (o : ℕ) (c : Cell) → ((k : ℕ) → k < o → IsObjectOf ws k (get_or old k empty))
     → o < length old → IsObjectOf ws o c → more ≡ set old o c → (k : ℕ) → k < o + 1 → IsObjectOf ws k (get_or more k empty)
-one_more ws old more o c h lt is new k l = subst (λ z. IsObjectOf ws k (get_or z k empty)) (sym new) (elim (cases_eq k o) [
+objects_with_one_added ws old more o c h lt is new k l = subst (λ z. IsObjectOf ws k (get_or z k empty)) (sym new) (elim (cases_eq k o) [
   | inl e ↦ subst (λ z. IsObjectOf ws z (get_or (set old o c) z empty)) (sym e)
       (subst (IsObjectOf ws o) (sym (get_or-set_same old o c empty lt)) is)
   | inr ne ↦ subst (IsObjectOf ws k) (sym (get_or-set_other old o k c empty ne)) (h k (omega (arith, l, ne)))

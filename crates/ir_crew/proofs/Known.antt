@@ -7,7 +7,7 @@ use lib.ListN.{get_elem?}
 use Rattle.atomic_table.specs.Table as table
 use Rattle.ir_image.specs.Guest.{Guest, IsWord, most_threads, object_count, object_words}
 use Rattle.ir_image.specs.Within.{IsGuest}
-use Rattle.ir_image.proofs.CallerLemmas.{few_threads, padded_at}
+use Rattle.ir_image.proofs.CallerLemmas.{guest_threads_at_most_limit, element_of_padded}
 use Rattle.ir_thread.specs.Calls.{most_events}
 use Rattle.ir_thread.specs.Instance.{thread_machine}
 use Rattle.ir_runs.specs.Machine.{Act, Silent, Result, Entry, Refusal, Exit, Load, Store, Never, Machine, Object, target, Admits, acted, emitted}
@@ -18,38 +18,38 @@ use Rattle.ir_object.specs.Layout.{word_place}
 use Rattle.ir_object.specs.Order.{Shared, keep_if, of_thread, objects_then, objects_after, order_labels, Uses, IsStep, IsLegal, inside_after}
 use Rattle.ir_object.specs.Word.{fields_of, entered, left_by}
 use Rattle.ir_object.specs.declared.fields.Fields.{Fields}
-use Rattle.ir_object.proofs.CallerLemmas.{then_same, then_other, alone_acted, Alone, inside_run, entry_counts, leave_counts, can_leave, writer_admitted}
-use Rattle.ir_runs.proofs.CallerLemmas.{upd_same, upd_other, upd_elim}
+use Rattle.ir_object.proofs.CallerLemmas.{objects_then_at_target, objects_then_at_other_object, writer_alone_after_act, WriterIsAlone, inside_of_thread_after_order, counts_after_entry, counts_after_leave, inside_thread_can_leave, writer_admitted_if_nobody_inside}
+use Rattle.ir_runs.proofs.CallerLemmas.{upd_at_own_place, upd_at_other_place, upd_by_cases}
 use Rattle.ir_crew.specs.Plays.{inside_by, version_if, version_then, entered_at}
 use Rattle.ir_crew.specs.Rule.{View, one_if_entry, entries, label_of, start_objects, Represents, Kept}
 use Rattle.ir_crew.specs.declared.deed.ObjectStep.{ObjectStep}
 use Rattle.ir_crew.specs.declared.deed.Track.{Track}
-use Rattle.ir_crew.proofs.Counting.{all_entries, total_le, entries_total}
+use Rattle.ir_crew.proofs.Counting.{all_entries, total_within_product, entries_total_over_threads}
 
 -- ---- how large the numbers get
 
 abbrev pub weight : Fields → ℕ
 weight f = f.version + f.left + f.inside + bit_of f.writer
 
-pub record Light (n k : ℕ) (f : Fields) (b : Object) : Type 0 where
+pub record RepresentsWithin (n k : ℕ) (f : Fields) (b : Object) : Type 0 where
   pub represents : Represents n f b
   pub light : weight f ≤ k
 
-bit_off : (b : Bool) → b ≡ false → bit_of b ≡ 0
-bit_off b e = ap bit_of e
+bit_of_false : (b : Bool) → b ≡ false → bit_of b ≡ 0
+bit_of_false b e = ap bit_of e
 
-bit_on : (b : Bool) → b ≡ true → bit_of b ≡ 1
-bit_on b e = ap bit_of e
+bit_of_true : (b : Bool) → b ≡ true → bit_of b ≡ 1
+bit_of_true b e = ap bit_of e
 
 -- a step makes it at most as much heavier as it is an entry
-light_then : {T : Type 0} (m : Machine T) (n k t : ℕ) (q : Act) (f : Fields) (b : Object) → t < n → Uses q (b.inside t) → Admits m q b
-    → Alone b.inside → Light n k f b → (g : Fields) × Light n (k + one_if_entry q) g (acted q t b)
-light_then m n k t Silent f b lt use_is can alone l = absurd use_is
-light_then m n k t (Result i v) f b lt use_is can alone l = absurd use_is
-light_then m n k t (Refusal o) f b lt use_is can alone l = absurd use_is
-light_then m n k t Never f b lt use_is can alone l = absurd use_is
-light_then m n k t (Load o i) f b lt use_is can alone l = (f, record { represents = l.represents; light = let w = l.light in omega (arith, w) })
-light_then m n k t (Store o i w) f b lt use_is can alone l = (
+represents_within_after_act : {T : Type 0} (m : Machine T) (n k t : ℕ) (q : Act) (f : Fields) (b : Object) → t < n → Uses q (b.inside t) → Admits m q b
+    → WriterIsAlone b.inside → RepresentsWithin n k f b → (g : Fields) × RepresentsWithin n (k + one_if_entry q) g (acted q t b)
+represents_within_after_act m n k t Silent f b lt use_is can alone l = absurd use_is
+represents_within_after_act m n k t (Result i v) f b lt use_is can alone l = absurd use_is
+represents_within_after_act m n k t (Refusal o) f b lt use_is can alone l = absurd use_is
+represents_within_after_act m n k t Never f b lt use_is can alone l = absurd use_is
+represents_within_after_act m n k t (Load o i) f b lt use_is can alone l = (f, record { represents = l.represents; light = let w = l.light in omega (arith, w) })
+represents_within_after_act m n k t (Store o i w) f b lt use_is can alone l = (
   f,
   record {
     represents = record { version = l.represents.version; left = l.represents.left; inside = l.represents.inside };
@@ -57,208 +57,208 @@ light_then m n k t (Store o i w) f b lt use_is can alone l = (
         omega (arith, z);
   },
 )
-light_then m n k t (Entry o Reading v) f b lt use_is can alone l = (
+represents_within_after_act m n k t (Entry o Reading v) f b lt use_is can alone l = (
   entered Reading f,
   record {
     represents = record {
       version = l.represents.version;
       left = l.represents.left;
       inside =
-          entry_counts n f b.inside t Reading lt use_is l.represents.inside;
+          counts_after_entry n f b.inside t Reading lt use_is l.represents.inside;
     };
     light = let w = l.light in omega (arith, w);
   },
 )
-light_then m n k t (Entry o Writing v) f b lt use_is can alone l = (
+represents_within_after_act m n k t (Entry o Writing v) f b lt use_is can alone l = (
   entered Writing f,
   record {
     represents = record {
       version = l.represents.version;
       left = l.represents.left;
       inside =
-          entry_counts n f b.inside t Writing lt use_is l.represents.inside;
+          counts_after_entry n f b.inside t Writing lt use_is l.represents.inside;
     };
-    light = let w = l.light in let off = bit_off f.writer (writer_admitted n f b.inside l.represents.inside can).0 in omega (arith, w, off);
+    light = let w = l.light in let off = bit_of_false f.writer (writer_admitted_if_nobody_inside n f b.inside l.represents.inside can).0 in omega (arith, w, off);
   },
 )
-light_then m n k t (Exit o Reading) f b lt use_is can alone l =
-    let some_in : 0 < f.inside = can_leave n f b.inside t Reading lt use_is l.represents.inside in (
+represents_within_after_act m n k t (Exit o Reading) f b lt use_is can alone l =
+    let some_in : 0 < f.inside = inside_thread_can_leave n f b.inside t Reading lt use_is l.represents.inside in (
       left_by Reading f,
       record {
         represents = record {
           version = l.represents.version;
           left = let e = l.represents.left in omega (arith, e);
           inside =
-              leave_counts n f b.inside t Reading lt use_is (λ e. absurd (cc e)) l.represents.inside;
+              counts_after_leave n f b.inside t Reading lt use_is (λ e. absurd (cc e)) l.represents.inside;
         };
         light = let w = l.light in omega (arith, w, some_in);
       },
     )
-light_then m n k t (Exit o Writing) f b lt use_is can alone l =
-    let on = bit_on f.writer (can_leave n f b.inside t Writing lt use_is l.represents.inside) in (
+represents_within_after_act m n k t (Exit o Writing) f b lt use_is can alone l =
+    let on = bit_of_true f.writer (inside_thread_can_leave n f b.inside t Writing lt use_is l.represents.inside) in (
       left_by Writing f,
       record {
         represents = record {
           version = let e = l.represents.version in omega (arith, e);
           left = refl;
           inside =
-              leave_counts n f b.inside t Writing lt use_is (λ _ u ne. alone t u (λ e. ne (sym e)) use_is) l.represents.inside;
+              counts_after_leave n f b.inside t Writing lt use_is (λ _ u ne. alone t u (λ e. ne (sym e)) use_is) l.represents.inside;
         };
         light = let w = l.light in omega (arith, w, on);
       },
     )
 
-pub alone_then : {T : Type 0} (m : Machine T) (n count : ℕ) (f : ℕ → Object) (x : ℕ × Shared) → IsStep m n count f x
-    → ((p : ℕ) → Alone (f p).inside) → (p : ℕ) → Alone (objects_then f x p).inside
-alone_then m n count f x s h p = elim (cases_eq p (target x.1.0)) [
-  | inl e ↦ subst (λ z. Alone (objects_then f x z).inside) (sym e)
-      (subst (λ b. Alone b.inside) (sym (then_same f x)) (alone_acted m x.1.0 x.0 (f (target x.1.0)) s.admits (h (target x.1.0))))
-  | inr ne ↦ subst (λ b. Alone b.inside) (sym (then_other f x p ne)) (h p)
+pub alone_inside_after_step : {T : Type 0} (m : Machine T) (n count : ℕ) (f : ℕ → Object) (x : ℕ × Shared) → IsStep m n count f x
+    → ((p : ℕ) → WriterIsAlone (f p).inside) → (p : ℕ) → WriterIsAlone (objects_then f x p).inside
+alone_inside_after_step m n count f x s h p = elim (cases_eq p (target x.1.0)) [
+  | inl e ↦ subst (λ z. WriterIsAlone (objects_then f x z).inside) (sym e)
+      (subst (λ b. WriterIsAlone b.inside) (sym (objects_then_at_target f x)) (writer_alone_after_act m x.1.0 x.0 (f (target x.1.0)) s.admits (h (target x.1.0))))
+  | inr ne ↦ subst (λ b. WriterIsAlone b.inside) (sym (objects_then_at_other_object f x p ne)) (h p)
 ]
 
-pub alone_run : {T : Type 0} (m : Machine T) (n count : ℕ) (f : ℕ → Object) (xs : List (ℕ × Shared)) → IsLegal m n count f xs
-    → ((p : ℕ) → Alone (f p).inside) → (p : ℕ) → Alone (objects_after f xs p).inside
-alone_run m n count f [] l h = h
-alone_run m n count f (x ∷ xs) l h = alone_run m n count (objects_then f x) xs l.1 (alone_then m n count f x l.0 h)
+pub alone_inside_after_steps : {T : Type 0} (m : Machine T) (n count : ℕ) (f : ℕ → Object) (xs : List (ℕ × Shared)) → IsLegal m n count f xs
+    → ((p : ℕ) → WriterIsAlone (f p).inside) → (p : ℕ) → WriterIsAlone (objects_after f xs p).inside
+alone_inside_after_steps m n count f [] l h = h
+alone_inside_after_steps m n count f (x ∷ xs) l h = alone_inside_after_steps m n count (objects_then f x) xs l.1 (alone_inside_after_step m n count f x l.0 h)
 
-light_run : {T : Type 0} (m : Machine T) (n count k : ℕ) (f : ℕ → Object) (xs : List (ℕ × Shared)) (o : ℕ) (g : Fields)
-    → IsLegal m n count f xs → ((p : ℕ) → Alone (f p).inside) → Light n k g (f o) → (h : Fields)
-    × Light n (k + all_entries xs) h (objects_after f xs o)
-light_run m n count k f [] o g l a is = (g, record { represents = is.represents; light = let w = is.light in omega (arith, w) })
-light_run m n count k f (x ∷ xs) o g l a is =
-    let next : (h : Fields) × Light n (k + one_if_entry x.1.0) h (objects_then f x o) = elim (cases_eq o (target x.1.0)) [
+represents_within_after_steps : {T : Type 0} (m : Machine T) (n count k : ℕ) (f : ℕ → Object) (xs : List (ℕ × Shared)) (o : ℕ) (g : Fields)
+    → IsLegal m n count f xs → ((p : ℕ) → WriterIsAlone (f p).inside) → RepresentsWithin n k g (f o) → (h : Fields)
+    × RepresentsWithin n (k + all_entries xs) h (objects_after f xs o)
+represents_within_after_steps m n count k f [] o g l a is = (g, record { represents = is.represents; light = let w = is.light in omega (arith, w) })
+represents_within_after_steps m n count k f (x ∷ xs) o g l a is =
+    let next : (h : Fields) × RepresentsWithin n (k + one_if_entry x.1.0) h (objects_then f x o) = elim (cases_eq o (target x.1.0)) [
       | inl e ↦
-          let z = light_then m n k x.0 x.1.0 g (f (target x.1.0)) l.0.thread l.0.uses l.0.admits (a (target x.1.0))
-          (subst (λ p. Light n k g (f p)) e is) in (
+          let z = represents_within_after_act m n k x.0 x.1.0 g (f (target x.1.0)) l.0.thread l.0.uses l.0.admits (a (target x.1.0))
+          (subst (λ p. RepresentsWithin n k g (f p)) e is) in (
             z.0,
-            subst (λ p. Light n (k + one_if_entry x.1.0) z.0 (objects_then f x p)) (sym e)
-                (subst (Light n (k + one_if_entry x.1.0) z.0) (sym (then_same f x)) z.1),
+            subst (λ p. RepresentsWithin n (k + one_if_entry x.1.0) z.0 (objects_then f x p)) (sym e)
+                (subst (RepresentsWithin n (k + one_if_entry x.1.0) z.0) (sym (objects_then_at_target f x)) z.1),
           )
       | inr ne ↦ (
         g,
-        subst (Light n (k + one_if_entry x.1.0) g) (sym (then_other f x o ne))
+        subst (RepresentsWithin n (k + one_if_entry x.1.0) g) (sym (objects_then_at_other_object f x o ne))
             (record { represents = is.represents; light = let w = is.light in omega (arith, w) }),
       )
     ] in
-    let r = light_run m n count (k + one_if_entry x.1.0) (objects_then f x) xs o next.0 l.1 (alone_then m n count f x l.0 a) next.1 in
+    let r = represents_within_after_steps m n count (k + one_if_entry x.1.0) (objects_then f x) xs o next.0 l.1 (alone_inside_after_step m n count f x l.0 a) next.1 in
     (r.0, record { represents = r.1.represents; light = let w = r.1.light in omega (arith, w) })
 
 -- ---- contents are words
 
-abbrev pub IsSmall : Object → Type 0
-IsSmall b = (i : ℕ) → b.words i < 2 ^ 32
+abbrev pub HasSmallWords : Object → Type 0
+HasSmallWords b = (i : ℕ) → b.words i < 2 ^ 32
 
-small_acted : (q : Act) (t : ℕ) (b : Object) → Uses q (b.inside t) → IsSmall b → IsSmall (acted q t b)
-small_acted Silent t b u h = h
-small_acted (Result k v) t b u h = h
-small_acted (Entry o a v) t b u h = h
-small_acted (Refusal o) t b u h = h
-small_acted (Exit o Reading) t b u h = h
-small_acted (Exit o Writing) t b u h = h
-small_acted (Load o i) t b u h = h
-small_acted (Store o i w) t b u h = λ j. upd_elim b.words i w j (λ z. z < 2 ^ 32) (λ _. u.1) (λ _. h j)
-small_acted Never t b u h = h
+small_words_after_act : (q : Act) (t : ℕ) (b : Object) → Uses q (b.inside t) → HasSmallWords b → HasSmallWords (acted q t b)
+small_words_after_act Silent t b u h = h
+small_words_after_act (Result k v) t b u h = h
+small_words_after_act (Entry o a v) t b u h = h
+small_words_after_act (Refusal o) t b u h = h
+small_words_after_act (Exit o Reading) t b u h = h
+small_words_after_act (Exit o Writing) t b u h = h
+small_words_after_act (Load o i) t b u h = h
+small_words_after_act (Store o i w) t b u h = λ j. upd_by_cases b.words i w j (λ z. z < 2 ^ 32) (λ _. u.1) (λ _. h j)
+small_words_after_act Never t b u h = h
 
-small_run : {T : Type 0} (m : Machine T) (n count : ℕ) (f : ℕ → Object) (xs : List (ℕ × Shared)) → IsLegal m n count f xs
-    → ((p : ℕ) → IsSmall (f p)) → (p : ℕ) → IsSmall (objects_after f xs p)
-small_run m n count f [] l h = h
-small_run m n count f (x ∷ xs) l h = small_run m n count (objects_then f x) xs l.1 (λ p. elim (cases_eq p (target x.1.0)) [
-  | inl e ↦ subst (λ z. IsSmall (objects_then f x z)) (sym e)
-      (subst IsSmall (sym (then_same f x)) (small_acted x.1.0 x.0 (f (target x.1.0)) l.0.uses (h (target x.1.0))))
-  | inr ne ↦ subst IsSmall (sym (then_other f x p ne)) (h p)
+small_words_after_steps : {T : Type 0} (m : Machine T) (n count : ℕ) (f : ℕ → Object) (xs : List (ℕ × Shared)) → IsLegal m n count f xs
+    → ((p : ℕ) → HasSmallWords (f p)) → (p : ℕ) → HasSmallWords (objects_after f xs p)
+small_words_after_steps m n count f [] l h = h
+small_words_after_steps m n count f (x ∷ xs) l h = small_words_after_steps m n count (objects_then f x) xs l.1 (λ p. elim (cases_eq p (target x.1.0)) [
+  | inl e ↦ subst (λ z. HasSmallWords (objects_then f x z)) (sym e)
+      (subst HasSmallWords (sym (objects_then_at_target f x)) (small_words_after_act x.1.0 x.0 (f (target x.1.0)) l.0.uses (h (target x.1.0))))
+  | inr ne ↦ subst HasSmallWords (sym (objects_then_at_other_object f x p ne)) (h p)
 ])
 
 -- ---- the version that a writer entered
 
 -- while it is inside for writing, the version is v
-abbrev pub Since : ℕ → Object → ℕ → Type 0
-Since t b v = b.inside t ≡ Some Writing → b.version ≡ v
+abbrev pub VersionWhileWriting : ℕ → Object → ℕ → Type 0
+VersionWhileWriting t b v = b.inside t ≡ Some Writing → b.version ≡ v
 
 -- a step of its own on the object
-since_own : {T : Type 0} (m : Machine T) (q : Act) (t v : ℕ) (b : Object) → Uses q (b.inside t) → Since t b v
-    → Since t (acted q t b) (version_then (target q) (emitted q b) v)
-since_own m Silent t v b u h = absurd u
-since_own m (Result k w) t v b u h = absurd u
-since_own m (Refusal o) t v b u h = absurd u
-since_own m Never t v b u h = absurd u
-since_own m (Entry o Reading w) t v b u h = λ _. sym (ap (λ c. version_if c b.version v) (eq-eqb o o refl))
-since_own m (Entry o Writing w) t v b u h = λ _. sym (ap (λ c. version_if c b.version v) (eq-eqb o o refl))
-since_own m (Exit o Reading) t v b u h = λ is. absurd (cc (sym (upd_same b.inside t None) ∙ is))
-since_own m (Exit o Writing) t v b u h = λ is. absurd (cc (sym (upd_same b.inside t None) ∙ is))
-since_own m (Load o i) t v b u h = h
-since_own m (Store o i w) t v b u h = h
+version_while_writing_after_own_act : {T : Type 0} (m : Machine T) (q : Act) (t v : ℕ) (b : Object) → Uses q (b.inside t) → VersionWhileWriting t b v
+    → VersionWhileWriting t (acted q t b) (version_then (target q) (emitted q b) v)
+version_while_writing_after_own_act m Silent t v b u h = absurd u
+version_while_writing_after_own_act m (Result k w) t v b u h = absurd u
+version_while_writing_after_own_act m (Refusal o) t v b u h = absurd u
+version_while_writing_after_own_act m Never t v b u h = absurd u
+version_while_writing_after_own_act m (Entry o Reading w) t v b u h = λ _. sym (ap (λ c. version_if c b.version v) (eq-eqb o o refl))
+version_while_writing_after_own_act m (Entry o Writing w) t v b u h = λ _. sym (ap (λ c. version_if c b.version v) (eq-eqb o o refl))
+version_while_writing_after_own_act m (Exit o Reading) t v b u h = λ is. absurd (cc (sym (upd_at_own_place b.inside t None) ∙ is))
+version_while_writing_after_own_act m (Exit o Writing) t v b u h = λ is. absurd (cc (sym (upd_at_own_place b.inside t None) ∙ is))
+version_while_writing_after_own_act m (Load o i) t v b u h = h
+version_while_writing_after_own_act m (Store o i w) t v b u h = h
 
 -- a step of another thread's on the object
-since_other : {T : Type 0} (m : Machine T) (q : Act) (t u v : ℕ) (b : Object) → Uses q (b.inside u) → Alone b.inside → t ≢ u → Since t b v
-    → Since t (acted q u b) v
-since_other m Silent t u v b s a ne h = absurd s
-since_other m (Result k w) t u v b s a ne h = absurd s
-since_other m (Refusal o) t u v b s a ne h = absurd s
-since_other m Never t u v b s a ne h = absurd s
-since_other m (Entry o c w) t u v b s a ne h = λ is. h (sym (upd_other b.inside u t (Some c) ne) ∙ is)
-since_other m (Exit o Reading) t u v b s a ne h = λ is. h (sym (upd_other b.inside u t None ne) ∙ is)
-since_other m (Exit o Writing) t u v b s a ne h = λ is. absurd (cc (sym (upd_other b.inside u t None ne) ∙ is, a u t (λ e. ne (sym e)) s))
-since_other m (Load o i) t u v b s a ne h = h
-since_other m (Store o i w) t u v b s a ne h = h
+version_while_writing_after_other_act : {T : Type 0} (m : Machine T) (q : Act) (t u v : ℕ) (b : Object) → Uses q (b.inside u) → WriterIsAlone b.inside → t ≢ u → VersionWhileWriting t b v
+    → VersionWhileWriting t (acted q u b) v
+version_while_writing_after_other_act m Silent t u v b s a ne h = absurd s
+version_while_writing_after_other_act m (Result k w) t u v b s a ne h = absurd s
+version_while_writing_after_other_act m (Refusal o) t u v b s a ne h = absurd s
+version_while_writing_after_other_act m Never t u v b s a ne h = absurd s
+version_while_writing_after_other_act m (Entry o c w) t u v b s a ne h = λ is. h (sym (upd_at_other_place b.inside u t (Some c) ne) ∙ is)
+version_while_writing_after_other_act m (Exit o Reading) t u v b s a ne h = λ is. h (sym (upd_at_other_place b.inside u t None ne) ∙ is)
+version_while_writing_after_other_act m (Exit o Writing) t u v b s a ne h = λ is. absurd (cc (sym (upd_at_other_place b.inside u t None ne) ∙ is, a u t (λ e. ne (sym e)) s))
+version_while_writing_after_other_act m (Load o i) t u v b s a ne h = h
+version_while_writing_after_other_act m (Store o i w) t u v b s a ne h = h
 
 -- what is reported of another object
-version_elsewhere : (q : Act) (b : Object) (o v : ℕ) → o ≢ target q → version_then o (emitted q b) v ≡ v
-version_elsewhere Silent b o v ne = refl
-version_elsewhere (Result k w) b o v ne = refl
-version_elsewhere (Entry p Reading w) b o v ne = ap (λ c. version_if c b.version v) (ne_eqb o p ne)
-version_elsewhere (Entry p Writing w) b o v ne = ap (λ c. version_if c b.version v) (ne_eqb o p ne)
-version_elsewhere (Refusal p) b o v ne = refl
-version_elsewhere (Exit p a) b o v ne = refl
-version_elsewhere (Load p i) b o v ne = refl
-version_elsewhere (Store p i w) b o v ne = refl
-version_elsewhere Never b o v ne = refl
+version_unchanged_by_other_object : (q : Act) (b : Object) (o v : ℕ) → o ≢ target q → version_then o (emitted q b) v ≡ v
+version_unchanged_by_other_object Silent b o v ne = refl
+version_unchanged_by_other_object (Result k w) b o v ne = refl
+version_unchanged_by_other_object (Entry p Reading w) b o v ne = ap (λ c. version_if c b.version v) (ne_eqb o p ne)
+version_unchanged_by_other_object (Entry p Writing w) b o v ne = ap (λ c. version_if c b.version v) (ne_eqb o p ne)
+version_unchanged_by_other_object (Refusal p) b o v ne = refl
+version_unchanged_by_other_object (Exit p a) b o v ne = refl
+version_unchanged_by_other_object (Load p i) b o v ne = refl
+version_unchanged_by_other_object (Store p i w) b o v ne = refl
+version_unchanged_by_other_object Never b o v ne = refl
 
-since_run : {T : Type 0} (m : Machine T) (n count : ℕ) (f : ℕ → Object) (xs : List (ℕ × Shared)) (t o v : ℕ) → IsLegal m n count f xs
-    → ((p : ℕ) → Alone (f p).inside) → Since t (f o) v
-    → Since t (objects_after f xs o) (entered_at o v (of_thread t (order_labels f xs)))
-since_run m n count f [] t o v l a h = h
-since_run m n count f (x ∷ xs) t o v l a h =
+version_while_writing_after_steps : {T : Type 0} (m : Machine T) (n count : ℕ) (f : ℕ → Object) (xs : List (ℕ × Shared)) (t o v : ℕ) → IsLegal m n count f xs
+    → ((p : ℕ) → WriterIsAlone (f p).inside) → VersionWhileWriting t (f o) v
+    → VersionWhileWriting t (objects_after f xs o) (entered_at o v (of_thread t (order_labels f xs)))
+version_while_writing_after_steps m n count f [] t o v l a h = h
+version_while_writing_after_steps m n count f (x ∷ xs) t o v l a h =
     let q : Act = x.1.0 in
     let b : Object = f (target q) in
     let more = of_thread t (order_labels (objects_then f x) xs) in
-    let goes = λ (w : ℕ) (s : Since t (objects_then f x o) w). since_run m n count (objects_then f x) xs t o w l.1
-    (alone_then m n count f x l.0 a) s in
+    let goes = λ (w : ℕ) (s : VersionWhileWriting t (objects_then f x o) w). version_while_writing_after_steps m n count (objects_then f x) xs t o w l.1
+    (alone_inside_after_step m n count f x l.0 a) s in
     elim (cases_eq t x.0) [
-      | inl own ↦ subst (λ c. Since t (objects_after (objects_then f x) xs o) (entered_at o v (keep_if c (emitted q b) more)))
+      | inl own ↦ subst (λ c. VersionWhileWriting t (objects_after (objects_then f x) xs o) (entered_at o v (keep_if c (emitted q b) more)))
           (sym (eq-eqb t x.0 own))
           (goes (version_then o (emitted q b) v) (elim (cases_eq o (target q)) [
-            | inl e ↦ subst (λ p. Since t (objects_then f x p) (version_then p (emitted q b) v)) (sym e)
-                (subst (λ z. Since t z (version_then (target q) (emitted q b) v)) (sym (then_same f x))
-                (subst (λ u. Since t (acted q u b) (version_then (target q) (emitted q b) v)) own
-                (since_own m q t v b (subst (λ u. Uses q (b.inside u)) (sym own) l.0.uses) (subst (λ p. Since t (f p) v) e h))))
-            | inr ne ↦ subst (λ z. Since t z (version_then o (emitted q b) v)) (sym (then_other f x o ne))
-                (subst (Since t (f o)) (sym (version_elsewhere q b o v ne)) h)
+            | inl e ↦ subst (λ p. VersionWhileWriting t (objects_then f x p) (version_then p (emitted q b) v)) (sym e)
+                (subst (λ z. VersionWhileWriting t z (version_then (target q) (emitted q b) v)) (sym (objects_then_at_target f x))
+                (subst (λ u. VersionWhileWriting t (acted q u b) (version_then (target q) (emitted q b) v)) own
+                (version_while_writing_after_own_act m q t v b (subst (λ u. Uses q (b.inside u)) (sym own) l.0.uses) (subst (λ p. VersionWhileWriting t (f p) v) e h))))
+            | inr ne ↦ subst (λ z. VersionWhileWriting t z (version_then o (emitted q b) v)) (sym (objects_then_at_other_object f x o ne))
+                (subst (VersionWhileWriting t (f o)) (sym (version_unchanged_by_other_object q b o v ne)) h)
           ]))
-      | inr other ↦ subst (λ c. Since t (objects_after (objects_then f x) xs o) (entered_at o v (keep_if c (emitted q b) more)))
+      | inr other ↦ subst (λ c. VersionWhileWriting t (objects_after (objects_then f x) xs o) (entered_at o v (keep_if c (emitted q b) more)))
           (sym (ne_eqb t x.0 other))
           (goes v (elim (cases_eq o (target q)) [
-            | inl e ↦ subst (λ p. Since t (objects_then f x p) v) (sym e)
-                (subst (λ z. Since t z v) (sym (then_same f x))
-                (since_other m q t x.0 v b l.0.uses (a (target q)) other (subst (λ p. Since t (f p) v) e h)))
-            | inr ne ↦ subst (λ z. Since t z v) (sym (then_other f x o ne)) h
+            | inl e ↦ subst (λ p. VersionWhileWriting t (objects_then f x p) v) (sym e)
+                (subst (λ z. VersionWhileWriting t z v) (sym (objects_then_at_target f x))
+                (version_while_writing_after_other_act m q t x.0 v b l.0.uses (a (target q)) other (subst (λ p. VersionWhileWriting t (f p) v) e h)))
+            | inr ne ↦ subst (λ z. VersionWhileWriting t z v) (sym (objects_then_at_other_object f x o ne)) h
           ]))
     ]
 
 -- ---- what is known of one object as one thread steps on it
 
-pub record IsAt (n t o : ℕ) (h : List ObjectStep) (b : Object) (w : ℕ) : Type 0 where
+pub record IsKnownObject (n t o : ℕ) (h : List ObjectStep) (b : Object) (w : ℕ) : Type 0 where
   pub represents : Represents n (fields_of w) b
   pub light : weight (fields_of w) ≤ most_threads * most_events
   pub narrow : (fields_of w).inside ≤ most_threads
   pub inside : b.inside t ≡ inside_by o h
-  pub alone : Alone b.inside
-  pub small : IsSmall b
-  pub version : Since t b (entered_at o 0 (map label_of h))
+  pub alone : WriterIsAlone b.inside
+  pub small : HasSmallWords b
+  pub version : VersionWhileWriting t b (entered_at o 0 (map label_of h))
   pub thread : t < n
 
-readers_le : (n : ℕ) (f : ℕ → Option Access) → readers n f ≤ n
-readers_le zero f = omega arith
-readers_le (suc n) f = let r = readers_le n f in let s = one_at_most (f n) in omega (arith, r, s)
+readers_at_most_threads : (n : ℕ) (f : ℕ → Option Access) → readers n f ≤ n
+readers_at_most_threads zero f = omega arith
+readers_at_most_threads (suc n) f = let r = readers_at_most_threads n f in let s = one_at_most (f n) in omega (arith, r, s)
   where
     one_at_most : (x : Option Access) → one_if_reading x ≤ 1
     one_at_most None = omega arith
@@ -266,87 +266,87 @@ readers_le (suc n) f = let r = readers_le n f in let s = one_at_most (f n) in om
     one_at_most (Some Writing) = omega arith
 
 -- two words that say the same object are equally heavy
-same_weight : (n : ℕ) (f g : Fields) (b : Object) → Represents n f b → Represents n g b → weight f ≡ weight g
-same_weight n f g b s t =
+weight_is_determined_by_object : (n : ℕ) (f g : Fields) (b : Object) → Represents n f b → Represents n g b → weight f ≡ weight g
+weight_is_determined_by_object n f g b s t =
     let v : f.version ≡ g.version = s.version ∙ sym t.version in
     let l : f.left ≡ g.left = s.left ∙ sym t.left in
     let r : f.inside ≡ g.inside = s.inside.readers ∙ sym t.inside.readers in
     let w : bit_of f.writer ≡ bit_of g.writer = ap bit_of (s.inside.writer ∙ sym t.inside.writer) in
     omega (arith, v, l, r, w)
 
-no_readers : (n : ℕ) → readers n (λ t. None) ≡ 0
-no_readers zero = refl
-no_readers (suc n) = let r = no_readers n in omega (arith, r)
+readers_of_nobody : (n : ℕ) → readers n (λ t. None) ≡ 0
+readers_of_nobody zero = refl
+readers_of_nobody (suc n) = let r = readers_of_nobody n in omega (arith, r)
 
-no_writer : (n : ℕ) → has_writer n (λ t. None) ≡ false
-no_writer zero = refl
-no_writer (suc n) = ap (λ b. Rattle.std.specs.Prelude.◌||◌ b false) (no_writer n)
+no_writer_of_nobody : (n : ℕ) → has_writer n (λ t. None) ≡ false
+no_writer_of_nobody zero = refl
+no_writer_of_nobody (suc n) = ap (λ b. Rattle.std.specs.Prelude.◌||◌ b false) (no_writer_of_nobody n)
 
-abbrev pub nothing : Fields
-nothing = record { version = 0; left = 0; inside = 0; writer = false }
+abbrev pub all_zero_fields : Fields
+all_zero_fields = record { version = 0; left = 0; inside = 0; writer = false }
 
-pub nothing_represents : (n : ℕ) (words : ℕ → ℕ) → Represents n nothing (record { version = 0; left = 0; inside = λ t. None; words = words })
-nothing_represents n words = record {
+pub zero_fields_represent_fresh_object : (n : ℕ) (words : ℕ → ℕ) → Represents n all_zero_fields (record { version = 0; left = 0; inside = λ t. None; words = words })
+zero_fields_represent_fresh_object n words = record {
   version = refl;
   left = refl;
   inside =
-      record { readers = sym (no_readers n); writer = sym (no_writer n); others = λ t l. refl };
+      record { readers = sym (readers_of_nobody n); writer = sym (no_writer_of_nobody n); others = λ t l. refl };
 }
 
-small_list : (xs : List ℕ) (i : ℕ) → AllByRecursion IsWord xs → get_or xs i 0 < 2 ^ 32
-small_list [] i h = omega arith
-small_list (x ∷ xs) zero h = h.0
-small_list (x ∷ xs) (suc i) h = small_list xs i h.1
+listed_word_is_32_bits : (xs : List ℕ) (i : ℕ) → AllByRecursion IsWord xs → get_or xs i 0 < 2 ^ 32
+listed_word_is_32_bits [] i h = omega arith
+listed_word_is_32_bits (x ∷ xs) zero h = h.0
+listed_word_is_32_bits (x ∷ xs) (suc i) h = listed_word_is_32_bits xs i h.1
 
-all_take : (k : ℕ) (xs : List ℕ) → AllByRecursion IsWord xs → AllByRecursion IsWord (take k xs)
-all_take zero xs h = tt
-all_take (suc k) [] h = tt
-all_take (suc k) (x ∷ xs) h = (h.0, all_take k xs h.1)
+words_of_take_are_words : (k : ℕ) (xs : List ℕ) → AllByRecursion IsWord xs → AllByRecursion IsWord (take k xs)
+words_of_take_are_words zero xs h = tt
+words_of_take_are_words (suc k) [] h = tt
+words_of_take_are_words (suc k) (x ∷ xs) h = (h.0, words_of_take_are_words k xs h.1)
 
-all_drop : (k : ℕ) (xs : List ℕ) → AllByRecursion IsWord xs → AllByRecursion IsWord (drop k xs)
-all_drop zero xs h = h
-all_drop (suc k) [] h = tt
-all_drop (suc k) (x ∷ xs) h = all_drop k xs h.1
+words_of_drop_are_words : (k : ℕ) (xs : List ℕ) → AllByRecursion IsWord xs → AllByRecursion IsWord (drop k xs)
+words_of_drop_are_words zero xs h = h
+words_of_drop_are_words (suc k) [] h = tt
+words_of_drop_are_words (suc k) (x ∷ xs) h = words_of_drop_are_words k xs h.1
 
-abbrev pub now_of : Guest → List (ℕ × Shared) → ℕ → Object
-now_of g steps = objects_after (start_objects g) steps
+abbrev pub objects_by_steps : Guest → List (ℕ × Shared) → ℕ → Object
+objects_by_steps g steps = objects_after (start_objects g) steps
 
 -- the same of all legal steps
-pub small_now : (g : Guest) (steps : List (ℕ × Shared)) → IsGuest g
-    → IsLegal (thread_machine g.code) (length g.entries) (object_count g) (start_objects g) steps → (o : ℕ) → IsSmall (now_of g steps o)
-small_now g steps guest legal = small_run (thread_machine g.code) (length g.entries) (object_count g) (start_objects g) steps legal
+pub small_words_by_legal_steps : (g : Guest) (steps : List (ℕ × Shared)) → IsGuest g
+    → IsLegal (thread_machine g.code) (length g.entries) (object_count g) (start_objects g) steps → (o : ℕ) → HasSmallWords (objects_by_steps g steps o)
+small_words_by_legal_steps g steps guest legal = small_words_after_steps (thread_machine g.code) (length g.entries) (object_count g) (start_objects g) steps legal
     (λ p i. let words : List ℕ = take (object_words g) (drop (object_words g * p) g.words) in
-    subst (λ z. z < 2 ^ 32) (sym (padded_at words i)) (small_list words i
-    (all_take (object_words g) (drop (object_words g * p) g.words) (all_drop (object_words g * p) g.words guest.words_fit))))
+    subst (λ z. z < 2 ^ 32) (sym (element_of_padded words i)) (listed_word_is_32_bits words i
+    (words_of_take_are_words (object_words g) (drop (object_words g * p) g.words) (words_of_drop_are_words (object_words g * p) g.words guest.words_fit))))
 
-start_alone : (g : Guest) (p : ℕ) → Alone (start_objects g p).inside
-start_alone g p t u ne is = refl
+alone_inside_at_start : (g : Guest) (p : ℕ) → WriterIsAlone (start_objects g p).inside
+alone_inside_at_start g p t u ne is = refl
 
-pub at_now : (g : Guest) (x : table.State (Unit {0}) View) (k : Kept g x) (id o : ℕ) (q : Track) → get_elem? x.views id ≡ some (q ∷ [])
+pub seat_object_is_known : (g : Guest) (x : table.State (Unit {0}) View) (k : Kept g x) (id o : ℕ) (q : Track) → get_elem? x.views id ≡ some (q ∷ [])
     → o < object_count g
-    → IsAt (length g.entries) q.thread o q.steps (now_of g k.steps o) (get_or x.words (word_place o) 0)
-at_now g x k id o q at lt =
+    → IsKnownObject (length g.entries) q.thread o q.steps (objects_by_steps g k.steps o) (get_or x.words (word_place o) 0)
+seat_object_is_known g x k id o q at lt =
     let m = thread_machine g.code in
     let n : ℕ = length g.entries in
     let own = (k.fits id (q ∷ []) at).0.0 in
-    let l = light_run m n (object_count g) 0 (start_objects g) k.steps o nothing k.legal (start_alone g)
-    (record { represents = nothing_represents n (start_objects g o).words; light = omega arith }) in
-    let represents : Represents n (fields_of (get_or x.words (word_place o) 0)) (now_of g k.steps o) = k.table.words o lt in
-    let same = same_weight n (fields_of (get_or x.words (word_place o) 0)) l.0 (now_of g k.steps o) represents l.1.represents in
+    let l = represents_within_after_steps m n (object_count g) 0 (start_objects g) k.steps o all_zero_fields k.legal (alone_inside_at_start g)
+    (record { represents = zero_fields_represent_fresh_object n (start_objects g o).words; light = omega arith }) in
+    let represents : Represents n (fields_of (get_or x.words (word_place o) 0)) (objects_by_steps g k.steps o) = k.table.words o lt in
+    let same = weight_is_determined_by_object n (fields_of (get_or x.words (word_place o) 0)) l.0 (objects_by_steps g k.steps o) represents l.1.represents in
     let light = l.1.light in
-    let sum = entries_total m n (object_count g) (start_objects g) k.steps k.legal in
-    let few = few_threads g k.guest in
-    let most = total_le n most_events (λ t. entries (of_thread t k.steps)) k.few few in
-    let in_all = readers_le n (now_of g k.steps o).inside in
+    let sum = entries_total_over_threads m n (object_count g) (start_objects g) k.steps k.legal in
+    let few = guest_threads_at_most_limit g k.guest in
+    let most = total_within_product n most_events (λ t. entries (of_thread t k.steps)) k.few few in
+    let in_all = readers_at_most_threads n (objects_by_steps g k.steps o).inside in
     let counted = represents.inside.readers in
     record {
       represents = represents;
       light = omega (arith, same, light, sum, most, few);
       narrow = omega (arith, in_all, counted, few);
-      inside = inside_run (start_objects g) k.steps q.thread o ∙ ap (inside_after o None) own.steps_are;
-      alone = alone_run m n (object_count g) (start_objects g) k.steps k.legal (start_alone g) o;
-      small = small_now g k.steps k.guest k.legal o;
-      version = subst (λ ks. Since q.thread (now_of g k.steps o) (entered_at o 0 ks)) own.labels_are
-          (since_run m n (object_count g) (start_objects g) k.steps q.thread o 0 k.legal (start_alone g) (λ is. absurd (cc is)));
+      inside = inside_of_thread_after_order (start_objects g) k.steps q.thread o ∙ ap (inside_after o None) own.steps_are;
+      alone = alone_inside_after_steps m n (object_count g) (start_objects g) k.steps k.legal (alone_inside_at_start g) o;
+      small = small_words_by_legal_steps g k.steps k.guest k.legal o;
+      version = subst (λ ks. VersionWhileWriting q.thread (objects_by_steps g k.steps o) (entered_at o 0 ks)) own.labels_are
+          (version_while_writing_after_steps m n (object_count g) (start_objects g) k.steps q.thread o 0 k.legal (alone_inside_at_start g) (λ is. absurd (cc is)));
       thread = own.thread;
     }

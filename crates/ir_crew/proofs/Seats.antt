@@ -14,38 +14,38 @@ use Rattle.ir_crew.proofs.Steps.{track}
 
 -- ---- two seats become one
 
-moved : (n : ℕ) (f : ℕ → Object) (es : List (ℕ × Shared)) (seat : ℕ → ℕ) (id other j : ℕ) (v : View) → j ≢ other → Fits n f es seat j v
+other_tracks_stay_if_seats_join : (n : ℕ) (f : ℕ → Object) (es : List (ℕ × Shared)) (seat : ℕ → ℕ) (id other j : ℕ) (v : View) → j ≢ other → Fits n f es seat j v
     → Fits n f es (λ u. if seat u == other then id else seat u) j v
-moved n f es seat id other j [] ne h = tt
-moved n f es seat id other j (k ∷ ks) ne h = (
+other_tracks_stay_if_seats_join n f es seat id other j [] ne h = tt
+other_tracks_stay_if_seats_join n f es seat id other j (k ∷ ks) ne h = (
   (h.0.0, ap (λ (b : Bool). if b then id else seat k.thread) (ne_eqb (seat k.thread) other (λ e. ne (sym h.0.1 ∙ e))) ∙ h.0.1),
-  moved n f
+  other_tracks_stay_if_seats_join n f
       es seat id other j ks ne h.1,
 )
 
-taken : (n : ℕ) (f : ℕ → Object) (es : List (ℕ × Shared)) (seat : ℕ → ℕ) (id other : ℕ) (v w : View)
+tracks_after_seats_join : (n : ℕ) (f : ℕ → Object) (es : List (ℕ × Shared)) (seat : ℕ → ℕ) (id other : ℕ) (v w : View)
     → Fits n f es (λ u. if seat u == other then id else seat u) id v → Fits n f es seat other w
     → Fits n f es (λ u. if seat u == other then id else seat u) id (v ++ w)
-taken n f es seat id other [] [] h i = tt
-taken n f es seat id other [] (k ∷ ks) h i = (
+tracks_after_seats_join n f es seat id other [] [] h i = tt
+tracks_after_seats_join n f es seat id other [] (k ∷ ks) h i = (
   (
     i.0.0,
     ap (λ (b : Bool). if b then id else seat k.thread)
         (eq-eqb (seat k.thread) other i.0.1),
   ),
-  taken n f es seat id other [] ks tt i.1,
+  tracks_after_seats_join n f es seat id other [] ks tt i.1,
 )
-taken n f es seat id other (k ∷ ks) w h i = (h.0, taken n f es seat id other ks w h.1 i)
+tracks_after_seats_join n f es seat id other (k ∷ ks) w h i = (h.0, tracks_after_seats_join n f es seat id other ks w h.1 i)
 
-pub joins : (g : Guest) (id other : ℕ) (v w : View) → Joins (Kept g) id v other w (v ++ w) []
-joins g id other v w x k at apart at' =
+pub kept_seats_join : (g : Guest) (id other : ℕ) (v w : View) → Joins (Kept g) id v other w (v ++ w) []
+kept_seats_join g id other v w x k at apart at' =
     let n : ℕ = length g.entries in
     let f : ℕ → Object = start_objects g in
     let seat : ℕ → ℕ = λ u. if k.seat u == other then id else k.seat u in
     let was : get_elem? x.views other ≡ some w =
     ⊎_elim (λ (q : (other ≡ id) × (v ++ w ≡ w)). absurd (apart q.0)) (λ (q : (other ≢ id) × (get_elem? x.views other ≡ some w)). q.1)
     (at_set x.views id other (v ++ w) w at') in
-    let mine : Fits n f k.steps seat id v = moved n f k.steps k.seat id other id v (λ e. apart (sym e)) (k.fits id v at) in record {
+    let mine : Fits n f k.steps seat id v = other_tracks_stay_if_seats_join n f k.steps k.seat id other id v (λ e. apart (sym e)) (k.fits id v at) in record {
       guest = k.guest;
       steps = k.steps;
       seat = seat;
@@ -55,8 +55,8 @@ joins g id other v w x k at apart at' =
           (λ (q : (j ≡ other) × ([] ≡ u)). subst (Fits n f k.steps seat j) q.1 tt)
           (λ (q : (j ≢ other) × (get_elem? (set x.views id (v ++ w)) j ≡ some u)). ⊎_elim
           (λ (r : (j ≡ id) × (v ++ w ≡ u)). subst (λ (z : ℕ). Fits n f k.steps seat z u) (sym r.0) (subst (Fits n f k.steps seat id) r.1
-          (taken n f k.steps k.seat id other v w mine (k.fits other w was))))
-          (λ (r : (j ≢ id) × (get_elem? x.views j ≡ some u)). moved n f k.steps k.seat id other j u q.0 (k.fits j u r.1))
+          (tracks_after_seats_join n f k.steps k.seat id other v w mine (k.fits other w was))))
+          (λ (r : (j ≢ id) × (get_elem? x.views j ≡ some u)). other_tracks_stay_if_seats_join n f k.steps k.seat id other j u q.0 (k.fits j u r.1))
           (at_set x.views id j (v ++ w) u q.1))
           (at_set (set x.views id (v ++ w)) other j [] u e);
       table = k.table;
@@ -64,33 +64,33 @@ joins g id other v w x k at apart at' =
 
 -- ---- the first thread of a seat gets a seat of its own
 
-at_end : {A : Type 0} (l : List A) (a b : A) (j : ℕ) → get_elem? (l ++ a ∷ []) j ≡ some b → (get_elem? l j ≡ some b)
+get_of_append_item_cases : {A : Type 0} (l : List A) (a b : A) (j : ℕ) → get_elem? (l ++ a ∷ []) j ≡ some b → (get_elem? l j ≡ some b)
     ⊎ ((j ≡ length l) × (a ≡ b))
-at_end [] a b zero e = inr (refl, some-injective a b e)
-at_end [] a b (suc j) e = absurd (some-ne-none b (sym e))
-at_end (x ∷ xs) a b zero e = inl e
-at_end (x ∷ xs) a b (suc j) e = ⊎_elim inl (λ (q : (j ≡ length xs) × (a ≡ b)). inr (ap suc q.0 ∙ omega arith, q.1)) (at_end xs a b j e)
+get_of_append_item_cases [] a b zero e = inr (refl, some-injective a b e)
+get_of_append_item_cases [] a b (suc j) e = absurd (some-ne-none b (sym e))
+get_of_append_item_cases (x ∷ xs) a b zero e = inl e
+get_of_append_item_cases (x ∷ xs) a b (suc j) e = ⊎_elim inl (λ (q : (j ≡ length xs) × (a ≡ b)). inr (ap suc q.0 ∙ omega arith, q.1)) (get_of_append_item_cases xs a b j e)
 
-later : (n : ℕ) (f : ℕ → Object) (es : List (ℕ × Shared)) (seat : ℕ → ℕ) (t new id u m : ℕ) → t < u → Fits n f es seat id (tracks_from u m)
+later_tracks_stay_if_reseated : (n : ℕ) (f : ℕ → Object) (es : List (ℕ × Shared)) (seat : ℕ → ℕ) (t new id u m : ℕ) → t < u → Fits n f es seat id (tracks_from u m)
     → Fits n f es (λ z. if z == t then new else seat z) id (tracks_from u m)
-later n f es seat t new id u zero lt h = tt
-later n f es seat t new id u (suc m) lt h = (
+later_tracks_stay_if_reseated n f es seat t new id u zero lt h = tt
+later_tracks_stay_if_reseated n f es seat t new id u (suc m) lt h = (
   (h.0.0, ap (λ (b : Bool). if b then new else seat u) (ne_eqb u t (λ e. omega (arith, e, lt))) ∙ h.0.1),
-  later n f es seat t new id
+  later_tracks_stay_if_reseated n f es seat t new id
       (suc u) m (omega (arith, lt)) h.1,
 )
 
-elsewhere : (n : ℕ) (f : ℕ → Object) (es : List (ℕ × Shared)) (seat : ℕ → ℕ) (t new j : ℕ) (v : View) → seat t ≢ j → Fits n f es seat j v
+other_tracks_stay_if_reseated : (n : ℕ) (f : ℕ → Object) (es : List (ℕ × Shared)) (seat : ℕ → ℕ) (t new j : ℕ) (v : View) → seat t ≢ j → Fits n f es seat j v
     → Fits n f es (λ z. if z == t then new else seat z) j v
-elsewhere n f es seat t new j [] ne h = tt
-elsewhere n f es seat t new j (k ∷ ks) ne h = (
+other_tracks_stay_if_reseated n f es seat t new j [] ne h = tt
+other_tracks_stay_if_reseated n f es seat t new j (k ∷ ks) ne h = (
   (h.0.0, ap (λ (b : Bool). if b then new else seat k.thread) (ne_eqb k.thread t (λ e. ne (ap seat (sym e) ∙ h.0.1))) ∙ h.0.1),
-  elsewhere
+  other_tracks_stay_if_reseated
       n f es seat t new j ks ne h.1,
 )
 
-pub splits : (g : Guest) (id t m : ℕ) (v : View) → v ≡ tracks_from t (suc m) → Splits (Kept g) id v (all_but_first v) (first_alone v)
-splits g id t m v is x k at =
+pub tracks_split_off_first : (g : Guest) (id t m : ℕ) (v : View) → v ≡ tracks_from t (suc m) → Splits (Kept g) id v (all_but_first v) (first_alone v)
+tracks_split_off_first g id t m v is x k at =
     let n : ℕ = length g.entries in
     let f : ℕ → Object = start_objects g in
     let at₀ : get_elem? x.views id ≡ some (tracks_from t (suc m)) = at ∙ ap some is in
@@ -113,13 +113,13 @@ splits g id t m v is x k at =
           (λ (was : get_elem? (set x.views id (tracks_from (suc t) m)) j ≡ some u). ⊎_elim
           (λ (r : (j ≡ id) × (tracks_from (suc t) m ≡ u)). subst (λ (z : ℕ). Fits n f k.steps seat z u) (sym r.0)
           (subst (Fits n f k.steps seat id) r.1
-          (later n f k.steps k.seat t new id (suc t) m (omega arith) h.1)))
-          (λ (r : (j ≢ id) × (get_elem? x.views j ≡ some u)). elsewhere n f k.steps k.seat t new j u (λ e. r.0 (sym e ∙ h.0.1))
+          (later_tracks_stay_if_reseated n f k.steps k.seat t new id (suc t) m (omega arith) h.1)))
+          (λ (r : (j ≢ id) × (get_elem? x.views j ≡ some u)). other_tracks_stay_if_reseated n f k.steps k.seat t new j u (λ e. r.0 (sym e ∙ h.0.1))
           (k.fits j u r.1))
           (at_set x.views id j (tracks_from (suc t) m) u was))
           (λ (q : (j ≡ length (set x.views id (tracks_from (suc t) m))) × (track t [] ∷ [] ≡ u)). subst (Fits n f k.steps seat j) q.1
           ((h.0.0, ap (λ (b : Bool). if b then new else k.seat t) (eq-eqb t t refl) ∙ (sym wide ∙ sym q.0)), tt))
-          (at_end (set x.views id (tracks_from (suc t) m)) (track t [] ∷ []) u j e);
+          (get_of_append_item_cases (set x.views id (tracks_from (suc t) m)) (track t [] ∷ []) u j e);
       table = k.table;
     } in
     subst (λ (z : View). Kept g (record {
@@ -131,17 +131,17 @@ splits g id t m v is x k at =
 
 -- ---- the table as it is made
 
-starts_fit : (n : ℕ) (f : ℕ → Object) (u m : ℕ) → u + m ≤ n → Fits n f [] (λ _. 0) 0 (tracks_from u m)
-starts_fit n f u zero le = tt
-starts_fit n f u (suc m) le = (
+start_tracks_fit : (n : ℕ) (f : ℕ → Object) (u m : ℕ) → u + m ≤ n → Fits n f [] (λ _. 0) 0 (tracks_from u m)
+start_tracks_fit n f u zero le = tt
+start_tracks_fit n f u (suc m) le = (
   (record { thread = omega (arith, le); steps_are = refl; labels_are = refl }, refl),
-  starts_fit n f (suc u) m
+  start_tracks_fit n f (suc u) m
       (omega (arith, le)),
 )
 
-pub opens : (g : Guest) (ws : List ℕ) → IsGuest g → IsTable (length g.entries) (object_count g) (start_objects g) ws
+pub opening_keeps_rule : (g : Guest) (ws : List ℕ) → IsGuest g → IsTable (length g.entries) (object_count g) (start_objects g) ws
     → Kept g (opening ws [] (tracks_from 0 (length g.entries)))
-opens g ws guest table = record {
+opening_keeps_rule g ws guest table = record {
   guest = guest;
   steps = [];
   seat = λ _. 0;
@@ -155,5 +155,5 @@ opens g ws guest table = record {
         → Fits (length g.entries) (start_objects g) [] (λ _. 0) id v
     at_first zero v e = subst (Fits (length g.entries) (start_objects g) [] (λ _. 0) 0)
         (some-injective (tracks_from 0 (length g.entries)) v e)
-        (starts_fit (length g.entries) (start_objects g) 0 (length g.entries) (omega arith))
+        (start_tracks_fit (length g.entries) (start_objects g) 0 (length g.entries) (omega arith))
     at_first (suc id) v e = absurd (some-ne-none v (sym e))

@@ -8,54 +8,54 @@ use Rattle.std.proofs.lemmas.Option.{slice_get_within, slice_get-get_or}
 use Rattle.ir_log.specs.Logging.{label_of}
 use Rattle.ir_log.specs.declared.event.Event.{Event}
 use Rattle.ir_trace.specs.Recorded.{recorded_thread}
-use Rattle.ir_runs.specs.Cuts.{Emits, Needs}
+use Rattle.ir_runs.specs.Cuts.{Emits, IsNeededBy}
 use Rattle.ir_fit.specs.Fit.{FittedTrace, HasRun}
 use Rattle.ir_fit.specs.Within.{IsFitted}
 use Rattle.ir_fit.specs.Places.{placed_at}
 use Rattle.ir_cut.specs.Positions.{machine_of, start_of, cut_of, EachRun, IsConsistentCut}
 use Rattle.ir_cut.specs.Searching.{AreInside, NeededBy, IsClosed}
-use Rattle.ir_cut.proofs.Again.{teller}
-use Rattle.ir_cut.proofs.Listing.{listed}
-use Rattle.ir_cut.proofs.Searched.{entered, same_element}
+use Rattle.ir_cut.proofs.Again.{emitting_thread_exists}
+use Rattle.ir_cut.proofs.Listing.{run_of_trace_is_listed}
+use Rattle.ir_cut.proofs.Searched.{needing_label_is_entry, elements_at_equal_places_equal}
 
 -- what the first n events of thread t need is inside
-abbrev pub FirstMet : FittedTrace → List ℕ → ℕ → ℕ → Type 0
-FirstMet f qs t n = (e : ℕ) (x : Event) → e < n → slice_get (recorded_thread f.recorded t).events e ≡ Some x
+abbrev pub AreNeedsOfFirstInside : FittedTrace → List ℕ → ℕ → ℕ → Type 0
+AreNeedsOfFirstInside f qs t n = (e : ℕ) (x : Event) → e < n → slice_get (recorded_thread f.recorded t).events e ≡ Some x
     → EachRun f (λ run. AreInside f run (NeededBy (label_of x)) (cut_of qs))
 
 -- it is closed, where all events in the cut are among them
-closed_by : (f : FittedTrace) → IsFitted f → (qs : List ℕ) (t n : ℕ) → FirstMet f qs t n
+closed_if_events_in_cut_met : (f : FittedTrace) → IsFitted f → (qs : List ℕ) (t n : ℕ) → AreNeedsOfFirstInside f qs t n
     → ((e i : ℕ) → slice_get (placed_at f.placed t).entries e ≡ Some i → i < cut_of qs t → e < n)
     → EachRun f (λ run. IsClosed f run (cut_of qs) t)
-closed_by f fit qs t n met first run is i k emits inside w j b at need =
-    let x = entered b k need in
-    let e = (listed f fit.run run is).entry t i x.object x.access x.version x.left
+closed_if_events_in_cut_met f fit qs t n met first run is i k emits inside w j b at need =
+    let x = needing_label_is_entry b k need in
+    let e = (run_of_trace_is_listed f fit.run run is).entry t i x.object x.access x.version x.left
     (subst (Emits (machine_of f) (start_of f) run t i) x.is emits) in
-    met e.0 e.1 (first e.0 i e.2 inside) e.3 run is w j b at (subst (Needs b) (x.is ∙ sym e.4) need)
+    met e.0 e.1 (first e.0 i e.2 inside) e.3 run is w j b at (subst (IsNeededBy b) (x.is ∙ sym e.4) need)
 
 -- at the end of the log
-pub closed_all : (f : FittedTrace) → IsFitted f → (qs ks : List ℕ) (t n : ℕ) → ks ≡ (placed_at f.placed t).entries → length ks ≤ n
-    → FirstMet f qs t n → IsTrue true ↔ EachRun f (λ run. IsClosed f run (cut_of qs) t)
-closed_all f fit qs ks t n list over met = (
-  (λ _. closed_by f fit qs t n met (λ e i at _. let l = slice_get_within (placed_at f.placed t).entries e i at in
+pub closed_at_end_of_log : (f : FittedTrace) → IsFitted f → (qs ks : List ℕ) (t n : ℕ) → ks ≡ (placed_at f.placed t).entries → length ks ≤ n
+    → AreNeedsOfFirstInside f qs t n → IsTrue true ↔ EachRun f (λ run. IsClosed f run (cut_of qs) t)
+closed_at_end_of_log f fit qs ks t n list over met = (
+  (λ _. closed_if_events_in_cut_met f fit qs t n met (λ e i at _. let l = slice_get_within (placed_at f.placed t).entries e i at in
       let same : length ks ≡ length (placed_at f.placed t).entries = ap length list in omega (arith, l, same, over))),
   (λ _. refl),
 )
 
 -- where the next event isn't in the cut
-pub closed_here : (f : FittedTrace) → IsFitted f → (qs ks : List ℕ) (t n k : ℕ) → t < length f.guest.entries
-    → ks ≡ (placed_at f.placed t).entries → n < length ks → k ≡ slice_index_or ks n 0 → cut_of qs t ≤ k → FirstMet f qs t n
+pub closed_if_next_event_outside : (f : FittedTrace) → IsFitted f → (qs ks : List ℕ) (t n k : ℕ) → t < length f.guest.entries
+    → ks ≡ (placed_at f.placed t).entries → n < length ks → k ≡ slice_index_or ks n 0 → cut_of qs t ≤ k → AreNeedsOfFirstInside f qs t n
     → IsTrue true ↔ EachRun f (λ run. IsClosed f run (cut_of qs) t)
-closed_here f fit qs ks t n k there list l read past met = (
-  (λ _. closed_by f fit qs t n met (λ e i at inside. elim (cases_lt e n) [
+closed_if_next_event_outside f fit qs ks t n k there list l read past met = (
+  (λ _. closed_if_events_in_cut_met f fit qs t n met (λ e i at inside. elim (cases_lt e n) [
     | inl less ↦ less
     | inr behind ↦
         let here : slice_get (placed_at f.placed t).entries n ≡ Some k = ap (λ z. slice_get z n) (sym list) ∙ slice_get-get_or ks n 0 l
         ∙ ap Some (sym read) in
         elim (cases_lt n e) [
-          | inl before ↦ let up = (listed f fit.run fit.run.run fit.run.whole).rise t n e k i there before here at in
+          | inl before ↦ let up = (run_of_trace_is_listed f fit.run fit.run.run fit.run.whole).rise t n e k i there before here at in
               absurd (omega (arith, up, inside, past))
-          | inr same ↦ let one : k ≡ i = same_element (placed_at f.placed t).entries n e k i
+          | inr same ↦ let one : k ≡ i = elements_at_equal_places_equal (placed_at f.placed t).entries n e k i
               (let d : n ≡ e = omega (arith, behind, same) in d) here at in absurd (omega (arith, one, inside, past))
         ]
   ])),
@@ -64,91 +64,91 @@ closed_here f fit qs ks t n k there list l read past met = (
 
 -- where what it needs isn't inside
 -- the log has an event for each position
-pub event_there : (f : FittedTrace) (ks : List ℕ) (es : List Event) (t n : ℕ) → ks ≡ (placed_at f.placed t).entries
+pub event_within_log_if_position : (f : FittedTrace) (ks : List ℕ) (es : List Event) (t n : ℕ) → ks ≡ (placed_at f.placed t).entries
     → length es ≡ length (placed_at f.placed t).entries → n < length ks → n < length es
-event_there f ks es t n list size l = let same : length ks ≡ length (placed_at f.placed t).entries = ap length list in
+event_within_log_if_position f ks es t n list size l = let same : length ks ≡ length (placed_at f.placed t).entries = ap length list in
     omega (arith, l, same, size)
 
-pub not_closed : (f : FittedTrace) → IsFitted f → (qs ks : List ℕ) (es : List Event) (t n k : ℕ) (x : Event) (b : Bool)
+pub not_closed_if_need_outside : (f : FittedTrace) → IsFitted f → (qs ks : List ℕ) (es : List Event) (t n k : ℕ) (x : Event) (b : Bool)
     → t < length f.guest.entries → ks ≡ (placed_at f.placed t).entries → es ≡ (recorded_thread f.recorded t).events → n < length ks
     → k ≡ slice_index_or ks n 0 → k < cut_of qs t
     → slice_get es n ≡ Some x → IsTrue b ↔ EachRun f (λ run. AreInside f run (NeededBy (label_of x)) (cut_of qs)) → b ≡ false
     → IsTrue false ↔ EachRun f (λ run. IsClosed f run (cut_of qs) t)
-not_closed f fit qs ks es t n k x b there list log l read inside event test is = (
+not_closed_if_need_outside f fit qs ks es t n k x b there list log l read inside event test is = (
   (λ h. absurd (cc h)),
   (λ closed. absurd (cc (
     is,
     test.1 (λ run ok.
-        closed run ok k (label_of x) ((listed f fit.run run ok).event t n k x there (ap (λ z. slice_get z n) (sym log) ∙ event)
+        closed run ok k (label_of x) ((run_of_trace_is_listed f fit.run run ok).event t n k x there (ap (λ z. slice_get z n) (sym log) ∙ event)
         (ap (λ z. slice_get z n) (sym list) ∙ slice_get-get_or ks n 0 l ∙ ap Some (sym read))) inside),
   ))),
 )
 
 -- one more
-pub one_met : (f : FittedTrace) (qs : List ℕ) (es : List Event) (t n : ℕ) (x : Event) (b : Bool)
+pub needs_of_first_inside_step : (f : FittedTrace) (qs : List ℕ) (es : List Event) (t n : ℕ) (x : Event) (b : Bool)
     → es ≡ (recorded_thread f.recorded t).events → slice_get es n ≡ Some x
     → IsTrue b ↔ EachRun f (λ run. AreInside f run (NeededBy (label_of x)) (cut_of qs)) → b ≡ true
-    → FirstMet f qs t n → FirstMet f qs t (n + 1)
-one_met f qs es t n x b log event test is met e y l at = elim (cases_lt e n) [
+    → AreNeedsOfFirstInside f qs t n → AreNeedsOfFirstInside f qs t (n + 1)
+needs_of_first_inside_step f qs es t n x b log event test is met e y l at = elim (cases_lt e n) [
   | inl less ↦ met e y less at
   | inr past ↦ subst (λ z. EachRun f (λ run. AreInside f run (NeededBy (label_of z)) (cut_of qs)))
-      (same_element es n e x y (let d : n ≡ e = omega (arith, l, past) in d) event (ap (λ z. slice_get z e) log ∙ at)) (test.0 is)
+      (elements_at_equal_places_equal es n e x y (let d : n ≡ e = omega (arith, l, past) in d) event (ap (λ z. slice_get z e) log ∙ at)) (test.0 is)
 ]
 
 -- ---- all threads
 
 -- the first n threads are closed, and none is past its last step
-abbrev pub FirstClosed : FittedTrace → List ℕ → ℕ → Type 0
-FirstClosed f qs n = (t : ℕ) → t < n → (cut_of qs t ≤ (recorded_thread f.recorded t).steps)
+abbrev pub AreFirstThreadsClosed : FittedTrace → List ℕ → ℕ → Type 0
+AreFirstThreadsClosed f qs n = (t : ℕ) → t < n → (cut_of qs t ≤ (recorded_thread f.recorded t).steps)
     × EachRun f (λ run. IsClosed f run (cut_of qs) t)
 
-pub all_closed : (f : FittedTrace) → HasRun f → (qs : List ℕ) → length qs ≡ length f.guest.entries → FirstClosed f qs (length qs)
+pub consistent_cut_if_threads_closed : (f : FittedTrace) → HasRun f → (qs : List ℕ) → length qs ≡ length f.guest.entries → AreFirstThreadsClosed f qs (length qs)
     → IsConsistentCut f qs
-all_closed f h qs size first run is = (
+consistent_cut_if_threads_closed f h qs size first run is = (
   (λ t. elim (cases_lt t (length qs)) [
     | inl l ↦ let a = (first t l).0 in let b = is.1.steps t (omega (arith, l, size)) in omega (arith, a, b)
     | inr past ↦ let none : cut_of qs t ≡ 0 = get_or_past qs t 0 past in omega (arith, none)
   ]),
   (λ t i u j a b at says n inside.
-      let there : t < length f.guest.entries = teller f h run is t i a at in
+      let there : t < length f.guest.entries = emitting_thread_exists f h run is t i a at in
       (first t (omega (arith, there, size))).1 run is i a at inside u j b says n),
 )
 
-pub each_closed : (f : FittedTrace) → IsFitted f → (qs : List ℕ) → IsConsistentCut f qs → (t : ℕ) → t < length f.guest.entries
+pub threads_of_consistent_cut_closed : (f : FittedTrace) → IsFitted f → (qs : List ℕ) → IsConsistentCut f qs → (t : ℕ) → t < length f.guest.entries
     → (cut_of qs t ≤ (recorded_thread f.recorded t).steps) × EachRun f (λ run. IsClosed f run (cut_of qs) t)
-each_closed f fit qs h t there = (
+threads_of_consistent_cut_closed f fit qs h t there = (
   (let a = (h fit.run.run fit.run.whole).0 t in let b = fit.run.whole.1.steps t there in omega (arith, a, b)),
   (λ run is i k emits inside u j b says n. (h run is).1 t i u j k b emits says n inside),
 )
 
 -- one more
-pub one_closed : (f : FittedTrace) (qs : List ℕ) (n : ℕ) (b : Bool) → IsTrue b ↔ (cut_of qs n ≤ (recorded_thread f.recorded n).steps)
-    × EachRun f (λ run. IsClosed f run (cut_of qs) n) → b ≡ true → FirstClosed f qs n → FirstClosed f qs (n + 1)
-one_closed f qs n b test is first t l = elim (cases_lt t n) [
+pub first_threads_closed_step : (f : FittedTrace) (qs : List ℕ) (n : ℕ) (b : Bool) → IsTrue b ↔ (cut_of qs n ≤ (recorded_thread f.recorded n).steps)
+    × EachRun f (λ run. IsClosed f run (cut_of qs) n) → b ≡ true → AreFirstThreadsClosed f qs n → AreFirstThreadsClosed f qs (n + 1)
+first_threads_closed_step f qs n b test is first t l = elim (cases_lt t n) [
   | inl less ↦ first t less
   | inr past ↦ subst (λ z. (cut_of qs z ≤ (recorded_thread f.recorded z).steps) × EachRun f (λ run. IsClosed f run (cut_of qs) z))
       (let e : n ≡ t = omega (arith, l, past) in e) (test.0 is)
 ]
 
-pub one_open : (f : FittedTrace) → IsFitted f → (qs : List ℕ) (n : ℕ) (b : Bool) → n < length f.guest.entries
+pub inconsistent_if_thread_not_closed : (f : FittedTrace) → IsFitted f → (qs : List ℕ) (n : ℕ) (b : Bool) → n < length f.guest.entries
     → IsTrue b ↔ (cut_of qs n ≤ (recorded_thread f.recorded n).steps) × EachRun f (λ run. IsClosed f run (cut_of qs) n) → b ≡ false
     → IsTrue false ↔ IsConsistentCut f qs
-one_open f fit qs n b there test is = (
+inconsistent_if_thread_not_closed f fit qs n b there test is = (
   (λ h. absurd (cc h)),
-  (λ h. absurd (cc (is, test.1 (each_closed f fit qs h n there)))),
+  (λ h. absurd (cc (is, test.1 (threads_of_consistent_cut_closed f fit qs h n there)))),
 )
 
-pub within_too : (f : FittedTrace) (qs : List ℕ) (t n : ℕ) (b : Bool) → n ≡ (recorded_thread f.recorded t).steps → cut_of qs t ≤ n
+pub closed_and_within_steps : (f : FittedTrace) (qs : List ℕ) (t n : ℕ) (b : Bool) → n ≡ (recorded_thread f.recorded t).steps → cut_of qs t ≤ n
     → IsTrue b ↔ EachRun f (λ run. IsClosed f run (cut_of qs) t)
     → IsTrue b ↔ (cut_of qs t ≤ (recorded_thread f.recorded t).steps) × EachRun f (λ run. IsClosed f run (cut_of qs) t)
-within_too f qs t n b steps l test = (
+closed_and_within_steps f qs t n b steps l test = (
   (λ is. ((let a : cut_of qs t ≤ (recorded_thread f.recorded t).steps = omega (arith, l, steps) in a), test.0 is)),
   (λ h. test.1 h.1),
 )
 
-pub all_within : (f : FittedTrace) → HasRun f → (qs : List ℕ) (n : ℕ) → length qs ≡ length f.guest.entries → length qs ≤ n
-    → FirstClosed f qs n → IsTrue true ↔ IsConsistentCut f qs
-all_within f h qs n size past first = (
-  (λ _. all_closed f h qs size (λ t l. first t (omega (arith, l, past)))),
+pub consistent_cut_at_last_thread : (f : FittedTrace) → HasRun f → (qs : List ℕ) (n : ℕ) → length qs ≡ length f.guest.entries → length qs ≤ n
+    → AreFirstThreadsClosed f qs n → IsTrue true ↔ IsConsistentCut f qs
+consistent_cut_at_last_thread f h qs n size past first = (
+  (λ _. consistent_cut_if_threads_closed f h qs size (λ t l. first t (omega (arith, l, past)))),
   (λ _. refl),
 )

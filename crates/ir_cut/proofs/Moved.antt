@@ -11,15 +11,15 @@ use Rattle.ir_fit.specs.declared.place.Place.{Place}
 
 -- ---- which places come first
 
-pub each_none : (ps : List Place) (P : Place → Type 0) → EachPlace ps 0 P
-each_none ps P i p l e = absurd (omega (arith, l))
+pub each_of_no_places : (ps : List Place) (P : Place → Type 0) → EachPlace ps 0 P
+each_of_no_places ps P i p l e = absurd (omega (arith, l))
 
-pub each_first : (ps : List Place) (n : ℕ) (P : Place → Type 0) → EachPlace ps (n + 1) P → EachPlace ps n P
-each_first ps n P h i p l e = h i p (omega (arith, l)) e
+pub each_place_of_prefix : (ps : List Place) (n : ℕ) (P : Place → Type 0) → EachPlace ps (n + 1) P → EachPlace ps n P
+each_place_of_prefix ps n P h i p l e = h i p (omega (arith, l)) e
 
-pub each_more : (ps : List Place) (n : ℕ) (p : Place) (P : Place → Type 0) → slice_get ps n ≡ Some p → P p → EachPlace ps n P
+pub each_place_step : (ps : List Place) (n : ℕ) (p : Place) (P : Place → Type 0) → slice_get ps n ≡ Some p → P p → EachPlace ps n P
     → EachPlace ps (n + 1) P
-each_more ps n p P is here h i q l e = elim (cases_lt i n) [
+each_place_step ps n p P is here h i q l e = elim (cases_lt i n) [
   | inl less ↦ h i q less e
   | inr past ↦ subst P (sym (get_or_from_slice_get ps n p p is)
       ∙ ap (λ k. slice_index_or ps k p) (let s : n ≡ i = omega (arith, l, past) in s) ∙ get_or_from_slice_get ps i q p e) here
@@ -27,18 +27,18 @@ each_more ps n p P is here h i q l e = elim (cases_lt i n) [
 
 -- ---- raised
 
-pub raised_none : (xs : List ℕ) (ps : List Place) → IsRaised xs xs ps 0
-raised_none xs ps = record {
+pub raised_for_no_places : (xs : List ℕ) (ps : List Place) → IsRaised xs xs ps 0
+raised_for_no_places xs ps = record {
   size = refl;
   above = λ u. le_refl (cut_of xs u);
-  inside = each_none ps (λ p. p.position < cut_of xs p.thread);
+  inside = each_of_no_places ps (λ p. p.position < cut_of xs p.thread);
   least = λ c h g u. h u;
 }
 
-pub raised_more : (old cur new : List ℕ) (ps : List Place) (n : ℕ) (p : Place) → IsRaised old cur ps n → slice_get ps n ≡ Some p
+pub raised_for_place_step : (old cur new : List ℕ) (ps : List Place) (n : ℕ) (p : Place) → IsRaised old cur ps n → slice_get ps n ≡ Some p
     → p.thread < length cur
     → new ≡ set cur p.thread (max (cut_of cur p.thread) (p.position + 1)) → IsRaised old new ps (n + 1)
-raised_more old cur new ps n p r is l e =
+raised_for_place_step old cur new ps n p r is l e =
     let own : cut_of new p.thread ≡ max (cut_of cur p.thread) (p.position + 1) = ap (λ z. cut_of z p.thread) e
     ∙ get_or-set_same cur p.thread (max (cut_of cur p.thread) (p.position + 1)) 0 l in
     let rest : (u : ℕ) → u ≢ p.thread → cut_of new u ≡ cut_of cur u = λ u ne. ap (λ z. cut_of z u) e
@@ -50,30 +50,30 @@ raised_more old cur new ps n p r is l e =
     record {
       size = ap length e ∙ length-set cur p.thread (max (cut_of cur p.thread) (p.position + 1)) ∙ r.size;
       above = λ u. let a = r.above u in let b = up u in omega (arith, a, b);
-      inside = each_more ps n p (λ q. q.position < cut_of new q.thread) is (omega (arith, own))
+      inside = each_place_step ps n p (λ q. q.position < cut_of new q.thread) is (omega (arith, own))
           (λ i q less at. let a = r.inside i q less at in let b = up q.thread in omega (arith, a, b));
       least = λ c h g u. elim (cases_eq u p.thread) [
         | inl same ↦ subst (λ z. cut_of new z ≤ c z) (sym same)
-            (let a = r.least c h (each_first ps n (λ q. q.position < c q.thread) g) p.thread in let b : p.position < c p.thread =
+            (let a = r.least c h (each_place_of_prefix ps n (λ q. q.position < c q.thread) g) p.thread in let b : p.position < c p.thread =
             g n p (omega arith) is in omega (arith, own, a, b))
-        | inr ne ↦ let a = r.least c h (each_first ps n (λ q. q.position < c q.thread) g) u in omega (arith, a, rest u ne)
+        | inr ne ↦ let a = r.least c h (each_place_of_prefix ps n (λ q. q.position < c q.thread) g) u in omega (arith, a, rest u ne)
       ];
     }
 
 -- ---- lowered
 
-pub lowered_none : (xs : List ℕ) (ps : List Place) → IsLowered xs xs ps 0
-lowered_none xs ps = record {
+pub lowered_for_no_places : (xs : List ℕ) (ps : List Place) → IsLowered xs xs ps 0
+lowered_for_no_places xs ps = record {
   size = refl;
   below = λ u. le_refl (cut_of xs u);
-  outside = each_none ps (λ p. cut_of xs p.thread ≤ p.position);
+  outside = each_of_no_places ps (λ p. cut_of xs p.thread ≤ p.position);
   greatest = λ c h g u. h u;
 }
 
-pub lowered_more : (old cur new : List ℕ) (ps : List Place) (n : ℕ) (p : Place) → IsLowered old cur ps n → slice_get ps n ≡ Some p
+pub lowered_for_place_step : (old cur new : List ℕ) (ps : List Place) (n : ℕ) (p : Place) → IsLowered old cur ps n → slice_get ps n ≡ Some p
     → p.thread < length cur
     → new ≡ set cur p.thread (min (cut_of cur p.thread) p.position) → IsLowered old new ps (n + 1)
-lowered_more old cur new ps n p r is l e =
+lowered_for_place_step old cur new ps n p r is l e =
     let own : cut_of new p.thread ≡ min (cut_of cur p.thread) p.position = ap (λ z. cut_of z p.thread) e
     ∙ get_or-set_same cur p.thread (min (cut_of cur p.thread) p.position) 0 l in
     let rest : (u : ℕ) → u ≢ p.thread → cut_of new u ≡ cut_of cur u = λ u ne. ap (λ z. cut_of z u) e
@@ -85,62 +85,62 @@ lowered_more old cur new ps n p r is l e =
     record {
       size = ap length e ∙ length-set cur p.thread (min (cut_of cur p.thread) p.position) ∙ r.size;
       below = λ u. let a = r.below u in let b = down u in omega (arith, a, b);
-      outside = each_more ps n p (λ q. cut_of new q.thread ≤ q.position) is (omega (arith, own))
+      outside = each_place_step ps n p (λ q. cut_of new q.thread ≤ q.position) is (omega (arith, own))
           (λ i q less at. let a = r.outside i q less at in let b = down q.thread in omega (arith, a, b));
       greatest = λ c h g u. elim (cases_eq u p.thread) [
         | inl same ↦ subst (λ z. c z ≤ cut_of new z) (sym same)
-            (let a = r.greatest c h (each_first ps n (λ q. c q.thread ≤ q.position) g) p.thread in let b : c p.thread ≤ p.position =
+            (let a = r.greatest c h (each_place_of_prefix ps n (λ q. c q.thread ≤ q.position) g) p.thread in let b : c p.thread ≤ p.position =
             g n p (omega arith) is in omega (arith, own, a, b))
-        | inr ne ↦ let a = r.greatest c h (each_first ps n (λ q. c q.thread ≤ q.position) g) u in omega (arith, a, rest u ne)
+        | inr ne ↦ let a = r.greatest c h (each_place_of_prefix ps n (λ q. c q.thread ≤ q.position) g) u in omega (arith, a, rest u ne)
       ];
     }
 
 -- ---- what the code reads
 
 -- a position that was read
-pub position_read : (xs : List ℕ) (t v : ℕ) → t < length xs → v ≡ slice_index_or xs t v → v ≡ cut_of xs t
-position_read xs t v l e = e ∙ get_or_default_zero xs t v l
+pub read_position_is_cut_position : (xs : List ℕ) (t v : ℕ) → t < length xs → v ≡ slice_index_or xs t v → v ≡ cut_of xs t
+read_position_is_cut_position xs t v l e = e ∙ get_or_default_zero xs t v l
 
 -- the place that comes next
 abbrev pub place_at : List Place → ℕ → Place
 place_at ps n = slice_index_or ps n (record { position = 0; version = 0; thread = 0 })
 
-pub placed_there : (k : ℕ) (ps : List Place) (n : ℕ) → ArePlaced k ps → n < length ps → ((place_at ps n).thread < k)
+pub place_at_is_placed : (k : ℕ) (ps : List Place) (n : ℕ) → ArePlaced k ps → n < length ps → ((place_at ps n).thread < k)
     × ((place_at ps n).position + 1 < 2 ^ 64)
-placed_there k ps n h l = h n (place_at ps n) l (slice_get-get_or ps n _ l)
+place_at_is_placed k ps n h l = h n (place_at ps n) l (slice_get-get_or ps n _ l)
 
-pub next_raised : (old cur : List ℕ) (ps : List Place) (n v top : ℕ) → ArePlaced (length old) ps → IsRaised old cur ps n → n < length ps
+pub raised_by_read_position_step : (old cur : List ℕ) (ps : List Place) (n v top : ℕ) → ArePlaced (length old) ps → IsRaised old cur ps n → n < length ps
     → v ≡ slice_index_or cur (place_at ps n).thread v
     → top ≡ max v ((place_at ps n).position + 1) → IsRaised old (set cur (place_at ps n).thread top) ps (n + 1)
-next_raised old cur ps n v top h r l e is =
-    let there : (place_at ps n).thread < length cur = (let a = (placed_there (length old) ps n h l).0 in omega (arith, a, r.size)) in
-    raised_more old cur (set cur (place_at ps n).thread top) ps n (place_at ps n) r (slice_get-get_or ps n _ l) there
+raised_by_read_position_step old cur ps n v top h r l e is =
+    let there : (place_at ps n).thread < length cur = (let a = (place_at_is_placed (length old) ps n h l).0 in omega (arith, a, r.size)) in
+    raised_for_place_step old cur (set cur (place_at ps n).thread top) ps n (place_at ps n) r (slice_get-get_or ps n _ l) there
     (ap (set cur (place_at ps n).thread) (is ∙ ap (λ z. max z ((place_at ps n).position + 1))
-    (position_read cur (place_at ps n).thread v there e)))
+    (read_position_is_cut_position cur (place_at ps n).thread v there e)))
 
-pub next_lowered : (old cur : List ℕ) (ps : List Place) (n v low : ℕ) → ArePlaced (length old) ps → IsLowered old cur ps n → n < length ps
+pub lowered_by_read_position_step : (old cur : List ℕ) (ps : List Place) (n v low : ℕ) → ArePlaced (length old) ps → IsLowered old cur ps n → n < length ps
     → v ≡ slice_index_or cur (place_at ps n).thread v
     → low ≡ min v (place_at ps n).position → IsLowered old (set cur (place_at ps n).thread low) ps (n + 1)
-next_lowered old cur ps n v low h r l e is =
-    let there : (place_at ps n).thread < length cur = (let a = (placed_there (length old) ps n h l).0 in omega (arith, a, r.size)) in
-    lowered_more old cur (set cur (place_at ps n).thread low) ps n (place_at ps n) r (slice_get-get_or ps n _ l) there
+lowered_by_read_position_step old cur ps n v low h r l e is =
+    let there : (place_at ps n).thread < length cur = (let a = (place_at_is_placed (length old) ps n h l).0 in omega (arith, a, r.size)) in
+    lowered_for_place_step old cur (set cur (place_at ps n).thread low) ps n (place_at ps n) r (slice_get-get_or ps n _ l) there
     (ap (set cur (place_at ps n).thread) (is ∙ ap (λ z. min z (place_at ps n).position)
-    (position_read cur (place_at ps n).thread v there e)))
+    (read_position_is_cut_position cur (place_at ps n).thread v there e)))
 
 -- whether the next place is inside, and all that were before it
-pub next_inside : (xs : List ℕ) (ps : List Place) (n v : ℕ) → ArePlaced (length xs) ps → n < length ps
+pub places_inside_step : (xs : List ℕ) (ps : List Place) (n v : ℕ) → ArePlaced (length xs) ps → n < length ps
     → v ≡ slice_index_or xs (place_at ps n).thread v → (place_at ps n).position < v
     → EachPlace ps n (λ p. p.position < cut_of xs p.thread) → EachPlace ps (n + 1) (λ p. p.position < cut_of xs p.thread)
-next_inside xs ps n v h l e less each =
-    let there = (placed_there (length xs) ps n h l).0 in
-    each_more ps n (place_at ps n) (λ p. p.position < cut_of xs p.thread) (slice_get-get_or ps n _ l)
-    (let same = position_read xs (place_at ps n).thread v there e in omega (arith, less, same)) each
+places_inside_step xs ps n v h l e less each =
+    let there = (place_at_is_placed (length xs) ps n h l).0 in
+    each_place_step ps n (place_at ps n) (λ p. p.position < cut_of xs p.thread) (slice_get-get_or ps n _ l)
+    (let same = read_position_is_cut_position xs (place_at ps n).thread v there e in omega (arith, less, same)) each
 
-pub not_inside : (xs : List ℕ) (ps : List Place) (n v : ℕ) → ArePlaced (length xs) ps → n < length ps
+pub places_not_inside_if_place_outside : (xs : List ℕ) (ps : List Place) (n v : ℕ) → ArePlaced (length xs) ps → n < length ps
     → v ≡ slice_index_or xs (place_at ps n).thread v → v ≤ (place_at ps n).position
     → EachPlace ps (length ps) (λ p. p.position < cut_of xs p.thread) → ⊥
-not_inside xs ps n v h l e less each =
-    let there = (placed_there (length xs) ps n h l).0 in
+places_not_inside_if_place_outside xs ps n v h l e less each =
+    let there = (place_at_is_placed (length xs) ps n h l).0 in
     let a : (place_at ps n).position < cut_of xs (place_at ps n).thread = each n (place_at ps n) l (slice_get-get_or ps n _ l) in
-    let same = position_read xs (place_at ps n).thread v there e in
+    let same = read_position_is_cut_position xs (place_at ps n).thread v there e in
     omega (arith, a, less, same)

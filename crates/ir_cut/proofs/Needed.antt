@@ -6,7 +6,7 @@ use Rattle.ir_runs.specs.declared.env_kind.EnvKind.{EnvKind}
 use Rattle.ir_log.specs.Logging.{label_of}
 use Rattle.ir_log.specs.declared.event.Event.{Event}
 use Rattle.ir_log.specs.declared.event.Event.TheVariants.{Read, Write}
-use Rattle.ir_runs.specs.Cuts.{Emits, Needs, Cut}
+use Rattle.ir_runs.specs.Cuts.{Emits, IsNeededBy, Cut}
 use Rattle.ir_fit.specs.Fit.{FittedTrace}
 use Rattle.ir_fit.specs.Within.{IsFitted}
 use Rattle.ir_fit.specs.declared.leave.Leave.{Leave}
@@ -15,200 +15,200 @@ use Rattle.ir_cut.specs.Positions.{machine_of, start_of, cut_of, EachRun}
 use Rattle.ir_cut.specs.Searching.{AreInside, RaisedFor, LoweredFor, NeededBy, Needing, IsEntryAt}
 use Rattle.ir_fit.specs.Visits.{OnlyLeaves, AllLeaves, OnlyEntries, AllEntries}
 use Rattle.ir_fit.specs.declared.place.Place.{Place}
-use Rattle.ir_cut.proofs.Sought.{leaves_inside, leaves_raised, entries_lowered, raised_both, raised_same, raised_nothing, lowered_both, lowered_same, lowered_nothing}
-use Rattle.ir_cut.proofs.Again.{entered_word}
+use Rattle.ir_cut.proofs.Sought.{leaves_inside_by_places, raised_for_leaves, lowered_for_entries, raised_for_either_label, raised_for_equivalent_labels, raised_for_no_steps, lowered_for_either_label, lowered_for_equivalent_labels, lowered_for_no_steps}
+use Rattle.ir_cut.proofs.Again.{entered_version_is_word}
 
 -- ---- an entry needs the leave that made its version
 
-pub nobody_made : (o v l : ℕ) → v ≡ 0 → (b : Label) → NeededBy (In o Reading v l) b → ⊥
-nobody_made o v l is Quiet h = h
-nobody_made o v l is (Answer k x) h = h
-nobody_made o v l is (In p a w i) h = h
-nobody_made o v l is (Refused p) h = h
-nobody_made o v l is (Out p Reading w) h = h
-nobody_made o v l is (Out p Writing w) h = let e = h.1 in omega (arith, is, e)
+pub first_version_needs_nothing : (o v l : ℕ) → v ≡ 0 → (b : Label) → NeededBy (In o Reading v l) b → ⊥
+first_version_needs_nothing o v l is Quiet h = h
+first_version_needs_nothing o v l is (Answer k x) h = h
+first_version_needs_nothing o v l is (In p a w i) h = h
+first_version_needs_nothing o v l is (Refused p) h = h
+first_version_needs_nothing o v l is (Out p Reading w) h = h
+first_version_needs_nothing o v l is (Out p Writing w) h = let e = h.1 in omega (arith, is, e)
 
-pub its_maker : (o v w l : ℕ) → v ≡ w + 1 → (b : Label) → NeededBy (In o Reading v l) b → b ≡ Out o Writing w
-its_maker o v w l is Quiet h = absurd h
-its_maker o v w l is (Answer k x) h = absurd h
-its_maker o v w l is (In p a u i) h = absurd h
-its_maker o v w l is (Refused p) h = absurd h
-its_maker o v w l is (Out p Reading u) h = absurd h
-its_maker o v w l is (Out p Writing u) h = let e = h.1 in ap (λ z. Out z Writing u) h.0
+pub reading_needs_its_maker : (o v w l : ℕ) → v ≡ w + 1 → (b : Label) → NeededBy (In o Reading v l) b → b ≡ Out o Writing w
+reading_needs_its_maker o v w l is Quiet h = absurd h
+reading_needs_its_maker o v w l is (Answer k x) h = absurd h
+reading_needs_its_maker o v w l is (In p a u i) h = absurd h
+reading_needs_its_maker o v w l is (Refused p) h = absurd h
+reading_needs_its_maker o v w l is (Out p Reading u) h = absurd h
+reading_needs_its_maker o v w l is (Out p Writing u) h = let e = h.1 in ap (λ z. Out z Writing u) h.0
     ∙ ap (Out o Writing) (let d : u ≡ w = omega (arith, is, e) in d)
 
-pub makes_it : (o v w l : ℕ) → v ≡ w + 1 → (b : Label) → b ≡ Out o Writing w → NeededBy (In o Reading v l) b
-makes_it o v w l is b e = subst (NeededBy (In o Reading v l)) (sym e) (refl, (let d : v ≡ suc w = omega (arith, is) in d))
+pub maker_is_needed_by_reading : (o v w l : ℕ) → v ≡ w + 1 → (b : Label) → b ≡ Out o Writing w → NeededBy (In o Reading v l) b
+maker_is_needed_by_reading o v w l is b e = subst (NeededBy (In o Reading v l)) (sym e) (refl, (let d : v ≡ suc w = omega (arith, is) in d))
 
 -- ---- one for writing needs the readers' leaves of its version beside
 
-pub maker_or_reader : (o v l : ℕ) (b : Label) → NeededBy (In o Writing v l) b → NeededBy (In o Reading v 0) b ⊎ (b ≡ Out o Reading v)
-maker_or_reader o v l Quiet h = absurd h
-maker_or_reader o v l (Answer k x) h = absurd h
-maker_or_reader o v l (In p a w i) h = absurd h
-maker_or_reader o v l (Refused p) h = absurd h
-maker_or_reader o v l (Out p Reading w) h = inr (ap (λ z. Out z Reading w) h.0 ∙ ap (Out o Reading) (sym h.1))
-maker_or_reader o v l (Out p Writing w) h = inl h
+pub writing_needs_maker_or_reader : (o v l : ℕ) (b : Label) → NeededBy (In o Writing v l) b → NeededBy (In o Reading v 0) b ⊎ (b ≡ Out o Reading v)
+writing_needs_maker_or_reader o v l Quiet h = absurd h
+writing_needs_maker_or_reader o v l (Answer k x) h = absurd h
+writing_needs_maker_or_reader o v l (In p a w i) h = absurd h
+writing_needs_maker_or_reader o v l (Refused p) h = absurd h
+writing_needs_maker_or_reader o v l (Out p Reading w) h = inr (ap (λ z. Out z Reading w) h.0 ∙ ap (Out o Reading) (sym h.1))
+writing_needs_maker_or_reader o v l (Out p Writing w) h = inl h
 
-pub maker_needed : (o v l : ℕ) (b : Label) → NeededBy (In o Reading v 0) b → NeededBy (In o Writing v l) b
-maker_needed o v l Quiet h = h
-maker_needed o v l (Answer k x) h = h
-maker_needed o v l (In p a w i) h = h
-maker_needed o v l (Refused p) h = h
-maker_needed o v l (Out p Reading w) h = absurd h
-maker_needed o v l (Out p Writing w) h = h
+pub maker_is_needed_by_writing : (o v l : ℕ) (b : Label) → NeededBy (In o Reading v 0) b → NeededBy (In o Writing v l) b
+maker_is_needed_by_writing o v l Quiet h = h
+maker_is_needed_by_writing o v l (Answer k x) h = h
+maker_is_needed_by_writing o v l (In p a w i) h = h
+maker_is_needed_by_writing o v l (Refused p) h = h
+maker_is_needed_by_writing o v l (Out p Reading w) h = absurd h
+maker_is_needed_by_writing o v l (Out p Writing w) h = h
 
-pub reader_needed : (o v l : ℕ) (b : Label) → b ≡ Out o Reading v → NeededBy (In o Writing v l) b
-reader_needed o v l b e = subst (NeededBy (In o Writing v l)) (sym e) (refl, refl)
+pub reader_is_needed_by_writing : (o v l : ℕ) (b : Label) → b ≡ Out o Reading v → NeededBy (In o Writing v l) b
+reader_is_needed_by_writing o v l b e = subst (NeededBy (In o Writing v l)) (sym e) (refl, refl)
 
-pub answer_needs : (kind : EnvKind) (x : ℕ) (b : Label) → NeededBy (Answer kind x) b → ⊥
-answer_needs kind x Quiet h = h
-answer_needs kind x (Answer k y) h = h
-answer_needs kind x (In p a w i) h = h
-answer_needs kind x (Refused p) h = h
-answer_needs kind x (Out p Reading w) h = h
-answer_needs kind x (Out p Writing w) h = h
+pub answer_needs_nothing : (kind : EnvKind) (x : ℕ) (b : Label) → NeededBy (Answer kind x) b → ⊥
+answer_needs_nothing kind x Quiet h = h
+answer_needs_nothing kind x (Answer k y) h = h
+answer_needs_nothing kind x (In p a w i) h = h
+answer_needs_nothing kind x (Refused p) h = h
+answer_needs_nothing kind x (Out p Reading w) h = h
+answer_needs_nothing kind x (Out p Writing w) h = h
 
 -- ---- whether what an event needs is inside
 
 -- where each step of one kind is of the other
-inside_from : (f : FittedTrace) (P R : Label → Type 0) → ((k : Label) → R k → P k) → (c : Cut) → EachRun f (λ run. AreInside f run P c)
+inside_for_implied_labels : (f : FittedTrace) (P R : Label → Type 0) → ((k : Label) → R k → P k) → (c : Cut) → EachRun f (λ run. AreInside f run P c)
     → EachRun f (λ run. AreInside f run R c)
-inside_from f P R to c h run is t i k emits r = h run is t i k emits (to k r)
+inside_for_implied_labels f P R to c h run is t i k emits r = h run is t i k emits (to k r)
 
-pub made_inside : (f : FittedTrace) → IsFitted f → (o v w : ℕ) (ps : List Place) → OnlyLeaves f o Writing w ps → AllLeaves f o Writing w ps
+pub reading_needs_inside_by_makers : (f : FittedTrace) → IsFitted f → (o v w : ℕ) (ps : List Place) → OnlyLeaves f o Writing w ps → AllLeaves f o Writing w ps
     → (xs : List ℕ) (b : Bool) → (1 ≤ v) × (w ≡ v - 1)
     → IsTrue b ↔ EachPlace ps (length ps) (λ p. p.position < cut_of xs p.thread)
     → IsTrue b ↔ EachRun f (λ run. AreInside f run (NeededBy (In o Reading v 0)) (cut_of xs))
-made_inside f k o v w ps only all xs b is test =
+reading_needs_inside_by_makers f k o v w ps only all xs b is test =
     let next : v ≡ w + 1 = (let some = is.0 in let less = is.1 in omega (arith, some, less)) in
-    let leaves = leaves_inside f k o Writing w ps only all xs in (
-      (λ so. inside_from f (λ z. z ≡ Out o Writing w) (NeededBy (In o Reading v 0)) (its_maker o v w 0 next) (cut_of xs)
+    let leaves = leaves_inside_by_places f k o Writing w ps only all xs in (
+      (λ so. inside_for_implied_labels f (λ z. z ≡ Out o Writing w) (NeededBy (In o Reading v 0)) (reading_needs_its_maker o v w 0 next) (cut_of xs)
           (leaves.0 (test.0 so))),
-      (λ h. test.1 (leaves.1 (inside_from f (NeededBy (In o Reading v 0)) (λ z. z ≡ Out o Writing w) (makes_it o v w 0 next) (cut_of xs)
+      (λ h. test.1 (leaves.1 (inside_for_implied_labels f (NeededBy (In o Reading v 0)) (λ z. z ≡ Out o Writing w) (maker_is_needed_by_reading o v w 0 next) (cut_of xs)
           h))),
     )
 
-pub read_inside : (f : FittedTrace) (x : Event) (o v : ℕ) (xs : List ℕ) (b : Bool) → x ≡ Read o v
+pub needs_of_read_event_inside : (f : FittedTrace) (x : Event) (o v : ℕ) (xs : List ℕ) (b : Bool) → x ≡ Read o v
     → IsTrue b ↔ EachRun f (λ run. AreInside f run (NeededBy (In o Reading v 0)) (cut_of xs))
     → IsTrue b ↔ EachRun f (λ run. AreInside f run (NeededBy (label_of x)) (cut_of xs))
-read_inside f x o v xs b is h = subst (λ z. IsTrue b ↔ EachRun f (λ run. AreInside f run (NeededBy (label_of z)) (cut_of xs))) (sym is) h
+needs_of_read_event_inside f x o v xs b is h = subst (λ z. IsTrue b ↔ EachRun f (λ run. AreInside f run (NeededBy (label_of z)) (cut_of xs))) (sym is) h
 
-pub write_inside : (f : FittedTrace) → IsFitted f → (x : Event) (o v l : ℕ) (ps : List Place) → OnlyLeaves f o Reading v ps
+pub needs_of_write_event_inside : (f : FittedTrace) → IsFitted f → (x : Event) (o v l : ℕ) (ps : List Place) → OnlyLeaves f o Reading v ps
     → AllLeaves f o Reading v ps → (xs : List ℕ) (a b : Bool) → x ≡ Write o v l → IsTrue a
     → IsTrue a ↔ EachRun f (λ run. AreInside f run (NeededBy (In o Reading v 0)) (cut_of xs))
     → IsTrue b ↔ EachPlace ps (length ps) (λ p. p.position < cut_of xs p.thread)
     → IsTrue b ↔ EachRun f (λ run. AreInside f run (NeededBy (label_of x)) (cut_of xs))
-write_inside f k x o v l ps only all xs a b is so made test =
-    let leaves = leaves_inside f k o Reading v ps only all xs in
+needs_of_write_event_inside f k x o v l ps only all xs a b is so made test =
+    let leaves = leaves_inside_by_places f k o Reading v ps only all xs in
     subst (λ z. IsTrue b ↔ EachRun f (λ run. AreInside f run (NeededBy (label_of z)) (cut_of xs))) (sym is) (
-      (λ read run is t i m emits n. elim (maker_or_reader o v l m n)
+      (λ read run is t i m emits n. elim (writing_needs_maker_or_reader o v l m n)
           [ inl maker ↦ made.0 so run is t i m emits maker | inr reader ↦ leaves.0 (test.0 read) run is t i m emits reader ]),
-      (λ h. test.1 (leaves.1 (inside_from f (NeededBy (In o Writing v l)) (λ z. z ≡ Out o Reading v) (reader_needed o v l) (cut_of xs) h))),
+      (λ h. test.1 (leaves.1 (inside_for_implied_labels f (NeededBy (In o Writing v l)) (λ z. z ≡ Out o Reading v) (reader_is_needed_by_writing o v l) (cut_of xs) h))),
     )
 
-pub unmade_inside : (f : FittedTrace) (x : Event) (o v l : ℕ) (xs : List ℕ) (a : Bool) → x ≡ Write o v l → a ≡ false
+pub needs_of_write_event_not_inside : (f : FittedTrace) (x : Event) (o v l : ℕ) (xs : List ℕ) (a : Bool) → x ≡ Write o v l → a ≡ false
     → IsTrue a ↔ EachRun f (λ run. AreInside f run (NeededBy (In o Reading v 0)) (cut_of xs))
     → IsTrue a ↔ EachRun f (λ run. AreInside f run (NeededBy (label_of x)) (cut_of xs))
-unmade_inside f x o v l xs a is no_maker made =
+needs_of_write_event_not_inside f x o v l xs a is no_maker made =
     subst (λ z. IsTrue a ↔ EachRun f (λ run. AreInside f run (NeededBy (label_of z)) (cut_of xs))) (sym is) (
       (λ so. absurd (cc (so, no_maker))),
-      (λ h. made.1 (inside_from f (NeededBy (In o Writing v l)) (NeededBy (In o Reading v 0)) (maker_needed o v l) (cut_of xs) h)),
+      (λ h. made.1 (inside_for_implied_labels f (NeededBy (In o Writing v l)) (NeededBy (In o Reading v 0)) (maker_is_needed_by_writing o v l) (cut_of xs) h)),
     )
 
 -- ---- positions raised for it
 
-pub made_raised : (f : FittedTrace) → IsFitted f → (o v w : ℕ) (ps : List Place) → OnlyLeaves f o Writing w ps → AllLeaves f o Writing w ps
+pub raised_for_reading_by_makers : (f : FittedTrace) → IsFitted f → (o v w : ℕ) (ps : List Place) → OnlyLeaves f o Writing w ps → AllLeaves f o Writing w ps
     → (old new : List ℕ) → (1 ≤ v) × (w ≡ v - 1) → IsRaised old new ps (length ps)
     → EachRun f (λ run. RaisedFor f run (NeededBy (In o Reading v 0)) old new)
-made_raised f k o v w ps only all old new is r run ok =
+raised_for_reading_by_makers f k o v w ps only all old new is r run ok =
     let next : v ≡ w + 1 = (let some = is.0 in let less = is.1 in omega (arith, some, less)) in
-    raised_same f run (λ z. z ≡ Out o Writing w) (NeededBy (In o Reading v 0)) (its_maker o v w 0 next) (makes_it o v w 0 next) old new
-    (leaves_raised f k o Writing w ps only all old new r run ok)
+    raised_for_equivalent_labels f run (λ z. z ≡ Out o Writing w) (NeededBy (In o Reading v 0)) (reading_needs_its_maker o v w 0 next) (maker_is_needed_by_reading o v w 0 next) old new
+    (raised_for_leaves f k o Writing w ps only all old new r run ok)
 
-pub write_raised : (f : FittedTrace) → IsFitted f → (x : Event) (o v l : ℕ) (ps : List Place) → OnlyLeaves f o Reading v ps
+pub raised_for_write_event : (f : FittedTrace) → IsFitted f → (x : Event) (o v l : ℕ) (ps : List Place) → OnlyLeaves f o Reading v ps
     → AllLeaves f o Reading v ps → (old cur new : List ℕ) → x ≡ Write o v l
     → EachRun f (λ run. RaisedFor f run (NeededBy (In o Reading v 0)) old cur) → IsRaised cur new ps (length ps)
     → EachRun f (λ run. RaisedFor f run (NeededBy (label_of x)) old new)
-write_raised f k x o v l ps only all old cur new is made r run ok = subst (λ z. RaisedFor f run (NeededBy (label_of z)) old new) (sym is)
-    (raised_both f run (NeededBy (In o Reading v 0)) (λ z. z ≡ Out o Reading v) (NeededBy (In o Writing v l)) (maker_or_reader o v l)
-    (maker_needed o v l) (reader_needed o v l) old cur new (made run ok) (leaves_raised f k o Reading v ps only all cur new r run ok))
+raised_for_write_event f k x o v l ps only all old cur new is made r run ok = subst (λ z. RaisedFor f run (NeededBy (label_of z)) old new) (sym is)
+    (raised_for_either_label f run (NeededBy (In o Reading v 0)) (λ z. z ≡ Out o Reading v) (NeededBy (In o Writing v l)) (writing_needs_maker_or_reader o v l)
+    (maker_is_needed_by_writing o v l) (reader_is_needed_by_writing o v l) old cur new (made run ok) (raised_for_leaves f k o Reading v ps only all cur new r run ok))
 
-pub read_raised : (f : FittedTrace) (x : Event) (o v : ℕ) (old new : List ℕ) → x ≡ Read o v
+pub raised_for_read_event : (f : FittedTrace) (x : Event) (o v : ℕ) (old new : List ℕ) → x ≡ Read o v
     → EachRun f (λ run. RaisedFor f run (NeededBy (In o Reading v 0)) old new)
     → EachRun f (λ run. RaisedFor f run (NeededBy (label_of x)) old new)
-read_raised f x o v old new is h run ok = subst (λ z. RaisedFor f run (NeededBy (label_of z)) old new) (sym is) (h run ok)
+raised_for_read_event f x o v old new is h run ok = subst (λ z. RaisedFor f run (NeededBy (label_of z)) old new) (sym is) (h run ok)
 
 -- nothing is needed of the first version, and by a result
-pub first_raised : (f : FittedTrace) (o v : ℕ) (xs : List ℕ) → v ≡ 0
+pub raised_for_first_version : (f : FittedTrace) (o v : ℕ) (xs : List ℕ) → v ≡ 0
     → EachRun f (λ run. RaisedFor f run (NeededBy (In o Reading v 0)) xs xs)
-first_raised f o v xs is run ok = raised_nothing f run (NeededBy (In o Reading v 0)) (λ t i k emits n. nobody_made o v 0 is k n) xs
+raised_for_first_version f o v xs is run ok = raised_for_no_steps f run (NeededBy (In o Reading v 0)) (λ t i k emits n. first_version_needs_nothing o v 0 is k n) xs
 
 -- ---- positions lowered from what needs a leave
 
-either_access : (o v : ℕ) (k : Label) → IsEntryAt o v k → ((l : ℕ) × (k ≡ In o Reading v l)) ⊎ ((l : ℕ) × (k ≡ In o Writing v l))
-either_access o v k (Reading, l, e) = inl (l, e)
-either_access o v k (Writing, l, e) = inr (l, e)
+entry_reads_or_writes : (o v : ℕ) (k : Label) → IsEntryAt o v k → ((l : ℕ) × (k ≡ In o Reading v l)) ⊎ ((l : ℕ) × (k ≡ In o Writing v l))
+entry_reads_or_writes o v k (Reading, l, e) = inl (l, e)
+entry_reads_or_writes o v k (Writing, l, e) = inr (l, e)
 
-pub both_lowered : (f : FittedTrace) → IsFitted f → (o v : ℕ) (ps qs : List Place) → OnlyEntries f o Reading v ps
+pub lowered_for_entries_at_version : (f : FittedTrace) → IsFitted f → (o v : ℕ) (ps qs : List Place) → OnlyEntries f o Reading v ps
     → AllEntries f o Reading v ps → OnlyEntries f o Writing v qs → AllEntries f o Writing v qs
     → (old cur new : List ℕ) → IsLowered old cur ps (length ps) → IsLowered cur new qs (length qs)
     → EachRun f (λ run. LoweredFor f run (IsEntryAt o v) old new)
-both_lowered f k o v ps qs only all only' all' old cur new r s run ok =
-    lowered_both f run (λ z. (l : ℕ) × (z ≡ In o Reading v l)) (λ z. (l : ℕ) × (z ≡ In o Writing v l)) (IsEntryAt o v) (either_access o v)
+lowered_for_entries_at_version f k o v ps qs only all only' all' old cur new r s run ok =
+    lowered_for_either_label f run (λ z. (l : ℕ) × (z ≡ In o Reading v l)) (λ z. (l : ℕ) × (z ≡ In o Writing v l)) (IsEntryAt o v) (entry_reads_or_writes o v)
     (λ z e. (Reading, e.0, e.1)) (λ z e. (Writing, e.0, e.1)) old cur new
-    (entries_lowered f k o Reading v ps only all old cur r run ok) (entries_lowered f k o Writing v qs only' all' cur new s run ok)
+    (lowered_for_entries f k o Reading v ps only all old cur r run ok) (lowered_for_entries f k o Writing v qs only' all' cur new s run ok)
 
 -- what needs a leave after reading is an entry for writing at its version
-reading_needs : (o w : ℕ) (k : Label) → Needs (Out o Reading w) k → (l : ℕ) × (k ≡ In o Writing w l)
-reading_needs o w Quiet h = absurd h
-reading_needs o w (Answer j x) h = absurd h
-reading_needs o w (In p Reading v l) h = absurd h
-reading_needs o w (In p Writing v l) h = (l, ap (λ z. In z Writing v l) (sym h.0) ∙ ap (λ z. In o Writing z l) h.1)
-reading_needs o w (Refused p) h = absurd h
-reading_needs o w (Out p a v) h = absurd h
+needing_read_leave_is_write_entry : (o w : ℕ) (k : Label) → IsNeededBy (Out o Reading w) k → (l : ℕ) × (k ≡ In o Writing w l)
+needing_read_leave_is_write_entry o w Quiet h = absurd h
+needing_read_leave_is_write_entry o w (Answer j x) h = absurd h
+needing_read_leave_is_write_entry o w (In p Reading v l) h = absurd h
+needing_read_leave_is_write_entry o w (In p Writing v l) h = (l, ap (λ z. In z Writing v l) (sym h.0) ∙ ap (λ z. In o Writing z l) h.1)
+needing_read_leave_is_write_entry o w (Refused p) h = absurd h
+needing_read_leave_is_write_entry o w (Out p a v) h = absurd h
 
-needs_reading : (o w : ℕ) (k : Label) → (l : ℕ) × (k ≡ In o Writing w l) → Needs (Out o Reading w) k
-needs_reading o w k e = subst (Needs (Out o Reading w)) (sym e.1) (refl, refl)
+write_entry_needs_read_leave : (o w : ℕ) (k : Label) → (l : ℕ) × (k ≡ In o Writing w l) → IsNeededBy (Out o Reading w) k
+write_entry_needs_read_leave o w k e = subst (IsNeededBy (Out o Reading w)) (sym e.1) (refl, refl)
 
-pub reader_lowered : (f : FittedTrace) → IsFitted f → (x : Leave) (ps : List Place) → OnlyEntries f x.object Writing x.version ps
+pub lowered_for_read_leave : (f : FittedTrace) → IsFitted f → (x : Leave) (ps : List Place) → OnlyEntries f x.object Writing x.version ps
     → AllEntries f x.object Writing x.version ps → (old new : List ℕ) → x.access ≡ Reading → IsLowered old new ps (length ps)
     → EachRun f (λ run. LoweredFor f run (Needing x) old new)
-reader_lowered f k x ps only all old new is r run ok = subst (λ a. LoweredFor f run (Needs (Out x.object a x.version)) old new) (sym is)
-    (lowered_same f run (λ z. (l : ℕ) × (z ≡ In x.object Writing x.version l)) (Needs (Out x.object Reading x.version))
-    (reading_needs x.object x.version) (needs_reading x.object x.version) old new
-    (entries_lowered f k x.object Writing x.version ps only all old new r run ok))
+lowered_for_read_leave f k x ps only all old new is r run ok = subst (λ a. LoweredFor f run (IsNeededBy (Out x.object a x.version)) old new) (sym is)
+    (lowered_for_equivalent_labels f run (λ z. (l : ℕ) × (z ≡ In x.object Writing x.version l)) (IsNeededBy (Out x.object Reading x.version))
+    (needing_read_leave_is_write_entry x.object x.version) (write_entry_needs_read_leave x.object x.version) old new
+    (lowered_for_entries f k x.object Writing x.version ps only all old new r run ok))
 
 -- what needs a leave after writing is an entry at the version that it made
-writing_needs : (o w v : ℕ) → v ≡ w + 1 → (k : Label) → Needs (Out o Writing w) k → IsEntryAt o v k
-writing_needs o w v is Quiet h = absurd h
-writing_needs o w v is (Answer j x) h = absurd h
-writing_needs o w v is (In p a u l) h = (
+needing_write_leave_is_next_entry : (o w v : ℕ) → v ≡ w + 1 → (k : Label) → IsNeededBy (Out o Writing w) k → IsEntryAt o v k
+needing_write_leave_is_next_entry o w v is Quiet h = absurd h
+needing_write_leave_is_next_entry o w v is (Answer j x) h = absurd h
+needing_write_leave_is_next_entry o w v is (In p a u l) h = (
   a,
   l,
   ap (λ z. In z a u l) (sym h.0)
       ∙ ap (λ z. In o a z l) (let e = h.1 in let d : u ≡ v = omega (arith, is, e) in d),
 )
-writing_needs o w v is (Refused p) h = absurd h
-writing_needs o w v is (Out p a u) h = absurd h
+needing_write_leave_is_next_entry o w v is (Refused p) h = absurd h
+needing_write_leave_is_next_entry o w v is (Out p a u) h = absurd h
 
-needs_writing : (o w v : ℕ) → v ≡ w + 1 → (k : Label) → IsEntryAt o v k → Needs (Out o Writing w) k
-needs_writing o w v is k e = subst (Needs (Out o Writing w)) (sym e.2) (refl, (let d : v ≡ suc w = omega (arith, is) in d))
+next_entry_needs_write_leave : (o w v : ℕ) → v ≡ w + 1 → (k : Label) → IsEntryAt o v k → IsNeededBy (Out o Writing w) k
+next_entry_needs_write_leave o w v is k e = subst (IsNeededBy (Out o Writing w)) (sym e.2) (refl, (let d : v ≡ suc w = omega (arith, is) in d))
 
-pub writer_lowered : (f : FittedTrace) (x : Leave) (v : ℕ) (old new : List ℕ) → x.access ≡ Writing → v ≡ x.version + 1
+pub lowered_for_write_leave : (f : FittedTrace) (x : Leave) (v : ℕ) (old new : List ℕ) → x.access ≡ Writing → v ≡ x.version + 1
     → EachRun f (λ run. LoweredFor f run (IsEntryAt x.object v) old new)
     → EachRun f (λ run. LoweredFor f run (Needing x) old new)
-writer_lowered f x v old new is next r run ok = subst (λ a. LoweredFor f run (Needs (Out x.object a x.version)) old new) (sym is)
-    (lowered_same f run (IsEntryAt x.object v) (Needs (Out x.object Writing x.version)) (writing_needs x.object x.version v next)
-    (needs_writing x.object x.version v next) old new (r run ok))
+lowered_for_write_leave f x v old new is next r run ok = subst (λ a. LoweredFor f run (IsNeededBy (Out x.object a x.version)) old new) (sym is)
+    (lowered_for_equivalent_labels f run (IsEntryAt x.object v) (IsNeededBy (Out x.object Writing x.version)) (needing_write_leave_is_next_entry x.object x.version v next)
+    (next_entry_needs_write_leave x.object x.version v next) old new (r run ok))
 
 -- there is no version after the last that can be counted
-pub last_lowered : (f : FittedTrace) → IsFitted f → (x : Leave) (xs : List ℕ) → x.access ≡ Writing → (x.version + 1 < 2 ^ 32 → ⊥)
+pub lowered_for_leave_of_last_version : (f : FittedTrace) → IsFitted f → (x : Leave) (xs : List ℕ) → x.access ≡ Writing → (x.version + 1 < 2 ^ 32 → ⊥)
     → EachRun f (λ run. LoweredFor f run (Needing x) xs xs)
-last_lowered f k x xs is last run ok = subst (λ a. LoweredFor f run (Needs (Out x.object a x.version)) xs xs) (sym is)
-    (lowered_nothing f run (Needs (Out x.object Writing x.version))
+lowered_for_leave_of_last_version f k x xs is last run ok = subst (λ a. LoweredFor f run (IsNeededBy (Out x.object a x.version)) xs xs) (sym is)
+    (lowered_for_no_steps f run (IsNeededBy (Out x.object Writing x.version))
     (λ t i m emits n.
-    let e = writing_needs x.object x.version (x.version + 1) refl m n in
-    last (entered_word f k.run k.within run ok t i x.object e.0 (x.version + 1) e.1
+    let e = needing_write_leave_is_next_entry x.object x.version (x.version + 1) refl m n in
+    last (entered_version_is_word f k.run k.within run ok t i x.object e.0 (x.version + 1) e.1
     (subst (Emits (machine_of f) (start_of f) run t i) e.2 emits)))
     xs)

@@ -12,85 +12,85 @@ use Rattle.ir_runs.specs.Run.{Step, count}
 use Rattle.ir_log.specs.Logging.{label_of}
 use Rattle.ir_log.specs.declared.event.Event.{Event}
 use Rattle.ir_trace.specs.Recorded.{recorded_thread}
-use Rattle.ir_runs.specs.Cuts.{Emits, Needs, Cut, IsCut, Consistent, IsLeast, IsGreatest}
+use Rattle.ir_runs.specs.Cuts.{Emits, IsNeededBy, Cut, IsCut, Consistent, IsLeast, IsGreatest}
 use Rattle.ir_fit.specs.Fit.{FittedTrace, HasRun, IsRunOf}
 use Rattle.ir_fit.specs.Places.{placed_at}
 use Rattle.ir_fit.specs.declared.leave.Leave.{Leave}
 use Rattle.ir_cut.specs.Positions.{machine_of, start_of, cut_of}
 use Rattle.ir_cut.specs.Searching.{AreInside, AreOutside, RaisedFor, LoweredFor, NeededBy, Needing, Rising, Falling, NoneBelow, NoneAbove, HasBelow, AreFirst, AreRest}
-use Rattle.ir_cut.proofs.Again.{teller, place_within}
-use Rattle.ir_cut.proofs.Listing.{Listed}
+use Rattle.ir_cut.proofs.Again.{emitting_thread_exists, emitting_step_below_count}
+use Rattle.ir_cut.proofs.Listing.{IsListed}
 
 -- ---- what needs something is an entry
 
-pub record Entered (k : Label) : Type 0 where
+pub record IsEntryLabel (k : Label) : Type 0 where
   pub object : ℕ
   pub access : Access
   pub version : ℕ
   pub left : ℕ
   pub is : k ≡ In object access version left
 
-pub entered : (b a : Label) → Needs b a → Entered a
-entered (Out o Writing w) (In p c v l) h = record { object = p; access = c; version = v; left = l; is = refl }
-entered (Out o Writing w) Quiet h = absurd h
-entered (Out o Writing w) (Answer k x) h = absurd h
-entered (Out o Writing w) (Refused p) h = absurd h
-entered (Out o Writing w) (Out p c v) h = absurd h
-entered (Out o Reading w) (In p Writing v l) h = record { object = p; access = Writing; version = v; left = l; is = refl }
-entered (Out o Reading w) (In p Reading v l) h = absurd h
-entered (Out o Reading w) Quiet h = absurd h
-entered (Out o Reading w) (Answer k x) h = absurd h
-entered (Out o Reading w) (Refused p) h = absurd h
-entered (Out o Reading w) (Out p c v) h = absurd h
-entered Quiet a h = absurd h
-entered (Answer k x) a h = absurd h
-entered (In p c v l) a h = absurd h
-entered (Refused p) a h = absurd h
+pub needing_label_is_entry : (b a : Label) → IsNeededBy b a → IsEntryLabel a
+needing_label_is_entry (Out o Writing w) (In p c v l) h = record { object = p; access = c; version = v; left = l; is = refl }
+needing_label_is_entry (Out o Writing w) Quiet h = absurd h
+needing_label_is_entry (Out o Writing w) (Answer k x) h = absurd h
+needing_label_is_entry (Out o Writing w) (Refused p) h = absurd h
+needing_label_is_entry (Out o Writing w) (Out p c v) h = absurd h
+needing_label_is_entry (Out o Reading w) (In p Writing v l) h = record { object = p; access = Writing; version = v; left = l; is = refl }
+needing_label_is_entry (Out o Reading w) (In p Reading v l) h = absurd h
+needing_label_is_entry (Out o Reading w) Quiet h = absurd h
+needing_label_is_entry (Out o Reading w) (Answer k x) h = absurd h
+needing_label_is_entry (Out o Reading w) (Refused p) h = absurd h
+needing_label_is_entry (Out o Reading w) (Out p c v) h = absurd h
+needing_label_is_entry Quiet a h = absurd h
+needing_label_is_entry (Answer k x) a h = absurd h
+needing_label_is_entry (In p c v l) a h = absurd h
+needing_label_is_entry (Refused p) a h = absurd h
 
 -- and it needs a leave
-pub record Left (k : Label) : Type 0 where
+pub record IsLeaveLabel (k : Label) : Type 0 where
   pub object : ℕ
   pub access : Access
   pub version : ℕ
   pub is : k ≡ Out object access version
 
-pub left : (b a : Label) → Needs b a → Left b
-left (Out o c w) a h = record { object = o; access = c; version = w; is = refl }
-left Quiet a h = absurd h
-left (Answer k x) a h = absurd h
-left (In p c v l) a h = absurd h
-left (Refused p) a h = absurd h
+pub needed_label_is_leave : (b a : Label) → IsNeededBy b a → IsLeaveLabel b
+needed_label_is_leave (Out o c w) a h = record { object = o; access = c; version = w; is = refl }
+needed_label_is_leave Quiet a h = absurd h
+needed_label_is_leave (Answer k x) a h = absurd h
+needed_label_is_leave (In p c v l) a h = absurd h
+needed_label_is_leave (Refused p) a h = absurd h
 
 -- ---- an element of a list
 
-pub same_element : {A : Type 0} (xs : List A) (i j : ℕ) (x y : A) → i ≡ j → slice_get xs i ≡ Some x → slice_get xs j ≡ Some y → x ≡ y
-same_element xs i j x y is e d = sym (get_or_from_slice_get xs i x x e) ∙ ap (λ k. slice_index_or xs k x) is
+pub elements_at_equal_places_equal : {A : Type 0} (xs : List A) (i j : ℕ) (x y : A) → i ≡ j → slice_get xs i ≡ Some x → slice_get xs j ≡ Some y → x ≡ y
+elements_at_equal_places_equal xs i j x y is e d = sym (get_or_from_slice_get xs i x x e) ∙ ap (λ k. slice_index_or xs k x) is
     ∙ get_or_from_slice_get xs j y x d
 
-no_number : (next : List ℕ) (n u e : ℕ) → length next ≡ n → e < cut_of next u → u < n
-no_number next n u e size l = elim (cases_lt u n) [
+counted_thread_below_length : (next : List ℕ) (n u e : ℕ) → length next ≡ n → e < cut_of next u → u < n
+counted_thread_below_length next n u e size l = elim (cases_lt u n) [
   | inl less ↦ less
   | inr past ↦ let none : cut_of next u ≡ 0 = get_or_past next u 0 (omega (arith, size, past)) in absurd (omega (arith, none, l))
 ]
 
 -- ---- upwards
 
-pub inside_more : (f : FittedTrace) (run : List Step) (P : Label → Type 0) (c d : Cut) → ((u : ℕ) → c u ≤ d u) → AreInside f run P c
+pub inside_larger_cut : (f : FittedTrace) (run : List Step) (P : Label → Type 0) (c d : Cut) → ((u : ℕ) → c u ≤ d u) → AreInside f run P c
     → AreInside f run P d
-inside_more f run P c d up h t i k emits is = let l = h t i k emits is in let m = up t in omega (arith, l, m)
+inside_larger_cut f run P c d up h t i k emits is = let l = h t i k emits is in let m = up t in omega (arith, l, m)
 
 -- what an event of a step in a consistent cut needs is inside
-pub step_met : (f : FittedTrace) (run : List Step) (c : Cut) → Consistent (machine_of f) (start_of f) run c → (t i : ℕ) (k : Label)
+pub needs_inside_consistent_cut : (f : FittedTrace) (run : List Step) (c : Cut) → Consistent (machine_of f) (start_of f) run c → (t i : ℕ) (k : Label)
     → Emits (machine_of f) (start_of f) run t i k → i < c t → AreInside f run (NeededBy k) c
-step_met f run c con t i k emits l u j b at n = con t i u j k b emits at n l
+needs_inside_consistent_cut f run c con t i k emits l u j b at n = con t i u j k b emits at n l
 
-pub rising_start : (f : FittedTrace) (run : List Step) → IsRunOf f.guest f.recorded run → Listed f run → (ps qs next : List ℕ) (t k : ℕ)
+pub rising_at_start : (f : FittedTrace) (run : List Step) → IsRunOf f.guest f.recorded run → IsListed f run → (ps qs next : List ℕ) (t k : ℕ)
     → IsCut (machine_of f) (start_of f) run (cut_of ps) → Consistent (machine_of f) (start_of f) run (cut_of ps)
     → t < length f.guest.entries → k ≤ (recorded_thread f.recorded t).steps → cut_of qs t ≡ max (cut_of ps t) k
     → ((u : ℕ) → u ≢ t → cut_of qs u ≡ cut_of ps u)
     → length next ≡ length f.guest.entries → ((u : ℕ) → u < length f.guest.entries → AreFirst f ps u (cut_of next u))
     → Rising f ps t k qs next run
-rising_start f run is list ps qs next t k cut con there steps own rest size first =
+rising_at_start f run is list ps qs next t k cut con there steps own rest size first =
     let up : (u : ℕ) → cut_of ps u ≤ cut_of qs u =
     λ u. elim (cases_eq u t) [
       | inl same ↦ subst (λ z. cut_of ps z ≤ cut_of qs z) (sym same) (omega (arith, own))
@@ -110,49 +110,49 @@ rising_start f run is list ps qs next t k cut con there steps own rest size firs
         | inr ne ↦ let a = over u in omega (arith, rest u ne, a)
       ];
       met = λ u e x l at.
-          let less : u < length f.guest.entries = no_number next (length f.guest.entries) u e size l in
+          let less : u < length f.guest.entries = counted_thread_below_length next (length f.guest.entries) u e size l in
           let inside : e < length (placed_at f.placed u).entries =
           (let a = slice_get_within (recorded_thread f.recorded u).events e x at in let b = list.sizes u less in omega (arith, a, b)) in
           let i : ℕ = slice_index_or (placed_at f.placed u).entries e 0 in
           let place : slice_get (placed_at f.placed u).entries e ≡ Some i = slice_get-get_or (placed_at f.placed u).entries e 0 inside in
-          inside_more f run (NeededBy (label_of x)) (cut_of ps) (cut_of qs) up
-          (step_met f run (cut_of ps) con u i (label_of x) (list.event u e i x less at place) (first u less e i l place));
+          inside_larger_cut f run (NeededBy (label_of x)) (cut_of ps) (cut_of qs) up
+          (needs_inside_consistent_cut f run (cut_of ps) con u i (label_of x) (list.event u e i x less at place) (first u less e i l place));
     }
 
-pub rising_more : (f : FittedTrace) (run : List Step) → Listed f run → (ps qs qs' next next' : List ℕ) (t k u : ℕ) (x : Event)
+pub rising_step : (f : FittedTrace) (run : List Step) → IsListed f run → (ps qs qs' next next' : List ℕ) (t k u : ℕ) (x : Event)
     → Rising f ps t k qs next run → u < length f.guest.entries → HasBelow f qs next u
     → slice_get (recorded_thread f.recorded u).events (cut_of next u) ≡ Some x → RaisedFor f run (NeededBy (label_of x)) qs qs'
     → cut_of next' u ≡ cut_of next u + 1 → ((w : ℕ) → w ≢ u → cut_of next' w ≡ cut_of next w)
     → Rising f ps t k qs' next' run
-rising_more f run list ps qs qs' next next' t k u x r there below at raised own rest =
+rising_step f run list ps qs qs' next next' t k u x r there below at raised own rest =
     let emits : Emits (machine_of f) (start_of f) run u below.0 (label_of x) = list.event u (cut_of next u) below.0 x there at below.1 in
     record {
       above = λ w. let a = r.above w in let b = raised.above w in omega (arith, a, b);
       reaches = let a = r.reaches in let b = raised.above t in omega (arith, a, b);
-      cut = raised.least (count (machine_of f) (start_of f) run) r.cut (λ w j b says _. place_within f run w j b says);
+      cut = raised.least (count (machine_of f) (start_of f) run) r.cut (λ w j b says _. emitting_step_below_count f run w j b says);
       least = λ c cut con over reach.
           let low = r.least c cut con over reach in
-          raised.least c low (step_met f run c con u below.0 (label_of x) emits (let a = below.2 in let b = low u in omega (arith, a, b)));
+          raised.least c low (needs_inside_consistent_cut f run c con u below.0 (label_of x) emits (let a = below.2 in let b = low u in omega (arith, a, b)));
       met = λ w e y l says. elim (cases_eq w u) [
-        | inr ne ↦ inside_more f run (NeededBy (label_of y)) (cut_of qs) (cut_of qs') raised.above
+        | inr ne ↦ inside_larger_cut f run (NeededBy (label_of y)) (cut_of qs) (cut_of qs') raised.above
             (r.met w e y (omega (arith, l, rest w ne)) says)
         | inl same ↦
             let l' : e < cut_of next u + 1 = subst (λ z. e < z) (ap (cut_of next') same ∙ own) l in
             let says' : slice_get (recorded_thread f.recorded u).events e ≡ Some y =
             subst (λ z. slice_get (recorded_thread f.recorded z).events e ≡ Some y) same says in
             elim (cases_lt e (cut_of next u)) [
-              | inl less ↦ inside_more f run (NeededBy (label_of y)) (cut_of qs) (cut_of qs') raised.above (r.met u e y less says')
+              | inl less ↦ inside_larger_cut f run (NeededBy (label_of y)) (cut_of qs) (cut_of qs') raised.above (r.met u e y less says')
               | inr past ↦ subst (λ z. AreInside f run (NeededBy (label_of z)) (cut_of qs'))
-                  (same_element (recorded_thread f.recorded u).events (cut_of next u) e x y
+                  (elements_at_equal_places_equal (recorded_thread f.recorded u).events (cut_of next u) e x y
                   (let d : cut_of next u ≡ e = omega (arith, l', past) in d) at says') raised.inside
             ]
       ];
     }
 
 -- an event in the cut is among the first of its thread, where none is below
-behind : (f : FittedTrace) (run : List Step) → Listed f run → (qs next : List ℕ) (t e i : ℕ) → t < length f.guest.entries
+event_in_cut_is_counted : (f : FittedTrace) (run : List Step) → IsListed f run → (qs next : List ℕ) (t e i : ℕ) → t < length f.guest.entries
     → NoneBelow f qs next t → slice_get (placed_at f.placed t).entries e ≡ Some i → i < cut_of qs t → e < cut_of next t
-behind f run list qs next t e i there none place l = elim (cases_lt e (cut_of next t)) [
+event_in_cut_is_counted f run list qs next t e i there none place l = elim (cases_lt e (cut_of next t)) [
   | inl less ↦ less
   | inr past ↦
       let inside : cut_of next t < length (placed_at f.placed t).entries =
@@ -163,21 +163,21 @@ behind f run list qs next t e i there none place l = elim (cases_lt e (cut_of ne
       let far = none j first in
       elim (cases_lt (cut_of next t) e) [
         | inl before ↦ let up = list.rise t (cut_of next t) e j i there before first place in absurd (omega (arith, far, up, l))
-        | inr same ↦ let one : j ≡ i = same_element (placed_at f.placed t).entries (cut_of next t) e j i
+        | inr same ↦ let one : j ≡ i = elements_at_equal_places_equal (placed_at f.placed t).entries (cut_of next t) e j i
             (let d : cut_of next t ≡ e = omega (arith, same, past) in d) first place in absurd (omega (arith, one, far, l))
       ]
 ]
 
-pub rising_over : (f : FittedTrace) → HasRun f → (run : List Step) → IsRunOf f.guest f.recorded run → Listed f run
+pub rising_end_is_least : (f : FittedTrace) → HasRun f → (run : List Step) → IsRunOf f.guest f.recorded run → IsListed f run
     → (ps qs next : List ℕ) (t k : ℕ) → Rising f ps t k qs next run → ((u : ℕ) → u < length f.guest.entries → NoneBelow f qs next u)
     → IsLeast (machine_of f) (start_of f) run (cut_of ps) t k (cut_of qs)
-rising_over f h run is list ps qs next t k r none = record {
+rising_end_is_least f h run is list ps qs next t k r none = record {
   cut = r.cut;
   consistent = λ u i w j a b at says n l.
-      let there : u < length f.guest.entries = teller f h run is u i a at in
-      let x = entered b a n in
+      let there : u < length f.guest.entries = emitting_thread_exists f h run is u i a at in
+      let x = needing_label_is_entry b a n in
       let e = list.entry u i x.object x.access x.version x.left (subst (Emits (machine_of f) (start_of f) run u i) x.is at) in
-      r.met u e.0 e.1 (behind f run list qs next u e.0 i there (none u there) e.2 l) e.3 w j b says (subst (Needs b) (x.is ∙ sym e.4) n);
+      r.met u e.0 e.1 (event_in_cut_is_counted f run list qs next u e.0 i there (none u there) e.2 l) e.3 w j b says (subst (IsNeededBy b) (x.is ∙ sym e.4) n);
   above = r.above;
   reaches = r.reaches;
   least = r.least;
@@ -185,25 +185,25 @@ rising_over f h run is list ps qs next t k r none = record {
 
 -- ---- downwards
 
-pub outside_less : (f : FittedTrace) (run : List Step) (P : Label → Type 0) (c d : Cut) → ((u : ℕ) → d u ≤ c u) → AreOutside f run P c
+pub outside_smaller_cut : (f : FittedTrace) (run : List Step) (P : Label → Type 0) (c d : Cut) → ((u : ℕ) → d u ≤ c u) → AreOutside f run P c
     → AreOutside f run P d
-outside_less f run P c d down h t i k emits is = let l = h t i k emits is in let m = down t in omega (arith, l, m)
+outside_smaller_cut f run P c d down h t i k emits is = let l = h t i k emits is in let m = down t in omega (arith, l, m)
 
 -- what needs a leave that isn't in a consistent cut is outside
-pub step_unmet : (f : FittedTrace) (run : List Step) (c : Cut) → Consistent (machine_of f) (start_of f) run c → (t i : ℕ) (b : Label)
-    → Emits (machine_of f) (start_of f) run t i b → c t ≤ i → AreOutside f run (λ a. Needs b a) c
-step_unmet f run c con t i b emits l u j a at n = elim (cases_lt j (c u)) [
+pub needing_steps_outside_consistent_cut : (f : FittedTrace) (run : List Step) (c : Cut) → Consistent (machine_of f) (start_of f) run c → (t i : ℕ) (b : Label)
+    → Emits (machine_of f) (start_of f) run t i b → c t ≤ i → AreOutside f run (λ a. IsNeededBy b a) c
+needing_steps_outside_consistent_cut f run c con t i b emits l u j a at n = elim (cases_lt j (c u)) [
   | inr past ↦ past
   | inl less ↦ let inside = con u j t i a b at emits n less in absurd (omega (arith, inside, l))
 ]
 
-pub falling_start : (f : FittedTrace) (run : List Step) → Listed f run → (ps qs next : List ℕ) (t k : ℕ)
+pub falling_at_start : (f : FittedTrace) (run : List Step) → IsListed f run → (ps qs next : List ℕ) (t k : ℕ)
     → Consistent (machine_of f) (start_of f) run (cut_of ps) → t < length f.guest.entries
     → cut_of qs t ≡ min (cut_of ps t) k → ((u : ℕ) → u ≢ t → cut_of qs u ≡ cut_of ps u)
     → ((u : ℕ) → u < length f.guest.entries → AreRest f ps u (cut_of next u))
     → ((u e : ℕ) (l : Leave) → slice_get (placed_at f.placed u).leaves e ≡ Some l → u < length f.guest.entries)
     → Falling f ps t k qs next run
-falling_start f run list ps qs next t k con there own rest each known =
+falling_at_start f run list ps qs next t k con there own rest each known =
     let down : (u : ℕ) → cut_of qs u ≤ cut_of ps u =
     λ u. elim (cases_eq u t) [
       | inl same ↦ subst (λ z. cut_of qs z ≤ cut_of ps z) (sym same) (omega (arith, own))
@@ -219,53 +219,53 @@ falling_start f run list ps qs next t k con there own rest each known =
       ];
       unmet = λ u e l past at.
           let less : u < length f.guest.entries = known u e l at in
-          outside_less f run (Needing l) (cut_of ps) (cut_of qs) down
-          (step_unmet f run (cut_of ps) con u l.position (Out l.object l.access l.version) (list.left u e l less at)
+          outside_smaller_cut f run (Needing l) (cut_of ps) (cut_of qs) down
+          (needing_steps_outside_consistent_cut f run (cut_of ps) con u l.position (Out l.object l.access l.version) (list.left u e l less at)
           ((each u less).outside e l past at));
     }
 
-pub falling_more : (f : FittedTrace) (run : List Step) → Listed f run → (ps qs qs' next next' : List ℕ) (t k u : ℕ) (x : Leave) (last : ℕ)
+pub falling_step : (f : FittedTrace) (run : List Step) → IsListed f run → (ps qs qs' next next' : List ℕ) (t k u : ℕ) (x : Leave) (last : ℕ)
     → Falling f ps t k qs next run → u < length f.guest.entries → cut_of next u ≡ last + 1
     → slice_get (placed_at f.placed u).leaves last ≡ Some x → cut_of qs u ≤ x.position → LoweredFor f run (Needing x) qs qs'
     → cut_of next' u ≡ last → ((w : ℕ) → w ≢ u → cut_of next' w ≡ cut_of next w)
     → Falling f ps t k qs' next' run
-falling_more f run list ps qs qs' next next' t k u x last r there was at far lowered own rest = record {
+falling_step f run list ps qs qs' next next' t k u x last r there was at far lowered own rest = record {
   below = λ w. let a = r.below w in let b = lowered.below w in omega (arith, a, b);
   reaches = let a = r.reaches in let b = lowered.below t in omega (arith, a, b);
   greatest = λ c cut con under reach.
       let high = r.greatest c cut con under reach in
-      lowered.greatest c high (step_unmet f run c con u x.position (Out x.object x.access x.version) (list.left u last x there at)
+      lowered.greatest c high (needing_steps_outside_consistent_cut f run c con u x.position (Out x.object x.access x.version) (list.left u last x there at)
       (let a = high u in omega (arith, a, far)));
   unmet = λ w e l past says. elim (cases_eq w u) [
-    | inr ne ↦ outside_less f run (Needing l) (cut_of qs) (cut_of qs') lowered.below (r.unmet w e l (omega (arith, past, rest w ne)) says)
+    | inr ne ↦ outside_smaller_cut f run (Needing l) (cut_of qs) (cut_of qs') lowered.below (r.unmet w e l (omega (arith, past, rest w ne)) says)
     | inl same ↦
         let past' : last ≤ e = subst (λ z. z ≤ e) (ap (cut_of next') same ∙ own) past in
         let says' : slice_get (placed_at f.placed u).leaves e ≡ Some l =
         subst (λ z. slice_get (placed_at f.placed z).leaves e ≡ Some l) same says in
         elim (cases_lt last e) [
-          | inl behind ↦ outside_less f run (Needing l) (cut_of qs) (cut_of qs') lowered.below
-              (r.unmet u e l (omega (arith, was, behind)) says')
+          | inl event_in_cut_is_counted ↦ outside_smaller_cut f run (Needing l) (cut_of qs) (cut_of qs') lowered.below
+              (r.unmet u e l (omega (arith, was, event_in_cut_is_counted)) says')
           | inr equal ↦ subst (λ z. AreOutside f run (Needing z) (cut_of qs'))
-              (same_element (placed_at f.placed u).leaves last e x l (let d : last ≡ e = omega (arith, equal, past') in d) at says')
+              (elements_at_equal_places_equal (placed_at f.placed u).leaves last e x l (let d : last ≡ e = omega (arith, equal, past') in d) at says')
               lowered.outside
         ]
   ];
 }
 
-pub falling_over : (f : FittedTrace) → HasRun f → (run : List Step) → IsRunOf f.guest f.recorded run → Listed f run
+pub falling_end_is_greatest : (f : FittedTrace) → HasRun f → (run : List Step) → IsRunOf f.guest f.recorded run → IsListed f run
     → (ps qs next : List ℕ) (t k : ℕ) → IsCut (machine_of f) (start_of f) run (cut_of ps) → Falling f ps t k qs next run
     → ((u : ℕ) → u < length f.guest.entries → NoneAbove f qs next u)
     → IsGreatest (machine_of f) (start_of f) run (cut_of ps) t k (cut_of qs)
-falling_over f h run is list ps qs next t k cut r none = record {
+falling_end_is_greatest f h run is list ps qs next t k cut r none = record {
   cut = λ u. let a = r.below u in let b = cut u in omega (arith, a, b);
   consistent = λ u i w j a b at says n l.
-      let there : w < length f.guest.entries = teller f h run is w j b says in
-      let x = left b a n in
+      let there : w < length f.guest.entries = emitting_thread_exists f h run is w j b says in
+      let x = needed_label_is_leave b a n in
       let e = list.leave w j x.object x.access x.version (subst (Emits (machine_of f) (start_of f) run w j) x.is says) in
       elim (cases_lt e.0 (cut_of next w)) [
         | inl first ↦ none w there e.0 (record { position = j; object = x.object; access = x.access; version = x.version }) first e.1
         | inr past ↦ let out = r.unmet w e.0 (record { position = j; object = x.object; access = x.access; version = x.version }) past e.1 u
-            i a at (subst (λ z. Needs z a) x.is n) in absurd (omega (arith, out, l))
+            i a at (subst (λ z. IsNeededBy z a) x.is n) in absurd (omega (arith, out, l))
       ];
   below = r.below;
   reaches = r.reaches;

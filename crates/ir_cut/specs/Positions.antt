@@ -9,11 +9,11 @@ use Rattle.ir_runs.specs.Cuts.{Cut, IsCut, Consistent, IsLeast, IsGreatest}
 use Rattle.ir_fit.specs.Fit.{FittedTrace, IsRunOf}
 
 -- what the guest's threads do
-abbrev pub machine_of : FittedTrace → Machine thread.State
+abbrev pub machine_of : FittedTrace → Machine thread.ThreadState
 machine_of f = machine (start_flat f.guest f.recorded.budget f.recorded.profile)
 
 -- where its runs start
-abbrev pub start_of : FittedTrace → State thread.State
+abbrev pub start_of : FittedTrace → State thread.ThreadState
 start_of f = tables (start_flat f.guest f.recorded.budget f.recorded.profile)
 
 -- a fact of each complete run of the guest that has the trace

@@ -7,7 +7,7 @@ use Rattle.ir_log.specs.Logging.{label_of}
 use Rattle.ir_log.specs.declared.event.Event.{Event}
 use Rattle.ir_trace.specs.Recorded.{recorded_thread}
 use Rattle.ir_runs.specs.Coherent.{sum_below}
-use Rattle.ir_runs.specs.Cuts.{Emits, Needs, Cut, IsCut, Consistent}
+use Rattle.ir_runs.specs.Cuts.{Emits, IsNeededBy, Cut, IsCut, Consistent}
 use Rattle.ir_fit.specs.Fit.{FittedTrace}
 use Rattle.ir_fit.specs.Places.{placed_at}
 use Rattle.ir_fit.specs.declared.leave.Leave.{Leave}
@@ -37,11 +37,11 @@ pub record LoweredFor (f : FittedTrace) (run : List Step) (P : Label → Type 0)
 
 -- what an entry that emits k needs
 abbrev pub NeededBy : Label → Label → Type 0
-NeededBy k emitted = Needs emitted k
+NeededBy k emitted = IsNeededBy emitted k
 
 -- what needs a leave
 abbrev pub Needing : Leave → Label → Type 0
-Needing l emitted = Needs (Out l.object l.access l.version) emitted
+Needing l emitted = IsNeededBy (Out l.object l.access l.version) emitted
 
 -- an entry of object o at version v
 abbrev pub IsEntryAt : ℕ → ℕ → Label → Type 0

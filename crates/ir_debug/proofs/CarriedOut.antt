@@ -1,6 +1,6 @@
 -- What the debugger carries out is what the small machine may answer.
 use Rattle.std.proofs.Common.{◌≡◌, ℕ, ◌<◌, arith, Bool, true, false, List, length, sym, ap, subst, ◌∙◌, refl, inl, None, Some}
-use Rattle.std.specs.Prelude.{not, nat_lt, codes, ◌+◌, ◌++◌, Option, if◌then◌else◌}
+use Rattle.std.specs.Prelude.{not, nat_lt, codes, ◌+◌, Option, if◌then◌else◌}
 use Rattle.std.proofs.lemmas.List.{get_or_default}
 use Rattle.std.proofs.lemmas.Bool.{ltb-true}
 use Rattle.std.specs.List.{slice_index_or}
@@ -18,140 +18,114 @@ use Rattle.ir_command.specs.declared.refusal.Refusal.{Refusal}
 use Rattle.ir_command.specs.declared.refusal.Refusal.TheVariants.{NoSuchThread}
 use Rattle.ir_debug.specs.declared.answer.Answer.{Answer}
 use Rattle.ir_debug.specs.declared.answer.Answer.TheVariants as answer
-use Rattle.ir_command.specs.declared.command.Keeping.TheVariants.{Keep, Load, Drop, Kept}
 use Rattle.ir_timeline.specs.Positions.{threads_of}
-use Rattle.ir_debug.specs.Machine.Desk.{Desk, moved, spoken, with_point, without_point, kept_cut, with_kept, without_kept}
-use Rattle.ir_command.specs.declared.command.Direction.{Direction}
+use Rattle.ir_debug.specs.Machine.Desk.{Desk, moved_to, spoken, with_point, without_point}
 use Rattle.ir_command.specs.declared.command.Point.{Point}
-use Rattle.ir_command.specs.declared.hit.Hit.{Hit}
-use Rattle.ir_debug.specs.Machine.Moves.{Continues}
-use Rattle.ir_debug.specs.Machine.Refusals.{if_some, thread_moved, refusal_of, is_at_hand}
+use Rattle.ir_debug.specs.Machine.Refusals.{if_some, thread_named, refusal_of, is_at_hand}
 use Rattle.ir_debug.specs.Machine.Shown.{shown}
-use Rattle.ir_text.specs.Texts.{number_line, positions_text, next_text}
-use Rattle.ir_debug.specs.Machine.Answers.{kept_text, Answers, AnswersBy, continued_text}
+use Rattle.ir_text.specs.Texts.{number_line, next_text}
+use Rattle.ir_debug.specs.Machine.Answers.{Answers, AnswersBy}
 use Rattle.ir_debug.specs.Debugging.{Debugging, IsThere, answer_text}
 
 -- the machine at d may give this answer and be at next then, and the command isn't refused otherwise
-abbrev AnswersSo : Desk → Command → Answer → Desk → Type 0
-AnswersSo d c a next = EachRun d.fitted (λ run. AnswersBy None run d c (answer_text run next a) next)
+abbrev AnswersInEachRun : Desk → Command → Answer → Desk → Type 0
+AnswersInEachRun d c a next = EachRun d.fitted (λ run. AnswersBy None run d c (answer_text run next a) next)
 
 -- ---- what a command names is there
 
-passed : {A : Type 0} (b : Bool) (r : A) (rest : Option A) → (if not b then Some r else rest) ≡ None → b ≡ true
-passed true r rest e = refl
-passed false r rest e = absurd (cc e)
+test_true_if_not_refused : {A : Type 0} (b : Bool) (r : A) (rest : Option A) → (if not b then Some r else rest) ≡ None → b ≡ true
+test_true_if_not_refused true r rest e = refl
+test_true_if_not_refused false r rest e = absurd (cc e)
 
 -- a move that isn't refused names a thread that there is, if any
-pub mover_there : (d : Desk) (m : Move) → refusal_of d (command.Move m) ≡ None
-    → if_some (thread_moved m) (λ t. nat_lt t (threads_of d.fitted)) ≡ true
+pub thread_of_permitted_move_exists : (d : Desk) (m : Move) → refusal_of d (command.Move m) ≡ None
+    → if_some (thread_named (command.Move m)) (λ t. nat_lt t (threads_of d.fitted)) ≡ true
 unfolding refusal_of
-mover_there d m none = passed (if_some (thread_moved m) (λ t. nat_lt t (threads_of d.fitted))) NoSuchThread _ none
+thread_of_permitted_move_exists d m none = test_true_if_not_refused (if_some (thread_named (command.Move m)) (λ t. nat_lt t (threads_of d.fitted))) NoSuchThread _ none
 
 -- a show of a thread that isn't refused names one that there is
-pub shown_there : (d : Desk) (s : Show) (t : ℕ) → s ≡ Next t → refusal_of d (command.Show s) ≡ None → t < threads_of d.fitted
+pub thread_of_permitted_show_exists : (d : Desk) (s : Show) (t : ℕ) → s ≡ Next t → refusal_of d (command.Show s) ≡ None → t < threads_of d.fitted
 unfolding refusal_of
-shown_there d s t is none = ltb-true t (threads_of d.fitted)
-    (passed (nat_lt t (threads_of d.fitted)) NoSuchThread _ (ap (λ z. refusal_of d (command.Show z)) (sym is) ∙ none))
+thread_of_permitted_show_exists d s t is none = ltb-true t (threads_of d.fitted)
+    (test_true_if_not_refused (nat_lt t (threads_of d.fitted)) NoSuchThread _ (ap (λ z. refusal_of d (command.Show z)) (sym is) ∙ none))
 
 -- ---- shows
 
-pub at_hand : (s : Show) → ((t : ℕ) → s ≡ Next t → ⊥) → is_at_hand s ≡ true
-at_hand (Registers t) other = refl
-at_hand (Memory t address size) other = refl
-at_hand (Object o) other = refl
-at_hand (Output t) other = refl
-at_hand (Log t) other = refl
-at_hand (Next t) other = absurd (other t refl)
+pub show_at_hand_unless_next : (s : Show) → ((t : ℕ) → s ≡ Next t → ⊥) → is_at_hand s ≡ true
+show_at_hand_unless_next (Registers t) other = refl
+show_at_hand_unless_next (Memory t address size) other = refl
+show_at_hand_unless_next (Object o) other = refl
+show_at_hand_unless_next (Output t) other = refl
+show_at_hand_unless_next (Log t) other = refl
+show_at_hand_unless_next (Next t) other = absurd (other t refl)
 
 -- what is shown doesn't depend on the last answer
-shown_spoken : (steps : List run.Step) (d : Desk) (s : Show) → shown steps (spoken d) s ≡ shown steps d s
+shown_after_spoken_same : (steps : List run.Step) (d : Desk) (s : Show) → shown steps (spoken d) s ≡ shown steps d s
 unfolding shown
-shown_spoken steps d (Registers t) = refl
-shown_spoken steps d (Memory t address size) = refl
-shown_spoken steps d (Object o) = refl
-shown_spoken steps d (Output t) = refl
-shown_spoken steps d (Log t) = refl
-shown_spoken steps d (Next t) = refl
+shown_after_spoken_same steps d (Registers t) = refl
+shown_after_spoken_same steps d (Memory t address size) = refl
+shown_after_spoken_same steps d (Object o) = refl
+shown_after_spoken_same steps d (Output t) = refl
+shown_after_spoken_same steps d (Log t) = refl
+shown_after_spoken_same steps d (Next t) = refl
 
-pub show_made : (d next : Desk) (s : Show) → next ≡ spoken d → AnswersSo d (command.Show s) (answer.Shown s) next
-show_made d next s is run whole = inl (ap (λ z. shown run z s) is ∙ shown_spoken run d s, is)
+pub show_answers_command : (d next : Desk) (s : Show) → next ≡ spoken d → AnswersInEachRun d (command.Show s) (answer.Shown s) next
+show_answers_command d next s is run whole = inl (ap (λ z. shown run z s) is ∙ shown_after_spoken_same run d s, is)
 
 -- the line of the thread at hand is that of the thread of each run
-pub next_shown : (d : Desk) (s : Standing) (t : ℕ) (x : thread.State) (line : List ℕ) → StandsAt d.fitted (cut_of d.at) s
+pub next_line_shown_in_standing : (d : Desk) (s : Standing) (t : ℕ) (x : thread.ThreadState) (line : List ℕ) → StandsAt d.fitted (cut_of d.at) s
     → x ≡ slice_index_or s.threads t idle → line ≡ next_text d.fitted.guest.code x
     → EachRun d.fitted (λ run. line ≡ shown run d (Next t))
 unfolding shown
-next_shown d s t x line there is text run whole =
+next_line_shown_in_standing d s t x line there is text run whole =
     text ∙ ap (λ z. next_text d.fitted.guest.code z) (is ∙ (there.at.each run whole).threads t)
 
-pub next_answered : (d : Desk) (e : Debugging) (threads : List thread.State) (code : List ℕ) (t : ℕ) (x : thread.State) (line : List ℕ)
+pub next_line_shown_by_debugger : (d : Desk) (e : Debugging) (threads : List thread.ThreadState) (code : List ℕ) (t : ℕ) (x : thread.ThreadState) (line : List ℕ)
     → e.desk ≡ spoken d → IsThere e → threads ≡ e.state.threads → code ≡ e.desk.fitted.guest.code → t < threads_of d.fitted
     → x ≡ slice_index_or threads t x → line ≡ next_text code x → EachRun d.fitted (λ run. line ≡ shown run d (Next t))
-next_answered d e threads code t x line is there all same l read text =
+next_line_shown_by_debugger d e threads code t x line is there all same l read text =
     let stands : StandsAt d.fitted (cut_of d.at) e.state = subst (λ (z : Desk). StandsAt z.fitted (cut_of z.at) e.state) is there in
     let count = stands.at.threads in
     let long = ap (λ z. length z) all in
-    next_shown d e.state t x line stands
+    next_line_shown_in_standing d e.state t x line stands
     (read ∙ get_or_default threads t x idle (omega (arith, l, count, long)) ∙ ap (λ z. slice_index_or z t idle) all)
     (text ∙ ap (λ z. next_text z x) (same ∙ ap (λ (z : Desk). z.fitted.guest.code) is))
 
 -- ---- all commands
 
 -- what is refused depends on the guest alone
-pub refusal_moved : (d next : Desk) (cut : List ℕ) (c : Command) → next ≡ moved d cut → refusal_of next c ≡ refusal_of d c
+pub refusal_after_move_same : (d next : Desk) (cut : List ℕ) (c : Command) → next ≡ moved_to d cut → refusal_of next c ≡ refusal_of d c
 unfolding refusal_of
-refusal_moved d next cut c is = ap (λ z. refusal_of z c) is
+refusal_after_move_same d next cut c is = ap (λ z. refusal_of z c) is
 
-pub refusal_spoken : (d next : Desk) (c : Command) → next ≡ spoken d → refusal_of next c ≡ refusal_of d c
+pub refusal_after_spoken_same : (d next : Desk) (c : Command) → next ≡ spoken d → refusal_of next c ≡ refusal_of d c
 unfolding refusal_of
-refusal_spoken d next c is = ap (λ z. refusal_of z c) is
+refusal_after_spoken_same d next c is = ap (λ z. refusal_of z c) is
 
-pub refused : (d next : Desk) (c : Command) (r : Refusal) (a : Answer) → refusal_of d c ≡ Some r → next ≡ spoken d
+pub refused_command_answers_refusal : (d next : Desk) (c : Command) (r : Refusal) (a : Answer) → refusal_of d c ≡ Some r → next ≡ spoken d
     → a ≡ answer.Refused r → EachRun d.fitted (λ run. Answers run d c (answer_text run next a) next)
 unfolding Answers
-refused d next c r a why is says run whole =
+refused_command_answers_refusal d next c r a why is says run whole =
     subst (λ o. AnswersBy o run d c (answer_text run next a) next) (sym why) (ap (λ z. answer_text run next z) says, is)
 
-pub answered : (d next : Desk) (c asked : Command) (a : Answer) → c ≡ asked → refusal_of d c ≡ None → AnswersSo d asked a next
+pub carried_command_answers : (d next : Desk) (c asked : Command) (a : Answer) → c ≡ asked → refusal_of d c ≡ None → AnswersInEachRun d asked a next
     → EachRun d.fitted (λ run. Answers run d c (answer_text run next a) next)
 unfolding Answers
-answered d next c asked a same none so run whole =
+carried_command_answers d next c asked a same none so run whole =
     subst (λ o. AnswersBy o run d c (answer_text run next a) next) (sym none)
     (subst (λ z. AnswersBy None run d z (answer_text run next a) next) (sym same) (so run whole))
 
-pub position_answered : (d next : Desk) → next ≡ spoken d → AnswersSo d command.Position answer.Position next
-position_answered d next is run whole = inl (ap (λ z. answer_text run z answer.Position) is, is)
+pub position_answers_command : (d next : Desk) → next ≡ spoken d → AnswersInEachRun d command.Position answer.Position next
+position_answers_command d next is run whole = inl (ap (λ z. answer_text run z answer.Position) is, is)
 
-pub quit_answered : (d next : Desk) → next ≡ spoken d → AnswersSo d command.Quit answer.Bye next
-quit_answered d next is run whole = inl (refl, is)
+pub quit_answers_command : (d next : Desk) → next ≡ spoken d → AnswersInEachRun d command.Quit answer.Bye next
+quit_answers_command d next is run whole = inl (refl, is)
 
 -- ---- points
 
-pub continue_answered : (d next : Desk) (t : ℕ) (direction : Direction) (hit : Option Hit) (to : List ℕ)
-    → EachRun d.fitted (λ run. Continues run d t direction hit to) → next ≡ moved d to
-    → AnswersSo d (command.Continue t direction) (answer.Continued t hit) next
-continue_answered d next t direction hit to goes is run whole =
-    inl (to, hit, goes run whole, (ap (λ (z : Desk). continued_text z.fitted t hit z.at) is, is))
+pub set_answers_command : (d next : Desk) (point : Point) (n : ℕ) → n ≡ d.last_point + 1 → next ≡ with_point d point
+    → AnswersInEachRun d (command.Set point) (answer.Set n) next
+set_answers_command d next point n number is run whole = inl (ap (number_line (codes "point ")) number, is)
 
-pub set_answered : (d next : Desk) (point : Point) (n : ℕ) → n ≡ d.last_point + 1 → next ≡ with_point d point
-    → AnswersSo d (command.Set point) (answer.Set n) next
-set_answered d next point n number is run whole = inl (ap (number_line (codes "point ")) number, is)
-
-pub clear_answered : (d next : Desk) (n : ℕ) → next ≡ without_point d n → AnswersSo d (command.Clear n) (answer.Cleared n) next
-clear_answered d next n is run whole = inl (refl, is)
-
--- ---- kept cuts
-
-pub kept_answered : (d next : Desk) (n : ℕ) → n ≡ d.last_kept + 1 → next ≡ with_kept d
-    → AnswersSo d (command.Keeping Keep) (answer.Kept n) next
-kept_answered d next n number is run whole = inl (ap (number_line (codes "kept ")) number, is)
-
-pub load_answered : (d next : Desk) (n : ℕ) (to : List ℕ) → kept_cut d.kept n ≡ Some to → next ≡ moved d to
-    → AnswersSo d (command.Keeping (Load n)) answer.Position next
-load_answered d next n to found is run whole = inl (to, found, (ap (λ z. positions_text z.at ++ codes "\n") is, is))
-
-pub drop_answered : (d next : Desk) (n : ℕ) → next ≡ without_kept d n → AnswersSo d (command.Keeping (Drop n)) (answer.Dropped n) next
-drop_answered d next n is run whole = inl (refl, is)
-
-pub list_answered : (d next : Desk) → next ≡ spoken d → AnswersSo d (command.Keeping Kept) answer.KeptCuts next
-list_answered d next is run whole = inl (ap (λ z. kept_text z.kept) is, is)
+pub clear_answers_command : (d next : Desk) (n : ℕ) → next ≡ without_point d n → AnswersInEachRun d (command.Clear n) (answer.Cleared n) next
+clear_answers_command d next n is run whole = inl (refl, is)

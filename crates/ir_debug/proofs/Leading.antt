@@ -1,5 +1,6 @@
 -- Where moves lead.
 use Rattle.std.proofs.Common.{◌≡◌, ℕ, ◌+◌, ◌-◌, ◌^◌, ◌<◌, ◌≤◌, min, arith, List, sym, ap, subst, ◌∙◌}
+use Rattle.std.specs.Prelude.{if◌then◌else◌}
 use Rattle.std.proofs.lemmas.Bool.{le-leb, lt-leb}
 use Rattle.ir_runs.specs.Cuts.{IsLeast, IsGreatest}
 use Rattle.ir_fit.specs.Fit.{FittedTrace}
@@ -9,77 +10,77 @@ use Rattle.ir_command.specs.declared.command.Direction.TheVariants.{Forwards, Ba
 use Rattle.ir_command.specs.declared.command.Move.{Move}
 use Rattle.ir_command.specs.declared.command.Move.TheVariants.{Step, Back}
 use Rattle.ir_timeline.specs.Positions.{last_of}
-use Rattle.ir_debug.specs.Machine.Moves.{Leads, ToLeast, ToGreatest, ToEither, ToPosition, StopsAt}
+use Rattle.ir_debug.specs.Machine.Moves.{Leads, ToLeast, ToGreatest, ToPosition, StopsAt}
 
-to_least : (f : FittedTrace) (at to : List ℕ) (t k j : ℕ) → IsLeastCut f at t k to → k ≡ j
+least_cut_leads_up : (f : FittedTrace) (at to : List ℕ) (t k j : ℕ) → IsLeastCut f at t k to → k ≡ j
     → EachRun f (λ run. ToLeast run f at t j to)
-to_least f at to t k j least same run whole = (
+least_cut_leads_up f at to t k j least same run whole = (
   least.0,
   subst (λ n. IsLeast (machine_of f) (start_of f) run (cut_of at) t n (cut_of to)) same (least.1 run whole),
 )
 
-to_greatest : (f : FittedTrace) (at to : List ℕ) (t k j : ℕ) → IsGreatestCut f at t k to → k ≡ j
+greatest_cut_leads_down : (f : FittedTrace) (at to : List ℕ) (t k j : ℕ) → IsGreatestCut f at t k to → k ≡ j
     → EachRun f (λ run. ToGreatest run f at t j to)
-to_greatest f at to t k j greatest same run whole = (
+greatest_cut_leads_down f at to t k j greatest same run whole = (
   greatest.0,
   subst (λ n. IsGreatest (machine_of f) (start_of f) run (cut_of at) t n (cut_of to)) same (greatest.1 run whole),
 )
 
 -- what the cut of a move is for each run
-abbrev pub LeadsSo : FittedTrace → List ℕ → Move → List ℕ → Type 0
-LeadsSo f at m to = EachRun f (λ run. Leads run f at m to)
+abbrev pub LeadsInEachRun : FittedTrace → List ℕ → Move → List ℕ → Type 0
+LeadsInEachRun f at m to = EachRun f (λ run. Leads run f at m to)
 
-abbrev pub ToPositionSo : FittedTrace → List ℕ → ℕ → ℕ → List ℕ → Type 0
-ToPositionSo f at t k to = EachRun f (λ run. ToPosition run f at t k to)
+abbrev pub ToPositionInEachRun : FittedTrace → List ℕ → ℕ → ℕ → List ℕ → Type 0
+ToPositionInEachRun f at t k to = EachRun f (λ run. ToPosition run f at t k to)
 
 -- to a position that isn't below the thread's
-pub up_to : (f : FittedTrace) (at to : List ℕ) (t k position last here : ℕ) → k ≡ min position last → last ≡ last_of f t
-    → here ≡ cut_of at t → here ≤ k → IsLeastCut f at t k to → ToPositionSo f at t (min position (last_of f t)) to
-up_to f at to t k position last here most is stands up least run whole =
+pub least_cut_leads_to_position : (f : FittedTrace) (at to : List ℕ) (t k position last here : ℕ) → k ≡ min position last → last ≡ last_of f t
+    → here ≡ cut_of at t → here ≤ k → IsLeastCut f at t k to → ToPositionInEachRun f at t (min position (last_of f t)) to
+least_cut_leads_to_position f at to t k position last here most is stands up least run whole =
     let wanted : k ≡ min position (last_of f t) = most ∙ ap (min position) is in
-    subst (λ b. ToEither b run f at t (min position (last_of f t)) to)
+    subst (λ b. StopsAt run f at t (if b then Forwards else Backwards) (min position (last_of f t)) to)
     (sym (le-leb (cut_of at t) (min position (last_of f t)) (omega (arith, wanted, stands, up))))
-    (to_least f at to t k (min position (last_of f t)) least wanted run whole)
+    (least_cut_leads_up f at to t k (min position (last_of f t)) least wanted run whole)
 
 -- to one that is
-pub down_to : (f : FittedTrace) (at to : List ℕ) (t k position last here : ℕ) → k ≡ min position last → last ≡ last_of f t
-    → here ≡ cut_of at t → k < here → IsGreatestCut f at t k to → ToPositionSo f at t (min position (last_of f t)) to
-down_to f at to t k position last here most is stands down greatest run whole =
+pub greatest_cut_leads_to_position : (f : FittedTrace) (at to : List ℕ) (t k position last here : ℕ) → k ≡ min position last → last ≡ last_of f t
+    → here ≡ cut_of at t → k < here → IsGreatestCut f at t k to → ToPositionInEachRun f at t (min position (last_of f t)) to
+greatest_cut_leads_to_position f at to t k position last here most is stands down greatest run whole =
     let wanted : k ≡ min position (last_of f t) = most ∙ ap (min position) is in
-    subst (λ b. ToEither b run f at t (min position (last_of f t)) to)
+    subst (λ b. StopsAt run f at t (if b then Forwards else Backwards) (min position (last_of f t)) to)
     (sym (lt-leb (cut_of at t) (min position (last_of f t)) (omega (arith, wanted, stands, down))))
-    (to_greatest f at to t k (min position (last_of f t)) greatest wanted run whole)
+    (greatest_cut_leads_down f at to t k (min position (last_of f t)) greatest wanted run whole)
 
 -- steps on, counted no further than a position can be
-pub steps_on : (f : FittedTrace) (at to : List ℕ) (m : Move) (t n k sum last here : ℕ) → m ≡ Step t n → here ≡ cut_of at t
-    → sum ≡ min (here + n) (2 ^ 64 - 1) → last < 2 ^ 64 → last ≡ last_of f t → k ≡ min sum last → IsLeastCut f at t k to → LeadsSo f at m to
-steps_on f at to m t n k sum last here asked stands added fits is most least =
+pub step_leads_to_least_cut : (f : FittedTrace) (at to : List ℕ) (m : Move) (t n k sum last here : ℕ) → m ≡ Step t n → here ≡ cut_of at t
+    → sum ≡ min (here + n) (2 ^ 64 - 1) → last < 2 ^ 64 → last ≡ last_of f t → k ≡ min sum last → IsLeastCut f at t k to → LeadsInEachRun f at m to
+step_leads_to_least_cut f at to m t n k sum last here asked stands added fits is most least =
     let short : k ≡ min (here + n) last = omega (arith, added, fits, most) in
-    subst (λ z. LeadsSo f at z to) (sym asked) (to_least f at to t k (min (cut_of at t + n) (last_of f t)) least
+    subst (λ z. LeadsInEachRun f at z to) (sym asked) (least_cut_leads_up f at to t k (min (cut_of at t + n) (last_of f t)) least
     (short ∙ ap (λ z. min (z + n) last) stands ∙ ap (min (cut_of at t + n)) is))
 
 -- steps back
-pub steps_back : (f : FittedTrace) (at to : List ℕ) (m : Move) (t n k here : ℕ) → m ≡ Back t n → here ≡ cut_of at t → k ≡ here - n
-    → IsGreatestCut f at t k to → LeadsSo f at m to
-steps_back f at to m t n k here asked stands less greatest =
-    subst (λ z. LeadsSo f at z to) (sym asked)
-    (to_greatest f at to t k (cut_of at t - n) greatest (less ∙ ap (λ z. z - n) stands))
+pub back_leads_to_greatest_cut : (f : FittedTrace) (at to : List ℕ) (m : Move) (t n k here : ℕ) → m ≡ Back t n → here ≡ cut_of at t → k ≡ here - n
+    → IsGreatestCut f at t k to → LeadsInEachRun f at m to
+back_leads_to_greatest_cut f at to m t n k here asked stands less greatest =
+    subst (λ z. LeadsInEachRun f at z to) (sym asked)
+    (greatest_cut_leads_down f at to t k (cut_of at t - n) greatest (less ∙ ap (λ z. z - n) stands))
 
 -- ---- to a hit
 
 -- the thread comes so to a position, whichever run it is
-abbrev pub StopsSo : FittedTrace → List ℕ → ℕ → Direction → ℕ → List ℕ → Type 0
-StopsSo f at t direction k to = EachRun f (λ run. StopsAt run f at t direction k to)
+abbrev pub StopsInEachRun : FittedTrace → List ℕ → ℕ → Direction → ℕ → List ℕ → Type 0
+StopsInEachRun f at t direction k to = EachRun f (λ run. StopsAt run f at t direction k to)
 
-pub stops_up : (f : FittedTrace) (at to : List ℕ) (t k : ℕ) (direction : Direction) → direction ≡ Forwards
-    → IsLeastCut f at t k to → StopsSo f at t direction k to
-stops_up f at to t k direction is least run whole = subst (λ z. StopsAt run f at t z k to) (sym is) (least.0, least.1 run whole)
+pub forward_stop_at_least_cut : (f : FittedTrace) (at to : List ℕ) (t k : ℕ) (direction : Direction) → direction ≡ Forwards
+    → IsLeastCut f at t k to → StopsInEachRun f at t direction k to
+forward_stop_at_least_cut f at to t k direction is least run whole = subst (λ z. StopsAt run f at t z k to) (sym is) (least.0, least.1 run whole)
 
-pub stops_down : (f : FittedTrace) (at to : List ℕ) (t k : ℕ) (direction : Direction) → direction ≡ Backwards
-    → IsGreatestCut f at t k to → StopsSo f at t direction k to
-stops_down f at to t k direction is greatest run whole = subst (λ z. StopsAt run f at t z k to) (sym is) (greatest.0, greatest.1 run whole)
+pub backward_stop_at_greatest_cut : (f : FittedTrace) (at to : List ℕ) (t k : ℕ) (direction : Direction) → direction ≡ Backwards
+    → IsGreatestCut f at t k to → StopsInEachRun f at t direction k to
+backward_stop_at_greatest_cut f at to t k direction is greatest run whole = subst (λ z. StopsAt run f at t z k to) (sym is) (greatest.0, greatest.1 run whole)
 
 -- which is that of a hit
-pub stops_there : (f : FittedTrace) (at to : List ℕ) (t k j : ℕ) (direction : Direction) → k ≡ j → StopsSo f at t direction k to
-    → StopsSo f at t direction j to
-stops_there f at to t k j direction same so = subst (λ n. StopsSo f at t direction n to) same so
+pub stop_at_equal_position : (f : FittedTrace) (at to : List ℕ) (t k j : ℕ) (direction : Direction) → k ≡ j → StopsInEachRun f at t direction k to
+    → StopsInEachRun f at t direction j to
+stop_at_equal_position f at to t k j direction same so = subst (λ n. StopsInEachRun f at t direction n to) same so

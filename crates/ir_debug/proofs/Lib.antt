@@ -1,8 +1,9 @@
 mod Openings
 mod Replying
-mod Machine
 mod Desks
 mod Leading
+mod LongLines
+mod Chosen
 mod KeptCuts
 mod SetPoints
 mod CarriedOut

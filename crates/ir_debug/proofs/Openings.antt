@@ -1,9 +1,9 @@
 -- From the answers to lines to the bytes of a session.
-use Rattle.std.proofs.Common.{◌≡◌, ℕ, List, [], ◌∷◌, ◌++◌, Option, Some, None, Result, Ok, Err, refl, sym, ap, subst, arith, inl, inr}
+use Rattle.std.proofs.Common.{◌≡◌, ℕ, List, [], ◌∷◌, ◌++◌, Option, Some, None, Result, Ok, Err, refl, sym, ap, subst, arith, inl, inr, append-nil}
 use Rattle.std.specs.Prelude.{IfSome}
 use Rattle.std.specs.Io.KnownBytes.{Appends, Consumes}
 use Rattle.std.proofs.KnownBytes.{Appends-trans}
-use Rattle.ir_stream.specs.Answers.{cut, lines_of, heard, Wrote, WroteInPart, through, AppendsPrefix, Reads}
+use Rattle.ir_stream.specs.Answers.{split_lines, lines_of, heard, LinesAnswered, Wrote, WroteInPart, through, AppendsPrefix, ReadsUpTo}
 use Rattle.ir_stream.specs.Endings.{IfEnded, LeadsTo}
 use Rattle.ir_stream.specs.declared.serving.Served.{Served}
 use Rattle.ir_stream.specs.declared.serving.Served.TheVariants as served
@@ -16,162 +16,169 @@ use Rattle.ir_debug.specs.Debugging.{Debugging}
 use Rattle.ir_debug.specs.Openings.{opening_of}
 use Rattle.ir_debug.specs.declared.opening.Opened.{Opened}
 use Rattle.ir_debug.specs.declared.opening.Opened.TheVariants as opened
-use Rattle.ir_debug.specs.Session.{Session, AnsweredInPart, SessionText, Writes, WritesInPart, IfServed, ended_by, ending_of}
+use Rattle.ir_debug.specs.Session.{Session, AnsweredInPart, SessionText, Transcript, WritesInPart, IfServed, ended_by, ending_of}
 use Rattle.ir_debug.specs.declared.ended.Ended.{Ended}
 use Rattle.ir_debug.specs.declared.ended.SessionErr.{SessionErr}
 use Rattle.ir_debug.specs.declared.ended.SessionErr.TheVariants as err
 
 -- ---- before a line is read
 
-nothing_read : (a : Option (List ℕ)) → Consumes a a []
-nothing_read None = tt
-nothing_read (Some xs) = refl
+empty_input_is_consumed : (a : Option (List ℕ)) → Consumes a a []
+empty_input_is_consumed None = tt
+empty_input_is_consumed (Some xs) = refl
 
-no_line : lines_of [] ≡ []
-unfolding cut
-no_line = refl
+lines_of_empty_input : lines_of [] ≡ []
+unfolding split_lines
+lines_of_empty_input = refl
 
-no_rest : (cut []).rest ≡ []
-unfolding cut
-no_rest = refl
+rest_of_empty_input : (split_lines []).rest ≡ []
+unfolding split_lines
+rest_of_empty_input = refl
 
-through-none : (lines : List (List ℕ)) → lines ≡ [] → through quits lines ≡ lines
+lines_through_empty : (lines : List (List ℕ)) → lines ≡ [] → through quits lines ≡ lines
 unfolding through
-through-none [] e = refl
-through-none (l ∷ ls) e = absurd cc
+lines_through_empty [] e = refl
+lines_through_empty (l ∷ ls) e = absurd cc
+
+no_answers : (o : Opening) → SessionText o [] (opening_text o) o
+unfolding LinesAnswered
+no_answers (ImageRefused e) = (refl, refl)
+no_answers (TraceRefused e) = (refl, refl)
+no_answers (Unfit v) = (refl, refl)
+no_answers (Ready d) = ([], d, (refl, refl), sym (append-nil (opening_text (Ready d))), refl)
 
 -- the writer failed in the opening lines
-pub none_read : (image trace : List ℕ) (o : Opening) (limit : ℕ) (a w0 w1 : Option (List ℕ)) → Opens image trace o
-    → AppendsPrefix w0 w1 (opening_text o) → Reads limit a a (AnsweredInPart image trace a w0 w1)
-none_read image trace o limit a w0 w1 opens prefix = record {
+pub answered_in_part_of_opening_prefix : (image trace : List ℕ) (o : Opening) (limit : ℕ) (a w0 w1 : Option (List ℕ)) → Opens image trace o
+    → AppendsPrefix w0 w1 (opening_text o) → ReadsUpTo limit a a (AnsweredInPart image trace a w0 w1)
+answered_in_part_of_opening_prefix image trace o limit a w0 w1 opens prefix = record {
   consumed = [];
-  taken = nothing_read a;
+  taken = empty_input_is_consumed a;
   within = omega arith;
   holds = record {
-    opening = o;
-    opens = opens;
-    goes = through-none (lines_of []) no_line;
-    ended = λ some. absurd (some no_rest);
-    wrote = inl (no_line, prefix);
+    goes = lines_through_empty (lines_of []) lines_of_empty_input;
+    ended = λ some. absurd (some rest_of_empty_input);
+    wrote = inl (
+      lines_of_empty_input,
+      record { opening = o; opens = opens; text = opening_text o; last = o; says = no_answers o; took = prefix },
+    );
   };
 }
 
 -- ---- where no machine is ready
 
--- nothing but the opening lines is written, whatever the lines
-abbrev pub IsRefusal : Opening → Type 0
-IsRefusal o = (lines : List (List ℕ)) → SessionText o lines (opening_text o)
+pub reads_empty_input : (limit : ℕ) (a : Option (List ℕ)) (P : List ℕ → Type 0) → P [] → ReadsUpTo limit a a P
+reads_empty_input limit a P p = record { consumed = []; taken = empty_input_is_consumed a; within = omega arith; holds = p }
 
-pub image_refusal : (e : _) → IsRefusal (ImageRefused e)
-image_refusal e = λ lines. refl
+pub whatever : (a : Option (List ℕ)) (P : List ℕ → Type 0) → ((input : List ℕ) → P input) → IfSome a P
+whatever None P p = tt
+whatever (Some xs) P p = p xs
 
-pub trace_refusal : (e : _) → IsRefusal (TraceRefused e)
-trace_refusal e = λ lines. refl
-
-pub unfit_refusal : (v : _) → IsRefusal (Unfit v)
-unfit_refusal v = λ lines. refl
-
-pub refused : (image trace : List ℕ) (o : Opening) (limit : ℕ) (result : Result Ended SessionErr) (w0 w1 : Option (List ℕ)) (input : List ℕ)
-    → Opens image trace o → IsRefusal o → result ≡ ending_of o limit input → Appends w0 w1 (opening_text o)
-    → Session image trace limit result w0 w1 input
-refused image trace o limit result w0 w1 input opens is ending grown = record {
-  opening = o;
-  opens = opens;
-  ending = ending;
-  wrote = record { text = opening_text o; session_text = is (through quits (heard limit input)); grown = grown };
+-- the opening lines are the text, whatever the lines
+pub session_of_refused_opening : (image trace : List ℕ) (o p : Opening) (limit : ℕ) (result : Result Ended SessionErr) (w0 w1 : Option (List ℕ)) → o ≡ p
+    → ((lines : List (List ℕ)) → SessionText p lines (opening_text p) p) → ((input : List ℕ) → result ≡ ending_of p limit input)
+    → Opens image trace o → Appends w0 w1 (opening_text o) → (input : List ℕ) → Session image trace limit result w0 w1 input
+session_of_refused_opening image trace o p limit result w0 w1 is says ending opens grown input = record {
+  transcript = record {
+    opening = p;
+    opens = subst (Opens image trace) is opens;
+    text = opening_text p;
+    last = p;
+    says = says (through quits (heard limit input));
+    took = subst (λ (x : Opening). Appends w0 w1 (opening_text x)) is grown;
+  };
+  ending = ending input;
 }
-
-pub reads_nothing : (limit : ℕ) (a : Option (List ℕ)) (P : List ℕ → Type 0) → P [] → Reads limit a a P
-reads_nothing limit a P p = record { consumed = []; taken = nothing_read a; within = omega arith; holds = p }
-
-pub if_some : (a : Option (List ℕ)) (P : List ℕ → Type 0) → ((input : List ℕ) → P input) → IfSome a P
-if_some None P p = tt
-if_some (Some xs) P p = p xs
 
 -- ---- after the opening lines
 
-pub Reads-map : (limit : ℕ) (a b : Option (List ℕ)) (P Q : List ℕ → Type 0) → ((consumed : List ℕ) → P consumed → Q consumed)
-    → Reads limit a b P → Reads limit a b Q
-Reads-map limit a b P Q go reads = record {
+pub reads_of_implied : (limit : ℕ) (a b : Option (List ℕ)) (P Q : List ℕ → Type 0) → ((consumed : List ℕ) → P consumed → Q consumed)
+    → ReadsUpTo limit a b P → ReadsUpTo limit a b Q
+reads_of_implied limit a b P Q go reads = record {
   consumed = reads.consumed;
   taken = reads.taken;
   within = reads.within;
   holds = go reads.consumed reads.holds;
 }
 
-IfSome-map : (a : Option (List ℕ)) (P Q : List ℕ → Type 0) → ((input : List ℕ) → P input → Q input) → IfSome a P → IfSome a Q
-IfSome-map None P Q go p = tt
-IfSome-map (Some xs) P Q go p = go xs p
+pub if_some_of_implied : (a : Option (List ℕ)) (P Q : List ℕ → Type 0) → ((input : List ℕ) → P input → Q input) → IfSome a P → IfSome a Q
+if_some_of_implied None P Q go p = tt
+if_some_of_implied (Some xs) P Q go p = go xs p
 
-IfServed-by : (r : Result Served Fault) (P Q : Type 0) → (P → Q) → IfEnded r P → IfServed (ended_by r) Q
-IfServed-by (Ok served.Quit) P Q go p = go p
-IfServed-by (Ok served.InputEnd) P Q go p = go p
-IfServed-by (Err fault.Read) P Q go p = tt
-IfServed-by (Err fault.Write) P Q go p = tt
-IfServed-by (Err fault.TooLong) P Q go p = go p
+pub if_served_by_implied_end : (r : Result Served Fault) (P Q : Type 0) → (P → Q) → IfEnded r P → IfServed (ended_by r) Q
+if_served_by_implied_end (Ok served.Quit) P Q go p = go p
+if_served_by_implied_end (Ok served.InputEnd) P Q go p = go p
+if_served_by_implied_end (Err fault.Read) P Q go p = tt
+if_served_by_implied_end (Err fault.Write) P Q go p = tt
+if_served_by_implied_end (Err fault.TooLong) P Q go p = go p
 
 -- what was opened, and its opening lines, where a debugger is ready
-pub opens_ready : (image trace : List ℕ) (o : Opened) (d : Debugging) → o ≡ opened.Ready d → Opens image trace (opening_of o)
+pub ready_debugger_opens : (image trace : List ℕ) (o : Opened) (d : Debugging) → o ≡ opened.Ready d → Opens image trace (opening_of o)
     → Opens image trace (Ready d.desk)
-opens_ready image trace o d is = subst (λ (x : Opened). Opens image trace (opening_of x)) is
+ready_debugger_opens image trace o d is = subst (λ (x : Opened). Opens image trace (opening_of x)) is
 
-pub begun_ready : (o : Opened) (d : Debugging) (w0 w1 : Option (List ℕ)) → o ≡ opened.Ready d
+pub opening_text_of_ready_debugger : (o : Opened) (d : Debugging) (w0 w1 : Option (List ℕ)) → o ≡ opened.Ready d
     → Appends w0 w1 (opening_text (opening_of o)) → Appends w0 w1 (opening_text (Ready d.desk))
-begun_ready o d w0 w1 is = subst (λ (x : Opened). Appends w0 w1 (opening_text (opening_of x))) is
+opening_text_of_ready_debugger o d w0 w1 is = subst (λ (x : Opened). Appends w0 w1 (opening_text (opening_of x))) is
 
 -- all answers after the opening lines
-pub writes : (d : Desk) (lines : List (List ℕ)) (w0 w1 w2 : Option (List ℕ)) → Appends w0 w1 (opening_text (Ready d))
-    → Wrote Replies d lines w1 w2 → Writes (Ready d) lines w0 w2
-writes d lines w0 w1 w2 begun wrote = record {
+abbrev pub answered : (image trace : List ℕ) (d : Desk) (lines : List (List ℕ)) (w0 w1 w2 : Option (List ℕ)) → Opens image trace (Ready d)
+    → Appends w0 w1 (opening_text (Ready d)) → Wrote Replies d lines w1 w2
+    → Transcript image trace lines (λ text last. Appends w0 w2 text)
+answered image trace d lines w0 w1 w2 opens begun wrote = record {
+  opening = Ready d;
+  opens = opens;
   text = opening_text (Ready d) ++ wrote.text;
-  session_text = (wrote.text, wrote.last, wrote.answered, refl);
-  grown = Appends-trans w0 w1 w2 (opening_text (Ready d)) wrote.text begun wrote.grown;
+  last = Ready wrote.last;
+  says = (wrote.text, wrote.last, wrote.answered, refl, refl);
+  took = Appends-trans w0 w1 w2 (opening_text (Ready d)) wrote.text begun wrote.grown;
 }
 
 -- a part of them
-pub writes_in_part : (d : Desk) (lines : List (List ℕ)) (w0 w1 w2 : Option (List ℕ)) → Appends w0 w1 (opening_text (Ready d))
-    → WroteInPart Replies d lines w1 w2 → WritesInPart (Ready d) lines w0 w2
-writes_in_part d lines w0 w1 w2 begun wrote = inr (record { desk = d; ready = refl; opened = w1; begun = begun; wrote = wrote })
+pub answered_in_part : (image trace : List ℕ) (d : Desk) (lines : List (List ℕ)) (w0 w1 w2 : Option (List ℕ)) → Opens image trace (Ready d)
+    → Appends w0 w1 (opening_text (Ready d)) → WroteInPart Replies d lines w1 w2 → WritesInPart image trace lines w0 w2
+answered_in_part image trace d lines w0 w1 w2 opens begun wrote =
+    let all = answered image trace d wrote.before w0 w1 wrote.between opens begun wrote.all in
+    inr (
+      wrote.before,
+      wrote.line,
+      wrote.are,
+      record {
+        opening = all.opening;
+        opens = all.opens;
+        text = all.text;
+        last = all.last;
+        says = all.says;
+        took = record { desk = wrote.all.last; ready = refl; between = wrote.between; all = all.took; part = wrote.part };
+      },
+    )
 
-session_of : (image trace : List ℕ) (d : Desk) (limit : ℕ) (r : Result Served Fault) (w0 w1 w2 : Option (List ℕ)) (input : List ℕ)
+session_of_served_lines : (image trace : List ℕ) (d : Desk) (limit : ℕ) (r : Result Served Fault) (w0 w1 w2 : Option (List ℕ)) (input : List ℕ)
     → Opens image trace (Ready d) → Appends w0 w1 (opening_text (Ready d)) → LeadsTo Replies quits d limit r w1 w2 input
     → Session image trace limit (ended_by r) w0 w2 input
-session_of image trace d limit r w0 w1 w2 input opens begun leads = record {
-  opening = Ready d;
-  opens = opens;
+session_of_served_lines image trace d limit r w0 w1 w2 input opens begun leads = record {
+  transcript = answered image trace d (through quits (heard limit input)) w0 w1 w2 opens begun leads.wrote;
   ending = ap ended_by leads.ending;
-  wrote = writes d (through quits (heard limit input)) w0 w1 w2 begun leads.wrote;
 }
 
-pub was_read : (r : Result Served Fault) → ended_by r ≡ Err err.Read → r ≡ Err fault.Read
-was_read (Ok served.Quit) e = absurd cc
-was_read (Ok served.InputEnd) e = absurd cc
-was_read (Err fault.Read) e = refl
-was_read (Err fault.Write) e = absurd cc
-was_read (Err fault.TooLong) e = absurd cc
+pub read_fault_if_ended_by_read : (r : Result Served Fault) → ended_by r ≡ Err err.Read → r ≡ Err fault.Read
+read_fault_if_ended_by_read (Ok served.Quit) e = absurd cc
+read_fault_if_ended_by_read (Ok served.InputEnd) e = absurd cc
+read_fault_if_ended_by_read (Err fault.Read) e = refl
+read_fault_if_ended_by_read (Err fault.Write) e = absurd cc
+read_fault_if_ended_by_read (Err fault.TooLong) e = absurd cc
 
-pub was_write : (r : Result Served Fault) → ended_by r ≡ Err err.Write → r ≡ Err fault.Write
-was_write (Ok served.Quit) e = absurd cc
-was_write (Ok served.InputEnd) e = absurd cc
-was_write (Err fault.Read) e = absurd cc
-was_write (Err fault.Write) e = refl
-was_write (Err fault.TooLong) e = absurd cc
+pub write_fault_if_ended_by_write : (r : Result Served Fault) → ended_by r ≡ Err err.Write → r ≡ Err fault.Write
+write_fault_if_ended_by_write (Ok served.Quit) e = absurd cc
+write_fault_if_ended_by_write (Ok served.InputEnd) e = absurd cc
+write_fault_if_ended_by_write (Err fault.Read) e = absurd cc
+write_fault_if_ended_by_write (Err fault.Write) e = refl
+write_fault_if_ended_by_write (Err fault.TooLong) e = absurd cc
 
--- what a session says of its whole input, from what was said of the lines
-pub served_known : (image trace : List ℕ) (d : Desk) (limit : ℕ) (result : Result Ended SessionErr) (r : Result Served Fault)
-    (a w0 w1 w2 : Option (List ℕ)) → result ≡ ended_by r → Opens image trace (Ready d) → Appends w0 w1 (opening_text (Ready d))
-    → IfEnded r (IfSome a (LeadsTo Replies quits d limit r w1 w2))
-    → IfServed result (IfSome a (Session image trace limit result w0 w2))
-served_known image trace d limit result r a w0 w1 w2 ended opens begun known =
-    let P : Result Ended SessionErr → Type 0 = λ x. IfServed x (IfSome a (Session image trace limit x w0 w2)) in
-    subst P (sym ended) (IfServed-by r _ _
-    (IfSome-map a _ _ (λ input leads. session_of image trace d limit r w0 w1 w2 input opens begun leads)) known)
-
-pub served_ended : (image trace : List ℕ) (d : Desk) (limit : ℕ) (result : Result Ended SessionErr) (r : Result Served Fault)
-    (a b w0 w1 w2 : Option (List ℕ)) → result ≡ ended_by r → Opens image trace (Ready d) → Appends w0 w1 (opening_text (Ready d))
-    → IfEnded r (Reads limit a b (LeadsTo Replies quits d limit r w1 w2))
-    → IfServed result (Reads limit a b (Session image trace limit result w0 w2))
-served_ended image trace d limit result r a b w0 w1 w2 ended opens begun known =
-    let P : Result Ended SessionErr → Type 0 = λ x. IfServed x (Reads limit a b (Session image trace limit x w0 w2)) in
-    subst P (sym ended) (IfServed-by r _ _ (Reads-map limit a b _ _
-    (λ input leads. session_of image trace d limit r w0 w1 w2 input opens begun leads)) known)
+-- what a session says of its input, from what was said of the lines, for F that says it of the bytes that were read or of all
+pub session_says : (F : (List ℕ → Type 0) → Type 0) → ((P Q : List ℕ → Type 0) → ((input : List ℕ) → P input → Q input) → F P → F Q)
+    → (image trace : List ℕ) (d : Desk) (limit : ℕ) (result : Result Ended SessionErr) (r : Result Served Fault) (w0 w1 w2 : Option (List ℕ))
+    → result ≡ ended_by r → Opens image trace (Ready d) → Appends w0 w1 (opening_text (Ready d))
+    → IfEnded r (F (LeadsTo Replies quits d limit r w1 w2)) → IfServed result (F (Session image trace limit result w0 w2))
+session_says F more image trace d limit result r w0 w1 w2 ended opens begun leads =
+    subst (λ (x : Result Ended SessionErr). IfServed x (F (Session image trace limit x w0 w2))) (sym ended)
+    (if_served_by_implied_end r _ _ (more _ _ (λ input leads. session_of_served_lines image trace d limit r w0 w1 w2 input opens begun leads)) leads)

@@ -12,39 +12,39 @@ use Rattle.ir_debug.specs.Machine.Answers.{RepliesBy, Replies}
 use Rattle.ir_debug.specs.Debugging.{Debugging, IsAnswer, IsText}
 
 -- the answer's text is one that the small machine may reply with
-replies : (asked : Result (Option Command) Refusal) (line : List ℕ) (old new : Debugging) (answer : Answer) (P : List ℕ → Type 0)
+answer_text_is_reply : (asked : Result (Option Command) Refusal) (line : List ℕ) (old new : Debugging) (answer : Answer) (P : List ℕ → Type 0)
     → asked ≡ command_of line → IsAnswer asked old new answer → (t : IsText new answer P) → Replies old.desk line t.0 new.desk
 unfolding Replies
-replies asked line old new answer P is a t = λ run of.
+answer_text_is_reply asked line old new answer P is a t = λ run of.
     let at : IsRunOf new.desk.fitted.guest new.desk.fitted.recorded run =
     subst (λ (f : FittedTrace). IsRunOf f.guest f.recorded run) (sym a.fitted) of in
     subst (λ (x : Result (Option Command) Refusal). RepliesBy x run old.desk t.0 new.desk) is
     (subst (λ (text : List ℕ). RepliesBy asked run old.desk text new.desk) (sym (t.1 run at)) (a.answers run of))
 
-pub replied : (asked : Result (Option Command) Refusal) (line : List ℕ) (old new : Debugging) (answer : Answer) (w w' : Option (List ℕ))
+pub appended_answer_is_reply : (asked : Result (Option Command) Refusal) (line : List ℕ) (old new : Debugging) (answer : Answer) (w w' : Option (List ℕ))
     → asked ≡ command_of line → IsAnswer asked old new answer → IsText new answer (Appends w w')
     → Replied Replies old.desk line new.desk w w'
-replied asked line old new answer w w' is a t = record {
+appended_answer_is_reply asked line old new answer w w' is a t = record {
   text = t.0;
-  is = replies asked line old new answer (Appends w w') is a t;
+  is = answer_text_is_reply asked line old new answer (Appends w w') is a t;
   grown = t.2;
 }
 
-pub replied_prefix : (asked : Result (Option Command) Refusal) (line : List ℕ) (old new : Debugging) (answer : Answer)
+pub appended_prefix_is_reply_prefix : (asked : Result (Option Command) Refusal) (line : List ℕ) (old new : Debugging) (answer : Answer)
     (w w' : Option (List ℕ)) → asked ≡ command_of line → IsAnswer asked old new answer → IsText new answer (AppendsPrefix w w')
     → RepliedPrefix Replies old.desk line w w'
-replied_prefix asked line old new answer w w' is a t = record {
+appended_prefix_is_reply_prefix asked line old new answer w w' is a t = record {
   text = t.0;
   next = new.desk;
-  is = replies asked line old new answer (AppendsPrefix w w') is a t;
+  is = answer_text_is_reply asked line old new answer (AppendsPrefix w w') is a t;
   grown = t.2;
 }
 
 -- a line without words has no answer
-pub replied_none : (asked : Result (Option Command) Refusal) (line : List ℕ) (old new : Debugging) (w : Option (List ℕ))
+pub empty_line_has_no_reply : (asked : Result (Option Command) Refusal) (line : List ℕ) (old new : Debugging) (w : Option (List ℕ))
     → asked ≡ command_of line → asked ≡ Ok None → new ≡ old → Replied Replies old.desk line new.desk w w
 unfolding Replies
-replied_none asked line old new w is none same = record {
+empty_line_has_no_reply asked line old new w is none same = record {
   text = [];
   is = λ run of. subst (λ (x : Result (Option Command) Refusal). RepliesBy x run old.desk [] new.desk) is
       (subst (λ (x : Result (Option Command) Refusal). RepliesBy x run old.desk [] new.desk) (sym none)

@@ -26,119 +26,64 @@ fitted_by form profile code objects steps = record {
   placed = [];
 }
 
-abbrev alone : ℕ → List Step
-alone n = replicate n (0, 0)
+abbrev steps_of_lone_thread : ℕ → List Step
+steps_of_lone_thread n = replicate n (0, 0)
 
-abbrev at_only : FittedTrace → ℕ → Desk
-at_only f k = record (desk_of f) { at = k ∷ [] }
+abbrev desk_of_lone_thread : FittedTrace → ℕ → Desk
+desk_of_lone_thread f k = record (desk_of f) { at = k ∷ [] }
 
-abbrev f_q : FittedTrace
-f_q = fitted_by Small One (0x04800513 ∷ 0x00200893 ∷ 0x73 ∷ 0x00a50533 ∷ 0x00100893 ∷ 0x73 ∷ []) 0 6
+abbrev trace_with_output : FittedTrace
+trace_with_output = fitted_by Small One (0x04800513 ∷ 0x00200893 ∷ 0x73 ∷ 0x00a50533 ∷ 0x00100893 ∷ 0x73 ∷ []) 0 6
 
 -- it enters object 0 for reading and leaves it, and then for writing
-abbrev f_r : FittedTrace
-f_r = fitted_by Small One (0x513 ∷ 0x00700893 ∷ 0x73 ∷ 0x00900893 ∷ 0x73 ∷ 0x00800893 ∷ 0x73 ∷ 0x00900893 ∷ 0x73 ∷ 0x00100893 ∷ 0x73 ∷ []) 8 11
+abbrev trace_with_read_and_write : FittedTrace
+trace_with_read_and_write = fitted_by Small One (0x513 ∷ 0x00700893 ∷ 0x73 ∷ 0x00900893 ∷ 0x73 ∷ 0x00800893 ∷ 0x73 ∷ 0x00900893 ∷ 0x73 ∷ 0x00100893 ∷ 0x73 ∷ []) 8 11
 
 -- it ends while it is inside for writing
-abbrev f_e : FittedTrace
-f_e = fitted_by Small One (0x513 ∷ 0x00800893 ∷ 0x73 ∷ 0x593 ∷ 0x00700613 ∷ 0x00b00893 ∷ 0x73 ∷ 0x00100073 ∷ []) 8 9
+abbrev trace_ending_inside : FittedTrace
+trace_ending_inside = fitted_by Small One (0x513 ∷ 0x00800893 ∷ 0x73 ∷ 0x593 ∷ 0x00700613 ∷ 0x00b00893 ∷ 0x73 ∷ 0x00100073 ∷ []) 8 9
 
 -- the same guest but that it writes the last of the words of an object of the large form
-abbrev f_v : FittedTrace
-f_v = fitted_by Large One (0x513 ∷ 0x00800893 ∷ 0x73 ∷ 0x00f00593 ∷ 0x00700613 ∷ 0x00b00893 ∷ 0x73 ∷ 0x00100073 ∷ []) 16 9
+abbrev trace_with_large_object : FittedTrace
+trace_with_large_object = fitted_by Large One (0x513 ∷ 0x00800893 ∷ 0x73 ∷ 0x00f00593 ∷ 0x00700613 ∷ 0x00b00893 ∷ 0x73 ∷ 0x00100073 ∷ []) 16 9
 
-registers_q : shown (alone 6) (at_only f_q 3) (Registers 0) ≡ codes
-    "pc 0001000c\nzero=00000000 ra=00000000 sp=00110000 gp=00000000\ntp=00000000 t0=00000000 t1=00000000 t2=00000000\ns0=00000000 s1=00000000 a0=00000048 a1=00000000\na2=00000000 a3=00000000 a4=00000000 a5=00000000\na6=00000000 a7=00000002 s2=00000000 s3=00000000\ns4=00000000 s5=00000000 s6=00000000 s7=00000000\ns8=00000000 s9=00000000 s10=00000000 s11=00000000\nt3=00000000 t4=00000000 t5=00000000 t6=00000000\n"
+calls : (shown (steps_of_lone_thread 6) (desk_of_lone_thread trace_with_output 3) (Registers 0) ≡ codes "pc 0001000c\nzero=00000000 ra=00000000 sp=00110000 gp=00000000\ntp=00000000 t0=00000000 t1=00000000 t2=00000000\ns0=00000000 s1=00000000 a0=00000048 a1=00000000\na2=00000000 a3=00000000 a4=00000000 a5=00000000\na6=00000000 a7=00000002 s2=00000000 s3=00000000\ns4=00000000 s5=00000000 s6=00000000 s7=00000000\ns8=00000000 s9=00000000 s10=00000000 s11=00000000\nt3=00000000 t4=00000000 t5=00000000 t6=00000000\n")
+    × (shown (steps_of_lone_thread 6) (desk_of_lone_thread trace_with_output 3) (Output 0) ≡ codes "out 1\n48\n")
+    × (shown (steps_of_lone_thread 6) (desk_of_lone_thread trace_with_output 3) (Memory 0 0x10000 4) ≡ codes "00010000: 13058004\n")
+    × (shown (steps_of_lone_thread 11) (desk_of_lone_thread trace_with_read_and_write 7) (Object 0) ≡ codes "version 0 left 1 readers - writer 0\nwords 00000000 00000000 00000000 00000000 00000000 00000000 00000000 00000000\n")
+    × (shown (steps_of_lone_thread 11) (desk_of_lone_thread trace_with_read_and_write 3) (Object 0) ≡ codes "version 0 left 0 readers 0 writer -\nwords 00000000 00000000 00000000 00000000 00000000 00000000 00000000 00000000\n")
+    × (shown (steps_of_lone_thread 11) (desk_of_lone_thread trace_with_read_and_write 7) (Log 0) ≡ codes "log 2 of 2\n0 read 0 version 0\n1 write 0 version 0 readers 1\n")
+    × (shown (steps_of_lone_thread 9) (desk_of_lone_thread trace_ending_inside 8) (Next 0) ≡ codes "next give back 0\n")
+    × (shown (steps_of_lone_thread 9) (desk_of_lone_thread trace_ending_inside 9) (Object 0) ≡ codes "version 1 left 0 readers - writer -\nwords 00000007 00000000 00000000 00000000 00000000 00000000 00000000 00000000\n")
+    × (shown (steps_of_lone_thread 9) (desk_of_lone_thread trace_with_large_object 9) (Object 0) ≡ codes "version 1 left 0 readers - writer -\nwords 00000000 00000000 00000000 00000000 00000000 00000000 00000000 00000000 00000000 00000000 00000000 00000000 00000000 00000000 00000000 00000007\n")
 unfolding shown upd after_reply after inside_for event_lines memory_lines output_lines bytes_from digits encode_with registers_text
     decoded.instruction_of
-registers_q = refl
-
-output_q : shown (alone 6) (at_only f_q 3) (Output 0) ≡ codes "out 1\n48\n"
-unfolding shown upd after_reply after inside_for event_lines memory_lines output_lines bytes_from digits encode_with registers_text
-    decoded.instruction_of
-output_q = refl
-
-memory_q : shown (alone 6) (at_only f_q 3) (Memory 0 0x10000 4) ≡ codes "00010000: 13058004\n"
-unfolding shown upd after_reply after inside_for event_lines memory_lines output_lines bytes_from digits encode_with registers_text
-    decoded.instruction_of
-memory_q = refl
-
-object_r_7 : shown (alone 11) (at_only f_r 7) (Object 0) ≡ codes
-    "version 0 left 1 readers - writer 0\nwords 00000000 00000000 00000000 00000000 00000000 00000000 00000000 00000000\n"
-unfolding shown upd after_reply after inside_for event_lines memory_lines output_lines bytes_from digits encode_with registers_text
-    decoded.instruction_of
-object_r_7 = refl
-
-object_r_3 : shown (alone 11) (at_only f_r 3) (Object 0) ≡ codes
-    "version 0 left 0 readers 0 writer -\nwords 00000000 00000000 00000000 00000000 00000000 00000000 00000000 00000000\n"
-unfolding shown upd after_reply after inside_for event_lines memory_lines output_lines bytes_from digits encode_with registers_text
-    decoded.instruction_of
-object_r_3 = refl
-
-log_r : shown (alone 11) (at_only f_r 7) (Log 0) ≡ codes "log 2 of 2\n0 read 0 version 0\n1 write 0 version 0 readers 1\n"
-unfolding shown upd after_reply after inside_for event_lines memory_lines output_lines bytes_from digits encode_with registers_text
-    decoded.instruction_of
-log_r = refl
-
-next_e : shown (alone 9) (at_only f_e 8) (Next 0) ≡ codes "next give back 0\n"
-unfolding shown upd after_reply after inside_for event_lines memory_lines output_lines bytes_from digits encode_with registers_text
-    decoded.instruction_of
-next_e = refl
-
-object_e : shown (alone 9) (at_only f_e 9) (Object 0) ≡ codes
-    "version 1 left 0 readers - writer -\nwords 00000007 00000000 00000000 00000000 00000000 00000000 00000000 00000000\n"
-unfolding shown upd after_reply after inside_for event_lines memory_lines output_lines bytes_from digits encode_with registers_text
-    decoded.instruction_of
-object_e = refl
-
-object_v : shown (alone 9) (at_only f_v 9) (Object 0) ≡ codes
-    "version 1 left 0 readers - writer -\nwords 00000000 00000000 00000000 00000000 00000000 00000000 00000000 00000000 00000000 00000000 00000000 00000000 00000000 00000000 00000000 00000007\n"
-unfolding shown upd after_reply after inside_for event_lines memory_lines output_lines bytes_from digits encode_with registers_text
-    decoded.instruction_of
-object_v = refl
+calls = (refl, refl, refl, refl, refl, refl, refl, refl, refl)
 
 -- it tries to enter object 0 for writing, and ends with the answer
-abbrev code_t : List ℕ
-code_t = 0x513 ∷ 0x00d00893 ∷ 0x73 ∷ 0x00100893 ∷ 0x73 ∷ []
+abbrev code_with_try : List ℕ
+code_with_try = 0x513 ∷ 0x00d00893 ∷ 0x73 ∷ 0x00100893 ∷ 0x73 ∷ []
 
-abbrev f_t : FittedTrace
-f_t = fitted_by Small Two code_t 8 5
+abbrev trace_with_refused_try : FittedTrace
+trace_with_refused_try = fitted_by Small Two code_with_try 8 5
 
-next_t : shown (alone 5) (at_only f_t 2) (Next 0) ≡ codes "next 00010008 ecall\n"
+refused_try : (shown (steps_of_lone_thread 5) (desk_of_lone_thread trace_with_refused_try 2) (Next 0) ≡ codes "next 00010008 ecall\n")
+    × (shown (steps_of_lone_thread 5) (desk_of_lone_thread trace_with_refused_try 5) (Log 0) ≡ codes "log 1 of 1\n0 try 0\n")
+    × (shown (steps_of_lone_thread 5) (desk_of_lone_thread trace_with_refused_try 3) (Object 0) ≡ codes "version 0 left 0 readers - writer -\nwords 00000000 00000000 00000000 00000000 00000000 00000000 00000000 00000000\n")
 unfolding shown upd after_reply after inside_for event_lines memory_lines output_lines bytes_from digits encode_with registers_text
     decoded.instruction_of
-next_t = refl
-
-log_t : shown (alone 5) (at_only f_t 5) (Log 0) ≡ codes "log 1 of 1\n0 try 0\n"
-unfolding shown upd after_reply after inside_for event_lines memory_lines output_lines bytes_from digits encode_with registers_text
-    decoded.instruction_of
-log_t = refl
-
-object_t : shown (alone 5) (at_only f_t 3) (Object 0) ≡ codes
-    "version 0 left 0 readers - writer -\nwords 00000000 00000000 00000000 00000000 00000000 00000000 00000000 00000000\n"
-unfolding shown upd after_reply after inside_for event_lines memory_lines output_lines bytes_from digits encode_with registers_text
-    decoded.instruction_of
-object_t = refl
+refused_try = (refl, refl, refl)
 
 -- the same where the try gets in, which is logged as an entry; the thread releases the object after its end
-abbrev f_w : FittedTrace
-f_w = fitted_by Small Two code_t 8 6
+abbrev trace_with_admitted_try : FittedTrace
+trace_with_admitted_try = fitted_by Small Two code_with_try 8 6
 
-abbrev run_w : List Step
-run_w = (0, 0) ∷ (0, 0) ∷ (0, 1) ∷ (0, 0) ∷ (0, 0) ∷ (0, 0) ∷ []
+abbrev run_with_admitted_try : List Step
+run_with_admitted_try = (0, 0) ∷ (0, 0) ∷ (0, 1) ∷ (0, 0) ∷ (0, 0) ∷ (0, 0) ∷ []
 
-log_w : shown run_w (at_only f_w 6) (Log 0) ≡ codes "log 1 of 1\n0 write 0 version 0 readers 0\n"
+entered_try : (shown run_with_admitted_try (desk_of_lone_thread trace_with_admitted_try 6) (Log 0) ≡ codes "log 1 of 1\n0 write 0 version 0 readers 0\n")
+    × (shown run_with_admitted_try (desk_of_lone_thread trace_with_admitted_try 3) (Object 0) ≡ codes "version 0 left 0 readers - writer 0\nwords 00000000 00000000 00000000 00000000 00000000 00000000 00000000 00000000\n")
+    × (shown run_with_admitted_try (desk_of_lone_thread trace_with_admitted_try 5) (Next 0) ≡ codes "next give back 0\n")
 unfolding shown upd after_reply after inside_for event_lines memory_lines output_lines bytes_from digits encode_with registers_text
     decoded.instruction_of
-log_w = refl
-
-object_w : shown run_w (at_only f_w 3) (Object 0) ≡ codes
-    "version 0 left 0 readers - writer 0\nwords 00000000 00000000 00000000 00000000 00000000 00000000 00000000 00000000\n"
-unfolding shown upd after_reply after inside_for event_lines memory_lines output_lines bytes_from digits encode_with registers_text
-    decoded.instruction_of
-object_w = refl
-
-next_w : shown run_w (at_only f_w 5) (Next 0) ≡ codes "next give back 0\n"
-unfolding shown upd after_reply after inside_for event_lines memory_lines output_lines bytes_from digits encode_with registers_text
-    decoded.instruction_of
-next_w = refl
+entered_try = (refl, refl, refl)

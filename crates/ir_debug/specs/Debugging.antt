@@ -1,20 +1,37 @@
 -- The debugger between two commands, and the texts of its answers.
-use Rattle.std.specs.Prelude.{◌≡◌, ◌<◌, ℕ, ⊤, true, List, ◌++◌, codes, Option, None, Result}
+use Rattle.std.specs.Prelude.{◌≡◌, ◌≤◌, ◌<◌, ◌+◌, ℕ, ⊤, true, List, ◌++◌, length, codes, Option, None, Result}
+use Rattle.std.specs.List.{AllByRecursion}
 use Rattle.ir_runs.specs.Run.{Step}
-use Rattle.ir_cut.specs.Positions.{EachRun, cut_of}
+use Rattle.ir_fit.specs.Fit.{FittedTrace, HasRun}
+use Rattle.ir_cut.specs.Positions.{EachRun, IsConsistentCut, cut_of}
+use Rattle.ir_hits.specs.Hits.{AreWatchable}
 use Rattle.ir_weave.specs.Standing.{Standing, StandsAt}
-use Rattle.ir_timeline.specs.Positions.{threads_of}
+use Rattle.ir_timeline.specs.Positions.{threads_of, IsCutOf}
 use Rattle.ir_command.specs.declared.command.Command.{Command}
 use Rattle.ir_command.specs.declared.command.Command.TheVariants as command
+use Rattle.ir_command.specs.declared.command.Show.{Show}
 use Rattle.ir_command.specs.declared.refusal.Refusal.{Refusal}
 use Rattle.ir_debug.specs.declared.answer.Answer.{Answer}
 use Rattle.ir_debug.specs.declared.answer.Answer.TheVariants.{Moved, Continued, Position, Shown, Next, Set, Cleared, Kept, Dropped, KeptCuts, Refused, Bye}
 use Rattle.ir_text.specs.Texts.{refusal_text, number_line, positions_text}
-use Rattle.ir_debug.specs.Machine.Desk.{Desk}
-use Rattle.ir_debug.specs.Within.{IsDesk}
+use Rattle.ir_debug.specs.Machine.Desk as desk
+use Rattle.ir_debug.specs.Machine.Desk.{Desk, most_kept}
 use Rattle.ir_debug.specs.Machine.Refusals.{refusal_of, is_at_hand}
 use Rattle.ir_debug.specs.Machine.Shown.{shown}
 use Rattle.ir_debug.specs.Machine.Answers.{kept_text, moved_text, continued_text, RepliesBy}
+
+-- all kept cuts are such
+abbrev pub AllKept : FittedTrace → List desk.Kept → Type 0
+AllKept f kept = AllByRecursion (λ k. IsCutOf f k.cut) kept
+
+-- what the small machine always holds
+pub record IsDesk (d : Desk) : Type 0 where
+  pub run : HasRun d.fitted
+  pub size : length d.at ≡ threads_of d.fitted
+  pub at : IsConsistentCut d.fitted d.at
+  pub points : AreWatchable d.points
+  pub kept : AllKept d.fitted d.kept
+  pub few : length d.kept ≤ most_kept + 1
 
 -- the small machine, and beside it the guest's threads and objects at some consistent cut
 pub record Debugging : Type 0 where
@@ -30,35 +47,31 @@ pub record IsDebugging (d : Debugging) : Type 0 where
   -- before the first answer, and after a move
   pub fresh : d.desk.fresh ≡ true → IsThere d
 
--- the text of an answer that the small machine gave and is then so
+-- the text of an answer that the small machine gave and is then so, by the text of each show
+abbrev pub text_by : (Show → List ℕ) → Desk → Answer → List ℕ
+text_by text d (Moved move) = moved_text d.fitted move d.at
+text_by text d (Continued t hit) = continued_text d.fitted t hit d.at
+text_by text d (Set number) = number_line (codes "point ") number
+text_by text d (Cleared number) = number_line (codes "cleared ") number
+text_by text d Position = positions_text d.at ++ codes "\n"
+text_by text d (Shown show) = text show
+text_by text d (Next line) = line.items
+text_by text d (Kept number) = number_line (codes "kept ") number
+text_by text d (Dropped number) = number_line (codes "dropped ") number
+text_by text d KeptCuts = kept_text d.kept
+text_by text d (Refused refusal) = refusal_text refusal
+text_by text d Bye = codes "bye\n"
+
+-- the same, with what is shown of a run
 abbrev pub answer_text : List Step → Desk → Answer → List ℕ
-answer_text run d (Moved move) = moved_text d.fitted move d.at
-answer_text run d (Continued t hit) = continued_text d.fitted t hit d.at
-answer_text run d (Set number) = number_line (codes "point ") number
-answer_text run d (Cleared number) = number_line (codes "cleared ") number
-answer_text run d Position = positions_text d.at ++ codes "\n"
-answer_text run d (Shown show) = shown run d show
-answer_text run d (Next line) = line.items
-answer_text run d (Kept number) = number_line (codes "kept ") number
-answer_text run d (Dropped number) = number_line (codes "dropped ") number
-answer_text run d KeptCuts = kept_text d.kept
-answer_text run d (Refused refusal) = refusal_text refusal
-answer_text run d Bye = codes "bye\n"
+answer_text run d answer = text_by (shown run d) d answer
 
 -- what an answer that the debugger gave last speaks of is there
 abbrev pub IsLast : Debugging → Answer → Type 0
 IsLast d (Moved move) = refusal_of d.desk (command.Move move) ≡ None
 IsLast d (Shown show) = (refusal_of d.desk (command.Show show) ≡ None) × (is_at_hand show ≡ true) × IsThere d
 IsLast d (Continued t hit) = t < threads_of d.desk.fitted
-IsLast d (Set number) = ⊤
-IsLast d (Cleared number) = ⊤
-IsLast d Position = ⊤
-IsLast d (Next line) = ⊤
-IsLast d (Kept number) = ⊤
-IsLast d (Dropped number) = ⊤
-IsLast d KeptCuts = ⊤
-IsLast d (Refused refusal) = ⊤
-IsLast d Bye = ⊤
+IsLast d answer = ⊤
 
 -- the answer's text, which is one for all runs, is so
 abbrev pub IsText : Debugging → Answer → (List ℕ → Type 0) → Type 0

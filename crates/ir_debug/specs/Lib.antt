@@ -2,6 +2,4 @@ pub mod Machine
 pub mod Debugging
 pub mod Openings
 pub mod Session
-pub mod LongLines
 pub mod AtHand
-pub mod Within

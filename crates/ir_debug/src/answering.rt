@@ -10,7 +10,7 @@ ghost use Rattle.ir_command.specs.declared.command.Command.TheVariants as comman
 ghost use Rattle.ir_debug.specs.AtHand.{text_here};
 ghost use Rattle.ir_debug.specs.Debugging.{IsLast, IsText};
 ghost use Rattle.ir_debug.specs.Machine.Answers.{moved_text, continued_text, kept_line, kept_text};
-ghost use Rattle.ir_debug.specs.Machine.Desk.{position_of};
+ghost use Rattle.ir_cut.specs.Positions.{cut_of};
 ghost use Rattle.ir_debug.specs.Machine.Refusals.{refusal_of};
 ghost use Rattle.ir_timeline.specs.Positions.{threads_of, last_of};
 ghost use Rattle.ir_text.specs.Texts.{positions_text, stop_text};
@@ -18,14 +18,14 @@ ghost use Rattle.ir_text.specs.Texts.{positions_text, stop_text};
 use crate::answer::Answer;
 use crate::debugger::Debugger;
 use crate::kept::KeptCut;
-use crate::refusals::thread_moved;
+use crate::refusals::thread_named;
 use crate::showing::write_shown;
-use ir_command::{Hit, Move};
+use ir_command::{Command, Hit, Move};
 use ir_stream::{DeviceErr, Sink, append, write_all};
 use ir_text::{Text, put_hit, put_number, put_positions, put_stop, write_number, write_refusal};
 
 // Puts at the end where all threads are.
-#[tactic(auto, using(ir_image::proofs::CallerLemmas::few_threads))]
+#[tactic(auto, using(ir_image::proofs::CallerLemmas::guest_threads_at_most_limit))]
 fn put_cut(text: &mut Text, debugger: &Debugger)
     requires { array_vec_len text.old ≡ 0 }
     ensures text { text.new.items ≡ text.old.items ++ positions_text debugger.now.desk.at }
@@ -39,7 +39,7 @@ fn put_cut(text: &mut Text, debugger: &Debugger)
 fn put_stopped(text: &mut Text, debugger: &Debugger, thread: u32)
     requires thread { thread < threads_of debugger.now.desk.fitted }
     requires room { array_vec_len text.old ≤ 500 }
-    ensures text { text.new.items ≡ text.old.items ++ stop_text (last_of debugger.now.desk.fitted thread) (position_of debugger.now.desk thread) }
+    ensures text { text.new.items ≡ text.old.items ++ stop_text (last_of debugger.now.desk.fitted thread) (cut_of debugger.now.desk.at thread) }
     ensures len { array_vec_len text.new ≤ array_vec_len text.old + 6 }
 {
     let number = thread as usize;
@@ -53,7 +53,7 @@ fn put_moved(text: &mut Text, debugger: &Debugger, asked: Move)
     ensures { text.new.items ≡ text.old.items ++ moved_text debugger.now.desk.fitted asked debugger.now.desk.at }
 {
     put_cut(text, debugger);
-    if let Some(thread) = thread_moved(asked) {
+    if let Some(thread) = thread_named(&Command::Move(asked)) {
         put_stopped(text, debugger, thread);
     }
     append(text, b"\n");
@@ -139,7 +139,7 @@ fn write_kept<W: Sink>(kept: &[KeptCut], writer: &mut W) -> Result<(), DeviceErr
     Ok(())
 }
 
-#[tactic(auto, using(ir_image::proofs::CallerLemmas::few_threads))]
+#[tactic(auto, using(ir_image::proofs::CallerLemmas::guest_threads_at_most_limit))]
 fn write_cuts<W: Sink>(debugger: &Debugger, writer: &mut W) -> Result<(), DeviceErr>
     ensures ok { OnOk result (Appends (W.written writer.old) (W.written writer.new) (kept_text debugger.now.desk.kept)) }
     ensures stays { OnOk result (W.broken writer.new ≡ W.broken writer.old) }

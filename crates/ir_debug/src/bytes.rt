@@ -18,7 +18,7 @@ fn open_fitted<H: Hands>(hands: &H, image: Image, trace: Trace) -> Result<Opened
 {
     let alloc = hands.alloc();
     match fit_passing(alloc, image, trace, hands) {
-        Ok((fitted, passed)) => Ok(Opened::Ready(Debugger::open(alloc, fitted, passed)?)),
+        Ok((fitted, passed)) => Ok(Opened::Ready(Debugger::open_passed(alloc, fitted, passed)?)),
         Err(FitErr::Refused(verdict)) => Ok(Opened::Unfit(verdict)),
         Err(FitErr::NoMem) => Err(AllocError),
     }

@@ -26,7 +26,7 @@ mod moves;
 /// needs it.
 #[derive(Drop)]
 pub struct Debugger {
-    // A cut that is kept has its state among those that are kept here, under its number.
+    // At a cut that is kept its state is kept too, for moves and searches to begin at.
     timeline: Timeline,
     at: Cut,
     fresh: bool,
@@ -75,17 +75,26 @@ impl Debugger {
     ghost use Rattle.ir_debug.specs.declared.answer.Answer.TheVariants as answer;
     ghost use Rattle.ir_timeline.specs.Positions.{threads_of};
     ghost use Rattle.ir_debug.specs.Machine.Desk.{desk_of, spoken, with_point, without_point};
-    ghost use Rattle.ir_debug.specs.Within.{IsDesk};
     ghost use Rattle.ir_debug.specs.Machine.Refusals.{refusal_of};
     ghost use Rattle.ir_debug.specs.Machine.Shown.{shown};
     ghost use Rattle.ir_debug.specs.Machine.Answers.{Answers, AnswersBy};
-    ghost use Rattle.ir_debug.specs.Debugging.{IsLast, IsThere, answer_text};
+    ghost use Rattle.ir_debug.specs.Debugging.{IsDesk, IsLast, IsThere, answer_text};
 
-    /// A debugger with all threads at 0, with states that a run along the trace passed.
+    /// A debugger with all threads at 0.
     ///
     /// # Errors
     /// Out of memory.
-    pub fn open(
+    pub fn open(alloc: Global, fitted: Fitted) -> Result<Debugger, AllocError>
+        ensures { IfOk result (λ d. d.desk ≡ desk_of fitted) }
+    {
+        Debugger::open_passed(alloc, fitted, Vec::new(alloc))
+    }
+
+    /// `open`, with states that a run along the trace passed, near which moves begin.
+    ///
+    /// # Errors
+    /// Out of memory.
+    pub fn open_passed(
         alloc: Global,
         fitted: Fitted,
         passed: Vec<PassedState>,

@@ -3,7 +3,8 @@
 ghost use Rattle.std.specs.Prelude.{◌≡◌, ◌<◌, ◌≤◌, true, min, nat_lt, length, IfOk};
 ghost use Rattle.ir_cut.specs.Positions.{EachRun, IsConsistentCut};
 ghost use Rattle.ir_timeline.specs.Positions.{threads_of, last_of};
-ghost use Rattle.ir_debug.specs.Machine.Refusals.{if_some, thread_moved};
+ghost use Rattle.ir_debug.specs.Machine.Refusals.{if_some, thread_named};
+ghost use Rattle.ir_command.specs.declared.command.Command.TheVariants as command;
 ghost use Rattle.ir_debug.specs.Machine.Moves.{Leads, StopsAt, stop_of, ToPosition};
 
 use ir_command::{Direction, Hit, Move};
@@ -40,7 +41,7 @@ fn to_position(
 /// Out of memory.
 pub fn destination(alloc: Global, fitted: &Fitted, at: &Cut, to: Move) -> Result<Cut, AllocError>
     requires cut { (length at.now ≡ threads_of fitted.now) × IsConsistentCut fitted.now at.now }
-    requires thread { if_some (thread_moved to) (λ t. nat_lt t (threads_of fitted.now)) ≡ true }
+    requires thread { if_some (thread_named (command.Move to)) (λ t. nat_lt t (threads_of fitted.now)) ≡ true }
     ensures leads { IfOk result (λ c. EachRun fitted.now (λ run. Leads run fitted.now at.now to c)) }
     ensures size { IfOk result (λ c. length c ≡ threads_of fitted.now) }
     ensures consistent { IfOk result (λ c. IsConsistentCut fitted.now c) }

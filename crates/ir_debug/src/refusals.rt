@@ -2,7 +2,7 @@
 
 ghost use Rattle.std.specs.Prelude.{◌≡◌, ◌≤◌};
 ghost use Rattle.ir_mach.specs.Memory.{lies_in_memory};
-ghost use Rattle.ir_debug.specs.Machine.Refusals.{thread_moved, thread_shown, thread_pointed, thread_named, object_named, lies_in_code, has_address};
+ghost use Rattle.ir_debug.specs.Machine.Refusals.{thread_named, object_named, lies_in_code, has_address};
 
 use crate::debugger::Debugger;
 use crate::kept::{MOST_KEPT, kept_cut};
@@ -11,51 +11,24 @@ use ir_command::{Command, Keeping, Move, Point, Refusal, Show};
 use ir_image::{CODE_START, Image, MEMORY_SIZE, MEMORY_START};
 use ir_timeline::thread_count;
 
-/// The thread that a move names.
-pub fn thread_moved(to: Move) -> Option<u32>
-    ensures { result ≡ thread_moved to }
-{
-    match to {
-        Move::Step { thread, .. } | Move::Back { thread, .. } | Move::Goto { thread, .. } => {
-            Some(thread)
-        }
-        Move::Start | Move::End => None,
-    }
-}
-
-fn thread_shown(show: Show) -> Option<u32>
-    ensures { result ≡ thread_shown show }
-{
-    match show {
-        Show::Registers { thread }
-        | Show::Memory { thread, .. }
-        | Show::Output { thread }
-        | Show::Log { thread }
-        | Show::Next { thread } => Some(thread),
-        Show::Object { .. } => None,
-    }
-}
-
-// The thread whose pc or word a point looks at.
-fn thread_pointed(point: Point) -> Option<u32>
-    ensures { result ≡ thread_pointed point }
-{
-    match point {
-        Point::Break { thread, .. } | Point::Watch { thread, .. } => Some(thread),
-        Point::WatchObject { .. } => None,
-    }
-}
-
-// The thread that a command names.
-fn thread_named(command: &Command) -> Option<u32>
+/// The thread that a command names.
+pub fn thread_named(command: &Command) -> Option<u32>
     ensures { result ≡ thread_named command.now }
 {
     match *command {
-        Command::Move(to) => thread_moved(to),
-        Command::Continue { thread, .. } => Some(thread),
-        Command::Show(show) => thread_shown(show),
-        Command::Set(point) => thread_pointed(point),
-        Command::Clear { .. } | Command::Keeping(_) | Command::Position | Command::Quit => None,
+        Command::Move(
+            Move::Step { thread, .. } | Move::Back { thread, .. } | Move::Goto { thread, .. },
+        )
+        | Command::Continue { thread, .. }
+        | Command::Set(Point::Break { thread, .. } | Point::Watch { thread, .. })
+        | Command::Show(
+            Show::Registers { thread }
+            | Show::Memory { thread, .. }
+            | Show::Output { thread }
+            | Show::Log { thread }
+            | Show::Next { thread },
+        ) => Some(thread),
+        _ => None,
     }
 }
 

@@ -2,7 +2,7 @@
 
 ghost use Rattle.std.specs.Prelude.{◌≡◌, ◌≢◌, true, false, [], IfOk, IfErr, IfSome, IfNone, OnOk, OnErr, Ok, Err, None};
 ghost use Rattle.std.specs.Io.KnownBytes.{IsAtEnd};
-ghost use Rattle.ir_stream.specs.Answers.{cut, lines_of, last_line, Wrote, WroteInPart, Replied, RepliedPrefix, through, some_quits, Reads};
+ghost use Rattle.ir_stream.specs.Answers.{split_lines, lines_of, last_line, Wrote, WroteInPart, Replied, RepliedPrefix, through, some_quits, ReadsUpTo};
 ghost use Rattle.ir_stream.specs.Endings.{flow_after, served_after, IfEnded, LeadsTo};
 ghost use Rattle.ir_debug.specs.Machine.Answers.{Replies, quits, quits_by};
 ghost use Rattle.ir_debug.specs.Debugging.{IsAnswer};
@@ -104,7 +104,7 @@ pub fn serve<H: Hands, R: Source, W: Sink>(
     requires writes { W.broken writer.old ≡ false }
     // Where no device fails, the bytes that were read lead to the result, with machines between the lines
     // that count, and neither device has failed.
-    ensures ended { IfEnded result (Reads limit (R.left reader.old) (R.left reader.new)
+    ensures ended { IfEnded result (ReadsUpTo limit (R.left reader.old) (R.left reader.new)
         (LeadsTo Replies quits debugger.old.desk limit result (W.written writer.old) (W.written writer.new))) }
     ensures works { IfEnded result ((R.broken reader.new ≡ false) × (W.broken writer.new ≡ false)) }
     // If the reader makes its bytes known, all of them together lead to it.
@@ -112,13 +112,13 @@ pub fn serve<H: Hands, R: Source, W: Sink>(
         (LeadsTo Replies quits debugger.old.desk limit result (W.written writer.old) (W.written writer.new))) }
     // After a failed read, the answers to the lines that were read whole, none of which quits.
     ensures read { result ≡ Err Fault.Read → (R.broken reader.new ≡ true) × (W.broken writer.new ≡ false)
-        × Reads limit (R.left reader.old) (R.left reader.new) (λ consumed. (some_quits quits (cut consumed).whole ≡ false)
-        × Wrote Replies debugger.old.desk (cut consumed).whole (W.written writer.old) (W.written writer.new)) }
+        × ReadsUpTo limit (R.left reader.old) (R.left reader.new) (λ consumed. (some_quits quits (split_lines consumed).whole ≡ false)
+        × Wrote Replies debugger.old.desk (split_lines consumed).whole (W.written writer.old) (W.written writer.new)) }
     // After a failed write, the answers to the lines but the last, and a prefix of that one's: an answer is written before a
     // byte after its line is read. None but the last may quit, and it is unfinished only at the end of the input.
     ensures write { result ≡ Err Fault.Write → (R.broken reader.new ≡ false) × (W.broken writer.new ≡ true)
-        × Reads limit (R.left reader.old) (R.left reader.new) (λ consumed. (through quits (lines_of consumed) ≡ lines_of consumed)
-        × ((cut consumed).rest ≢ [] → IsAtEnd (R.left reader.new))
+        × ReadsUpTo limit (R.left reader.old) (R.left reader.new) (λ consumed. (through quits (lines_of consumed) ≡ lines_of consumed)
+        × ((split_lines consumed).rest ≢ [] → IsAtEnd (R.left reader.new))
         × WroteInPart Replies debugger.old.desk (lines_of consumed) (W.written writer.old) (W.written writer.new)) }
 {
     let mut line = ArrayVec::<u8, KEPT>::new();

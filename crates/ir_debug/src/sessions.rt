@@ -1,7 +1,7 @@
 //! A session, from the bytes of an image and a trace to the answers to lines.
 
 ghost use Rattle.std.specs.Prelude.{◌≡◌, ◌≤◌, true, false, Err, IfSome};
-ghost use Rattle.ir_stream.specs.Answers.{Reads};
+ghost use Rattle.ir_stream.specs.Answers.{ReadsUpTo};
 ghost use Rattle.ir_debug.specs.Session.{most_input, IfServed, IfRefused, Session, AnsweredWhole, AnsweredInPart, ended_by};
 
 use crate::announcing::announce;
@@ -51,7 +51,7 @@ pub fn session_up_to<H: Hands, R: Source, W: Sink>(
     requires writes { W.broken writer.old ≡ false }
     // Where no device fails and memory doesn't run out, the bytes that were read lead to the result and to what was
     // written, and neither device has failed.
-    ensures ended { IfServed result (Reads limit (R.left reader.old) (R.left reader.new)
+    ensures ended { IfServed result (ReadsUpTo limit (R.left reader.old) (R.left reader.new)
         (Session image.now trace.now limit result (W.written writer.old) (W.written writer.new))) }
     ensures works { IfServed result ((R.broken reader.new ≡ false) × (W.broken writer.new ≡ false)) }
     // If the reader makes its bytes known, all of them together lead to it.
@@ -63,12 +63,12 @@ pub fn session_up_to<H: Hands, R: Source, W: Sink>(
     ensures no_memory { result ≡ Err SessionErr.NoMem → (reader.new ≡ reader.old) × (writer.new ≡ writer.old) }
     // After a failed read, the opening lines and all answers to the lines that were read whole.
     ensures read { result ≡ Err SessionErr.Read → (R.broken reader.new ≡ true) × (W.broken writer.new ≡ false)
-        × Reads limit (R.left reader.old) (R.left reader.new)
+        × ReadsUpTo limit (R.left reader.old) (R.left reader.new)
         (AnsweredWhole image.now trace.now (W.written writer.old) (W.written writer.new)) }
     // After a failed write, the opening lines and the answers to the lines but the last, in full, and a prefix of the last
     // one's: an answer is written before a byte after its line is read.
     ensures write { result ≡ Err SessionErr.Write → (R.broken reader.new ≡ false) × (W.broken writer.new ≡ true)
-        × Reads limit (R.left reader.old) (R.left reader.new)
+        × ReadsUpTo limit (R.left reader.old) (R.left reader.new)
         (AnsweredInPart image.now trace.now (R.left reader.new) (W.written writer.old) (W.written writer.new)) }
 {
     let Ok(opened) = open(hands, image, trace) else {
@@ -99,7 +99,7 @@ pub fn session<H: Hands, R: Source, W: Sink>(
 ) -> Result<Ended, SessionErr>
     requires reads { R.broken reader.old ≡ false }
     requires writes { W.broken writer.old ≡ false }
-    ensures ended { IfServed result (Reads most_input (R.left reader.old) (R.left reader.new)
+    ensures ended { IfServed result (ReadsUpTo most_input (R.left reader.old) (R.left reader.new)
         (Session image.now trace.now most_input result (W.written writer.old) (W.written writer.new))) }
     ensures works { IfServed result ((R.broken reader.new ≡ false) × (W.broken writer.new ≡ false)) }
     ensures known { IfServed result (IfSome (R.left reader.old)
@@ -107,10 +107,10 @@ pub fn session<H: Hands, R: Source, W: Sink>(
     ensures unread { IfRefused result (reader.new ≡ reader.old) }
     ensures no_memory { result ≡ Err SessionErr.NoMem → (reader.new ≡ reader.old) × (writer.new ≡ writer.old) }
     ensures read { result ≡ Err SessionErr.Read → (R.broken reader.new ≡ true) × (W.broken writer.new ≡ false)
-        × Reads most_input (R.left reader.old) (R.left reader.new)
+        × ReadsUpTo most_input (R.left reader.old) (R.left reader.new)
         (AnsweredWhole image.now trace.now (W.written writer.old) (W.written writer.new)) }
     ensures write { result ≡ Err SessionErr.Write → (R.broken reader.new ≡ false) × (W.broken writer.new ≡ true)
-        × Reads most_input (R.left reader.old) (R.left reader.new)
+        × ReadsUpTo most_input (R.left reader.old) (R.left reader.new)
         (AnsweredInPart image.now trace.now (R.left reader.new) (W.written writer.old) (W.written writer.new)) }
 {
     session_up_to(hands, MOST_INPUT, image, trace, reader, writer)

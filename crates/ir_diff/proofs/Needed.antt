@@ -9,24 +9,24 @@ use Rattle.ir_past.specs.declared.place.Place.{Place}
 use Rattle.ir_diff.specs.Common.{HasOthersReaders}
 
 -- a read entry is of thread t, or among the first events
-abbrev pub IsThere : (ℕ → ℕ) → ℕ → Place → Type 0
-IsThere c t p = p.thread ≢ t → p.event < c p.thread
+abbrev pub IsOwnOrAmongFirst : (ℕ → ℕ) → ℕ → Place → Type 0
+IsOwnOrAmongFirst c t p = p.thread ≢ t → p.event < c p.thread
 
 -- the first n of these are
-abbrev pub AreThere : List Place → ℕ → (ℕ → ℕ) → ℕ → Type 0
-AreThere places n c t = (k : ℕ) (p : Place) → k < n → slice_get places k ≡ Some p → IsThere c t p
+abbrev pub AreOwnOrAmongFirst : List Place → ℕ → (ℕ → ℕ) → ℕ → Type 0
+AreOwnOrAmongFirst places n c t = (k : ℕ) (p : Place) → k < n → slice_get places k ≡ Some p → IsOwnOrAmongFirst c t p
 
-pub there_more : (places : List Place) (n : ℕ) (c : ℕ → ℕ) (t : ℕ) (p : Place) → AreThere places n c t → slice_get places n ≡ Some p
-    → IsThere c t p → AreThere places (n + 1) c t
-there_more places n c t p h at own = λ k q less is. elim (cases_eq k n) [
-  | inl here ↦ subst (IsThere c t) (same_Some p q (sym at ∙ subst (λ z. slice_get places z ≡ Some q) here is)) own
+pub own_or_among_first_step : (places : List Place) (n : ℕ) (c : ℕ → ℕ) (t : ℕ) (p : Place) → AreOwnOrAmongFirst places n c t → slice_get places n ≡ Some p
+    → IsOwnOrAmongFirst c t p → AreOwnOrAmongFirst places (n + 1) c t
+own_or_among_first_step places n c t p h at own = λ k q less is. elim (cases_eq k n) [
+  | inl here ↦ subst (IsOwnOrAmongFirst c t) (same_Some p q (sym at ∙ subst (λ z. slice_get places z ≡ Some q) here is)) own
   | inr ne ↦ h k q (omega (arith, less, ne)) is
 ]
 
 -- all of them are
-pub all_there : (r : Recorded) (o v : ℕ) (places : List Place) (n : ℕ) (c : ℕ → ℕ) (t : ℕ) → AreReaders r o v places
-    → AreThere places n c t → length places ≤ n → HasOthersReaders r c t o v
-all_there r o v places n c t are h all = λ u j other read.
+pub others_readers_if_all_among_first : (r : Recorded) (o v : ℕ) (places : List Place) (n : ℕ) (c : ℕ → ℕ) (t : ℕ) → AreReaders r o v places
+    → AreOwnOrAmongFirst places n c t → length places ≤ n → HasOthersReaders r c t o v
+others_readers_if_all_among_first r o v places n c t are h all = λ u j other read.
     let at = are.complete u j read in
     let inside = slice_get_within places at.number at.place at.there in
     let less = h at.number at.place (omega (arith, inside, all)) at.there (λ e. other (sym at.thread ∙ e)) in
@@ -35,6 +35,6 @@ all_there r o v places n c t are h all = λ u j other read.
     omega (arith, less, thread, event)
 
 -- one of them isn't
-pub not_there : (r : Recorded) (o v : ℕ) (places : List Place) (k : ℕ) (p : Place) (c : ℕ → ℕ) (t : ℕ) → AreReaders r o v places
-    → slice_get places k ≡ Some p → (IsThere c t p → ⊥) → HasOthersReaders r c t o v → ⊥
-not_there r o v places k p c t are at none h = none (λ other. h p.thread p.event other (are.sound k p at))
+pub no_others_readers_unless_among_first : (r : Recorded) (o v : ℕ) (places : List Place) (k : ℕ) (p : Place) (c : ℕ → ℕ) (t : ℕ) → AreReaders r o v places
+    → slice_get places k ≡ Some p → (IsOwnOrAmongFirst c t p → ⊥) → HasOthersReaders r c t o v → ⊥
+no_others_readers_unless_among_first r o v places k p c t are at none h = none (λ other. h p.thread p.event other (are.sound k p at))

@@ -3,62 +3,62 @@ use Rattle.std.proofs.Common.{◌≡◌, ℕ, zero, suc, ◌+◌, ◌-◌, ◌<�
 use Rattle.std.specs.Prelude.{eqb}
 use Rattle.std.proofs.lemmas.Bool.{cases_lt, cases_eq}
 use Rattle.std.proofs.lemmas.Option.{slice_get_within}
-use Rattle.ir_runs.proofs.CallerLemmas.{sum_less}
+use Rattle.ir_runs.proofs.CallerLemmas.{sum_below_less_if_one_less}
 use Rattle.ir_log.specs.declared.event.Event.{Event}
 use Rattle.ir_log.specs.declared.event.Event.TheVariants as variant
 use Rattle.ir_trace.specs.Recorded.{Recorded, recorded_thread}
 use Rattle.ir_past.specs.Past.{event_at}
-use Rattle.ir_past.proofs.CallerLemmas.{of_thread}
+use Rattle.ir_past.proofs.CallerLemmas.{event_is_of_existing_thread}
 use Rattle.ir_diff.specs.Common.{part, HasMaker, IsMade, CanFollow, IsPart, AreCommon}
 use Rattle.ir_diff.specs.Progress.{counts_of, IsBuilt, left_over}
 
 -- ---- what follows goes on to follow
 
-maker_more : (a : Recorded) (f c : ℕ → ℕ) → ((u : ℕ) → f u ≤ c u) → (o v : ℕ) → HasMaker a f o v → HasMaker a c o v
-maker_more a f c above o zero h = tt
-maker_more a f c above o (suc v) h = let more = above h.0 in let less = h.3 in (h.0, h.1, h.2, omega (arith, less, more), h.4)
+has_maker_in_larger_part : (a : Recorded) (f c : ℕ → ℕ) → ((u : ℕ) → f u ≤ c u) → (o v : ℕ) → HasMaker a f o v → HasMaker a c o v
+has_maker_in_larger_part a f c above o zero h = tt
+has_maker_in_larger_part a f c above o (suc v) h = let more = above h.0 in let less = h.3 in (h.0, h.1, h.2, omega (arith, less, more), h.4)
 
-made_more : (a : Recorded) (f c : ℕ → ℕ) → ((u : ℕ) → f u ≤ c u) → (e : Event) → IsMade a f e → IsMade a c e
-made_more a f c above (variant.Answer kind value) h = tt
-made_more a f c above (variant.Read object version) h = maker_more a f c above object version h
-made_more a f c above (variant.Write object version readers) h = maker_more a f c above object version h
-made_more a f c above (variant.Try object) h = tt
+is_made_in_larger_part : (a : Recorded) (f c : ℕ → ℕ) → ((u : ℕ) → f u ≤ c u) → (e : Event) → IsMade a f e → IsMade a c e
+is_made_in_larger_part a f c above (variant.Answer kind value) h = tt
+is_made_in_larger_part a f c above (variant.Read object version) h = has_maker_in_larger_part a f c above object version h
+is_made_in_larger_part a f c above (variant.Write object version readers) h = has_maker_in_larger_part a f c above object version h
+is_made_in_larger_part a f c above (variant.Try object) h = tt
 
-follow_more : (a b : Recorded) (f c : ℕ → ℕ) (t : ℕ) → ((u : ℕ) → f u ≤ c u) → f t ≡ c t → CanFollow a b f t → CanFollow a b c t
-follow_more a b f c t above same h = record {
+can_follow_in_larger_part : (a b : Recorded) (f c : ℕ → ℕ) (t : ℕ) → ((u : ℕ) → f u ≤ c u) → f t ≡ c t → CanFollow a b f t → CanFollow a b c t
+can_follow_in_larger_part a b f c t above same h = record {
   event = h.event;
   first = subst (λ n. event_at a t n ≡ Some h.event) same h.first;
   second = subst (λ n. event_at b t n ≡ Some h.event) same h.second;
-  made = made_more a f c above h.event h.made;
+  made = is_made_in_larger_part a f c above h.event h.made;
 }
 
-one_at_most : (b : Bool) → cond b 1 0 ≤ 1
-one_at_most true = omega arith
-one_at_most false = omega arith
+condition_counts_one_at_most : (b : Bool) → cond b 1 0 ≤ 1
+condition_counts_one_at_most true = omega arith
+condition_counts_one_at_most false = omega arith
 
 -- where no thread can follow, no part is greater
-greatest : (a b : Recorded) (c : ℕ → ℕ) → ((t : ℕ) → CanFollow a b c t → ⊥) → (longer : List ℕ) → IsPart a b longer
+part_is_greatest_if_none_follow : (a b : Recorded) (c : ℕ → ℕ) → ((t : ℕ) → CanFollow a b c t → ⊥) → (longer : List ℕ) → IsPart a b longer
     → (t : ℕ) → part longer t ≤ c t
-greatest a b c rests [] is t = omega arith
-greatest a b c rests (u ∷ us) is t =
-    let below = greatest a b c rests us is.0 in
+part_is_greatest_if_none_follow a b c rests [] is t = omega arith
+part_is_greatest_if_none_follow a b c rests (u ∷ us) is t =
+    let below = part_is_greatest_if_none_follow a b c rests us is.0 in
     let here = below t in
     elim (cases_eq u t) [
       | inl same ↦ elim (cases_lt (part us t) (c t)) [
-        | inl less ↦ let one = one_at_most (eqb u t) in omega (arith, less, one)
+        | inl less ↦ let one = condition_counts_one_at_most (eqb u t) in omega (arith, less, one)
         | inr past ↦
             let all : part us t ≡ c t = omega (arith, here, past) in
             let own : part us u ≡ c u = subst (λ w. part us w ≡ c w) (sym same) all in
-            absurd (rests u (follow_more a b (part us) c u below own is.1))
+            absurd (rests u (can_follow_in_larger_part a b (part us) c u below own is.1))
       ]
       | inr ne ↦ let none = ap {B = ℕ} (λ (x : Bool). cond x 1 0) (ne_eqb u t ne) in omega (arith, here, none)
     ]
 
 -- ---- a part by the counts of its threads
 
-counts_more : (c : List ℕ) (t u : ℕ) (f : ℕ → ℕ) → t < length c → ((w : ℕ) → get_or c w 0 ≡ f w)
+counts_after_thread_followed : (c : List ℕ) (t u : ℕ) (f : ℕ → ℕ) → t < length c → ((w : ℕ) → get_or c w 0 ≡ f w)
     → get_or (set c t (get_or c t 0 + 1)) u 0 ≡ cond (eqb t u) 1 0 + f u
-counts_more c t u f within same = elim (cases_eq u t) [
+counts_after_thread_followed c t u f within same = elim (cases_eq u t) [
   | inl here ↦
       let new = get_or-set_same c t (get_or c t 0 + 1) 0 within in
       let one = ap {B = ℕ} (λ (x : Bool). cond x 1 0) (eq-eqb t u (sym here)) in
@@ -75,20 +75,20 @@ counts_more c t u f within same = elim (cases_eq u t) [
 ]
 
 -- a thread followed
-pub built_more : (a b : Recorded) (c new : List ℕ) (t : ℕ) → IsBuilt a b c → t < length c → CanFollow a b (counts_of c) t
+pub built_after_thread_followed : (a b : Recorded) (c new : List ℕ) (t : ℕ) → IsBuilt a b c → t < length c → CanFollow a b (counts_of c) t
     → new ≡ set c t (counts_of c t + 1) → IsBuilt a b new
-built_more a b c new t h within can is = subst (IsBuilt a b) (sym is) (record {
+built_after_thread_followed a b c new t h within can is = subst (IsBuilt a b) (sym is) (record {
   size = length-set c t (counts_of c t + 1) ∙ h.size;
   order = t ∷ h.order;
-  built = (h.built, follow_more a b (counts_of c) (part h.order) t (λ u. let e = h.counts u in omega (arith, e)) (h.counts t) can);
-  counts = λ u. counts_more c t u (part h.order) within h.counts;
+  built = (h.built, can_follow_in_larger_part a b (counts_of c) (part h.order) t (λ u. let e = h.counts u in omega (arith, e)) (h.counts t) can);
+  counts = λ u. counts_after_thread_followed c t u (part h.order) within h.counts;
 })
 
 -- fewer events are left then
-pub left_less : (a : Recorded) (c new : List ℕ) (t : ℕ) → t < length c → length c ≡ length a.threads
+pub events_left_fall_after_following : (a : Recorded) (c new : List ℕ) (t : ℕ) → t < length c → length c ≡ length a.threads
     → counts_of c t < length (recorded_thread a t).events → new ≡ set c t (counts_of c t + 1) → left_over a new < left_over a c
-left_less a c new t within size some is = subst (λ x. left_over a x < left_over a c) (sym is)
-    (sum_less (length a.threads) t (λ u. length (recorded_thread a u).events - counts_of (set c t (counts_of c t + 1)) u)
+events_left_fall_after_following a c new t within size some is = subst (λ x. left_over a x < left_over a c) (sym is)
+    (sum_below_less_if_one_less (length a.threads) t (λ u. length (recorded_thread a u).events - counts_of (set c t (counts_of c t + 1)) u)
     (λ u. length (recorded_thread a u).events - counts_of c u) (omega (arith, within, size))
     (let new = get_or-set_same c t (counts_of c t + 1) 0 within in omega (arith, new, some)) each)
   where
@@ -110,10 +110,10 @@ pub record IsPassed (a b : Recorded) (old now : List ℕ) (n : ℕ) (moved : Boo
   pub less : moved ≡ true → left_over a now < left_over a old
   pub rests : moved ≡ false → (t : ℕ) → t < n → CanFollow a b (counts_of now) t → ⊥
 
-pub passed_more : (a b : Recorded) (old now new : List ℕ) (n : ℕ) (moved : Bool) → IsPassed a b old now n moved → n < length now
+pub passed_after_thread_followed : (a b : Recorded) (old now new : List ℕ) (n : ℕ) (moved : Bool) → IsPassed a b old now n moved → n < length now
     → CanFollow a b (counts_of now) n → new ≡ set now n (counts_of now n + 1) → IsPassed a b old new (n + 1) true
-passed_more a b old now new n moved h within can is = record {
-  built = built_more a b now new n h.built within can is;
+passed_after_thread_followed a b old now new n moved h within can is = record {
+  built = built_after_thread_followed a b now new n h.built within can is;
   above = omega (arith, fewer, up);
   less = λ e. omega (arith, fewer, up);
   rests = λ e. absurd (let bad : true ≡ false = e in cc);
@@ -123,11 +123,11 @@ passed_more a b old now new n moved h within can is = record {
     up = h.above
 
     fewer : left_over a new < left_over a now
-    fewer = left_less a now new n within h.built.size (slice_get_within (recorded_thread a n).events (counts_of now n) can.event can.first) is
+    fewer = events_left_fall_after_following a now new n within h.built.size (slice_get_within (recorded_thread a n).events (counts_of now n) can.event can.first) is
 
-pub passed_same : (a b : Recorded) (old now : List ℕ) (n : ℕ) (moved : Bool) → IsPassed a b old now n moved
+pub passed_after_thread_stayed : (a b : Recorded) (old now : List ℕ) (n : ℕ) (moved : Bool) → IsPassed a b old now n moved
     → (CanFollow a b (counts_of now) n → ⊥) → IsPassed a b old now (n + 1) moved
-passed_same a b old now n moved h cannot = record {
+passed_after_thread_stayed a b old now n moved h cannot = record {
   built = h.built;
   above = h.above;
   less = h.less;
@@ -138,19 +138,19 @@ passed_same a b old now n moved h cannot = record {
 }
 
 -- a thread that isn't there can't follow
-pub passed_all : (a b : Recorded) (old now : List ℕ) (n : ℕ) (moved : Bool) → IsPassed a b old now n moved → length now ≤ n
+pub no_thread_follows_after_still_pass : (a b : Recorded) (old now : List ℕ) (n : ℕ) (moved : Bool) → IsPassed a b old now n moved → length now ≤ n
     → moved ≡ false → (t : ℕ) → CanFollow a b (counts_of now) t → ⊥
-passed_all a b old now n moved h all none t can =
-    let there = of_thread a t (counts_of now t) can.event can.first in
+no_thread_follows_after_still_pass a b old now n moved h all none t can =
+    let there = event_is_of_existing_thread a t (counts_of now t) can.event can.first in
     let size = h.built.size in
     h.rests none t (omega (arith, there, all, size)) can
 
 -- where none can follow, this is the greatest
-pub common_built : (a b : Recorded) (c : List ℕ) → IsBuilt a b c → ((t : ℕ) → CanFollow a b (counts_of c) t → ⊥) → AreCommon a b c
-common_built a b c h rests = record {
+pub common_if_none_can_follow : (a b : Recorded) (c : List ℕ) → IsBuilt a b c → ((t : ℕ) → CanFollow a b (counts_of c) t → ⊥) → AreCommon a b c
+common_if_none_can_follow a b c h rests = record {
   size = h.size;
   order = h.order;
   built = h.built;
   counts = h.counts;
-  greatest = λ longer is t. greatest a b (counts_of c) rests longer is t;
+  greatest = λ longer is t. part_is_greatest_if_none_follow a b (counts_of c) rests longer is t;
 }

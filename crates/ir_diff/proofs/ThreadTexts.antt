@@ -15,37 +15,37 @@ use Rattle.ir_past.specs.Naming.{maker_text}
 use Rattle.ir_past.specs.Tables.{maker_in}
 use Rattle.ir_past.specs.declared.place.Place.{Place}
 use Rattle.ir_past.specs.declared.makers.Makers.{Makers}
-use Rattle.ir_past.proofs.CallerLemmas.{at_label, made_before}
+use Rattle.ir_past.proofs.CallerLemmas.{at_of_mapped_label, entered_version_was_made}
 use Rattle.ir_diff.specs.Progress.{counts_of, AreMakersOf}
 use Rattle.ir_diff.specs.Lines.{common_line, budget_line, IsMakerOf, IsThreadText}
-use Rattle.ir_diff.proofs.Told.{none_noted}
+use Rattle.ir_diff.proofs.Told.{no_write_if_none_noted}
 
 -- what is noted made the version that an entry finds
-pub noted_made : (r : Recorded) (m : Makers) (o v w t i l : ℕ) (a : Access) (made : Option Place) → AreMakersOf r m → v ≡ suc w
+pub noted_maker_made_version : (r : Recorded) (m : Makers) (o v w t i l : ℕ) (a : Access) (made : Option Place) → AreMakersOf r m → v ≡ suc w
     → made ≡ maker_in m o w → At ((trace_of r).logs t) i (In o a v l) → IsMadeBy r o v made
-noted_made r m o v w t i l a None are is noted at =
-    let made = made_before r are.coherent t i o w a l (subst (λ z. At ((trace_of r).logs t) i (In o a z l)) is at) in
-    absurd (none_noted r m o w made.0 made.1 made.2 are (sym noted) made.3)
-noted_made r m o v w t i l a (Some p) are is noted at = let there = are.makes.sound o w p (sym noted) in (w, there.0, is, there.1)
+noted_maker_made_version r m o v w t i l a None are is noted at =
+    let made = entered_version_was_made r are.coherent t i o w a l (subst (λ z. At ((trace_of r).logs t) i (In o a z l)) is at) in
+    absurd (no_write_if_none_noted r m o w made.0 made.1 made.2 are (sym noted) made.3)
+noted_maker_made_version r m o v w t i l a (Some p) are is noted at = let there = are.makes.sound o w p (sym noted) in (w, there.0, is, there.1)
 
 -- what holds of a result holds of it in other words
-pub if_ok_more : {A E : Type 0} (r : Result A E) (P Q : A → Type 0) → ((x : A) → P x → Q x) → IfOk r P → IfOk r Q
-if_ok_more (Ok x) P Q more p = more x p
-if_ok_more (Err e) P Q more p = tt
+pub if_ok_weaker : {A E : Type 0} (r : Result A E) (P Q : A → Type 0) → ((x : A) → P x → Q x) → IfOk r P → IfOk r Q
+if_ok_weaker (Ok x) P Q more p = more x p
+if_ok_weaker (Err e) P Q more p = tt
 
 -- what made the version that a read entry found
-pub read_maker : (r : Recorded) (e : Event) (o v : ℕ) (made : Option Place) (text : List ℕ) → e ≡ variant.Read o v
+pub maker_text_of_read_entry : (r : Recorded) (e : Event) (o v : ℕ) (made : Option Place) (text : List ℕ) → e ≡ variant.Read o v
     → ((t i l : ℕ) (a : Access) → At ((trace_of r).logs t) i (In o a v l) → IsMadeBy r o v made)
     → text ≡ codes " by " ++ maker_text made → (t i : ℕ) → event_at r t i ≡ Some e → IsMakerOf r e text
-read_maker r e o v made text is by said t i = subst (λ (x : Event). event_at r t i ≡ Some x → IsMakerOf r x text) (sym is)
-    (λ there. (made, by t i 0 Reading (at_label (recorded_thread r t).events i (variant.Read o v) there), said))
+maker_text_of_read_entry r e o v made text is by said t i = subst (λ (x : Event). event_at r t i ≡ Some x → IsMakerOf r x text) (sym is)
+    (λ there. (made, by t i 0 Reading (at_of_mapped_label (recorded_thread r t).events i (variant.Read o v) there), said))
 
 -- what made the version that a write entry found
-pub write_maker : (r : Recorded) (e : Event) (o v l : ℕ) (made : Option Place) (text : List ℕ) → e ≡ variant.Write o v l
+pub maker_text_of_write_entry : (r : Recorded) (e : Event) (o v l : ℕ) (made : Option Place) (text : List ℕ) → e ≡ variant.Write o v l
     → ((t i k : ℕ) (a : Access) → At ((trace_of r).logs t) i (In o a v k) → IsMadeBy r o v made)
     → text ≡ codes " by " ++ maker_text made → (t i : ℕ) → event_at r t i ≡ Some e → IsMakerOf r e text
-write_maker r e o v l made text is by said t i = subst (λ (x : Event). event_at r t i ≡ Some x → IsMakerOf r x text) (sym is)
-    (λ there. (made, by t i l Writing (at_label (recorded_thread r t).events i (variant.Write o v l) there), said))
+maker_text_of_write_entry r e o v l made text is by said t i = subst (λ (x : Event). event_at r t i ≡ Some x → IsMakerOf r x text) (sym is)
+    (λ there. (made, by t i l Writing (at_of_mapped_label (recorded_thread r t).events i (variant.Write o v l) there), said))
 
 -- the texts of the first n threads were put after the first lines
 pub record AreTexts (a b : Recorded) (c : List ℕ) (n : ℕ) (text : List ℕ) : Type 0 where
@@ -54,22 +54,22 @@ pub record AreTexts (a b : Recorded) (c : List ℕ) (n : ℕ) (text : List ℕ) 
   pub threads : (t : ℕ) (own : List ℕ) → slice_get texts t ≡ Some own → IsThreadText a b (counts_of c) t own
   pub lines : text ≡ common_line c ++ (budget_line a.budget b.budget ++ flat_map (λ own. own) texts)
 
-push_at : {X : Type 0} (rows : List X) (x : X) (k : ℕ) (y : X) → slice_get (rows ++ x ∷ []) k ≡ Some y
+slice_get_after_push_cases : {X : Type 0} (rows : List X) (x : X) (k : ℕ) (y : X) → slice_get (rows ++ x ∷ []) k ≡ Some y
     → (slice_get rows k ≡ Some y) ⊎ ((k ≡ length rows) × (x ≡ y))
-push_at [] x zero y is = inr (refl, same_Some x y is)
-push_at [] x (suc k) y is = absurd (none-some y is)
-push_at (z ∷ rows) x zero y is = inl is
-push_at (z ∷ rows) x (suc k) y is = elim (push_at rows x k y is) [
+slice_get_after_push_cases [] x zero y is = inr (refl, same_Some x y is)
+slice_get_after_push_cases [] x (suc k) y is = absurd (none-some y is)
+slice_get_after_push_cases (z ∷ rows) x zero y is = inl is
+slice_get_after_push_cases (z ∷ rows) x (suc k) y is = elim (slice_get_after_push_cases rows x k y is) [
   | inl old ↦ inl old
   | inr new ↦ inr (ap suc new.0, new.1)
 ]
 
-pub more_texts : (a b : Recorded) (c : List ℕ) (n : ℕ) (text own new : List ℕ) → AreTexts a b c n text
+pub thread_texts_step : (a b : Recorded) (c : List ℕ) (n : ℕ) (text own new : List ℕ) → AreTexts a b c n text
     → IsThreadText a b (counts_of c) n own → new ≡ text ++ own → AreTexts a b c (n + 1) new
-more_texts a b c n text own new h is made = record {
+thread_texts_step a b c n text own new h is made = record {
   texts = h.texts ++ own ∷ [];
   each = let push = length_push h.texts own in let size = h.each in omega (arith, push, size);
-  threads = λ t x there. elim (push_at h.texts own t x there) [
+  threads = λ t x there. elim (slice_get_after_push_cases h.texts own t x there) [
     | inl old ↦ h.threads t x old
     | inr last ↦ subst (λ z. IsThreadText a b (counts_of c) z x) (sym (last.0 ∙ h.each)) (subst (IsThreadText a b (counts_of c) n) last.1 is)
   ];

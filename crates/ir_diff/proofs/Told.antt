@@ -8,79 +8,79 @@ use Rattle.ir_past.specs.Answers.{AreCoherent}
 use Rattle.ir_past.specs.Tables.{maker_in}
 use Rattle.ir_past.specs.declared.place.Place.{Place}
 use Rattle.ir_past.specs.declared.makers.Makers.{Makers}
-use Rattle.ir_past.proofs.CallerLemmas.{of_thread, at_label}
+use Rattle.ir_past.proofs.CallerLemmas.{event_is_of_existing_thread, at_of_mapped_label}
 use Rattle.ir_diff.specs.Common.{Tells, HasMaker, HasOthersMaker}
 use Rattle.ir_diff.specs.Progress.{AreMakersOf}
 
 -- ---- flags
 
-pub told_true : (flag : Bool) (P : Type 0) → flag ≡ true → P → Tells flag P
-told_true flag P is p = record { set = λ e. p; clear = λ e. absurd (false≢true (sym e ∙ is)) }
+pub tells_if_true : (flag : Bool) (P : Type 0) → flag ≡ true → P → Tells flag P
+tells_if_true flag P is p = record { set = λ e. p; clear = λ e. absurd (false≢true (sym e ∙ is)) }
 
-pub told_false : (flag : Bool) (P : Type 0) → flag ≡ false → (P → ⊥) → Tells flag P
-told_false flag P is none = record { set = λ e. absurd (true≢false (sym e ∙ is)); clear = λ e. none }
+pub tells_if_false : (flag : Bool) (P : Type 0) → flag ≡ false → (P → ⊥) → Tells flag P
+tells_if_false flag P is none = record { set = λ e. absurd (true≢false (sym e ∙ is)); clear = λ e. none }
 
 -- the same flag tells what is equivalent
-pub told_as : (flag : Bool) (P Q : Type 0) → (P → Q) → (Q → P) → Tells flag P → Tells flag Q
-told_as flag P Q to from told = record { set = λ e. to (told.set e); clear = λ e q. told.clear e (from q) }
+pub tells_equivalent : (flag : Bool) (P Q : Type 0) → (P → Q) → (Q → P) → Tells flag P → Tells flag Q
+tells_equivalent flag P Q to from told = record { set = λ e. to (told.set e); clear = λ e q. told.clear e (from q) }
 
 -- ---- write entries
 
 -- a coherent trace has one write entry at a version
-pub one_writer : (r : Recorded) → AreCoherent r → (t i u j o v l k : ℕ) → IsWriteAt r t i o v l → IsWriteAt r u j o v k
+pub writer_of_version_is_unique : (r : Recorded) → AreCoherent r → (t i u j o v l k : ℕ) → IsWriteAt r t i o v l → IsWriteAt r u j o v k
     → (t ≡ u) × (i ≡ j)
-one_writer r coherent t i u j o v l k one two = coherent.writer t i u j o v l k
-    (at_label (recorded_thread r t).events i (variant.Write o v l) one)
-    (at_label (recorded_thread r u).events j (variant.Write o v k) two)
+writer_of_version_is_unique r coherent t i u j o v l k one two = coherent.writer t i u j o v l k
+    (at_of_mapped_label (recorded_thread r t).events i (variant.Write o v l) one)
+    (at_of_mapped_label (recorded_thread r u).events j (variant.Write o v k) two)
 
 -- nothing is noted of a version, so it has no write entry
-pub none_noted : (r : Recorded) (m : Makers) (o w u j l : ℕ) → AreMakersOf r m → maker_in m o w ≡ None → IsWriteAt r u j o w l → ⊥
-none_noted r m o w u j l are none write = are.makes.noted u j o w l write (inl (of_thread r u j _ write)) none
+pub no_write_if_none_noted : (r : Recorded) (m : Makers) (o w u j l : ℕ) → AreMakersOf r m → maker_in m o w ≡ None → IsWriteAt r u j o w l → ⊥
+no_write_if_none_noted r m o w u j l are none write = are.makes.noted u j o w l write (inl (event_is_of_existing_thread r u j _ write)) none
 
 -- the write entry that is noted is the only one
-pub noted_one : (r : Recorded) (m : Makers) (o w u j l : ℕ) (p : Place) → AreMakersOf r m → maker_in m o w ≡ Some p
+pub noted_maker_is_only_write : (r : Recorded) (m : Makers) (o w u j l : ℕ) (p : Place) → AreMakersOf r m → maker_in m o w ≡ Some p
     → IsWriteAt r u j o w l → (u ≡ p.thread) × (j ≡ p.event)
-noted_one r m o w u j l p are noted write =
+noted_maker_is_only_write r m o w u j l p are noted write =
     let there = are.makes.sound o w p noted in
-    one_writer r are.coherent u j p.thread p.event o w l there.0 write there.1
+    writer_of_version_is_unique r are.coherent u j p.thread p.event o w l there.0 write there.1
 
 -- ---- the maker of a version
 
-pub maker_counted : (r : Recorded) (c : ℕ → ℕ) (m : Makers) (o v w : ℕ) (p : Place) (flag : Bool) → AreMakersOf r m → v ≡ suc w
+pub tells_has_maker_if_noted : (r : Recorded) (c : ℕ → ℕ) (m : Makers) (o v w : ℕ) (p : Place) (flag : Bool) → AreMakersOf r m → v ≡ suc w
     → maker_in m o w ≡ Some p → Tells flag (p.event < c p.thread) → Tells flag (HasMaker r c o v)
-maker_counted r c m o v w p flag are is noted told =
-    subst (λ z. Tells flag (HasMaker r c o z)) (sym is) (told_as flag (p.event < c p.thread) (HasMaker r c o (suc w)) to from told)
+tells_has_maker_if_noted r c m o v w p flag are is noted told =
+    subst (λ z. Tells flag (HasMaker r c o z)) (sym is) (tells_equivalent flag (p.event < c p.thread) (HasMaker r c o (suc w)) to from told)
   where
     to : p.event < c p.thread → HasMaker r c o (suc w)
     to counted = let there = are.makes.sound o w p noted in (p.thread, p.event, there.0, counted, there.1)
 
     from : HasMaker r c o (suc w) → p.event < c p.thread
-    from h = let same = noted_one r m o w h.0 h.1 h.2 p are noted h.4 in
+    from h = let same = noted_maker_is_only_write r m o w h.0 h.1 h.2 p are noted h.4 in
         let thread : c h.0 ≡ c p.thread = ap c same.0 in let event = same.1 in let less = h.3 in omega (arith, less, event, thread)
 
-pub maker_absent : (r : Recorded) (c : ℕ → ℕ) (m : Makers) (o v w : ℕ) → AreMakersOf r m → v ≡ suc w → maker_in m o w ≡ None
+pub no_maker_if_none_noted : (r : Recorded) (c : ℕ → ℕ) (m : Makers) (o v w : ℕ) → AreMakersOf r m → v ≡ suc w → maker_in m o w ≡ None
     → HasMaker r c o v → ⊥
-maker_absent r c m o v w are is none h = let made = subst (HasMaker r c o) is h in none_noted r m o w made.0 made.1 made.2 are none made.4
+no_maker_if_none_noted r c m o v w are is none h = let made = subst (HasMaker r c o) is h in no_write_if_none_noted r m o w made.0 made.1 made.2 are none made.4
 
 -- ---- the maker of a version, if another thread made it
 
-pub others_counted : (r : Recorded) (c : ℕ → ℕ) (m : Makers) (t o v w : ℕ) (p : Place) (flag : Bool) → AreMakersOf r m → v ≡ suc w
+pub tells_others_maker_if_noted : (r : Recorded) (c : ℕ → ℕ) (m : Makers) (t o v w : ℕ) (p : Place) (flag : Bool) → AreMakersOf r m → v ≡ suc w
     → maker_in m o w ≡ Some p → Tells flag (p.thread ≢ t → p.event < c p.thread) → Tells flag (HasOthersMaker r c t o v)
-others_counted r c m t o v w p flag are is noted told =
-    told_as flag (p.thread ≢ t → p.event < c p.thread) (HasOthersMaker r c t o v) to from told
+tells_others_maker_if_noted r c m t o v w p flag are is noted told =
+    tells_equivalent flag (p.thread ≢ t → p.event < c p.thread) (HasOthersMaker r c t o v) to from told
   where
     to : (p.thread ≢ t → p.event < c p.thread) → HasOthersMaker r c t o v
     to counted u j x l later other write =
         let version : x ≡ w = omega (arith, is, later) in
-        let same = noted_one r m o w u j l p are noted (subst (λ z. IsWriteAt r u j o z l) version write) in
+        let same = noted_maker_is_only_write r m o w u j l p are noted (subst (λ z. IsWriteAt r u j o z l) version write) in
         let less = counted (λ e. other (same.0 ∙ e)) in
         let thread : c u ≡ c p.thread = ap c same.0 in let event = same.1 in omega (arith, less, event, thread)
 
     from : HasOthersMaker r c t o v → p.thread ≢ t → p.event < c p.thread
     from h other = let there = are.makes.sound o w p noted in h p.thread p.event w there.0 is other there.1
 
-pub others_absent : (r : Recorded) (c : ℕ → ℕ) (m : Makers) (t o v w : ℕ) → AreMakersOf r m → v ≡ suc w → maker_in m o w ≡ None
+pub others_maker_if_none_noted : (r : Recorded) (c : ℕ → ℕ) (m : Makers) (t o v w : ℕ) → AreMakersOf r m → v ≡ suc w → maker_in m o w ≡ None
     → HasOthersMaker r c t o v
-others_absent r c m t o v w are is none = λ u j x l later other write.
+others_maker_if_none_noted r c m t o v w are is none = λ u j x l later other write.
     let version : x ≡ w = omega (arith, is, later) in
-    absurd (none_noted r m o w u j l are none (subst (λ z. IsWriteAt r u j o z l) version write))
+    absurd (no_write_if_none_noted r m o w u j l are none (subst (λ z. IsWriteAt r u j o z l) version write))

@@ -178,7 +178,7 @@ fn thread_text(
 ///
 /// # Errors
 /// Out of memory.
-#[tactic(auto, using(ir_trace::proofs::CallerLemmas::most_recorded_threads))]
+#[tactic(auto, using(ir_trace::proofs::CallerLemmas::recorded_threads_at_most_limit))]
 pub fn diff_text(
     alloc: Global,
     a: Side<'_>,

@@ -109,24 +109,24 @@ operation_name Rem = codes "rem"
 operation_name Remu = codes "remu"
 
 -- the text of an instruction at pc
-abbrev pub printed : ℕ → Inst → List ℕ
-printed pc (Lui rd imm) = two (codes "lui") (register_name rd.number) (codes "0x" ++ hex 5 (imm.value / 2 ^ 12))
-printed pc (Auipc rd imm) = two (codes "auipc") (register_name rd.number) (codes "0x" ++ hex 5 (imm.value / 2 ^ 12))
-printed pc (Jal rd offset) = two (codes "jal") (register_name rd.number) (far pc offset.value)
-printed pc (Jalr rd rs1 imm) = two (codes "jalr") (register_name rd.number) (address imm.value rs1.number)
-printed pc (Branch op rs1 rs2 offset) = three (branch_name op) (register_name rs1.number) (register_name rs2.number) (far pc offset.value)
-printed pc (Load op rd rs1 imm) = two (load_name op) (register_name rd.number) (address imm.value rs1.number)
-printed pc (Store op rs1 rs2 imm) = two (store_name op) (register_name rs2.number) (address imm.value rs1.number)
-printed pc (OpImm op rd rs1 imm) = three (immediate_name op) (register_name rd.number) (register_name rs1.number) (signed_decimal imm.value)
-printed pc (Shift op rd rs1 amount) = three (shift_name op) (register_name rd.number) (register_name rs1.number) (decimal amount.bits)
-printed pc (Op op rd rs1 rs2) = three (operation_name op) (register_name rd.number) (register_name rs1.number) (register_name rs2.number)
-printed pc (Fence rd rs1 imm) = three (codes "fence") (register_name rd.number) (register_name rs1.number) (decimal (low_bits 12 imm.value))
-printed pc Ecall = codes "ecall"
-printed pc Ebreak = codes "ebreak"
+abbrev pub instruction_text : ℕ → Inst → List ℕ
+instruction_text pc (Lui rd imm) = two (codes "lui") (register_name rd.number) (codes "0x" ++ hex 5 (imm.value / 2 ^ 12))
+instruction_text pc (Auipc rd imm) = two (codes "auipc") (register_name rd.number) (codes "0x" ++ hex 5 (imm.value / 2 ^ 12))
+instruction_text pc (Jal rd offset) = two (codes "jal") (register_name rd.number) (far pc offset.value)
+instruction_text pc (Jalr rd rs1 imm) = two (codes "jalr") (register_name rd.number) (address imm.value rs1.number)
+instruction_text pc (Branch op rs1 rs2 offset) = three (branch_name op) (register_name rs1.number) (register_name rs2.number) (far pc offset.value)
+instruction_text pc (Load op rd rs1 imm) = two (load_name op) (register_name rd.number) (address imm.value rs1.number)
+instruction_text pc (Store op rs1 rs2 imm) = two (store_name op) (register_name rs2.number) (address imm.value rs1.number)
+instruction_text pc (OpImm op rd rs1 imm) = three (immediate_name op) (register_name rd.number) (register_name rs1.number) (signed_decimal imm.value)
+instruction_text pc (Shift op rd rs1 amount) = three (shift_name op) (register_name rd.number) (register_name rs1.number) (decimal amount.bits)
+instruction_text pc (Op op rd rs1 rs2) = three (operation_name op) (register_name rd.number) (register_name rs1.number) (register_name rs2.number)
+instruction_text pc (Fence rd rs1 imm) = three (codes "fence") (register_name rd.number) (register_name rs1.number) (decimal (low_bits 12 imm.value))
+instruction_text pc Ecall = codes "ecall"
+instruction_text pc Ebreak = codes "ebreak"
 
 -- the text of a word that is the code of this instruction, or of none
 abbrev pub text_by : ℕ → ℕ → Option Inst → List ℕ
-text_by pc word (Some i) = printed pc i
+text_by pc word (Some i) = instruction_text pc i
 text_by pc word None = one (codes ".word") (codes "0x" ++ hex 8 word)
 
 -- the text of a word at pc

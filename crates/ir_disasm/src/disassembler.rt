@@ -5,7 +5,7 @@ ghost use Rattle.std.specs.String.{string_bytes};
 ghost use Rattle.std.specs.Fmt.{signed_decimal};
 ghost use Rattle.std.specs.Char.{digit_char};
 ghost use Rattle.ir_isa.specs.Fields.{register_name, low_bits};
-ghost use Rattle.ir_disasm.specs.Printed.{hex, two, three, distance, far, address, printed, text_of};
+ghost use Rattle.ir_disasm.specs.Printed.{hex, two, three, distance, far, address, instruction_text, text_of};
 
 use crate::names::{
     branch_name, immediate_name, load_name, operation_name, shift_name, store_name,
@@ -39,7 +39,7 @@ fn digit(value: u32) -> &'static str
 }
 
 // The hexadecimal digit at `place`, counted from 0 at the low end.
-#[tactic(auto, using(crate::proofs::Digits::sixteen))]
+#[tactic(auto, using(crate::proofs::Digits::power_of_16_bounds))]
 fn digit_at(number: u32, place: u32) -> &'static str
     requires { place < 8 }
     ensures { result.now ≡ digit_char (number / 16 ^ place % 16) ∷ [] }
@@ -206,7 +206,7 @@ fn registers(
 }
 
 fn printed(alloc: Global, pc: u32, inst: Inst) -> Result<String, AllocError>
-    ensures { IfOk result (λ s. string_bytes s ≡ printed pc inst) }
+    ensures { IfOk result (λ s. string_bytes s ≡ instruction_text pc inst) }
 {
     match inst {
         Inst::Lui { rd, imm } => upper(alloc, "lui", rd, imm),

@@ -12,33 +12,33 @@ use Rattle.ir_elf.proofs.Order.{IsNext, AreOrdered}
 
 -- ---- bytes over others
 
-pub over_before : (place : ℕ) (own all : List ℕ) (i : ℕ) → i < place → place + length own ≤ length all
+pub get_or_of_over_before : (place : ℕ) (own all : List ℕ) (i : ℕ) → i < place → place + length own ≤ length all
     → get_or (over place own all) i 0 ≡ get_or all i 0
-over_before place own all i lt fits =
+get_or_of_over_before place own all i lt fits =
     let taken = length-take-le place all (omega arith) in
     let joined = length-append (take place all) own in
     get_or_append_left (take place all ++ own) (drop (place + length own) all) 0 i (omega (arith, lt, taken, joined))
     ∙ get_or_append_left (take place all) own 0 i (omega (arith, lt, taken)) ∙ get_or-take place all i 0 lt
 
-over_inside : (place : ℕ) (own all : List ℕ) (i : ℕ) → place ≤ i → i < place + length own → place + length own ≤ length all
+get_or_of_over_inside : (place : ℕ) (own all : List ℕ) (i : ℕ) → place ≤ i → i < place + length own → place + length own ≤ length all
     → get_or (over place own all) i 0 ≡ get_or own (i - place) 0
-over_inside place own all i low high fits =
+get_or_of_over_inside place own all i low high fits =
     let taken = length-take-le place all (omega arith) in
     let joined = length-append (take place all) own in
     get_or_append_left (take place all ++ own) (drop (place + length own) all) 0 i (omega (arith, high, taken, joined))
     ∙ get_or-append_right (take place all) own place i 0 taken low
 
-pub over_after : (place : ℕ) (own all : List ℕ) (i : ℕ) → place + length own ≤ i → place + length own ≤ length all
+pub get_or_of_over_after : (place : ℕ) (own all : List ℕ) (i : ℕ) → place + length own ≤ i → place + length own ≤ length all
     → get_or (over place own all) i 0 ≡ get_or all i 0
-over_after place own all i low fits =
+get_or_of_over_after place own all i low fits =
     let taken = length-take-le place all (omega arith) in
     let joined : length (take place all ++ own) ≡ place + length own = length-append (take place all) own ∙ ap (λ (k : ℕ). k + length own) taken in
     let back : place + length own + (i - (place + length own)) ≡ i = omega (arith, low) in
     get_or-append_right (take place all ++ own) (drop (place + length own) all) (place + length own) i 0 joined low
     ∙ get_or-drop (place + length own) all (i - (place + length own)) 0 ∙ ap (λ (k : ℕ). get_or all k 0) back
 
-over_length : (place : ℕ) (own all : List ℕ) → place + length own ≤ length all → length (over place own all) ≡ length all
-over_length place own all fits =
+length_of_over : (place : ℕ) (own all : List ℕ) → place + length own ≤ length all → length (over place own all) ≡ length all
+length_of_over place own all fits =
     let taken = length-take-le place all (omega arith) in
     let joined = length-append (take place all) own in
     let whole = length-append (take place all ++ own) (drop (place + length own) all) in
@@ -47,90 +47,90 @@ over_length place own all fits =
 
 -- ---- parts
 
-pub same_is : (p q : Part) → is_same p q ≡ true → p ≡ q
-same_is Code Code e = refl
-same_is Memory Memory e = refl
-same_is Table Table e = refl
-same_is Code Memory e = absurd cc
-same_is Code Table e = absurd cc
-same_is Memory Code e = absurd cc
-same_is Memory Table e = absurd cc
-same_is Table Code e = absurd cc
-same_is Table Memory e = absurd cc
+pub equal_if_is_same : (p q : Part) → is_same p q ≡ true → p ≡ q
+equal_if_is_same Code Code e = refl
+equal_if_is_same Memory Memory e = refl
+equal_if_is_same Table Table e = refl
+equal_if_is_same Code Memory e = absurd cc
+equal_if_is_same Code Table e = absurd cc
+equal_if_is_same Memory Code e = absurd cc
+equal_if_is_same Memory Table e = absurd cc
+equal_if_is_same Table Code e = absurd cc
+equal_if_is_same Table Memory e = absurd cc
 
 -- no address is in two parts
-one_part : (p q : Part) (i j : ℕ) → i < size_of p → j < size_of q → start_of p + i ≡ start_of q + j → is_same q p ≡ true
-one_part Code Code i j l m e = refl
-one_part Memory Memory i j l m e = refl
-one_part Table Table i j l m e = refl
-one_part Code Memory i j l m e = absurd (omega (arith, l, m, e))
-one_part Code Table i j l m e = absurd (omega (arith, l, m, e))
-one_part Memory Code i j l m e = absurd (omega (arith, l, m, e))
-one_part Memory Table i j l m e = absurd (omega (arith, l, m, e))
-one_part Table Code i j l m e = absurd (omega (arith, l, m, e))
-one_part Table Memory i j l m e = absurd (omega (arith, l, m, e))
+part_of_address_is_unique : (p q : Part) (i j : ℕ) → i < size_of p → j < size_of q → start_of p + i ≡ start_of q + j → is_same q p ≡ true
+part_of_address_is_unique Code Code i j l m e = refl
+part_of_address_is_unique Memory Memory i j l m e = refl
+part_of_address_is_unique Table Table i j l m e = refl
+part_of_address_is_unique Code Memory i j l m e = absurd (omega (arith, l, m, e))
+part_of_address_is_unique Code Table i j l m e = absurd (omega (arith, l, m, e))
+part_of_address_is_unique Memory Code i j l m e = absurd (omega (arith, l, m, e))
+part_of_address_is_unique Memory Table i j l m e = absurd (omega (arith, l, m, e))
+part_of_address_is_unique Table Code i j l m e = absurd (omega (arith, l, m, e))
+part_of_address_is_unique Table Memory i j l m e = absurd (omega (arith, l, m, e))
 
 -- ---- one segment
 
 -- a segment of the part fits into as many bytes as the part has
-pub fits_in : (part : Part) (s : Segment) (last : ℕ) (all : List ℕ) → IsNext last s → length all ≡ size_of part → is_same s.part part ≡ true
+pub segment_fits_in_part : (part : Part) (s : Segment) (last : ℕ) (all : List ℕ) → IsNext last s → length all ≡ size_of part → is_same s.part part ≡ true
     → s.place + length s.bytes ≤ length all
-fits_in part s last all next whole same =
-    let size : size_of s.part ≡ size_of part = ap size_of (same_is s.part part same) in
+segment_fits_in_part part s last all next whole same =
+    let size : size_of s.part ≡ size_of part = ap size_of (equal_if_is_same s.part part same) in
     let within = next.within in
     let held = next.held in
     omega (arith, size, within, held, whole)
 
-pub segment_length : (part : Part) (s : Segment) (last : ℕ) (all : List ℕ) → IsNext last s → length all ≡ size_of part
+pub length_of_with_segment : (part : Part) (s : Segment) (last : ℕ) (all : List ℕ) → IsNext last s → length all ≡ size_of part
     → length (with_segment part s all) ≡ size_of part
-segment_length part s last all next whole =
+length_of_with_segment part s last all next whole =
     cond_both (is_same s.part part) (over s.place s.bytes all) all (λ xs. length xs ≡ size_of part)
-    (λ same. over_length s.place s.bytes all (fits_in part s last all next whole same) ∙ whole) (λ other. whole)
+    (λ same. length_of_over s.place s.bytes all (segment_fits_in_part part s last all next whole same) ∙ whole) (λ other. whole)
 
 -- below a segment nothing changes
-segment_below : (part : Part) (s : Segment) (last : ℕ) (all : List ℕ) (i : ℕ) → IsNext last s → length all ≡ size_of part
+with_segment_below_is_unchanged : (part : Part) (s : Segment) (last : ℕ) (all : List ℕ) (i : ℕ) → IsNext last s → length all ≡ size_of part
     → start_of part + i < address_of s → get_or (with_segment part s all) i 0 ≡ get_or all i 0
-segment_below part s last all i next whole lt =
+with_segment_below_is_unchanged part s last all i next whole lt =
     cond_both (is_same s.part part) (over s.place s.bytes all) all (λ xs. get_or xs i 0 ≡ get_or all i 0)
-    (λ same. let start : start_of s.part ≡ start_of part = ap start_of (same_is s.part part same) in
-    over_before s.place s.bytes all i (omega (arith, start, lt)) (fits_in part s last all next whole same)) (λ other. refl)
+    (λ same. let start : start_of s.part ≡ start_of part = ap start_of (equal_if_is_same s.part part same) in
+    get_or_of_over_before s.place s.bytes all i (omega (arith, start, lt)) (segment_fits_in_part part s last all next whole same)) (λ other. refl)
 
 -- above it nothing either
-segment_above : (part : Part) (s : Segment) (last : ℕ) (all : List ℕ) (i : ℕ) → IsNext last s → length all ≡ size_of part
+with_segment_above_is_unchanged : (part : Part) (s : Segment) (last : ℕ) (all : List ℕ) (i : ℕ) → IsNext last s → length all ≡ size_of part
     → end_of s ≤ start_of part + i → get_or (with_segment part s all) i 0 ≡ get_or all i 0
-segment_above part s last all i next whole le =
+with_segment_above_is_unchanged part s last all i next whole le =
     cond_both (is_same s.part part) (over s.place s.bytes all) all (λ xs. get_or xs i 0 ≡ get_or all i 0)
-    (λ same. let start : start_of s.part ≡ start_of part = ap start_of (same_is s.part part same) in
+    (λ same. let start : start_of s.part ≡ start_of part = ap start_of (equal_if_is_same s.part part same) in
     let held = next.held in
-    over_after s.place s.bytes all i (omega (arith, start, le, held)) (fits_in part s last all next whole same)) (λ other. refl)
+    get_or_of_over_after s.place s.bytes all i (omega (arith, start, le, held)) (segment_fits_in_part part s last all next whole same)) (λ other. refl)
 
 -- in it is what the file holds, and 0 after that
-segment_inside : (part : Part) (s : Segment) (last : ℕ) (all : List ℕ) (i : ℕ) → IsNext last s → length all ≡ size_of part → i < size_of part
+with_segment_inside_is_file_byte : (part : Part) (s : Segment) (last : ℕ) (all : List ℕ) (i : ℕ) → IsNext last s → length all ≡ size_of part → i < size_of part
     → address_of s ≤ start_of part + i → start_of part + i < end_of s → get_or all i 0 ≡ 0
     → get_or (with_segment part s all) i 0 ≡ get_or s.bytes (start_of part + i - address_of s) 0
-segment_inside part s last all i next whole lt low high zero =
+with_segment_inside_is_file_byte part s last all i next whole lt low high zero =
     let within = next.within in
-    let same : is_same s.part part ≡ true = one_part part s.part i (start_of part + i - start_of s.part) lt (omega (arith, low, high, within))
+    let same : is_same s.part part ≡ true = part_of_address_is_unique part s.part i (start_of part + i - start_of s.part) lt (omega (arith, low, high, within))
     (omega (arith, low)) in
-    let start : start_of s.part ≡ start_of part = ap start_of (same_is s.part part same) in
+    let start : start_of s.part ≡ start_of part = ap start_of (equal_if_is_same s.part part same) in
     let there : i - s.place ≡ start_of part + i - address_of s = omega (arith, start) in
-    let fits = fits_in part s last all next whole same in
+    let fits = segment_fits_in_part part s last all next whole same in
     let placed : get_or (over s.place s.bytes all) i 0 ≡ get_or s.bytes (i - s.place) 0 = elim (cases_lt i (s.place + length s.bytes)) [
-      | inl l ↦ over_inside s.place s.bytes all i (omega (arith, low, start)) l fits
-      | inr g ↦ over_after s.place s.bytes all i g fits ∙ zero ∙ sym (get_or_past s.bytes (i - s.place) 0 (omega (arith, g)))
+      | inl l ↦ get_or_of_over_inside s.place s.bytes all i (omega (arith, low, start)) l fits
+      | inr g ↦ get_or_of_over_after s.place s.bytes all i g fits ∙ zero ∙ sym (get_or_past s.bytes (i - s.place) 0 (omega (arith, g)))
     ] in
     rw same (placed ∙ ap (λ (k : ℕ). get_or s.bytes k 0) there)
 
 -- ---- the byte of a segment
 
-byte_below : (s : Segment) (a : ℕ) → a < address_of s → byte_in s a ≡ None
-byte_below s a lt = rw (and_left (leb (address_of s) a) (ltb a (end_of s)) (lt-leb (address_of s) a lt)) refl
+byte_in_below_is_none : (s : Segment) (a : ℕ) → a < address_of s → byte_in s a ≡ None
+byte_in_below_is_none s a lt = rw (and_left (leb (address_of s) a) (ltb a (end_of s)) (lt-leb (address_of s) a lt)) refl
 
-byte_above : (s : Segment) (a : ℕ) → end_of s ≤ a → byte_in s a ≡ None
-byte_above s a le = rw (and_right (leb (address_of s) a) (ltb a (end_of s)) (le-ltb a (end_of s) le)) refl
+byte_in_above_is_none : (s : Segment) (a : ℕ) → end_of s ≤ a → byte_in s a ≡ None
+byte_in_above_is_none s a le = rw (and_right (leb (address_of s) a) (ltb a (end_of s)) (le-ltb a (end_of s) le)) refl
 
-byte_inside : (s : Segment) (a : ℕ) → address_of s ≤ a → a < end_of s → byte_in s a ≡ Some (get_or s.bytes (a - address_of s) 0)
-byte_inside s a low high = rw
+byte_in_inside_is_file_byte : (s : Segment) (a : ℕ) → address_of s ≤ a → a < end_of s → byte_in s a ≡ Some (get_or s.bytes (a - address_of s) 0)
+byte_in_inside_is_file_byte s a low high = rw
     (and_from (leb (address_of s) a) (ltb a (end_of s)) (le-leb (address_of s) a low) (lt-ltb a (end_of s) high)) refl
 
 -- ---- all segments
@@ -139,36 +139,36 @@ record IsUntouched (part : Part) (ss : List Segment) (all : List ℕ) (i : ℕ) 
   kept : get_or (with_segments part ss all) i 0 ≡ get_or all i 0
   none : byte_of ss (start_of part + i) ≡ None
 
-untouched : (part : Part) (ss : List Segment) (all : List ℕ) (last i : ℕ) → AreOrdered last ss → start_of part + i < last
+place_below_segments_is_untouched : (part : Part) (ss : List Segment) (all : List ℕ) (last i : ℕ) → AreOrdered last ss → start_of part + i < last
     → length all ≡ size_of part → IsUntouched part ss all i
-untouched part [] all last i o lt whole = record { kept = refl; none = refl }
-untouched part (s ∷ ss) all last i o lt whole =
+place_below_segments_is_untouched part [] all last i o lt whole = record { kept = refl; none = refl }
+place_below_segments_is_untouched part (s ∷ ss) all last i o lt whole =
     let next = o.0 in
     let low = next.low in
     let far : start_of part + i < address_of s = omega (arith, low, lt) in
-    let rest = untouched part ss (with_segment part s all) (end_of s) i o.1 (omega (arith, far)) (segment_length part s last all next whole) in
+    let rest = place_below_segments_is_untouched part ss (with_segment part s all) (end_of s) i o.1 (omega (arith, far)) (length_of_with_segment part s last all next whole) in
     record {
-      kept = rest.kept ∙ segment_below part s last all i next whole far;
-      none = rw (byte_below s (start_of part + i) far) rest.none;
+      kept = rest.kept ∙ with_segment_below_is_unchanged part s last all i next whole far;
+      none = rw (byte_in_below_is_none s (start_of part + i) far) rest.none;
     }
 
 -- where nothing is yet, the byte of the segment that has the address is put
-pub bytes_put : (part : Part) (ss : List Segment) (all : List ℕ) (last i : ℕ) → AreOrdered last ss → last ≤ start_of part + i
+pub with_segments_puts_byte_of_address : (part : Part) (ss : List Segment) (all : List ℕ) (last i : ℕ) → AreOrdered last ss → last ≤ start_of part + i
     → i < size_of part → length all ≡ size_of part → get_or all i 0 ≡ 0
     → get_or (with_segments part ss all) i 0 ≡ or_zero (byte_of ss (start_of part + i))
-bytes_put part [] all last i o le lt whole zero = zero
-bytes_put part (s ∷ ss) all last i o le lt whole zero =
+with_segments_puts_byte_of_address part [] all last i o le lt whole zero = zero
+with_segments_puts_byte_of_address part (s ∷ ss) all last i o le lt whole zero =
     let next = o.0 in
     let a = start_of part + i in
     let more = with_segment part s all in
-    let length_is = segment_length part s last all next whole in
+    let length_is = length_of_with_segment part s last all next whole in
     elim (cases_lt a (address_of s)) [
-      | inl l ↦ (let rest = untouched part ss more (end_of s) i o.1 (omega (arith, l)) length_is in
-          rest.kept ∙ segment_below part s last all i next whole l ∙ zero ∙ sym (rw (byte_below s a l, rest.none) refl))
+      | inl l ↦ (let rest = place_below_segments_is_untouched part ss more (end_of s) i o.1 (omega (arith, l)) length_is in
+          rest.kept ∙ with_segment_below_is_unchanged part s last all i next whole l ∙ zero ∙ sym (rw (byte_in_below_is_none s a l, rest.none) refl))
       | inr g ↦ elim (cases_lt a (end_of s)) [
-        | inl l ↦ (let rest = untouched part ss more (end_of s) i o.1 l length_is in
-            rest.kept ∙ segment_inside part s last all i next whole lt g l zero ∙ sym (rw (byte_inside s a g l) refl))
-        | inr h ↦ bytes_put part ss more (end_of s) i o.1 h lt length_is (segment_above part s last all i next whole h ∙ zero)
-            ∙ sym (rw (byte_above s a h) refl)
+        | inl l ↦ (let rest = place_below_segments_is_untouched part ss more (end_of s) i o.1 l length_is in
+            rest.kept ∙ with_segment_inside_is_file_byte part s last all i next whole lt g l zero ∙ sym (rw (byte_in_inside_is_file_byte s a g l) refl))
+        | inr h ↦ with_segments_puts_byte_of_address part ss more (end_of s) i o.1 h lt length_is (with_segment_above_is_unchanged part s last all i next whole h ∙ zero)
+            ∙ sym (rw (byte_in_above_is_none s a h) refl)
       ]
     ]

@@ -7,36 +7,36 @@ use Rattle.ir_elf.specs.declared.header.Header.{Header}
 use Rattle.ir_elf.specs.Segments.{Segment, loaded_at, end_after, with_first, segments_from}
 
 -- the segments that were read before, and those that are still read
-abbrev pub after : List Segment → Result (List Segment) Refusal → Result (List Segment) Refusal
-after prefix read = read >>= λ xs. Ok (prefix ++ xs)
+abbrev pub after_read_segments : List Segment → Result (List Segment) Refusal → Result (List Segment) Refusal
+after_read_segments prefix read = read >>= λ xs. Ok (prefix ++ xs)
 
-moved : (prefix : List Segment) (found : Option Segment) (xs : List Segment)
+append_of_with_first : (prefix : List Segment) (found : Option Segment) (xs : List Segment)
     → prefix ++ with_first found xs ≡ (prefix ++ with_first found []) ++ xs
-moved prefix None xs = ap (λ (k : List Segment). k ++ xs) (sym (append-nil prefix))
-moved prefix (Some s) xs = sym (append_assoc prefix (s ∷ []) xs)
+append_of_with_first prefix None xs = ap (λ (k : List Segment). k ++ xs) (sym (append-nil prefix))
+append_of_with_first prefix (Some s) xs = sym (append_assoc prefix (s ∷ []) xs)
 
-regroup : (prefix : List Segment) (found : Option Segment) (read : Result (List Segment) Refusal)
-    → after prefix (read >>= λ xs. Ok (with_first found xs)) ≡ after (prefix ++ with_first found []) read
-regroup prefix found (Ok xs) = ap (λ (k : List Segment). Ok k) (moved prefix found xs)
-regroup prefix found (Err e) = refl
+after_with_first_segment : (prefix : List Segment) (found : Option Segment) (read : Result (List Segment) Refusal)
+    → after_read_segments prefix (read >>= λ xs. Ok (with_first found xs)) ≡ after_read_segments (prefix ++ with_first found []) read
+after_with_first_segment prefix found (Ok xs) = ap (λ (k : List Segment). Ok k) (append_of_with_first prefix found xs)
+after_with_first_segment prefix found (Err e) = refl
 
-pub goes_on : (file : List ℕ) (last : ℕ) (prefix : List Segment) (h : Header) (hs : List Header) (found : Option Segment)
+pub segments_from_step : (file : List ℕ) (last : ℕ) (prefix : List Segment) (h : Header) (hs : List Header) (found : Option Segment)
     (total : Result (List Segment) Refusal) → loaded_at file last h ≡ Ok found
-    → after prefix (segments_from file last (h ∷ hs)) ≡ total
-    → after (prefix ++ with_first found []) (segments_from file (end_after last found) hs) ≡ total
-goes_on file last prefix h hs found total e so_far =
-    let step : after prefix (segments_from file last (h ∷ hs))
-    ≡ after (prefix ++ with_first found []) (segments_from file (end_after last found) hs) = rw e
-    (regroup prefix found (segments_from file (end_after last found) hs)) in
+    → after_read_segments prefix (segments_from file last (h ∷ hs)) ≡ total
+    → after_read_segments (prefix ++ with_first found []) (segments_from file (end_after last found) hs) ≡ total
+segments_from_step file last prefix h hs found total e so_far =
+    let step : after_read_segments prefix (segments_from file last (h ∷ hs))
+    ≡ after_read_segments (prefix ++ with_first found []) (segments_from file (end_after last found) hs) = rw e
+    (after_with_first_segment prefix found (segments_from file (end_after last found) hs)) in
     sym step ∙ so_far
 
-pub stops : (file : List ℕ) (last : ℕ) (prefix : List Segment) (h : Header) (hs : List Header) (e : Refusal)
+pub segments_from_stops_at_fault : (file : List ℕ) (last : ℕ) (prefix : List Segment) (h : Header) (hs : List Header) (e : Refusal)
     (total : Result (List Segment) Refusal) → loaded_at file last h ≡ Err e
-    → after prefix (segments_from file last (h ∷ hs)) ≡ total → total ≡ Err e
-stops file last prefix h hs e total fault so_far =
-    let step : after prefix (segments_from file last (h ∷ hs)) ≡ Err e = rw fault refl in
+    → after_read_segments prefix (segments_from file last (h ∷ hs)) ≡ total → total ≡ Err e
+segments_from_stops_at_fault file last prefix h hs e total fault so_far =
+    let step : after_read_segments prefix (segments_from file last (h ∷ hs)) ≡ Err e = rw fault refl in
     sym so_far ∙ step
 
-pub is_done : (file : List ℕ) (last : ℕ) (prefix : List Segment) (total : Result (List Segment) Refusal)
-    → after prefix (segments_from file last []) ≡ total → total ≡ Ok prefix
-is_done file last prefix total so_far = sym so_far ∙ ap (λ (k : List Segment). Ok k) (append-nil prefix)
+pub segments_from_no_headers : (file : List ℕ) (last : ℕ) (prefix : List Segment) (total : Result (List Segment) Refusal)
+    → after_read_segments prefix (segments_from file last []) ≡ total → total ≡ Ok prefix
+segments_from_no_headers file last prefix total so_far = sym so_far ∙ ap (λ (k : List Segment). Ok k) (append-nil prefix)

@@ -5,32 +5,32 @@ use Rattle.byteorder.specs.Endian.{little_number, IsRead}
 use Rattle.ir_elf.specs.Memory.{words_in}
 
 -- the words of bytes but the first
-others : (w : ℕ) (ws : List ℕ) (a b c d : ℕ) (more : List ℕ) → IsRead little_number 4 (a ∷ b ∷ c ∷ d ∷ more) (w ∷ ws)
+rest_of_read_words : (w : ℕ) (ws : List ℕ) (a b c d : ℕ) (more : List ℕ) → IsRead little_number 4 (a ∷ b ∷ c ∷ d ∷ more) (w ∷ ws)
     → IsRead little_number 4 more ws
-others w ws a b c d more h k lt =
+rest_of_read_words w ws a b c d more h k lt =
     let step : 4 * suc k ≡ suc (suc (suc (suc (4 * k)))) = omega arith in
     subst (λ (i : ℕ). slice_index ws k ≡ little_number 4 (drop i (a ∷ b ∷ c ∷ d ∷ more))) step (h (suc k) (omega arith))
 
-words_are : (ws own : List ℕ) → length own ≡ 4 * length ws → IsRead little_number 4 own ws → words_in own ≡ ws
-words_are [] [] e h = refl
-words_are [] (a ∷ own) e h = absurd (omega arith)
-words_are (w ∷ ws) [] e h = absurd (omega arith)
-words_are (w ∷ ws) (a ∷ []) e h = absurd (omega arith)
-words_are (w ∷ ws) (a ∷ b ∷ []) e h = absurd (omega arith)
-words_are (w ∷ ws) (a ∷ b ∷ c ∷ []) e h = absurd (omega arith)
-words_are (w ∷ ws) (a ∷ b ∷ c ∷ d ∷ more) e h =
+words_in_if_read : (ws own : List ℕ) → length own ≡ 4 * length ws → IsRead little_number 4 own ws → words_in own ≡ ws
+words_in_if_read [] [] e h = refl
+words_in_if_read [] (a ∷ own) e h = absurd (omega arith)
+words_in_if_read (w ∷ ws) [] e h = absurd (omega arith)
+words_in_if_read (w ∷ ws) (a ∷ []) e h = absurd (omega arith)
+words_in_if_read (w ∷ ws) (a ∷ b ∷ []) e h = absurd (omega arith)
+words_in_if_read (w ∷ ws) (a ∷ b ∷ c ∷ []) e h = absurd (omega arith)
+words_in_if_read (w ∷ ws) (a ∷ b ∷ c ∷ d ∷ more) e h =
     let first : w ≡ little_number 4 (a ∷ b ∷ c ∷ d ∷ []) = h 0 (omega arith) in
-    let next = words_are ws more (omega arith) (others w ws a b c d more h) in
+    let next = words_in_if_read ws more (omega arith) (rest_of_read_words w ws a b c d more h) in
     rw (next, ← first) refl
 
-pub words_read : (room : ℕ) (own ws items : List ℕ) → length own ≡ 4 * length ws → room ≡ length ws → IsRead little_number 4 own ws
+pub words_in_room_if_read : (room : ℕ) (own ws items : List ℕ) → length own ≡ 4 * length ws → room ≡ length ws → IsRead little_number 4 own ws
     → take room (ws ++ drop (length ws) items) ≡ words_in own
-words_read room own ws items e full h =
-    ap (λ (k : ℕ). take k (ws ++ drop (length ws) items)) full ∙ take-append_seam ws (drop (length ws) items) ∙ sym (words_are ws own e h)
+words_in_room_if_read room own ws items e full h =
+    ap (λ (k : ℕ). take k (ws ++ drop (length ws) items)) full ∙ take-append_seam ws (drop (length ws) items) ∙ sym (words_in_if_read ws own e h)
 
-pub word_count : (own : List ℕ) → length (words_in own) ≡ length own / 4
-word_count [] = omega arith
-word_count (a ∷ []) = omega arith
-word_count (a ∷ b ∷ []) = omega arith
-word_count (a ∷ b ∷ c ∷ []) = omega arith
-word_count (a ∷ b ∷ c ∷ d ∷ more) = let next = word_count more in omega (arith, next)
+pub length_of_words_in : (own : List ℕ) → length (words_in own) ≡ length own / 4
+length_of_words_in [] = omega arith
+length_of_words_in (a ∷ []) = omega arith
+length_of_words_in (a ∷ b ∷ []) = omega arith
+length_of_words_in (a ∷ b ∷ c ∷ []) = omega arith
+length_of_words_in (a ∷ b ∷ c ∷ d ∷ more) = let next = length_of_words_in more in omega (arith, next)

@@ -1,7 +1,7 @@
 //! The header of a file, and the headers of its segments.
 
 ghost use Rattle.std.specs.Prelude.{◌≡◌};
-ghost use Rattle.ir_bytes.specs.Reading.{Reads, fixed, field_at};
+ghost use Rattle.ir_bytes.specs.Reading.{IsRead, fixed, field_at};
 ghost use Rattle.ir_elf.specs.declared.refusal.Refusal.TheVariants.{Short};
 ghost use Rattle.ir_elf.specs.Header.{identified, kind_known, headers_found, headers_place_at, header_at, number_field};
 
@@ -39,7 +39,7 @@ pub struct Header {
 // The bytes after the first, which is this one.
 #[tactic(auto, unfolding(ir_bytes::specs::Reading::field_at))]
 fn fixed_byte(number: u8, bytes: &[u8], other: Refusal) -> Result<&[u8], Refusal>
-    ensures { Reads (λ x. (number, x.now)) result (field_at Short (fixed 1 number other) bytes.now) }
+    ensures { IsRead (λ x. (number, x.now)) result (field_at Short (fixed 1 number other) bytes.now) }
 {
     let (found, rest) = byte(bytes, Refusal::Short)?;
     if found == number {
@@ -52,7 +52,7 @@ fn fixed_byte(number: u8, bytes: &[u8], other: Refusal) -> Result<&[u8], Refusal
 // The magic, and a file of 32 bits, little-endian, version 1.
 #[tactic(auto, unfolding(crate::specs::Header::identified))]
 fn identified(bytes: &[u8]) -> Result<&[u8], Refusal>
-    ensures { Reads (λ x. x.now) result (identified bytes.now) }
+    ensures { IsRead (λ x. x.now) result (identified bytes.now) }
 {
     let rest = fixed_word(MAGIC, bytes, Refusal::Short, Refusal::Magic)?;
     let rest = fixed_byte(1, rest, Refusal::Class)?;
@@ -63,7 +63,7 @@ fn identified(bytes: &[u8]) -> Result<&[u8], Refusal>
 // A linked RISC-V program.
 #[tactic(auto, unfolding(crate::specs::Header::kind_known))]
 fn kind_known(rest: &[u8]) -> Result<&[u8], Refusal>
-    ensures { Reads (λ x. x.now) result (kind_known rest.now) }
+    ensures { IsRead (λ x. x.now) result (kind_known rest.now) }
 {
     let (_, rest) = bytes(9, rest, Refusal::Short)?;
     let rest = fixed_half(LINKED, rest, Refusal::Short, Refusal::Kind)?;
@@ -74,7 +74,7 @@ fn kind_known(rest: &[u8]) -> Result<&[u8], Refusal>
 // How many program headers there are.
 #[tactic(auto, unfolding(ir_bytes::specs::Reading::field_at))]
 fn header_number(bytes: &[u8]) -> Result<(u16, &[u8]), Refusal>
-    ensures { Reads (λ x. (x.0, x.1.now)) result (field_at Short number_field bytes.now) }
+    ensures { IsRead (λ x. (x.0, x.1.now)) result (field_at Short number_field bytes.now) }
 {
     let (number, rest) = half(bytes, Refusal::Short)?;
     if 1 <= number && number <= MOST_HEADERS {
@@ -87,7 +87,7 @@ fn header_number(bytes: &[u8]) -> Result<(u16, &[u8]), Refusal>
 // Where they are, from the entry on.
 #[tactic(auto, unfolding(crate::specs::Header::headers_found))]
 fn headers_found(rest: &[u8]) -> Result<HeadersPlace, Refusal>
-    ensures { Reads (λ x. x) result (headers_found rest.now) }
+    ensures { IsRead (λ x. x) result (headers_found rest.now) }
 {
     let (_, rest) = bytes(4, rest, Refusal::Short)?;
     let (place, rest) = word(rest, Refusal::Short)?;
@@ -102,7 +102,7 @@ fn headers_found(rest: &[u8]) -> Result<HeadersPlace, Refusal>
 /// Where the program headers of a file are.
 #[tactic(auto, unfolding(crate::specs::Header::headers_place_at))]
 pub fn headers_place(file: &[u8]) -> Result<HeadersPlace, Refusal>
-    ensures { Reads (λ x. x) result (headers_place_at file.now) }
+    ensures { IsRead (λ x. x) result (headers_place_at file.now) }
 {
     let rest = identified(file)?;
     let rest = kind_known(rest)?;
@@ -112,7 +112,7 @@ pub fn headers_place(file: &[u8]) -> Result<HeadersPlace, Refusal>
 /// A program header, and the bytes after it.
 #[tactic(auto, unfolding(crate::specs::Header::header_at))]
 pub fn next_header(rest: &[u8]) -> Result<(Header, &[u8]), Refusal>
-    ensures { Reads (λ x. (x.0, x.1.now)) result (header_at rest.now) }
+    ensures { IsRead (λ x. (x.0, x.1.now)) result (header_at rest.now) }
 {
     let (kind, rest) = word(rest, Refusal::Short)?;
     let (place, rest) = word(rest, Refusal::Short)?;

@@ -15,7 +15,7 @@ ghost use Rattle.ir_elf.specs.Reading.{elf_guest_at};
 ghost use Rattle.ir_elf.specs.Addresses.{byte_of, byte_at, word_at, IsInParts};
 
 /// Each word of the code is that of the four bytes that the segments have at its address, 0 where they have none.
-#[tactic(auto, using(crate::proofs::Contents::code_law))]
+#[tactic(auto, using(crate::proofs::Contents::guest_code_word_is_word_at))]
 pub fn code_is_segments()
     ensures { (file : List ℕ) (segments : List Segment) (g : Guest) (k : ℕ) →
         segments_at file ≡ Ok segments →
@@ -26,7 +26,7 @@ pub fn code_is_segments()
 
 /// Each byte that private memory begins with is the byte that the segments have at its address, 0 where they have none;
 /// and what the segments have is in the code, in private memory, or in the table.
-#[tactic(auto, using(crate::proofs::Contents::memory_law, crate::proofs::Contents::parts_law))]
+#[tactic(auto, using(crate::proofs::Contents::guest_byte_is_byte_at, crate::proofs::Contents::file_byte_is_in_parts))]
 pub fn memory_is_segments()
     ensures bytes { (file : List ℕ) (segments : List Segment) (g : Guest) (i : ℕ) →
         segments_at file ≡ Ok segments →

@@ -1,7 +1,7 @@
 //! Reading the segments of a file.
 
 ghost use Rattle.std.specs.Prelude.{◌≡◌, ◌≤◌, ◌+◌, map, length, option_map, IfOk};
-ghost use Rattle.ir_bytes.specs.Reading.{Reads, fields_at};
+ghost use Rattle.ir_bytes.specs.Reading.{IsRead, fields_at};
 ghost use Rattle.ir_elf.specs.Layout.{start_of, size_of};
 ghost use Rattle.ir_elf.specs.Refusal.{Gives};
 ghost use Rattle.ir_elf.specs.Header.{header_at};
@@ -53,7 +53,7 @@ fn is_protected(part: Part, flags: u32) -> bool
 
 // The part in which a segment is.
 fn part_of(header: Header) -> Result<Part, Refusal>
-    ensures exact { Reads (λ x. x) result (part_of header) }
+    ensures exact { IsRead (λ x. x) result (part_of header) }
     ensures start { IfOk result (λ p. start_of p ≤ header.address) }
     ensures within { IfOk result (λ p. header.address + header.size ≤ start_of p + size_of p) }
     ensures held { IfOk result (λ p. header.length ≤ header.size) }
@@ -80,7 +80,7 @@ fn part_of(header: Header) -> Result<Part, Refusal>
 // `count` bytes from a place of the file on.
 #[tactic(auto, unfolding(crate::specs::Segments::bytes_from))]
 fn bytes_from(place: u32, count: u32, file: &[u8]) -> Result<&[u8], Refusal>
-    ensures exact { Reads (λ x. x.now) result (bytes_from place count file.now) }
+    ensures exact { IsRead (λ x. x.now) result (bytes_from place count file.now) }
     ensures count { IfOk result (λ x. length x.now ≡ count) }
 {
     let (_, rest) = bytes(place as usize, file, Refusal::Short)?;
@@ -91,7 +91,7 @@ fn bytes_from(place: u32, count: u32, file: &[u8]) -> Result<&[u8], Refusal>
 // The segment of a header, after segments that end at an address.
 #[tactic(auto, unfolding(crate::specs::Segments::segment_at))]
 fn segment<'a>(file: &'a [u8], last: u32, header: Header) -> Result<Segment<'a>, Refusal>
-    ensures { Reads seen result (segment_at file.now last header) }
+    ensures { IsRead seen result (segment_at file.now last header) }
 {
     let bytes = bytes_from(header.place, header.length, file)?;
     let part = part_of(header)?;
@@ -111,7 +111,7 @@ fn segment<'a>(file: &'a [u8], last: u32, header: Header) -> Result<Segment<'a>,
 
 // The same, if the header is of a segment that is loaded.
 fn loaded<'a>(file: &'a [u8], last: u32, header: Header) -> Result<Option<Segment<'a>>, Refusal>
-    ensures { Reads (λ s. option_map seen s) result (loaded_at file.now last header) }
+    ensures { IsRead (λ s. option_map seen s) result (loaded_at file.now last header) }
 {
     match header.kind {
         DYNAMIC | INTERPRETER | THREAD_LOCAL => Err(Refusal::Dynamic),

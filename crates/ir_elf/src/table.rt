@@ -1,7 +1,7 @@
 //! Reading the table.
 
 ghost use Rattle.std.specs.Prelude.{◌≡◌, ◌≤◌, length, IfOk};
-ghost use Rattle.ir_bytes.specs.Reading.{Reads, field_at, fields_at};
+ghost use Rattle.ir_bytes.specs.Reading.{IsRead, field_at, fields_at};
 ghost use Rattle.ir_image.specs.Guest.{limits_of, most_code_words};
 ghost use Rattle.ir_elf.specs.declared.refusal.Refusal.TheVariants.{Table};
 ghost use Rattle.ir_elf.specs.Refusal.{Gives};
@@ -25,7 +25,7 @@ pub struct TableParts {
 // The form, and the bytes after its number.
 #[tactic(auto, unfolding(ir_bytes::specs::Reading::field_at))]
 fn form(bytes: &[u8]) -> Result<(u32, &[u8]), Refusal>
-    ensures { Reads (λ x. (x.0, x.1.now)) result (field_at Table form_field bytes.now) }
+    ensures { IsRead (λ x. (x.0, x.1.now)) result (field_at Table form_field bytes.now) }
 {
     let (number, rest) = word(bytes, Refusal::Table)?;
     if number == 1 || number == 2 {
@@ -49,7 +49,7 @@ fn form_of(number: u32) -> ImageForm
 // How many threads there are, and the bytes after their number.
 #[tactic(auto, unfolding(ir_bytes::specs::Reading::field_at))]
 fn threads(form: ImageForm, bytes: &[u8]) -> Result<(u32, &[u8]), Refusal>
-    ensures exact { Reads (λ x. (x.0, x.1.now)) result (field_at Table (threads_field form) bytes.now) }
+    ensures exact { IsRead (λ x. (x.0, x.1.now)) result (field_at Table (threads_field form) bytes.now) }
     ensures some { IfOk result (λ x. 1 ≤ x.0) }
     ensures few { IfOk result (λ x. x.0 ≤ (limits_of form).threads) }
     ensures taken { IfOk result (λ x. length x.1.now ≤ length bytes.now) }
@@ -66,7 +66,7 @@ fn threads(form: ImageForm, bytes: &[u8]) -> Result<(u32, &[u8]), Refusal>
 #[tactic(auto, unfolding(ir_bytes::specs::Reading::field_at))]
 fn entry(code: u32, bytes: &[u8]) -> Result<(u32, &[u8]), Refusal>
     requires { code ≤ most_code_words }
-    ensures { Reads (λ x. (x.0, x.1.now)) result (entry_at code bytes.now) }
+    ensures { IsRead (λ x. (x.0, x.1.now)) result (entry_at code bytes.now) }
 {
     let (entry, rest) = word(bytes, Refusal::Table)?;
     if entry % 4 == 0 && entry >= CODE_START && entry < CODE_START + 4 * code {

@@ -9,7 +9,7 @@ use Rattle.ir_thread.specs.State as thread
 use Rattle.ir_flat.specs.Flat.{idle}
 use Rattle.ir_runs.specs.Run.{Step}
 use Rattle.ir_fit.specs.Fit.{FittedTrace, HasRun, IsRunOf}
-use Rattle.ir_fit.proofs.CallerLemmas.{entries_rise, entries_long, entry_within}
+use Rattle.ir_fit.proofs.CallerLemmas.{entry_positions_rise, entries_as_many_as_events, entry_position_below_steps}
 use Rattle.ir_cut.specs.Positions.{cut_of}
 use Rattle.ir_weave.specs.Ahead.{thread_at}
 use Rattle.ir_weave.specs.Standing.{Standing, StandsAt, flat_in, positions}
@@ -17,56 +17,56 @@ use Rattle.ir_events.specs.Events.{entries_of, entry_of, pc_of, AreThreadPcs}
 use Rattle.ir_events.specs.Walk.{AreEnds, IsListed}
 
 -- before the first step
-pub listed_none : (f : FittedTrace) (t k : ℕ) → k ≡ 0 → IsListed f t k []
-listed_none f t k first = record {
+pub listed_before_first_step : (f : FittedTrace) (t k : ℕ) → k ≡ 0 → IsListed f t k []
+listed_before_first_step f t k first = record {
   few = omega arith;
   each = λ i l. absurd (omega (arith, l));
   ahead = λ i past l. omega (arith, first);
 }
 
 -- a later event has a later position
-later : (f : FittedTrace) → HasRun f → (t : ℕ) → t < length f.guest.entries → (i j : ℕ) → i ≤ j → j < length (entries_of f t)
+later_event_has_later_position : (f : FittedTrace) → HasRun f → (t : ℕ) → t < length f.guest.entries → (i j : ℕ) → i ≤ j → j < length (entries_of f t)
     → entry_of f t i ≤ entry_of f t j
-later f h t l i j up lj = elim (cases_eq j i) [
+later_event_has_later_position f h t l i j up lj = elim (cases_eq j i) [
   | inl same ↦ subst (λ n. entry_of f t i ≤ entry_of f t n) (sym same) (omega arith)
-  | inr ne ↦ let less = entries_rise f h t l i j (omega (arith, up, ne)) lj in omega (arith, less)
+  | inr ne ↦ let less = entry_positions_rise f h t l i j (omega (arith, up, ne)) lj in omega (arith, less)
 ]
 
 -- the thread has gone on, at most to the next event
-pub listed_on : (f : FittedTrace) (t k k' : ℕ) (pcs : List ℕ) → HasRun f → t < length f.guest.entries → IsListed f t k pcs
+pub listed_up_to_next_event : (f : FittedTrace) (t k k' : ℕ) (pcs : List ℕ) → HasRun f → t < length f.guest.entries → IsListed f t k pcs
     → (length pcs < length (entries_of f t) → k' ≤ entry_of f t (length pcs)) → IsListed f t k' pcs
-listed_on f t k k' pcs h l is within = record {
+listed_up_to_next_event f t k k' pcs h l is within = record {
   few = is.few;
   each = is.each;
-  ahead = λ i past li. let next = within (omega (arith, past, li)) in let up = later f h t l (length pcs) i past li in
+  ahead = λ i past li. let next = within (omega (arith, past, li)) in let up = later_event_has_later_position f h t l (length pcs) i past li in
       omega (arith, next, up);
 }
 
 -- the pc of a thread of the state
-pub pc_here : (f : FittedTrace) (s : Standing) (t k : ℕ) → StandsAt f (positions (flat_in f s)) s → positions (flat_in f s) t ≡ k
+pub pc_of_standing_thread : (f : FittedTrace) (s : Standing) (t k : ℕ) → StandsAt f (positions (flat_in f s)) s → positions (flat_in f s) t ≡ k
     → (run : List Step) → IsRunOf f.guest f.recorded run → (slice_index_or s.threads t idle).core.pc ≡ (thread_at f run t k).core.pc
-pc_here f s t k stands at run whole =
-    ap (λ (x : thread.State). x.core.pc) ((stands.at.each run whole).threads t ∙ ap (thread_at f run t) at)
+pc_of_standing_thread f s t k stands at run whole =
+    ap (λ (x : thread.ThreadState). x.core.pc) ((stands.at.each run whole).threads t ∙ ap (thread_at f run t) at)
 
 -- the next event, by a list of the positions
-pub next_within : (f : FittedTrace) (t i k : ℕ) (es pcs : List ℕ) → es ≡ entries_of f t → length pcs ≡ i → k ≤ slice_index es i
+pub position_at_most_next_event : (f : FittedTrace) (t i k : ℕ) (es pcs : List ℕ) → es ≡ entries_of f t → length pcs ≡ i → k ≤ slice_index es i
     → k ≤ entry_of f t (length pcs)
-next_within f t i k es pcs same size within = subst (λ (z : List ℕ × ℕ). k ≤ slice_index z.0 z.1) (λ j. (same j, sym size j)) within
+position_at_most_next_event f t i k es pcs same size within = subst (λ (z : List ℕ × ℕ). k ≤ slice_index z.0 z.1) (λ j. (same j, sym size j)) within
 
-entry_reached : (f : FittedTrace) (t i k : ℕ) (es pcs : List ℕ) → es ≡ entries_of f t → length pcs ≡ i → k ≡ slice_index es i
+position_is_next_event : (f : FittedTrace) (t i k : ℕ) (es pcs : List ℕ) → es ≡ entries_of f t → length pcs ≡ i → k ≡ slice_index es i
     → k ≡ entry_of f t (length pcs)
-entry_reached f t i k es pcs same size at = at ∙ (λ j. slice_index (same j) (sym size j))
+position_is_next_event f t i k es pcs same size at = at ∙ (λ j. slice_index (same j) (sym size j))
 
 -- one more pc
-pub one_longer : (i pc : ℕ) (pcs pcs' : List ℕ) → pcs' ≡ pcs ++ pc ∷ [] → length pcs ≡ i → length pcs' ≡ i + 1
-one_longer i pc pcs pcs' more size = let n = length-append pcs (pc ∷ []) in let same = ap (λ (xs : List ℕ). length xs) more in
+pub pc_count_after_one_added : (i pc : ℕ) (pcs pcs' : List ℕ) → pcs' ≡ pcs ++ pc ∷ [] → length pcs ≡ i → length pcs' ≡ i + 1
+pc_count_after_one_added i pc pcs pcs' more size = let n = length-append pcs (pc ∷ []) in let same = ap (λ (xs : List ℕ). length xs) more in
     omega (arith, n, same, size)
 
-added : (f : FittedTrace) (t k pc : ℕ) (pcs : List ℕ) (s : Standing) → HasRun f → t < length f.guest.entries
+listed_after_pc_added : (f : FittedTrace) (t k pc : ℕ) (pcs : List ℕ) (s : Standing) → HasRun f → t < length f.guest.entries
     → IsListed f t k pcs → length pcs < length (entries_of f t) → StandsAt f (positions (flat_in f s)) s
     → positions (flat_in f s) t ≡ entry_of f t (length pcs) → pc ≡ (slice_index_or s.threads t idle).core.pc
     → IsListed f t (positions (flat_in f s) t) (pcs ++ pc ∷ [])
-added f t k pc pcs s h l is more stands at here =
+listed_after_pc_added f t k pc pcs s h l is more stands at here =
     let size : length (pcs ++ pc ∷ []) ≡ length pcs + 1 = length-append pcs (pc ∷ []) in
     record {
       few = omega (arith, size, more);
@@ -75,32 +75,32 @@ added f t k pc pcs s h l is more stands at here =
         | inr past ↦
             let last : i ≡ length pcs = omega (arith, past, li, size) in
             subst (λ j. slice_index (pcs ++ pc ∷ []) j ≡ pc_of f run t j) (sym last)
-            (get_or-append_seam pcs pc [] 0 ∙ here ∙ pc_here f s t (entry_of f t (length pcs)) stands at run whole)
+            (get_or-append_seam pcs pc [] 0 ∙ here ∙ pc_of_standing_thread f s t (entry_of f t (length pcs)) stands at run whole)
       ];
-      ahead = λ i past li. let up = later f h t l (length pcs) i (omega (arith, past, size)) li in omega (arith, at, up);
+      ahead = λ i past li. let up = later_event_has_later_position f h t l (length pcs) i (omega (arith, past, size)) li in omega (arith, at, up);
     }
 
 -- the thread is at the next event, whose pc is added
-pub listed_more : (f : FittedTrace) (t i k pc : ℕ) (es pcs pcs' : List ℕ) (s : Standing) → HasRun f → t < length f.guest.entries
+pub listed_at_next_event : (f : FittedTrace) (t i k pc : ℕ) (es pcs pcs' : List ℕ) (s : Standing) → HasRun f → t < length f.guest.entries
     → IsListed f t k pcs → es ≡ entries_of f t → length pcs ≡ i → i < length es → StandsAt f (positions (flat_in f s)) s
     → positions (flat_in f s) t ≡ slice_index es i → pc ≡ (slice_index_or s.threads t idle).core.pc → pcs' ≡ pcs ++ pc ∷ []
     → IsListed f t (positions (flat_in f s) t) pcs'
-listed_more f t i k pc es pcs pcs' s h l is same size more stands at here made =
+listed_at_next_event f t i k pc es pcs pcs' s h l is same size more stands at here made =
     subst (IsListed f t (positions (flat_in f s) t)) (sym made)
-    (added f t k pc pcs s h l is (let n = ap (λ (xs : List ℕ). length xs) same in omega (arith, n, size, more)) stands
-    (entry_reached f t i (positions (flat_in f s) t) es pcs same size at) here)
+    (listed_after_pc_added f t k pc pcs s h l is (let n = ap (λ (xs : List ℕ). length xs) same in omega (arith, n, size, more)) stands
+    (position_is_next_event f t i (positions (flat_in f s) t) es pcs same size at) here)
 
 -- at the end of the thread no event is left
-pub listed_all : (f : FittedTrace) (ends : List ℕ) (t k : ℕ) (pcs : List ℕ) → AreEnds f ends → t < length f.guest.entries
+pub listed_are_thread_pcs_at_end : (f : FittedTrace) (ends : List ℕ) (t k : ℕ) (pcs : List ℕ) → AreEnds f ends → t < length f.guest.entries
     → IsListed f t k pcs → cut_of ends t ≤ k → AreThreadPcs f t pcs
-listed_all f ends t k pcs are l is done = record {
+listed_are_thread_pcs_at_end f ends t k pcs are l is done = record {
   size = elim (cases_lt (length pcs) (length (entries_of f t))) [
     | inl less ↦
         let left = is.ahead (length pcs) (omega arith) less in
-        let before = entry_within f are.run t l (length pcs) less in
+        let before = entry_position_below_steps f are.run t l (length pcs) less in
         let end = are.steps t l in
         absurd (omega (arith, left, before, end, done))
-    | inr all ↦ let few = is.few in let long = entries_long f are.run t l in omega (arith, few, all, long)
+    | inr all ↦ let few = is.few in let long = entries_as_many_as_events f are.run t l in omega (arith, few, all, long)
   ];
   each = is.each;
 }

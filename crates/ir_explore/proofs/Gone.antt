@@ -10,60 +10,60 @@ use Rattle.ir_explore.specs.declared.origin.Origin.{Origin}
 use Rattle.ir_explore.specs.Following.{Leading, Keeps, GoesTo}
 use Rattle.ir_explore.specs.Levels.{AllFollowed, AllOpen, AreWithin, AreAsked, Covered, AreGoneOver}
 use Rattle.ir_explore.specs.Origins.{BeginsAt, Adds}
-use Rattle.ir_explore.proofs.Opens.{bit_open, open_bit}
-use Rattle.ir_explore.proofs.Reached.{slice_less}
+use Rattle.ir_explore.proofs.Opens.{open_if_element_or_false_true, element_or_false_true_if_open}
+use Rattle.ir_explore.proofs.Reached.{place_of_element_is_below_length}
 
 -- whether node v is opened for thread t
-abbrev pub bits : List (List Bool) → ℕ → ℕ → Bool
-bits opened v t = get_or (get_or opened t []) v false
+abbrev pub is_opened_for : List (List Bool) → ℕ → ℕ → Bool
+is_opened_for opened v t = get_or (get_or opened t []) v false
 
-row_of : (opened : List (List Bool)) (t : ℕ) → t < length opened → slice_get opened t ≡ Some (get_or opened t [])
-row_of opened t l = slice_get-get_or opened t [] l
+row_below_length_is_element : (opened : List (List Bool)) (t : ℕ) → t < length opened → slice_get opened t ≡ Some (get_or opened t [])
+row_below_length_is_element opened t l = slice_get-get_or opened t [] l
 
-pub bits_open : (opened : List (List Bool)) (n threads t v : ℕ) → AllOpen opened 0 n threads → threads ≤ length opened → t < threads → v < n
-    → bits opened v t ≡ true
-bits_open opened n threads t v all wide l less =
-    open_bit (get_or opened t []) v (all t (get_or opened t []) l (row_of opened t (omega (arith, l, wide))) v (omega arith) less)
+pub opened_if_all_open : (opened : List (List Bool)) (n threads t v : ℕ) → AllOpen opened 0 n threads → threads ≤ length opened → t < threads → v < n
+    → is_opened_for opened v t ≡ true
+opened_if_all_open opened n threads t v all wide l less =
+    element_or_false_true_if_open (get_or opened t []) v (all t (get_or opened t []) l (row_below_length_is_element opened t (omega (arith, l, wide))) v (omega arith) less)
 
-pub bits_followed : (noted : ℕ → Leading) (opened : List (List Bool)) (t v : ℕ) → AllFollowed noted opened → t < length opened
-    → bits opened v t ≡ true → GoesTo (noted t) (λ w. bits opened w t ≡ true) v
-bits_followed noted opened t v all l is =
-    elim (all t (get_or opened t []) (row_of opened t l) v (bit_open (get_or opened t []) v is)) [
+pub opened_node_is_followed : (noted : ℕ → Leading) (opened : List (List Bool)) (t v : ℕ) → AllFollowed noted opened → t < length opened
+    → is_opened_for opened v t ≡ true → GoesTo (noted t) (λ w. is_opened_for opened w t ≡ true) v
+opened_node_is_followed noted opened t v all l is =
+    elim (all t (get_or opened t []) (row_below_length_is_element opened t l) v (open_if_element_or_false_true (get_or opened t []) v is)) [
       | inl none ↦ inl none
-      | inr s ↦ inr (s.0, s.1, open_bit (get_or opened t []) s.0 s.2)
+      | inr s ↦ inr (s.0, s.1, element_or_false_true_if_open (get_or opened t []) s.0 s.2)
     ]
 
-pub bits_within : (opened : List (List Bool)) (n t v : ℕ) → AreWithin opened n → t < length opened → bits opened v t ≡ true → v < n
-bits_within opened n t v within l is =
-    let a = within t (get_or opened t []) (row_of opened t l) in
-    let b = slice_less (get_or opened t []) v true (bit_open (get_or opened t []) v is) in
+pub opened_node_is_within : (opened : List (List Bool)) (n t v : ℕ) → AreWithin opened n → t < length opened → is_opened_for opened v t ≡ true → v < n
+opened_node_is_within opened n t v within l is =
+    let a = within t (get_or opened t []) (row_below_length_is_element opened t l) in
+    let b = place_of_element_is_below_length (get_or opened t []) v true (open_if_element_or_false_true (get_or opened t []) v is) in
     omega (arith, a, b)
 
-pub got : (xs : List Origin) (v : ℕ) → v < length xs → (n : Origin) × (slice_get xs v ≡ Some n)
-got [] v l = absurd (omega (arith, l))
-got (x ∷ xs) zero l = (x, refl)
-got (x ∷ xs) (suc v) l = got xs v (omega (arith, l))
+pub element_below_length_exists : (xs : List Origin) (v : ℕ) → v < length xs → (n : Origin) × (slice_get xs v ≡ Some n)
+element_below_length_exists [] v l = absurd (omega (arith, l))
+element_below_length_exists (x ∷ xs) zero l = (x, refl)
+element_below_length_exists (x ∷ xs) (suc v) l = element_below_length_exists xs v (omega (arith, l))
 
-goes_to_kept : (leading more : Leading) (Those : ℕ → Type 0) (v : ℕ) → Keeps leading more → GoesTo leading Those v → GoesTo more Those v
-goes_to_kept leading more Those v kept g = elim g [ inl none ↦ inl (kept v None none) | inr s ↦ inr (s.0, kept v (Some s.0) s.1, s.2) ]
+goes_to_if_notes_kept : (leading more : Leading) (Those : ℕ → Type 0) (v : ℕ) → Keeps leading more → GoesTo leading Those v → GoesTo more Those v
+goes_to_if_notes_kept leading more Those v kept g = elim g [ inl none ↦ inl (kept v None none) | inr s ↦ inr (s.0, kept v (Some s.0) s.1, s.2) ]
 
-pub covered_kept : (noted more : ℕ → Leading) (threads : ℕ) (nodes new : List Origin) (c : ℕ) → ((t : ℕ) → Keeps (noted t) (more t))
+pub covered_if_notes_kept : (noted more : ℕ → Leading) (threads : ℕ) (nodes new : List Origin) (c : ℕ) → ((t : ℕ) → Keeps (noted t) (more t))
     → ((v : ℕ) (n : Origin) → slice_get nodes v ≡ Some n → slice_get new v ≡ Some n) → Covered noted threads nodes c
     → Covered more threads new c
-covered_kept noted more threads nodes new c kept stays h = record {
+covered_if_notes_kept noted more threads nodes new c kept stays h = record {
   levels = h.levels;
   opens = h.opens;
   followed = λ k v t l few is.
-      goes_to_kept (noted t) (more t) (λ w. h.levels k w t ≡ true) v (kept t) (h.followed k v t l few is);
+      goes_to_if_notes_kept (noted t) (more t) (λ w. h.levels k w t ≡ true) v (kept t) (h.followed k v t l few is);
   turned = h.turned;
   within = λ k v t l few is. let n = h.within k v t l few is in (n.0, stays v n.0 n.1, n.2);
 }
 
-pub gone_kept : (noted more : ℕ → Leading) (threads : ℕ) (nodes new : List Origin) (number : ℕ) → ((t : ℕ) → Keeps (noted t) (more t))
+pub gone_over_if_notes_kept : (noted more : ℕ → Leading) (threads : ℕ) (nodes new : List Origin) (number : ℕ) → ((t : ℕ) → Keeps (noted t) (more t))
     → ((v : ℕ) (n : Origin) → slice_get nodes v ≡ Some n → slice_get new v ≡ Some n) → AreGoneOver noted threads nodes number
     → AreGoneOver more threads new number
-gone_kept noted more threads nodes new zero kept stays h = tt
-gone_kept noted more threads nodes new (suc c) kept stays h = covered_kept noted more threads nodes new c kept stays h
+gone_over_if_notes_kept noted more threads nodes new zero kept stays h = tt
+gone_over_if_notes_kept noted more threads nodes new (suc c) kept stays h = covered_if_notes_kept noted more threads nodes new c kept stays h
 
 -- What a level's end has in its rows: what is opened is followed and a node of these levels, and the nodes from the first to `until` are
 -- opened for each thread.
@@ -75,38 +75,38 @@ pub record LevelEnds (noted : ℕ → Leading) (threads : ℕ) (nodes : List Ori
   pub levels : (v : ℕ) (n : Origin) → slice_get nodes v ≡ Some n → n.level ≤ number
 
 module _ (noted : ℕ → Leading) (threads : ℕ) (nodes : List Origin) (opened : List (List Bool)) where
-  within_now : (until number : ℕ) → LevelEnds noted threads nodes opened until number → (v t : ℕ) → t < threads → bits opened v t ≡ true
+  within_now : (until number : ℕ) → LevelEnds noted threads nodes opened until number → (v t : ℕ) → t < threads → is_opened_for opened v t ≡ true
       → (n : Origin) × (slice_get nodes v ≡ Some n) × (n.level ≤ number)
   within_now until number h v t few is =
-      let n = got nodes v (bits_within opened (length nodes) t v h.within (let a = h.threads_are in omega (arith, a, few)) is) in
+      let n = element_below_length_exists nodes v (opened_node_is_within opened (length nodes) t v h.within (let a = h.threads_are in omega (arith, a, few)) is) in
       (n.0, n.1, h.levels v n.0 n.1)
 
   pub covered_start : (until : ℕ) → LevelEnds noted threads nodes opened until 0 → 0 < until → Covered noted threads nodes 0
   covered_start until h some = record {
-    levels = λ k. bits opened;
-    opens = λ t few. bits_open opened until threads t 0 h.opens (let a = h.threads_are in omega (arith, a)) few some;
-    followed = λ k v t l few is. bits_followed noted opened t v h.followed (let a = h.threads_are in omega (arith, a, few)) is;
+    levels = λ k. is_opened_for opened;
+    opens = λ t few. opened_if_all_open opened until threads t 0 h.opens (let a = h.threads_are in omega (arith, a)) few some;
+    followed = λ k v t l few is. opened_node_is_followed noted opened t v h.followed (let a = h.threads_are in omega (arith, a, few)) is;
     turned = λ k v t u few other is l. absurd (omega (arith, l));
     within = λ k v t l few is. let n = within_now until 0 h v t few is in (n.0, n.1, let a = n.2 in omega (arith, a));
   }
 
-  up_to : (levels : ℕ → ℕ → ℕ → Bool) (c k v t : ℕ) → k ≤ c → more_levels levels c (bits opened) k v t ≡ levels k v t
-  up_to levels c k v t l = ap (λ b. cond b (levels k v t) (bits opened v t)) (le-leb k c l)
+  up_to : (levels : ℕ → ℕ → ℕ → Bool) (c k v t : ℕ) → k ≤ c → more_levels levels c (is_opened_for opened) k v t ≡ levels k v t
+  up_to levels c k v t l = ap (λ b. cond b (levels k v t) (is_opened_for opened v t)) (le-leb k c l)
 
-  above : (levels : ℕ → ℕ → ℕ → Bool) (c k v t : ℕ) → c < k → more_levels levels c (bits opened) k v t ≡ bits opened v t
+  above : (levels : ℕ → ℕ → ℕ → Bool) (c k v t : ℕ) → c < k → more_levels levels c (is_opened_for opened) k v t ≡ is_opened_for opened v t
   above levels c k v t l =
       let no : leb k c ≡ false = elim (leb_tells k c) [ inl p ↦ absurd (let h = p.1 in omega (arith, h, l)) | inr p ↦ p.0 ] in
-      ap (λ b. cond b (levels k v t) (bits opened v t)) no
+      ap (λ b. cond b (levels k v t) (is_opened_for opened v t)) no
 
   -- a level more: what was opened by the end of the one before is below `until`
   pub covered_more : (until c : ℕ) → (h : Covered noted threads nodes c) → LevelEnds noted threads nodes opened until (suc c)
       → ((v t : ℕ) → t < threads → h.levels c v t ≡ true → v < until) → Covered noted threads nodes (suc c)
   covered_more until c h now less = record {
-    levels = more_levels h.levels c (bits opened);
+    levels = more_levels h.levels c (is_opened_for opened);
     opens = λ t few. up_to h.levels c 0 0 t (omega arith) ∙ h.opens t few;
     followed = λ k v t l few is. elim (cases_lt c k) [
       | inl high ↦
-          elim (bits_followed noted opened t v now.followed (let a = now.threads_are in omega (arith, a, few))
+          elim (opened_node_is_followed noted opened t v now.followed (let a = now.threads_are in omega (arith, a, few))
           (sym (above h.levels c k v t high) ∙ is)) [
             | inl none ↦ inl none
             | inr s ↦ inr (s.0, s.1, above h.levels c k s.0 t high ∙ s.2)
@@ -125,7 +125,7 @@ module _ (noted : ℕ → Leading) (threads : ℕ) (nodes : List Origin) (opened
           let was : h.levels c v t ≡ true =
           subst (λ z. h.levels z v t ≡ true) same (sym (up_to h.levels c k v t (omega (arith, l))) ∙ is) in
           above h.levels c (suc k) v u (omega (arith, high))
-          ∙ bits_open opened until threads u v now.opens (let a = now.threads_are in omega (arith, a)) other (less v t few was)
+          ∙ opened_if_all_open opened until threads u v now.opens (let a = now.threads_are in omega (arith, a)) other (less v t few was)
     ];
     within = λ k v t l few is. elim (cases_lt c k) [
       | inl high ↦
@@ -139,28 +139,28 @@ module _ (noted : ℕ → Leading) (threads : ℕ) (nodes : List Origin) (opened
       → length nodes ≡ size → AreAsked noted threads size
   asked_all until number h all size same v t less few =
       let l : t < length opened = (let a = h.threads_are in omega (arith, a, few)) in
-      elim (bits_followed noted opened t v h.followed l
-      (bits_open opened until threads t v h.opens (let a = h.threads_are in omega (arith, a)) few (omega (arith, less, all, same)))) [
+      elim (opened_node_is_followed noted opened t v h.followed l
+      (opened_if_all_open opened until threads t v h.opens (let a = h.threads_are in omega (arith, a)) few (omega (arith, less, all, same)))) [
         | inl none ↦ inl none
-        | inr s ↦ inr (s.0, s.1, let a = bits_within opened (length nodes) t s.0 h.within l s.2 in omega (arith, a, same))
+        | inr s ↦ inr (s.0, s.1, let a = opened_node_is_within opened (length nodes) t s.0 h.within l s.2 in omega (arith, a, same))
       ]
 
 -- one more level is gone over
-pub gone_more : (noted more : ℕ → Leading) (threads : ℕ) (nodes new : List Origin) (opened : List (List Bool)) (number : ℕ)
+pub gone_over_after_level : (noted more : ℕ → Leading) (threads : ℕ) (nodes new : List Origin) (opened : List (List Bool)) (number : ℕ)
     → ((t : ℕ) → Keeps (noted t) (more t)) → Adds number nodes new → AreGoneOver noted threads nodes number → 0 < length nodes
     → LevelEnds more threads new opened (length nodes) number → AreGoneOver more threads new (suc number)
-unfolding covered_kept
-gone_more noted more threads nodes new opened zero kept adds gone some now = covered_start more threads new opened (length nodes) now some
-gone_more noted more threads nodes new opened (suc c) kept adds gone some now =
-    covered_more more threads new opened (length nodes) c (covered_kept noted more threads nodes new c kept adds.stays gone) now
-    (λ v t few is. let n = gone.within c v t (omega arith) few is in slice_less nodes v n.0 n.1)
+unfolding covered_if_notes_kept
+gone_over_after_level noted more threads nodes new opened zero kept adds gone some now = covered_start more threads new opened (length nodes) now some
+gone_over_after_level noted more threads nodes new opened (suc c) kept adds gone some now =
+    covered_more more threads new opened (length nodes) c (covered_if_notes_kept noted more threads nodes new c kept adds.stays gone) now
+    (λ v t few is. let n = gone.within c v t (omega arith) few is in place_of_element_is_below_length nodes v n.0 n.1)
 
 -- the levels of the nodes, once these were added
-pub levels_more : (k : ℕ) (nodes new : List Origin) → ((v : ℕ) (n : Origin) → slice_get nodes v ≡ Some n → n.level ≤ k) → Adds k nodes new
+pub node_levels_after_adds : (k : ℕ) (nodes new : List Origin) → ((v : ℕ) (n : Origin) → slice_get nodes v ≡ Some n → n.level ≤ k) → Adds k nodes new
     → (v : ℕ) (n : Origin) → slice_get new v ≡ Some n → n.level ≤ k
-levels_more k nodes new old adds v n is = elim (cases_lt v (length nodes)) [
+node_levels_after_adds k nodes new old adds v n is = elim (cases_lt v (length nodes)) [
   | inl low ↦
-      let m = got nodes v low in
+      let m = element_below_length_exists nodes v low in
       let a = old v m.0 m.1 in
       let same : m.0 ≡ n = same_Some m.0 n (sym (adds.stays v m.0 m.1) ∙ is) in
       subst (λ z. z.level ≤ k) same a
@@ -168,19 +168,19 @@ levels_more k nodes new old adds v n is = elim (cases_lt v (length nodes)) [
 ]
 
 -- the next level's nodes are those that were added
-pub next_level : (k : ℕ) (nodes new : List Origin) → Adds k nodes new → (v : ℕ) → length nodes ≤ v → v < length new → BeginsAt new (suc k) v
-next_level k nodes new adds v low less = let n = got new v less in (n.0, n.1, adds.level v n.0 low n.1)
+pub added_nodes_begin_next_level : (k : ℕ) (nodes new : List Origin) → Adds k nodes new → (v : ℕ) → length nodes ≤ v → v < length new → BeginsAt new (suc k) v
+added_nodes_begin_next_level k nodes new adds v low less = let n = element_below_length_exists new v less in (n.0, n.1, adds.level v n.0 low n.1)
 
 -- no row at first
-pub no_row : (threads t : ℕ) (row : List Bool) → slice_get (replicate threads []) t ≡ Some row → row ≡ []
-no_row zero t row e = absurd (cc e)
-no_row (suc threads) zero row e = sym (same_Some [] row e)
-no_row (suc threads) (suc t) row e = no_row threads t row e
+pub row_of_empty_rows_is_empty : (threads t : ℕ) (row : List Bool) → slice_get (replicate threads []) t ≡ Some row → row ≡ []
+row_of_empty_rows_is_empty zero t row e = absurd (cc e)
+row_of_empty_rows_is_empty (suc threads) zero row e = sym (same_Some [] row e)
+row_of_empty_rows_is_empty (suc threads) (suc t) row e = row_of_empty_rows_is_empty threads t row e
 
 -- what is gone over up to a level is gone over up to each one before
-pub covered_less : (noted : ℕ → Leading) (threads : ℕ) (nodes : List Origin) (c d : ℕ) → d ≤ c → Covered noted threads nodes c
+pub covered_up_to_lower_level : (noted : ℕ → Leading) (threads : ℕ) (nodes : List Origin) (c d : ℕ) → d ≤ c → Covered noted threads nodes c
     → Covered noted threads nodes d
-covered_less noted threads nodes c d less h = record {
+covered_up_to_lower_level noted threads nodes c d less h = record {
   levels = h.levels;
   opens = h.opens;
   followed = λ k v t l. h.followed k v t (omega (arith, l, less));
@@ -188,7 +188,7 @@ covered_less noted threads nodes c d less h = record {
   within = λ k v t l. h.within k v t (omega (arith, l, less));
 }
 
-pub gone_less : (noted : ℕ → Leading) (threads : ℕ) (nodes : List Origin) (n d : ℕ) → d < n → AreGoneOver noted threads nodes n
+pub covered_below_gone_over_level : (noted : ℕ → Leading) (threads : ℕ) (nodes : List Origin) (n d : ℕ) → d < n → AreGoneOver noted threads nodes n
     → Covered noted threads nodes d
-gone_less noted threads nodes zero d less h = absurd (omega (arith, less))
-gone_less noted threads nodes (suc c) d less h = covered_less noted threads nodes c d (omega (arith, less)) h
+covered_below_gone_over_level noted threads nodes zero d less h = absurd (omega (arith, less))
+covered_below_gone_over_level noted threads nodes (suc c) d less h = covered_up_to_lower_level noted threads nodes c d (omega (arith, less)) h

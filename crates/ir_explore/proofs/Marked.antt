@@ -3,30 +3,30 @@ use Rattle.std.proofs.Common.{◌≡◌, ℕ, ◌+◌, ◌<◌, ◌≤◌, Bool,
 use Rattle.std.proofs.lemmas.Bool.{cases_eq}
 use Rattle.ir_explore.specs.Following.{Leading, IsOpen, StaysOpen}
 use Rattle.ir_explore.specs.Ways.{shut, IsBefore, IsMarkedBack, Leads, HasMarked}
-use Rattle.ir_explore.proofs.Opens.{shut_less, stays_more, opens_only}
-use Rattle.ir_explore.proofs.Reached.{slice_less}
+use Rattle.ir_explore.proofs.Opens.{shut_less_after_opening, stays_open_through_opening, open_after_opening_cases}
+use Rattle.ir_explore.proofs.Reached.{place_of_element_is_below_length}
 
-pub way_here : (noted : ℕ → Leading) (threads : ℕ) (marks : List Bool) (v : ℕ) → IsOpen marks v → HasMarked noted threads marks v
-way_here noted threads marks v is = (slice_less marks v true is, [], v, refl, is)
+pub open_node_has_marked : (noted : ℕ → Leading) (threads : ℕ) (marks : List Bool) (v : ℕ) → IsOpen marks v → HasMarked noted threads marks v
+open_node_has_marked noted threads marks v is = (place_of_element_is_below_length marks v true is, [], v, refl, is)
 
-pub way_step : (noted : ℕ → Leading) (threads : ℕ) (marks : List Bool) (v t w : ℕ) → v < length marks → t < threads
+pub has_marked_step : (noted : ℕ → Leading) (threads : ℕ) (marks : List Bool) (v t w : ℕ) → v < length marks → t < threads
     → noted t v ≡ Some (Some w) → HasMarked noted threads marks w → HasMarked noted threads marks v
-way_step noted threads marks v t w less few is (l, ts, x, path, open_at) = (less, t ∷ ts, x, (w, few, is, l, path), open_at)
+has_marked_step noted threads marks v t w less few is (l, ts, x, path, open_at) = (less, t ∷ ts, x, (w, few, is, l, path), open_at)
 
 -- a way to what has a way
-pub way_through : (noted : ℕ → Leading) (threads : ℕ) (old new : List Bool) → length new ≡ length old
+pub has_marked_through_new_marks : (noted : ℕ → Leading) (threads : ℕ) (old new : List Bool) → length new ≡ length old
     → ((v : ℕ) → IsOpen new v → HasMarked noted threads old v) → (v : ℕ) → HasMarked noted threads new v → HasMarked noted threads old v
-way_through noted threads old new same ways v (l, ts, w, path, is) = by ts v l path
+has_marked_through_new_marks noted threads old new same ways v (l, ts, w, path, is) = by ts v l path
   where
     by : (ts : List ℕ) (v : ℕ) → v < length new → Leads noted threads (length new) v ts w → HasMarked noted threads old v
     by [] v l path = subst (HasMarked noted threads old) (sym path) (ways w is)
     by (t ∷ ts) v l (x, few, to, less, path) =
-        way_step noted threads old v t x (omega (arith, l, same)) few to (by ts x less path)
+        has_marked_step noted threads old v t x (omega (arith, l, same)) few to (by ts x less path)
 
 -- who has a way is marked, where marks are passed on back
-pub way_marked : (noted : ℕ → Leading) (threads : ℕ) (old new : List Bool) → length new ≡ length old → StaysOpen old new
+pub node_with_way_is_marked_back : (noted : ℕ → Leading) (threads : ℕ) (old new : List Bool) → length new ≡ length old → StaysOpen old new
     → IsMarkedBack noted threads new → (v : ℕ) → HasMarked noted threads old v → IsOpen new v
-way_marked noted threads old new same stays back v (l, ts, w, path, is) = by ts v l path
+node_with_way_is_marked_back noted threads old new same stays back v (l, ts, w, path, is) = by ts v l path
   where
     by : (ts : List ℕ) (v : ℕ) → v < length old → Leads noted threads (length old) v ts w → IsOpen new v
     by [] v l path = subst (IsOpen new) (sym path) (stays w is)
@@ -45,24 +45,24 @@ pub sweep_starts : (noted : ℕ → Leading) (threads : ℕ) (marks : List Bool)
 sweep_starts noted threads marks = record {
   nodes = refl;
   stays = λ v is. is;
-  ways = λ v is. way_here noted threads marks v is;
+  ways = λ v is. open_node_has_marked noted threads marks v is;
   most = omega arith;
   less = λ is. absurd (true≢false (sym is));
   back = λ same v low less. absurd (omega (arith, low, less));
 }
 
 -- a node is marked
-pub sweep_marks : (noted : ℕ → Leading) (threads : ℕ) (old marks : List Bool) (changed : Bool) (k node : ℕ) (d : Bool)
+pub sweep_marks_node : (noted : ℕ → Leading) (threads : ℕ) (old marks : List Bool) (changed : Bool) (k node : ℕ) (d : Bool)
     → Sweeping noted threads old marks changed k → node < length marks → get_or marks node d ≡ false → IsBefore noted threads marks node
     → Sweeping noted threads old (slice_set marks node true) true (k + 1)
-sweep_marks noted threads old marks changed k node d s l unmarked (t, w, few, to, is) =
-    let fewer = shut_less marks node d l unmarked in record {
+sweep_marks_node noted threads old marks changed k node d s l unmarked (t, w, few, to, is) =
+    let fewer = shut_less_after_opening marks node d l unmarked in record {
       nodes = length-set marks node true ∙ s.nodes;
-      stays = stays_more old marks node l s.stays;
-      ways = λ v now. elim (opens_only marks node v now) [
+      stays = stays_open_through_opening old marks node l s.stays;
+      ways = λ v now. elim (open_after_opening_cases marks node v now) [
         | inl before ↦ s.ways v before
         | inr same ↦ subst (HasMarked noted threads old) (sym same)
-            (way_step noted threads old node t w (let a = s.nodes in omega (arith, a, l)) few to (s.ways w is))
+            (has_marked_step noted threads old node t w (let a = s.nodes in omega (arith, a, l)) few to (s.ways w is))
       ];
       most = let a = s.most in omega (arith, a, fewer);
       less = λ _. let a = s.most in omega (arith, a, fewer);
@@ -70,10 +70,10 @@ sweep_marks noted threads old marks changed k node d s l unmarked (t, w, few, to
     }
 
 -- a node stays as it is
-pub sweep_stays : (noted : ℕ → Leading) (threads : ℕ) (old marks : List Bool) (changed : Bool) (k node : ℕ)
+pub sweep_leaves_node : (noted : ℕ → Leading) (threads : ℕ) (old marks : List Bool) (changed : Bool) (k node : ℕ)
     → Sweeping noted threads old marks changed k → node + (k + 1) ≡ length marks → (IsBefore noted threads marks node → IsOpen marks node)
     → Sweeping noted threads old marks changed (k + 1)
-sweep_stays noted threads old marks changed k node s here is = record {
+sweep_leaves_node noted threads old marks changed k node s here is = record {
   nodes = s.nodes;
   stays = s.stays;
   ways = s.ways;

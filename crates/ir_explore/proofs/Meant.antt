@@ -14,49 +14,49 @@ use Rattle.ir_explore.specs.Levels.{AreAsked, Covered}
 use Rattle.ir_explore.specs.Meaning.{Means, Steps}
 use Rattle.ir_explore.specs.Origins.{Goes, BeginsAt, first_origin, AreReached, LeadsBy}
 use Rattle.ir_explore.specs.Ways.{Leads, HasMarked}
-use Rattle.ir_explore.proofs.Reached.{slice_less}
-use Rattle.ir_explore.proofs.Gone.{got}
+use Rattle.ir_explore.proofs.Reached.{place_of_element_is_below_length}
+use Rattle.ir_explore.proofs.Gone.{element_below_length_exists}
 
 -- one thread's turn at an order's end is a switch at most
-same_changes : (t n : ℕ) → changes t (replicate n t) ≡ 0
-same_changes t zero = refl
-same_changes t (suc n) = ap (λ b. cond b (changes t (replicate n t)) (suc (changes t (replicate n t)))) (eq-eqb t t refl) ∙ same_changes t n
+changes_of_replicated_thread : (t n : ℕ) → changes t (replicate n t) ≡ 0
+changes_of_replicated_thread t zero = refl
+changes_of_replicated_thread t (suc n) = ap (λ b. cond b (changes t (replicate n t)) (suc (changes t (replicate n t)))) (eq-eqb t t refl) ∙ changes_of_replicated_thread t n
 
-turn_changes : (t : ℕ) (ts : List ℕ) (u n : ℕ) → changes t (ts ++ replicate n u) ≤ suc (changes t ts)
-turn_changes t [] u zero = omega arith
-turn_changes t [] u (suc n) = elim (cases_eq u t) [
+changes_after_repeated_turn : (t : ℕ) (ts : List ℕ) (u n : ℕ) → changes t (ts ++ replicate n u) ≤ suc (changes t ts)
+changes_after_repeated_turn t [] u zero = omega arith
+changes_after_repeated_turn t [] u (suc n) = elim (cases_eq u t) [
   | inl same ↦
       let e = ap (λ b. cond b (changes t (replicate n u)) (suc (changes u (replicate n u)))) (eq-eqb u t same) in
-      let none : changes t (replicate n u) ≡ 0 = subst (λ z. changes t (replicate n z) ≡ 0) (sym same) (same_changes t n) in
+      let none : changes t (replicate n u) ≡ 0 = subst (λ z. changes t (replicate n z) ≡ 0) (sym same) (changes_of_replicated_thread t n) in
       omega (arith, e, none)
   | inr other ↦
       let e = ap (λ b. cond b (changes t (replicate n u)) (suc (changes u (replicate n u)))) (ne_eqb u t other) in
-      let none = same_changes u n in
+      let none = changes_of_replicated_thread u n in
       omega (arith, e, none)
 ]
-turn_changes t (v ∷ ts) u n = elim (cases_eq v t) [
+changes_after_repeated_turn t (v ∷ ts) u n = elim (cases_eq v t) [
   | inl same ↦
       let p = eq-eqb v t same in
       let e = ap (λ b. cond b (changes t (ts ++ replicate n u)) (suc (changes v (ts ++ replicate n u)))) p in
       let f = ap (λ b. cond b (changes t ts) (suc (changes v ts))) p in
-      let h = turn_changes t ts u n in
+      let h = changes_after_repeated_turn t ts u n in
       omega (arith, e, f, h)
   | inr other ↦
       let p = ne_eqb v t other in
       let e = ap (λ b. cond b (changes t (ts ++ replicate n u)) (suc (changes v (ts ++ replicate n u)))) p in
       let f = ap (λ b. cond b (changes t ts) (suc (changes v ts))) p in
-      let h = turn_changes v ts u n in
+      let h = changes_after_repeated_turn v ts u n in
       omega (arith, e, f, h)
 ]
 
-pub turn_switches : (ts : List ℕ) (u n : ℕ) → switches (ts ++ replicate n u) ≤ suc (switches ts)
-turn_switches [] u zero = omega arith
-turn_switches [] u (suc n) = let h = same_changes u n in omega (arith, h)
-turn_switches (t ∷ ts) u n = turn_changes t ts u n
+pub switches_after_repeated_turn : (ts : List ℕ) (u n : ℕ) → switches (ts ++ replicate n u) ≤ suc (switches ts)
+switches_after_repeated_turn [] u zero = omega arith
+switches_after_repeated_turn [] u (suc n) = let h = changes_of_replicated_thread u n in omega (arith, h)
+switches_after_repeated_turn (t ∷ ts) u n = changes_after_repeated_turn t ts u n
 
-pub alone_switches : (u n : ℕ) → switches (replicate n u) ≤ 0
-alone_switches u zero = omega arith
-alone_switches u (suc n) = let h = same_changes u n in omega (arith, h)
+pub switches_of_replicated_thread : (u n : ℕ) → switches (replicate n u) ≤ 0
+switches_of_replicated_thread u zero = omega arith
+switches_of_replicated_thread u (suc n) = let h = changes_of_replicated_thread u n in omega (arith, h)
 
 module _ {T : Type 0} (m : Machine T) (answers : Answers T) (Alike : State T → State T → Type 0) (s : State T) (state_of : ℕ → State T)
     (noted : ℕ → Leading) (threads size : ℕ) (means : Means m answers Alike s state_of noted threads size) where
@@ -79,19 +79,19 @@ module _ {T : Type 0} (m : Machine T) (answers : Answers T) (Alike : State T →
         replicate n.entries n.thread,
         (n, is, refl),
         goes_path n.thread n.entries 0 v some goes,
-        alone_switches n.thread n.entries,
+        switches_of_replicated_thread n.thread n.entries,
       )
   node_order nodes reached all some (suc k) v n is same =
       let r = reached v n is in
       let before : BeginsAt nodes (suc k) n.from = subst (λ z. BeginsAt nodes z n.from) same r.0 in
       let from = node_order nodes reached all some k n.from before.0 before.1 before.2 in
-      let l : n.from < size = (let h = slice_less nodes n.from before.0 before.1 in omega (arith, h, all)) in
+      let l : n.from < size = (let h = place_of_element_is_below_length nodes n.from before.0 before.1 in omega (arith, h, all)) in
       let goes = subst (λ z. Goes (noted n.thread) z n.from n.entries v) all r.1 in (
         from.0 ++ replicate n.entries n.thread,
         (n, is, from.0, from.1, refl),
         path_append (Steps m state_of noted size) 0 n.from v from.0 (replicate n.entries n.thread) from.2
             (goes_path n.thread n.entries n.from v l goes),
-        let a = turn_switches from.0 n.thread n.entries in let b = from.3 in omega (arith, a, b),
+        let a = switches_after_repeated_turn from.0 n.thread n.entries in let b = from.3 in omega (arith, a, b),
       )
 
   -- where each thread was asked at each node, the search is finished
@@ -110,7 +110,7 @@ module _ {T : Type 0} (m : Machine T) (answers : Answers T) (Alike : State T →
       | inr many ↦ absurd (means.idle v l e many can)
     ];
     reached = λ v l.
-        let n = got nodes v (omega (arith, l, all)) in
+        let n = element_below_length_exists nodes v (omega (arith, l, all)) in
         let o = node_order nodes reached all some n.0.level v n.0 n.1 refl in
         (o.0, o.2);
   }
@@ -149,7 +149,7 @@ module _ {T : Type 0} (m : Machine T) (answers : Answers T) (Alike : State T →
       → length nodes ≤ size → Covers m answers Alike s state_of (Opened nodes c h) 0 c
   covered_covers nodes c h first wide =
       let inside : (v : ℕ) (n : Origin) → slice_get nodes v ≡ Some n → v < size =
-      λ v n is. (let a = slice_less nodes v n is in omega (arith, a, wide)) in record {
+      λ v n is. (let a = place_of_element_is_below_length nodes v n is in omega (arith, a, wide)) in record {
         begins = means.begins;
         opens = λ t. (omega arith, (first_origin, first, omega arith), λ u few same. h.opens u few);
         at_rest = λ k t v o. means.at_rest v (inside v o.1.0 o.1.1);

@@ -38,7 +38,7 @@ pub struct Searched {
 }
 
 // No node is opened.
-#[tactic(auto, using(crate::proofs::Rows::empty_pushed))]
+#[tactic(auto, using(crate::proofs::Rows::rows_of_pushed_empty_row))]
 fn no_rows(alloc: Global, threads: usize) -> Result<Vec<Vec<bool>>, AllocError>
     ensures { IfOk result (λ opened. rows opened.items ≡ replicate threads []) }
 {

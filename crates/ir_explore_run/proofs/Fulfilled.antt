@@ -7,8 +7,8 @@ use Rattle.std.proofs.lemmas.List.Folds.{list_all-map}
 use Rattle.ir_chaos.specs.Conditions as conditions
 use Rattle.ir_chaos.specs.Conditions.{Condition, as_condition, fulfils}
 use Rattle.ir_chaos.specs.declared.condition.Condition as declared
-use Rattle.ir_explore.proofs.CallerLemmas.{slice_less}
-use Rattle.ir_flat.proofs.CallerLemmas.{threads_length, cells_length}
+use Rattle.ir_explore.proofs.CallerLemmas.{place_of_element_is_below_length}
+use Rattle.ir_flat.proofs.CallerLemmas.{length_of_start_threads, length_of_start_cells}
 use Rattle.ir_flat.specs.Flat.{Flat, IsFlat, idle, empty, thread_of, cell_of, tables}
 use Rattle.ir_graph.specs.Outcomes.{outcome_of}
 use Rattle.ir_graph.specs.Reached.{IsReached}
@@ -23,30 +23,30 @@ use Rattle.ir_explore_run.specs.Conditions.{first_of, seen_outcome, fulfils_each
 -- ---- the outcome of a state
 
 -- what f gives of each element
-map_first : {A B : Type 0} (f : A → B) (xs : List A) (d : A) → map f xs ≡ first_of (length xs) (λ k. f (get_or xs k d))
-map_first f [] d = refl
-map_first f (x ∷ xs) d = ap (λ z. f x ∷ z) (map_first f xs d)
+map_is_first_of : {A B : Type 0} (f : A → B) (xs : List A) (d : A) → map f xs ≡ first_of (length xs) (λ k. f (get_or xs k d))
+map_is_first_of f [] d = refl
+map_is_first_of f (x ∷ xs) d = ap (λ z. f x ∷ z) (map_is_first_of f xs d)
 
-own_first : (xs : List ℕ) → xs ≡ first_of (length xs) (λ k. get_or xs k 0)
-own_first [] = refl
-own_first (x ∷ xs) = ap (λ z. x ∷ z) (own_first xs)
+list_is_first_of : (xs : List ℕ) → xs ≡ first_of (length xs) (λ k. get_or xs k 0)
+list_is_first_of [] = refl
+list_is_first_of (x ∷ xs) = ap (λ z. x ∷ z) (list_is_first_of xs)
 
 -- the words of objects that have as many each
-words_first : (n : ℕ) (cells : List Cell) → ((o : ℕ) → o < length cells → length (get_or cells o empty).words ≡ n)
+object_words_are_first_of : (n : ℕ) (cells : List Cell) → ((o : ℕ) → o < length cells → length (get_or cells o empty).words ≡ n)
     → map (λ (c : Cell). c.words) cells ≡ first_of (length cells) (λ o. first_of n (λ k. get_or (get_or cells o empty).words k 0))
-words_first n [] all = refl
-words_first n (c ∷ cells) all = λ i.
-    (own_first c.words ∙ ap (λ m. first_of m (λ k. get_or c.words k 0)) (all 0 (omega arith))) i
-    ∷ words_first n cells (λ o l. all (suc o) (omega (arith, l))) i
+object_words_are_first_of n [] all = refl
+object_words_are_first_of n (c ∷ cells) all = λ i.
+    (list_is_first_of c.words ∙ ap (λ m. first_of m (λ k. get_or c.words k 0)) (all 0 (omega arith))) i
+    ∷ object_words_are_first_of n cells (λ o l. all (suc o) (omega (arith, l))) i
 
 -- what threads and objects came to is their outcome as conditions see it
 pub outcome_is_seen : (guest : Guest) (f : Flat) → length f.threads ≡ length guest.entries → length f.objects ≡ object_count guest
     → ((o : ℕ) → o < length f.objects → length (cell_of f o).words ≡ most_object_words)
     → conditions.outcome_of f ≡ seen_outcome guest (outcome_of (tables f))
 outcome_is_seen guest f threads objects words = λ i. record {
-  ends = (map_first (λ x. x.ended) f.threads idle ∙ ap (λ n. first_of n (λ t. (thread_of f t).ended)) threads) i;
-  outputs = (map_first (λ x. x.output) f.threads idle ∙ ap (λ n. first_of n (λ t. (thread_of f t).output)) threads) i;
-  words = (words_first most_object_words f.objects words
+  ends = (map_is_first_of (λ x. x.ended) f.threads idle ∙ ap (λ n. first_of n (λ t. (thread_of f t).ended)) threads) i;
+  outputs = (map_is_first_of (λ x. x.output) f.threads idle ∙ ap (λ n. first_of n (λ t. (thread_of f t).output)) threads) i;
+  words = (object_words_are_first_of most_object_words f.objects words
       ∙ ap (λ n. first_of n (λ o. first_of most_object_words (slice_index (cell_of f o).words))) objects) i;
 }
 
@@ -54,26 +54,26 @@ pub outcomes_decide : OutcomesDecide
 outcomes_decide guest c f threads objects words = ap (fulfils c) (outcome_is_seen guest f threads objects words)
 
 -- whether a state's outcome fulfils each condition
-pub reached_fulfils : (guest : Guest) (cs : List Condition) (f : Flat) → IsReached guest f → IsFlat f
+pub reached_state_fulfils_as_outcome : (guest : Guest) (cs : List Condition) (f : Flat) → IsReached guest f → IsFlat f
     → list_all (λ c. fulfils c (conditions.outcome_of f)) cs ≡ fulfils_each guest cs (outcome_of (tables f))
-reached_fulfils guest cs f reached flat =
+reached_state_fulfils_as_outcome guest cs f reached flat =
     ap (λ z. list_all (λ c. fulfils c z) cs)
-    (outcome_is_seen guest f (reached.like.threads ∙ threads_length guest most_budget One 0 (length guest.entries))
-    (reached.like.objects ∙ cells_length guest 0 (object_count guest)) (λ o l. (flat.objects o l).words))
+    (outcome_is_seen guest f (reached.like.threads ∙ length_of_start_threads guest most_budget One 0 (length guest.entries))
+    (reached.like.objects ∙ length_of_start_cells guest 0 (object_count guest)) (λ o l. (flat.objects o l).words))
 
 -- the same of conditions as the code has them
-pub holds_of : (guest : Guest) (cs : List declared.Condition) (f : Flat) → IsReached guest f → IsFlat f
+pub reached_state_fulfils_declared_conditions : (guest : Guest) (cs : List declared.Condition) (f : Flat) → IsReached guest f → IsFlat f
     → list_all (λ c. fulfils (as_condition c) (conditions.outcome_of f)) cs ≡ fulfils_each guest (map as_condition cs) (outcome_of (tables f))
-holds_of guest cs f reached flat = sym (list_all-map (λ x. fulfils x (conditions.outcome_of f)) as_condition cs)
-    ∙ reached_fulfils guest (map as_condition cs) f reached flat
+reached_state_fulfils_declared_conditions guest cs f reached flat = sym (list_all-map (λ x. fulfils x (conditions.outcome_of f)) as_condition cs)
+    ∙ reached_state_fulfils_as_outcome guest (map as_condition cs) f reached flat
 
 -- ---- what the list says of runs
 
 -- none that is listed fulfils them
-pub none_more : (guest : Guest) (cs : List Condition) (flats : List Flat) (outcomes : List Shown) (n : ℕ) (x : Shown) (f : Flat)
+pub none_before_step : (guest : Guest) (cs : List Condition) (flats : List Flat) (outcomes : List Shown) (n : ℕ) (x : Shown) (f : Flat)
     → NoneBefore guest cs flats outcomes n → IsAt flats outcomes n x f → fulfils_each guest cs (outcome_of (tables f)) ≡ false
     → NoneBefore guest cs flats outcomes (suc n)
-none_more guest cs flats outcomes n x f before at not i y g less there = elim (cases_lt i n) [
+none_before_step guest cs flats outcomes n x f before at not i y g less there = elim (cases_lt i n) [
   | inl l ↦ before i y g l there
   | inr m ↦
       let place : i ≡ n = omega (arith, less, m) in
@@ -86,24 +86,24 @@ none_more guest cs flats outcomes n x f before at not i y g less there = elim (c
     same e = cc e
 
 -- no run of few switches does
-pub none_within : (guest : Guest) (cs : List Condition) (flats : List Flat) (outcomes : List Shown) (levels : ℕ)
+pub never_within_if_none_before : (guest : Guest) (cs : List Condition) (flats : List Flat) (outcomes : List Shown) (levels : ℕ)
     → AreExplored guest flats levels outcomes → NoneBefore guest cs flats outcomes (length outcomes) → NeverWithin guest cs levels
-none_within guest cs flats outcomes levels e none answers budget steps counted less =
+never_within_if_none_before guest cs flats outcomes levels e none answers budget steps counted less =
     let h = e.covered (switches_by guest budget steps) less answers budget steps counted (omega arith) in
-    ap (fulfils_each guest cs) (sym h.4) ∙ none h.0 h.1 h.2 (slice_less outcomes h.0 h.1 h.3.0) h.3
+    ap (fulfils_each guest cs) (sym h.4) ∙ none h.0 h.1 h.2 (place_of_element_is_below_length outcomes h.0 h.1 h.3.0) h.3
 
 -- if all are listed, no run does
-pub none_ever : (guest : Guest) (cs : List Condition) (flats : List Flat) (outcomes : List Shown) → AreAll guest flats outcomes
+pub never_fulfils_if_none_before : (guest : Guest) (cs : List Condition) (flats : List Flat) (outcomes : List Shown) → AreAll guest flats outcomes
     → NoneBefore guest cs flats outcomes (length outcomes) → NeverFulfils guest cs
-none_ever guest cs flats outcomes all none x is =
+never_fulfils_if_none_before guest cs flats outcomes all none x is =
     let h = (all x).0 is in
-    ap (fulfils_each guest cs) (sym h.4) ∙ none h.0 h.1 h.2 (slice_less outcomes h.0 h.1 h.3.0) h.3
+    ap (fulfils_each guest cs) (sym h.4) ∙ none h.0 h.1 h.2 (place_of_element_is_below_length outcomes h.0 h.1 h.3.0) h.3
 
 -- before the first that does, no run of fewer switches does
-pub none_fewer : (guest : Guest) (cs : List Condition) (flats : List Flat) (outcomes : List Shown) (levels place : ℕ) (x : Shown)
+pub never_within_level_of_first : (guest : Guest) (cs : List Condition) (flats : List Flat) (outcomes : List Shown) (levels place : ℕ) (x : Shown)
     → AreExplored guest flats levels outcomes → slice_get outcomes place ≡ Some x → NoneBefore guest cs flats outcomes place
     → NeverWithin guest cs x.level
-none_fewer guest cs flats outcomes levels place x e at none answers budget steps counted less =
+never_within_level_of_first guest cs flats outcomes levels place x e at none answers budget steps counted less =
     let most = e.most place x at in
     let h = e.covered (switches_by guest budget steps) (omega (arith, less, most)) answers budget steps counted (omega arith) in
     let few : h.1.level ≤ switches_by guest budget steps = e.fewest h.0 h.1 h.2 h.3 answers budget steps counted (sym h.4) in

@@ -4,14 +4,14 @@ use Rattle.std.specs.Prelude.{◌≢◌, Ok}
 use Rattle.std.specs.List.{AllByRecursion}
 use Rattle.std.proofs.lemmas.Bool.{cases_lt}
 use Rattle.ir_chaos.specs.Conditions.{Condition}
-use Rattle.ir_flat.proofs.CallerLemmas.{start_idle}
+use Rattle.ir_flat.proofs.CallerLemmas.{guest_start_is_idle}
 use Rattle.ir_flat.specs.Flat.{Flat, tables}
 use Rattle.ir_graph.specs.Nodes.{told}
 use Rattle.ir_graph.specs.Outcomes.{outcome_of}
 use Rattle.ir_graph.specs.Reached.{beginning}
 use Rattle.ir_image.specs.Guest.{Guest}
 use Rattle.ir_image.specs.Reading.{guest_at}
-use Rattle.ir_order.proofs.CallerLemmas.{complete_runs, recordings_of_run}
+use Rattle.ir_order.proofs.CallerLemmas.{complete_runs_have_steps, recordings_are_of_the_run}
 use Rattle.ir_order.specs.Spelling.{Spells}
 use Rattle.ir_outcomes.specs.Again.{steps_of}
 use Rattle.ir_outcomes.specs.Explored.{IsAt, AreExplored}
@@ -20,7 +20,7 @@ use Rattle.ir_outcomes.specs.declared.shown.Shown.{Shown}
 use Rattle.ir_record.specs.Recording.{order_of_turns}
 use Rattle.ir_record.specs.Worlds.{answers_in}
 use Rattle.ir_record_run.specs.Recording.{IsRecordedOf}
-use Rattle.ir_runs.proofs.CallerLemmas.{stays_idle}
+use Rattle.ir_runs.proofs.CallerLemmas.{idle_after_step}
 use Rattle.ir_runs.specs.Machine.{Label, Quiet, Answer, In, Refused, Out, target, Admits}
 use Rattle.ir_runs.specs.Machine as machine
 use Rattle.ir_runs.specs.Run.{State, Step, IsRun, after, log}
@@ -34,40 +34,40 @@ use Rattle.ir_thread.specs.declared.profile.Profile.TheVariants.{One}
 use Rattle.ir_trace.specs.Recorded.{Recorded}
 use Rattle.ir_explore_run.specs.Conditions.{fulfils_each, NoneBefore}
 use Rattle.ir_explore_run.specs.Until.{recording, IsHit, IsHitText, IsFinding}
-use Rattle.ir_explore_run.proofs.Fulfilled.{none_fewer}
+use Rattle.ir_explore_run.proofs.Fulfilled.{never_within_level_of_first}
 
 -- a log that fits whatever the world answers has no answer of it
-no_answers : (entries : List Label) → ((answers : List ℕ) → Gives told answers entries) → answers_in entries ≡ []
-no_answers [] all = refl
-no_answers (Quiet ∷ es) all = no_answers es all
-no_answers (Answer kind value ∷ es) all = absurd (cc (sym (all (0 ∷ [])).0 ∙ (all (1 ∷ [])).0))
-no_answers (In o a v l ∷ es) all = no_answers es all
-no_answers (Refused o ∷ es) all = no_answers es all
-no_answers (Out o a v ∷ es) all = no_answers es all
+answers_empty_if_log_fits_all : (entries : List Label) → ((answers : List ℕ) → Gives told answers entries) → answers_in entries ≡ []
+answers_empty_if_log_fits_all [] all = refl
+answers_empty_if_log_fits_all (Quiet ∷ es) all = answers_empty_if_log_fits_all es all
+answers_empty_if_log_fits_all (Answer kind value ∷ es) all = absurd (cc (sym (all (0 ∷ [])).0 ∙ (all (1 ∷ [])).0))
+answers_empty_if_log_fits_all (In o a v l ∷ es) all = answers_empty_if_log_fits_all es all
+answers_empty_if_log_fits_all (Refused o ∷ es) all = answers_empty_if_log_fits_all es all
+answers_empty_if_log_fits_all (Out o a v ∷ es) all = answers_empty_if_log_fits_all es all
 
 -- who steps is one of the guest's threads
-steps_below : (code : List ℕ) (n : ℕ) (s : State thread.State) (order : List ℕ) → IsIdle (thread_machine code) s n
+run_steps_are_of_threads : (code : List ℕ) (n : ℕ) (s : State thread.ThreadState) (order : List ℕ) → IsIdle (thread_machine code) s n
     → IsRun (thread_machine code) s (steps_of order) → AllByRecursion (λ t. t < n) order
-steps_below code n s [] rest ok = tt
-steps_below code n s (t ∷ order) rest ok = (
+run_steps_are_of_threads code n s [] rest ok = tt
+run_steps_are_of_threads code n s (t ∷ order) rest ok = (
   elim (cases_lt t n) [
     | inl l ↦ l
     | inr g ↦ absurd (subst (λ q. Admits (thread_machine code) (machine.act_of q 0) (s.objects (target (machine.act_of q 0))))
         (rest t g) ok.0)
   ],
-  steps_below code n (after (thread_machine code) s (t, 0)) order (stays_idle (thread_machine code) s n rest (t, 0) ok.0) ok.1,
+  run_steps_are_of_threads code n (after (thread_machine code) s (t, 0)) order (idle_after_step (thread_machine code) s n rest (t, 0) ok.0) ok.1,
 )
 
 -- an order of a complete run isn't empty
-pub some_order : (guest : Guest) (f : Flat) (level : ℕ) (order : List ℕ) → 1 ≤ length guest.entries → IsShown guest f level order → order ≢ []
-some_order guest f level order some s none =
-    complete_runs guest most_budget One (steps_of order) some (s.counted (λ t. [])).complete.1 (ap (λ o. map (λ (e : Step). e.0) (steps_of o)) none)
+pub shown_order_is_not_empty : (guest : Guest) (f : Flat) (level : ℕ) (order : List ℕ) → 1 ≤ length guest.entries → IsShown guest f level order → order ≢ []
+shown_order_is_not_empty guest f level order some s none =
+    complete_runs_have_steps guest most_budget One (steps_of order) some (s.counted (λ t. [])).complete.1 (ap (λ o. map (λ (e : Step). e.0) (steps_of o)) none)
 
 -- the run by the order of an outcome that fulfils each condition
-pub hit_of : (guest : Guest) (cs : List Condition) (flats : List Flat) (outcomes : List Shown) (levels place : ℕ) (x : Shown) (f : Flat) (list : List ℕ)
+pub is_hit_if_shown_outcome_fulfils : (guest : Guest) (cs : List Condition) (flats : List Flat) (outcomes : List Shown) (levels place : ℕ) (x : Shown) (f : Flat) (list : List ℕ)
     → AreExplored guest flats levels outcomes → IsAt flats outcomes place x f → NoneBefore guest cs flats outcomes place
     → fulfils_each guest cs (outcome_of (tables f)) ≡ true → Spells list (order_of_turns x.turns.items) → IsHit guest cs x.level list
-hit_of guest cs flats outcomes levels place x f list e at none does spells =
+is_hit_if_shown_outcome_fulfils guest cs flats outcomes levels place x f list e at none does spells =
     let order = order_of_turns x.turns.items in
     let s : IsShown guest f x.level order = e.shown place x f at in
     let run = steps_of order in
@@ -76,28 +76,28 @@ hit_of guest cs flats outcomes levels place x f list e at none does spells =
     let few = s.few in record {
       order = order;
       spelled = spells (length guest.entries)
-          (steps_below guest.code (length guest.entries) (beginning guest) order (start_idle guest most_budget One) counted.complete.0);
+          (run_steps_are_of_threads guest.code (length guest.entries) (beginning guest) order (guest_start_is_idle guest most_budget One) counted.complete.0);
       run = run;
       counted = s.counted;
       planned = record {
         by_order = s.by_order;
         answered = λ t l. subst (IsAnswered (origin_of true 0 [] t))
-            (sym (no_answers (log (thread_machine guest.code) (beginning guest) run t) (λ answers. (s.counted (λ u. answers)).answered t)))
+            (sym (answers_empty_if_log_fits_all (log (thread_machine guest.code) (beginning guest) run t) (λ answers. (s.counted (λ u. answers)).answered t)))
             (source (origin_of true 0 [] t).seed (origin_of true 0 [] t).file, refl);
       };
       fulfilled = ap (fulfils_each guest cs) s.same ∙ does;
       switched = omega (arith, least, few);
-      fewest = none_fewer guest cs flats outcomes levels place x e at.0 none;
+      fewest = never_within_level_of_first guest cs flats outcomes levels place x e at.0 none;
     }
 
 -- a recording by the list is of the run that was found
-pub finding : (image : List ℕ) (cs : List Condition) (list text : List ℕ) (trace : Recorded) (outputs : List (List ℕ)) (guest : Guest)
+pub recording_of_hit_is_finding : (image : List ℕ) (cs : List Condition) (list text : List ℕ) (trace : Recorded) (outputs : List (List ℕ)) (guest : Guest)
     → guest_at image ≡ Ok guest → IsHitText guest cs list text → IsRecordedOf image (recording (Some list)) trace outputs
     → IsFinding image cs list text trace outputs
-finding image cs list text trace outputs guest is found r = record {
+recording_of_hit_is_finding image cs list text trace outputs guest is found r = record {
   guest = guest;
   is = is;
   found = found;
-  recorded = recordings_of_run image guest (recording (Some list)) list found.hit.order found.hit.run trace outputs is refl found.hit.spelled
+  recorded = recordings_are_of_the_run image guest (recording (Some list)) list found.hit.order found.hit.run trace outputs is refl found.hit.spelled
       found.hit.planned r;
 }

@@ -4,30 +4,30 @@ use Rattle.std.specs.Prelude.{slice_get, flat_map}
 use Rattle.std.proofs.lemmas.List.{length-drop, take_all, append-nil}
 use Rattle.std.proofs.lemmas.Grind.{flat_map-append}
 use Rattle.std.proofs.lemmas.Option.{same_Some}
-use Rattle.ir_explore.proofs.CallerLemmas.{pushed_cases}
+use Rattle.ir_explore.proofs.CallerLemmas.{slice_get_after_push_cases}
 use Rattle.ir_flat.specs.Flat.{Flat}
 use Rattle.ir_outcomes.specs.Explored.{IsAt}
 use Rattle.ir_outcomes.specs.declared.shown.Shown.{Shown}
 use Rattle.ir_explore_run.specs.Texts.{Objects, IsOutcomeText, AreTexts}
 
 -- what is left of bytes, where that is no more than a line
-pub last_line_of : (bytes : List ℕ) (k : ℕ) → length bytes - k ≤ 32 → take (length bytes - k) (drop k bytes) ≡ take 32 (drop k bytes)
-last_line_of bytes k few =
+pub last_line_takes_all_left : (bytes : List ℕ) (k : ℕ) → length bytes - k ≤ 32 → take (length bytes - k) (drop k bytes) ≡ take 32 (drop k bytes)
+last_line_takes_all_left bytes k few =
     let size = length-drop k bytes in
     take_all (length bytes - k) (drop k bytes) (omega (arith, size)) ∙ sym (take_all 32 (drop k bytes) (omega (arith, size, few)))
 
 -- the lines of no outcome
-pub no_texts : (o : Objects) (flats : List Flat) (outcomes : List Shown) → AreTexts o flats outcomes 0 []
-no_texts o flats outcomes = record { texts = []; count = refl; each = λ i x f own at is. absurd (cc is); joined = refl }
+pub texts_of_no_outcome : (o : Objects) (flats : List Flat) (outcomes : List Shown) → AreTexts o flats outcomes 0 []
+texts_of_no_outcome o flats outcomes = record { texts = []; count = refl; each = λ i x f own at is. absurd (cc is); joined = refl }
 
 -- those of one more
-pub texts_more : (o : Objects) (flats : List Flat) (outcomes : List Shown) (many : ℕ) (text own : List ℕ) (x : Shown) (f : Flat)
+pub texts_after_outcome : (o : Objects) (flats : List Flat) (outcomes : List Shown) (many : ℕ) (text own : List ℕ) (x : Shown) (f : Flat)
     → AreTexts o flats outcomes many text → IsAt flats outcomes many x f → IsOutcomeText o f (suc many) x own
     → AreTexts o flats outcomes (many + 1) (text ++ own)
-texts_more o flats outcomes many text own x f t at is = record {
+texts_after_outcome o flats outcomes many text own x f t at is = record {
   texts = t.texts ++ own ∷ [];
   count = let a = length-append t.texts (own ∷ []) in let b = t.count in omega (arith, a, b);
-  each = λ i y g other there here. elim (pushed_cases t.texts own i other here) [
+  each = λ i y g other there here. elim (slice_get_after_push_cases t.texts own i other here) [
     | inl old ↦ t.each i y g other there old
     | inr p ↦
         let place : i ≡ many = p.0 ∙ t.count in

@@ -8,12 +8,12 @@ use Rattle.ir_explore_run.specs.Conditions.{IsFirst}
 use Rattle.ir_explore_run.specs.Texts.{Known, AreKnown, IsKnownText}
 use Rattle.ir_explore_run.specs.Until.{IsSought, IsVain}
 use Rattle.ir_explore_run.specs.declared.plan.ExplorePlan.{ExplorePlan}
-use Rattle.ir_explore_run.proofs.Fulfilled.{none_within, none_ever}
+use Rattle.ir_explore_run.proofs.Fulfilled.{never_within_if_none_before, never_fulfils_if_none_before}
 
 -- what was found out up to a number of switches that is the plan's, or is all
-known_by : (guest : Guest) (plan : ExplorePlan) (n : ℕ) (k : Known) → AreKnown guest (record plan { switches = n }) k
+known_at_plan_switches : (guest : Guest) (plan : ExplorePlan) (n : ℕ) (k : Known) → AreKnown guest (record plan { switches = n }) k
     → (k.ended ≡ Covered → n ≡ plan.switches) → AreKnown guest plan k
-known_by guest plan n k a last = record {
+known_at_plan_switches guest plan n k a last = record {
   explored = a.explored;
   all = a.all;
   reached = a.reached;
@@ -24,25 +24,25 @@ known_by guest plan n k a last = record {
 }
 
 -- after the last search
-pub sought_by : (guest : Guest) (plan : ExplorePlan) (cs : List Condition) (n : ℕ) (k : Known) (found : Option ℕ)
+pub sought_after_last_search : (guest : Guest) (plan : ExplorePlan) (cs : List Condition) (n : ℕ) (k : Known) (found : Option ℕ)
     → AreKnown guest (record plan { switches = n }) k → IsFirst guest cs k.flats k.outcomes found
     → (found ≡ None → k.ended ≡ Covered → n ≡ plan.switches) → IsSought guest plan cs k found
-sought_by guest plan cs n k found a first last = record {
+sought_after_last_search guest plan cs n k found a first last = record {
   explored = a.explored;
   reached = a.reached;
   first = first;
-  whole = λ none. known_by guest plan n k a (last none);
+  whole = λ none. known_at_plan_switches guest plan n k a (last none);
 }
 
 -- none was found
-pub vain_of : (guest : Guest) (plan : ExplorePlan) (cs : List Condition) (k : Known) (answered : ExitStatus) (text : List ℕ)
+pub vain_text_if_none_found : (guest : Guest) (plan : ExplorePlan) (cs : List Condition) (k : Known) (answered : ExitStatus) (text : List ℕ)
     → IsSought guest plan cs k None → IsKnownText guest k answered text → IsVain guest plan cs text
-vain_of guest plan cs k answered text s printed = let a = s.whole refl in record {
+vain_text_if_none_found guest plan cs k answered text s printed = let a = s.whole refl in record {
   known = k;
   are = a;
   answered = answered;
   printed = printed;
   none = s.first;
-  never = λ e. none_ever guest cs k.flats k.outcomes (a.all e) s.first;
-  within = none_within guest cs k.flats k.outcomes k.levels a.explored s.first;
+  never = λ e. never_fulfils_if_none_before guest cs k.flats k.outcomes (a.all e) s.first;
+  within = never_within_if_none_before guest cs k.flats k.outcomes k.levels a.explored s.first;
 }

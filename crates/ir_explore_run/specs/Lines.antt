@@ -1,7 +1,7 @@
 -- The lines of `ir explore`.
 use Rattle.std.specs.Prelude.{ℕ, zero, suc, ◌*◌, List, [], ◌∷◌, ◌++◌, codes, decimal, length, take, drop, flat_map, Option, Some, None}
 use Rattle.hex.specs.Hex.{encode_lower}
-use Rattle.ir_thread.specs.State.{end_number, end_code, State}
+use Rattle.ir_thread.specs.State.{end_number, end_code, ThreadState}
 use Rattle.ir_thread.specs.declared.end.End.{End}
 use Rattle.ir_text.specs.Texts.{hex_word, lines_for}
 use Rattle.ir_explore.specs.declared.search.Ended.{Ended}
@@ -39,7 +39,7 @@ code_of None = 0
 code_of (Some e) = end_code e
 
 -- the lines of a thread
-abbrev pub thread_text : ℕ → State → List ℕ
+abbrev pub thread_text : ℕ → ThreadState → List ℕ
 thread_text t s = thread_line t (number_of s.ended) (code_of s.ended) (length s.output)
     ++ byte_lines s.output (lines_for 32 (length s.output))
 

@@ -19,12 +19,12 @@ use Rattle.ir_outcomes.specs.Hang.{IsOrder}
 use Rattle.ir_outcomes.specs.declared.explored.Explored.{Explored}
 use Rattle.ir_outcomes.specs.declared.shown.Shown.{Shown}
 use Rattle.ir_record.specs.Recording.{order_of_turns}
-use Rattle.ir_thread.specs.State.{State}
+use Rattle.ir_thread.specs.State.{ThreadState}
 use Rattle.ir_explore_run.specs.declared.plan.ExplorePlan.{ExplorePlan}
 use Rattle.ir_explore_run.specs.Lines.{outcome_line, thread_text, object_line, hang_line, ended_text, counts_text, hangs_text, last_line}
 
 -- the lines of the first n threads
-abbrev pub threads_text : List State → ℕ → List ℕ
+abbrev pub threads_text : List ThreadState → ℕ → List ℕ
 threads_text threads zero = []
 threads_text threads (suc n) = threads_text threads n ++ thread_text n (slice_index_or threads n idle)
 

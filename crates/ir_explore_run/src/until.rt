@@ -28,7 +28,7 @@ use crate::seek::{Sought, seek};
 use ir_files::{ExitStatus, OutputSink, WholeSink, tell};
 use ir_image::Image;
 use ir_object::OpenGate;
-use ir_record_run::{ParsedImage, RecordFault, RecordPlan, record_run};
+use ir_record_run::{ParsedImage, RecordFault, RecordFiles, RecordPlan, Recording, record_run};
 use ir_stream::{Sink, write_all};
 use ir_thread::{MOST_BUDGET, Profile};
 use ir_trace::Trace;
@@ -155,8 +155,7 @@ pub fn explore_until<R, W, P, O, E>(
     rt: &R,
     image: &ParsedImage<'_>,
     plan: &UntilPlan<'_>,
-    trace: &mut W,
-    outputs: &mut P,
+    files: &mut RecordFiles<W, P>,
     out: &mut O,
     faults: &mut E,
 ) -> Result<Trace, ExitStatus>
@@ -166,34 +165,34 @@ where
     P: OutputSink,
     O: Sink,
     E: Sink,
-    requires writes { W.broken trace.old ≡ false }
-    requires puts { P.broken outputs.old ≡ false }
+    requires writes { W.broken files.old.trace ≡ false }
+    requires puts { P.broken files.old.outputs ≡ false }
     requires prints { O.broken out.old ≡ false }
     requires reports { E.broken faults.old ≡ false }
     // The outcomes up to the first that fulfils each condition were written, and of the run that is told of that one its trace, what its threads
     // printed, and their lines. No fault is reported.
     ensures found { IfOk result (λ recorded. (text list : List ℕ) × (printed : List (List ℕ)) × IsFinding image.now (map as_condition plan.now.conditions.now) list text recorded printed
-        × Appends (W.written trace.old) (W.written trace.new) (encoding recorded)
-        × TookEach (output_writer_of (P.taken outputs.old) (P.taken outputs.new) (P.broken outputs.new)) printed
+        × Appends (W.written files.old.trace) (W.written files.new.trace) (encoding recorded)
+        × TookEach (output_writer_of (P.taken files.old.outputs) (P.taken files.new.outputs) (P.broken files.new.outputs)) printed
         × Appends (O.written out.old) (O.written out.new) (text ++ lines_of recorded)) }
-    ensures whole { OnOk result (W.whole trace.new ≡ true) }
+    ensures whole { OnOk result (W.whole files.new.trace ≡ true) }
     ensures quiet { OnOk result (faults.new ≡ faults.old) }
     // Else there is none, which is written and nothing else; or nothing is, or that failed; or what was found is told, and its recording stopped.
-    ensures stopped { IfErr result (λ status. ((status ≡ NotSo) × (trace.new ≡ trace.old) × (outputs.new ≡ outputs.old) × (faults.new ≡ faults.old)
+    ensures stopped { IfErr result (λ status. ((status ≡ NotSo) × (files.new.trace ≡ files.old.trace) × (files.new.outputs ≡ files.old.outputs) × (faults.new ≡ faults.old)
         × ((text : List ℕ) × IsUntil image.now plan.now.explore (map as_condition plan.now.conditions.now) None text × Appends (O.written out.old) (O.written out.new) text))
-        ⊎ (((e : ExploreFault) × (status ≡ fault_status e) × (trace.new ≡ trace.old) × (outputs.new ≡ outputs.old)
+        ⊎ (((e : ExploreFault) × (status ≡ fault_status e) × (files.new.trace ≡ files.old.trace) × (files.new.outputs ≡ files.old.outputs)
         × HasNoAnswer e image.now plan.now.explore (map as_condition plan.now.conditions.now) (writer_of (O.written out.old) (O.written out.new) (O.broken out.new))
         × Reports (writer_of (E.written faults.old) (E.written faults.new) (E.broken faults.new)) (fault_text (fault_words e)))
         ⊎ ((e : RecordFault) × (status ≡ recorded.fault_status e) × (text list : List ℕ) × (said : O)
         × IsUntil image.now plan.now.explore (map as_condition plan.now.conditions.now) (Some list) text
         × Appends (O.written out.old) (O.written said) text
-        × IsReported e image.now (recording (Some list)) (unwritten_of (W.called trace.new) (W.cause trace.new)) (unwritten_of (P.called outputs.new) (P.cause outputs.new))
+        × IsReported e image.now (recording (Some list)) (unwritten_of (W.called files.new.trace) (W.cause files.new.trace)) (unwritten_of (P.called files.new.outputs) (P.cause files.new.outputs))
         (writer_of (E.written faults.old) (E.written faults.new) (E.broken faults.new))
         × Stops e image.now (recording (Some list))
-        (writer_of (W.written trace.old) (W.written trace.new) (W.broken trace.new))
-        (output_writer_of (P.taken outputs.old) (P.taken outputs.new) (P.broken outputs.new))
+        (writer_of (W.written files.old.trace) (W.written files.new.trace) (W.broken files.new.trace))
+        (output_writer_of (P.taken files.old.outputs) (P.taken files.new.outputs) (P.broken files.new.outputs))
         (writer_of (O.written said) (O.written out.new) (O.broken out.new))
-        ((trace.new ≡ trace.old) × (outputs.new ≡ outputs.old) × (out.new ≡ said)) ((outputs.new ≡ outputs.old) × (out.new ≡ said)) (out.new ≡ said)))) }
+        ((files.new.trace ≡ files.old.trace) × (files.new.outputs ≡ files.old.outputs) × (out.new ≡ said)) ((files.new.outputs ≡ files.old.outputs) × (out.new ≡ said)) (out.new ≡ said)))) }
 {
     let list = match tell_sought(rt.alloc(), image, plan, out) {
         Ok(Some(list)) => list,
@@ -204,6 +203,7 @@ where
         }
     };
     let how = recording(Some(list.as_str()));
-    let recorded = record_run(rt, &OpenGate, image, &how, trace, outputs, out, faults)?;
+    let recording = Recording { image, plan: &how };
+    let recorded = record_run(rt, &OpenGate, &recording, files, out, faults)?;
     Ok(recorded)
 }

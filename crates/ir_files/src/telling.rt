@@ -56,7 +56,7 @@ fn put_each<E: Sink>(faults: &mut E, text: &[u8]) -> Result<(), DeviceErr>
 }
 
 // Writes a text, a question mark for each control character.
-#[tactic(auto, using(crate::proofs::Shown::plain_shown))]
+#[tactic(auto, using(crate::proofs::Shown::shown_of_plain_text))]
 fn put_shown<E: Sink>(faults: &mut E, text: &str) -> Result<(), DeviceErr>
     ensures ok { OnOk result (Appends (E.written faults.old) (E.written faults.new) (shown text.now)) }
     ensures prefix { OnErr result (AppendsPrefix (E.written faults.old) (E.written faults.new) (shown text.now)) }

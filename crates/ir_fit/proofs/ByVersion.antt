@@ -8,7 +8,7 @@ use Rattle.std.proofs.lemmas.List.Sorted.{IsPermutation-refl}
 use Rattle.ir_runs.specs.declared.access.Access.{Access}
 use Rattle.ir_runs.specs.declared.access.Access.TheVariants.{Reading, Writing}
 use Rattle.ir_runs.specs.Run.{join_if}
-use Rattle.ir_runs.proofs.CallerLemmas.{join_append}
+use Rattle.ir_runs.proofs.CallerLemmas.{join_if_of_append}
 use Rattle.ir_log.specs.declared.event.Event.{Event}
 use Rattle.ir_log.specs.declared.event.Event.TheVariants.{Answer, Read, Write, Try}
 use Rattle.ir_fit.specs.Visits.{Visit, left_by, of_threads, enter_if, entered_by, same_access, picked, Listing, listed, AddsAll, AreSorted, IsInOrder, none_listed, IsListing}
@@ -17,12 +17,12 @@ use Rattle.ir_fit.specs.declared.place.Place.{Place}
 
 -- ---- the steps at one version of a list in the order of versions
 
-rest_is : (xs : List Place) (i : ℕ) → take (length xs - i) (drop i xs) ≡ drop i xs
-rest_is xs i = take_all (length xs - i) (drop i xs) (omega (arith, length-drop i xs))
+take_all_of_drop : (xs : List Place) (i : ℕ) → take (length xs - i) (drop i xs) ≡ drop i xs
+take_all_of_drop xs i = take_all (length xs - i) (drop i xs) (omega (arith, length-drop i xs))
 
-rest_rises : (xs : List Place) (i : ℕ) → IsNonDecreasingBy (λ (p : Place). p.version) xs
+drop_is_non_decreasing : (xs : List Place) (i : ℕ) → IsNonDecreasingBy (λ (p : Place). p.version) xs
     → IsNonDecreasingBy (λ (p : Place). p.version) (drop i xs)
-rest_rises xs i up j k d le l = rw (get_or-drop i xs j d, get_or-drop i xs k d)
+drop_is_non_decreasing xs i up j k d le l = rw (get_or-drop i xs j d, get_or-drop i xs k d)
     (up (i + j) (i + k) d (omega (arith, le)) (omega (arith, l, length-drop i xs)))
 
 -- where those before version v end, and where those at it end
@@ -32,9 +32,9 @@ IsBefore xs v i = IsPartitionPoint (λ (p : Place). p.version < v) (λ p. v ≤ 
 abbrev pub IsUpTo : List Place → ℕ → ℕ → Type 0
 IsUpTo xs v n = IsPartitionPoint (λ (p : Place). p.version ≤ v) (λ p. v < p.version) xs n
 
-only_at : (xs : List Place) (i n v : ℕ) → n ≤ length (drop i xs) → IsBefore xs v i → IsUpTo (drop i xs) v n → (p : Place)
+range_holds_only_version : (xs : List Place) (i n v : ℕ) → n ≤ length (drop i xs) → IsBefore xs v i → IsUpTo (drop i xs) v n → (p : Place)
     → Contains (take n (drop i xs)) p → Contains xs p × (p.version ≡ v)
-only_at xs i n v le first second p h =
+range_holds_only_version xs i n v le first second p h =
     let k : ℕ = h.0 in
     let kn : k < n = omega (arith, h.1, length-take-le n (drop i xs) le) in
     let here : get_or (drop i xs) k p ≡ p = sym (get_or-take n (drop i xs) k p kn) ∙ h.2 in
@@ -44,9 +44,9 @@ only_at xs i n v le first second p h =
     let high : p.version ≤ v = subst (λ (y : Place). y.version ≤ v) here (second.0 k p (omega arith) kn) in
     ((i + k, within, there), omega (arith, low, high))
 
-all_at : (xs : List Place) (i n v : ℕ) → n ≤ length (drop i xs) → IsBefore xs v i → IsUpTo (drop i xs) v n → (p : Place) → Contains xs p
+range_holds_all_of_version : (xs : List Place) (i n v : ℕ) → n ≤ length (drop i xs) → IsBefore xs v i → IsUpTo (drop i xs) v n → (p : Place) → Contains xs p
     → p.version ≡ v → Contains (take n (drop i xs)) p
-all_at xs i n v le first second p h e = elim (cases_lt h.0 i) [
+range_holds_all_of_version xs i n v le first second p h e = elim (cases_lt h.0 i) [
   | inl l ↦ absurd (let low = subst (λ (y : Place). y.version < v) h.2 (first.0 h.0 p (omega arith) l) in omega (arith, low, e))
   | inr from ↦
       let j : ℕ = h.0 - i in
@@ -60,28 +60,28 @@ all_at xs i n v le first second p h e = elim (cases_lt h.0 i) [
 ]
 
 -- the steps between are those at the version
-pub at_version : (xs ys : List Place) (i n v : ℕ) → xs ≡ ys → n ≤ length (take (length xs - i) (drop i xs)) → IsBefore xs v i
+pub range_is_exactly_version : (xs ys : List Place) (i n v : ℕ) → xs ≡ ys → n ≤ length (take (length xs - i) (drop i xs)) → IsBefore xs v i
     → IsUpTo (take (length xs - i) (drop i xs)) v n
     → ((p : Place) → Contains (take n (take (length xs - i) (drop i xs))) p → Contains ys p × (p.version ≡ v))
     × ((p : Place) → Contains ys p → p.version ≡ v → Contains (take n (take (length xs - i) (drop i xs))) p)
-at_version xs ys i n v same le first second =
-    let rest = rest_is xs i in
+range_is_exactly_version xs ys i n v same le first second =
+    let rest = take_all_of_drop xs i in
     let fits : n ≤ length (drop i xs) = subst (λ l. n ≤ length l) rest le in
     let behind : IsUpTo (drop i xs) v n = subst (λ l. IsUpTo l v n) rest second in (
       λ p h. subst (λ l. Contains l p × (p.version ≡ v)) same
-          (only_at xs i n v fits first behind p (subst (λ l. Contains (take n l) p) rest h)),
+          (range_holds_only_version xs i n v fits first behind p (subst (λ l. Contains (take n l) p) rest h)),
       λ p h e. subst (λ l. Contains (take n l) p) (sym rest)
-          (all_at xs i n v fits first behind p (subst (λ l. Contains l p) (sym same) h) e),
+          (range_holds_all_of_version xs i n v fits first behind p (subst (λ l. Contains l p) (sym same) h) e),
     )
 
-pub rest_in_order : (xs : List Place) (i : ℕ) → IsNonDecreasingBy (λ (p : Place). p.version) xs
+pub take_of_drop_is_non_decreasing : (xs : List Place) (i : ℕ) → IsNonDecreasingBy (λ (p : Place). p.version) xs
     → IsNonDecreasingBy (λ (p : Place). p.version) (take (length xs - i) (drop i xs))
-rest_in_order xs i up = subst (IsNonDecreasingBy (λ (p : Place). p.version)) (sym (rest_is xs i)) (rest_rises xs i up)
+take_of_drop_is_non_decreasing xs i up = subst (IsNonDecreasingBy (λ (p : Place). p.version)) (sym (take_all_of_drop xs i)) (drop_is_non_decreasing xs i up)
 
 -- a place that is at the version, and those before it are not
-pub before_guess : (xs : List Place) (v i : ℕ) (d : Place) → IsNonDecreasingBy (λ (p : Place). p.version) xs → i < length xs
+pub is_before_by_neighbours : (xs : List Place) (v i : ℕ) (d : Place) → IsNonDecreasingBy (λ (p : Place). p.version) xs → i < length xs
     → (get_or xs i d).version ≡ v → (0 < i → (get_or xs (i - 1) d).version < v) → IsBefore xs v i
-before_guess xs v i d up l at low = (
+is_before_by_neighbours xs v i d up l at low = (
   λ k e from lt. let a = up k (i - 1) d (omega (arith, lt)) (omega (arith, l)) in let b = low (omega (arith, lt)) in
       let s : get_or xs k e ≡ get_or xs k d = get_or_default xs k e d (omega (arith, lt, l)) in
       subst (λ (y : Place). y.version < v) (sym s) (omega (arith, a, b)),
@@ -90,9 +90,9 @@ before_guess xs v i d up l at low = (
 )
 
 -- those from i on are past the version, and the one before i is not
-pub up_to_guess : (xs : List Place) (v i : ℕ) (d : Place) → IsNonDecreasingBy (λ (p : Place). p.version) xs → (0 < i → i ≤ length xs)
+pub is_up_to_by_neighbours : (xs : List Place) (v i : ℕ) (d : Place) → IsNonDecreasingBy (λ (p : Place). p.version) xs → (0 < i → i ≤ length xs)
     → (0 < i → (get_or xs (i - 1) d).version ≤ v) → (i < length xs → v < (get_or xs i d).version) → IsUpTo xs v i
-up_to_guess xs v i d up l low high = (
+is_up_to_by_neighbours xs v i d up l low high = (
   λ k e from lt.
       let le = l (omega (arith, lt)) in
       let a = up k (i - 1) d (omega (arith, lt)) (omega (arith, lt, le)) in
@@ -107,13 +107,13 @@ up_to_guess xs v i d up l low high = (
 )
 
 -- the same of the tests of a search
-pub before_tested : (xs : List Place) (v i : ℕ)
+pub is_before_by_tests : (xs : List Place) (v i : ℕ)
     → IsPartitionPoint (λ (y : Place). ltb y.version v ≡ true) (λ y. ltb y.version v ≡ false) xs i → IsBefore xs v i
-before_tested xs v i h = (λ k d from lt. ltb-true _ v (h.0 k d from lt), λ k d from lt. ltb-false _ v (h.1 k d from lt))
+is_before_by_tests xs v i h = (λ k d from lt. ltb-true _ v (h.0 k d from lt), λ k d from lt. ltb-false _ v (h.1 k d from lt))
 
-pub up_to_tested : (xs : List Place) (v n : ℕ)
+pub is_up_to_by_tests : (xs : List Place) (v n : ℕ)
     → IsPartitionPoint (λ (y : Place). leb y.version v ≡ true) (λ y. leb y.version v ≡ false) xs n → IsUpTo xs v n
-up_to_tested xs v n h = (λ k d from lt. leb-true _ v (h.0 k d from lt), λ k d from lt. leb-false _ v (h.1 k d from lt))
+is_up_to_by_tests xs v n h = (λ k d from lt. leb-true _ v (h.0 k d from lt), λ k d from lt. leb-false _ v (h.1 k d from lt))
 
 -- ---- lists that are sorted in turn
 
@@ -124,12 +124,12 @@ pub record SortedBelow (n : ℕ) (old new : List (List Place)) : Type 0 where
       × IsNonDecreasingBy (λ (p : Place). p.version) (get_or new o [])
   pub rest : (o : ℕ) → n ≤ o → get_or new o [] ≡ get_or old o []
 
-pub none_sorted : (xs : List (List Place)) → SortedBelow 0 xs xs
-none_sorted xs = record { size = refl; below = λ o l. absurd (omega (arith, l)); rest = λ o l. refl }
+pub sorted_below_zero : (xs : List (List Place)) → SortedBelow 0 xs xs
+sorted_below_zero xs = record { size = refl; below = λ o l. absurd (omega (arith, l)); rest = λ o l. refl }
 
-pub one_sorted : (n : ℕ) (old new : List (List Place)) (x y : List Place) → n < length new → x ≡ get_or new n x → IsPermutation x y
+pub sorted_below_with_list_sorted : (n : ℕ) (old new : List (List Place)) (x y : List Place) → n < length new → x ≡ get_or new n x → IsPermutation x y
     → IsNonDecreasingBy (λ (p : Place). p.version) y → SortedBelow n old new → SortedBelow (n + 1) old (slice_set new n y)
-one_sorted n old new x y l read same up h = record {
+sorted_below_with_list_sorted n old new x y l read same up h = record {
   size = length-set new n y ∙ h.size;
   below = λ o lo. elim (cases_eq o n) [
     | inl here ↦
@@ -149,8 +149,8 @@ one_sorted n old new x y l read same up h = record {
   rest = λ o lo. get_or-set_other new n o y [] (λ e. absurd (omega (arith, lo, e))) ∙ h.rest o (omega (arith, lo));
 }
 
-pub all_sorted : (n : ℕ) (old new : List (List Place)) → SortedBelow n old new → length old ≤ n → AreSorted old new
-all_sorted n old new h l o = elim (cases_lt o n) [
+pub lists_sorted_if_below_length : (n : ℕ) (old new : List (List Place)) → SortedBelow n old new → length old ≤ n → AreSorted old new
+lists_sorted_if_below_length n old new h l o = elim (cases_lt o n) [
   | inl lo ↦ h.below o lo
   | inr past ↦
       let none : get_or new o [] ≡ [] = get_or_past new o [] (omega (arith, h.size, l, past)) in (
@@ -164,66 +164,66 @@ all_sorted n old new h l o = elim (cases_lt o n) [
 pub picked_append : (o : ℕ) (a : Access) (xs ys : List Visit) → picked o a (xs ++ ys) ≡ picked o a xs ++ picked o a ys
 picked_append o a [] ys = refl
 picked_append o a (x ∷ xs) ys = ap (join_if (eqb x.0 o && same_access x.1 a) x.2) (picked_append o a xs ys)
-    ∙ join_append (eqb x.0 o && same_access x.1 a) x.2 (picked o a xs) (picked o a ys)
+    ∙ join_if_of_append (eqb x.0 o && same_access x.1 a) x.2 (picked o a xs) (picked o a ys)
 
-pub adds_none : (x : Listing) → AddsAll x x []
-adds_none x o a = sym (append-nil (listed x o a))
+pub adds_all_of_nothing : (x : Listing) → AddsAll x x []
+adds_all_of_nothing x o a = sym (append-nil (listed x o a))
 
-pub adds_more : (x y z : Listing) (vs ws : List Visit) → AddsAll x y vs → AddsAll y z ws → AddsAll x z (vs ++ ws)
-adds_more x y z vs ws h k o a =
+pub adds_all_of_append : (x y z : Listing) (vs ws : List Visit) → AddsAll x y vs → AddsAll y z ws → AddsAll x z (vs ++ ws)
+adds_all_of_append x y z vs ws h k o a =
     k o a ∙ ap (λ xs. xs ++ picked o a ws) (h o a) ∙ append_assoc (listed x o a) (picked o a vs) (picked o a ws)
     ∙ ap (λ xs. listed x o a ++ xs) (sym (picked_append o a vs ws))
 
-enter_prefix : (t : ℕ) (e : Event) (k : ℕ) (vs ws : List Visit) → enter_if t e k (vs ++ ws) ≡ enter_if t e k vs ++ ws
-enter_prefix t (Answer kind value) k vs ws = refl
-enter_prefix t (Try o) k vs ws = refl
-enter_prefix t (Read o v) k vs ws = refl
-enter_prefix t (Write o v r) k vs ws = refl
+enter_if_of_append : (t : ℕ) (e : Event) (k : ℕ) (vs ws : List Visit) → enter_if t e k (vs ++ ws) ≡ enter_if t e k vs ++ ws
+enter_if_of_append t (Answer kind value) k vs ws = refl
+enter_if_of_append t (Try o) k vs ws = refl
+enter_if_of_append t (Read o v) k vs ws = refl
+enter_if_of_append t (Write o v r) k vs ws = refl
 
-entered_next : (t : ℕ) (es : List Event) (ks : List ℕ) (i : ℕ) (d : Event) → i < length es → i < length ks
+entered_by_with_next_event : (t : ℕ) (es : List Event) (ks : List ℕ) (i : ℕ) (d : Event) → i < length es → i < length ks
     → entered_by t (take (suc i) es) ks ≡ entered_by t (take i es) ks ++ enter_if t (get_or es i d) (get_or ks i 0) []
-entered_next t [] ks i d l m = absurd (omega (arith, l))
-entered_next t (e ∷ es) [] i d l m = absurd (omega (arith, m))
-entered_next t (e ∷ es) (k ∷ ks) zero d l m = refl
-entered_next t (e ∷ es) (k ∷ ks) (suc i) d l m = ap (enter_if t e k) (entered_next t es ks i d (omega (arith, l)) (omega (arith, m)))
-    ∙ enter_prefix t e k (entered_by t (take i es) ks) (enter_if t (get_or es i d) (get_or ks i 0) [])
+entered_by_with_next_event t [] ks i d l m = absurd (omega (arith, l))
+entered_by_with_next_event t (e ∷ es) [] i d l m = absurd (omega (arith, m))
+entered_by_with_next_event t (e ∷ es) (k ∷ ks) zero d l m = refl
+entered_by_with_next_event t (e ∷ es) (k ∷ ks) (suc i) d l m = ap (enter_if t e k) (entered_by_with_next_event t es ks i d (omega (arith, l)) (omega (arith, m)))
+    ∙ enter_if_of_append t e k (entered_by t (take i es) ks) (enter_if t (get_or es i d) (get_or ks i 0) [])
 
 -- one more event of a log
-pub adds_event : (x y z : Listing) (t : ℕ) (es : List Event) (ks : List ℕ) (i : ℕ) (d : Event) → i < length es → i < length ks
+pub adds_all_with_event : (x y z : Listing) (t : ℕ) (es : List Event) (ks : List ℕ) (i : ℕ) (d : Event) → i < length es → i < length ks
     → AddsAll x y (entered_by t (take i es) ks) → AddsAll y z (enter_if t (get_or es i d) (get_or ks i 0) [])
     → AddsAll x z (entered_by t (take (i + 1) es) ks)
-adds_event x y z t es ks i d l m old new =
+adds_all_with_event x y z t es ks i d l m old new =
     let next : entered_by t (take (i + 1) es) ks ≡ entered_by t (take i es) ks ++ enter_if t (get_or es i d) (get_or ks i 0) [] =
-    ap (λ n. entered_by t (take n es) ks) (add-one i) ∙ entered_next t es ks i d l m in
-    subst (AddsAll x z) (sym next) (adds_more x y z (entered_by t (take i es) ks) (enter_if t (get_or es i d) (get_or ks i 0) []) old new)
+    ap (λ n. entered_by t (take n es) ks) (add-one i) ∙ entered_by_with_next_event t es ks i d l m in
+    subst (AddsAll x z) (sym next) (adds_all_of_append x y z (entered_by t (take i es) ks) (enter_if t (get_or es i d) (get_or ks i 0) []) old new)
 
 -- one more leave
-pub adds_leave : (x y z : Listing) (t : ℕ) (ls : List Leave) (i : ℕ) (d : Leave) → i < length ls → AddsAll x y (left_by t (take i ls))
+pub adds_all_with_leave : (x y z : Listing) (t : ℕ) (ls : List Leave) (i : ℕ) (d : Leave) → i < length ls → AddsAll x y (left_by t (take i ls))
     → AddsAll y z (left_by t (get_or ls i d ∷ [])) → AddsAll x z (left_by t (take (i + 1) ls))
-adds_leave x y z t ls i d l old new =
+adds_all_with_leave x y z t ls i d l old new =
     let f : Leave → Visit = λ g. (g.object, g.access, record { position = g.position; version = g.version; thread = t }) in
     let next : left_by t (take (i + 1) ls) ≡ left_by t (take i ls) ++ f (get_or ls i d) ∷ [] = map_more f ls i d l in
-    subst (AddsAll x z) (sym next) (adds_more x y z (left_by t (take i ls)) (f (get_or ls i d) ∷ []) old new)
+    subst (AddsAll x z) (sym next) (adds_all_of_append x y z (left_by t (take i ls)) (f (get_or ls i d) ∷ []) old new)
 
 -- one more thread
-pub adds_thread : (x y z : Listing) (n : ℕ) (f : ℕ → List Visit) → AddsAll x y (of_threads n f) → AddsAll y z (f n)
+pub adds_all_with_thread : (x y z : Listing) (n : ℕ) (f : ℕ → List Visit) → AddsAll x y (of_threads n f) → AddsAll y z (f n)
     → AddsAll x z (of_threads (n + 1) f)
-adds_thread x y z n f old new = subst (λ k. AddsAll x z (of_threads k f)) (sym (add-one n)) (adds_more x y z (of_threads n f) (f n) old new)
+adds_all_with_thread x y z n f old new = subst (λ k. AddsAll x z (of_threads k f)) (sym (add-one n)) (adds_all_of_append x y z (of_threads n f) (f n) old new)
 
 -- ---- the whole
 
-none_at : (o : ℕ) (a : Access) → listed none_listed o a ≡ []
-none_at o Reading = get_or_past [] o [] (omega arith)
-none_at o Writing = get_or_past [] o [] (omega arith)
+none_listed_is_empty : (o : ℕ) (a : Access) → listed none_listed o a ≡ []
+none_listed_is_empty o Reading = get_or_past [] o [] (omega arith)
+none_listed_is_empty o Writing = get_or_past [] o [] (omega arith)
 
-in_order : (x y : Listing) → IsInOrder x y → (o : ℕ) (a : Access) → IsPermutation (listed x o a) (listed y o a)
+listed_is_in_order : (x y : Listing) → IsInOrder x y → (o : ℕ) (a : Access) → IsPermutation (listed x o a) (listed y o a)
     × IsNonDecreasingBy (λ (p : Place). p.version) (listed y o a)
-in_order x y h o Reading = h.0 o
-in_order x y h o Writing = h.1 o
+listed_is_in_order x y h o Reading = h.0 o
+listed_is_in_order x y h o Writing = h.1 o
 
-pub is_listing : (x y : Listing) (vs : List Visit) → AddsAll none_listed x vs → IsInOrder x y → IsListing vs y
-is_listing x y vs h sorted = record {
-  same = λ o a. subst (λ z. IsPermutation z (listed y o a)) (h o a ∙ ap (λ z. z ++ picked o a vs) (none_at o a))
-      (in_order x y sorted o a).0;
-  sorted = λ o a. (in_order x y sorted o a).1;
+pub listing_if_added_and_ordered : (x y : Listing) (vs : List Visit) → AddsAll none_listed x vs → IsInOrder x y → IsListing vs y
+listing_if_added_and_ordered x y vs h sorted = record {
+  same = λ o a. subst (λ z. IsPermutation z (listed y o a)) (h o a ∙ ap (λ z. z ++ picked o a vs) (none_listed_is_empty o a))
+      (listed_is_in_order x y sorted o a).0;
+  sorted = λ o a. (listed_is_in_order x y sorted o a).1;
 }

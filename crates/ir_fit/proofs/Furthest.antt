@@ -10,20 +10,20 @@ use Rattle.ir_thread.specs.Instance.{thread_machine, is_result}
 use Rattle.ir_runs.specs.Machine.{Label}
 use Rattle.ir_runs.specs.declared.env_kind.EnvKind.{EnvKind}
 use Rattle.ir_runs.specs.declared.env_kind.EnvKind.TheVariants.{Clock, Random, Input}
-use Rattle.ir_thread.proofs.CallerLemmas.{lawful, closing}
+use Rattle.ir_thread.proofs.CallerLemmas.{thread_machine_is_lawful, thread_machine_is_closing}
 use Rattle.ir_flat.specs.Flat.{Flat, start_flat, tables}
 use Rattle.ir_runs.specs.Run.{Step, log}
 use Rattle.ir_runs.specs.Bounds.{trace}
-use Rattle.ir_runs.proofs.CallerLemmas.{start_good, one_maximal, Over, over, all_same, whole_same, same_verdict, own_coherent, settled, verdict_at, goes_on, all_done}
-use Rattle.ir_flat.proofs.CallerLemmas.{start_idle}
+use Rattle.ir_runs.proofs.CallerLemmas.{state_invariant_at_start, maximal_followers_reach_same_end, AfterThreadEnd, ended_thread_only_leaves, done_follower_is_whole_run, maximal_follower_done_if_whole_run, runs_reaching_same_share_verdict, own_trace_is_coherent, maximal_if_each_thread_stands, verdict_from_standing, thread_not_same_is_not_done, done_if_each_thread_is_same}
+use Rattle.ir_flat.proofs.CallerLemmas.{guest_start_is_idle}
 use Rattle.ir_log.specs.Logging.{label_of}
 use Rattle.ir_log.specs.declared.event.Event.{Event}
 use Rattle.ir_log.specs.declared.event.Event.TheVariants.{Answer, Read, Write, Try}
 use Rattle.ir_thread.specs.declared.profile.Profile.{Profile}
 use Rattle.ir_trace.specs.Recorded.{Recorded, RecordedThread, absent, trace_of}
 use Rattle.ir_trace.specs.Within.{IsRecorded, IsRecordedThread, IsEvent, IsResult}
-use Rattle.ir_coherence.proofs.CallerLemmas.{coherent_unbroken}
-use Rattle.ir_fit.proofs.Guests.{starts, lives}
+use Rattle.ir_coherence.proofs.CallerLemmas.{coherent_trace_is_unbroken}
+use Rattle.ir_fit.proofs.Guests.{guest_start_is_start, guest_start_is_live}
 use Rattle.ir_coherence.specs.Breaking.{IsFirstBreak}
 use Rattle.ir_runs.specs.Coherent.{IsCoherent}
 use Rattle.ir_runs.specs.Cuts.{At}
@@ -46,170 +46,170 @@ use Rattle.ir_fit.specs.declared.verdict.Verdict.TheVariants as verdict
 
 -- ---- what a trace within its limits holds
 
-result_fits : (kind : EnvKind) (value : ℕ) → IsResult kind value → is_result kind value ≡ true
-result_fits Clock value h = grind (arith, nat_tests, h)
-result_fits Random value h = grind (arith, nat_tests, h)
-result_fits Input value (inl h) = grind (arith, nat_tests, h)
-result_fits Input value (inr h) = grind (arith, nat_tests, h)
+is_result_true_if_result : (kind : EnvKind) (value : ℕ) → IsResult kind value → is_result kind value ≡ true
+is_result_true_if_result Clock value h = grind (arith, nat_tests, h)
+is_result_true_if_result Random value h = grind (arith, nat_tests, h)
+is_result_true_if_result Input value (inl h) = grind (arith, nat_tests, h)
+is_result_true_if_result Input value (inr h) = grind (arith, nat_tests, h)
 
-event_fits : (code : List ℕ) (profile : Profile) (objects : ℕ) (e : Event) → IsEvent profile objects e → events.IsEvent (thread_machine code) (label_of e)
-event_fits code profile objects (Answer kind value) h = result_fits kind value h
-event_fits code profile objects (Read object version) h = refl
-event_fits code profile objects (Write object version readers) h = tt
-event_fits code profile objects (Try object) h = tt
+event_label_is_machine_event : (code : List ℕ) (profile : Profile) (objects : ℕ) (e : Event) → IsEvent profile objects e → events.IsEvent (thread_machine code) (label_of e)
+event_label_is_machine_event code profile objects (Answer kind value) h = is_result_true_if_result kind value h
+event_label_is_machine_event code profile objects (Read object version) h = refl
+event_label_is_machine_event code profile objects (Write object version readers) h = tt
+event_label_is_machine_event code profile objects (Try object) h = tt
 
-events_fit : (code : List ℕ) (profile : Profile) (objects : ℕ) (es : List Event) → AllByRecursion (IsEvent profile objects) es → (i : ℕ) (k : Label)
+event_labels_are_machine_events : (code : List ℕ) (profile : Profile) (objects : ℕ) (es : List Event) → AllByRecursion (IsEvent profile objects) es → (i : ℕ) (k : Label)
     → At (map label_of es) i k → events.IsEvent (thread_machine code) k
-events_fit code profile objects [] all i k h = absurd h
-events_fit code profile objects (e ∷ es) all zero k h = subst (events.IsEvent (thread_machine code)) h (event_fits code profile objects e all.0)
-events_fit code profile objects (e ∷ es) all (suc i) k h = events_fit code profile objects es all.1 i k h
+event_labels_are_machine_events code profile objects [] all i k h = absurd h
+event_labels_are_machine_events code profile objects (e ∷ es) all zero k h = subst (events.IsEvent (thread_machine code)) h (event_label_is_machine_event code profile objects e all.0)
+event_labels_are_machine_events code profile objects (e ∷ es) all (suc i) k h = event_labels_are_machine_events code profile objects es all.1 i k h
 
-threads_fit : (code : List ℕ) (profile : Profile) (objects : ℕ) (ts : List RecordedThread) → AllByRecursion (IsRecordedThread profile objects) ts
+thread_labels_are_machine_events : (code : List ℕ) (profile : Profile) (objects : ℕ) (ts : List RecordedThread) → AllByRecursion (IsRecordedThread profile objects) ts
     → (t i : ℕ) (k : Label) → At (map label_of (get_or ts t absent).events) i k → events.IsEvent (thread_machine code) k
-threads_fit code profile objects [] all t i k h = absurd h
-threads_fit code profile objects (x ∷ xs) all zero i k h = events_fit code profile objects x.events all.0.events_fit i k h
-threads_fit code profile objects (x ∷ xs) all (suc t) i k h = threads_fit code profile objects xs all.1 t i k h
+thread_labels_are_machine_events code profile objects [] all t i k h = absurd h
+thread_labels_are_machine_events code profile objects (x ∷ xs) all zero i k h = event_labels_are_machine_events code profile objects x.events all.0.events_fit i k h
+thread_labels_are_machine_events code profile objects (x ∷ xs) all (suc t) i k h = thread_labels_are_machine_events code profile objects xs all.1 t i k h
 
-holds_events : (code : List ℕ) (r : Recorded) → IsRecorded r → HoldsEvents (thread_machine code) (trace_of r)
-holds_events code r is t i k h = threads_fit code r.profile r.objects r.threads is.threads_fit t i k h
+recorded_trace_holds_events : (code : List ℕ) (r : Recorded) → IsRecorded r → HoldsEvents (thread_machine code) (trace_of r)
+recorded_trace_holds_events code r is t i k h = thread_labels_are_machine_events code r.profile r.objects r.threads is.threads_fit t i k h
 
 -- ---- a run that goes furthest
 
-there : (vs : List ThreadVerdict) (t : ℕ) → t < length vs → (v : ThreadVerdict) × (slice_get vs t ≡ Some v)
-there [] t l = absurd (omega (arith, l))
-there (v ∷ vs) zero l = (v, refl)
-there (v ∷ vs) (suc t) l = there vs t (omega (arith, l))
+get_below_length_is_some : (vs : List ThreadVerdict) (t : ℕ) → t < length vs → (v : ThreadVerdict) × (slice_get vs t ≡ Some v)
+get_below_length_is_some [] t l = absurd (omega (arith, l))
+get_below_length_is_some (v ∷ vs) zero l = (v, refl)
+get_below_length_is_some (v ∷ vs) (suc t) l = get_below_length_is_some vs t (omega (arith, l))
 
 -- the run goes furthest, and what is said of the threads is how they are at its end
-pub verdicts_of : (g : Guest) (r : Recorded) → IsRecorded r → HasHeader g r → IsCoherent (length g.entries) (trace_of r) → (run : List Step)
+pub standing_threads_give_verdicts : (g : Guest) (r : Recorded) → IsRecorded r → HasHeader g r → IsCoherent (length g.entries) (trace_of r) → (run : List Step)
     → following.Follows (following.closing (thread_machine g.code) (trace_of r)) (thread_machine g.code) (tables (start_flat g r.budget r.profile))
     (trace_of r) run → (vs : List ThreadVerdict) → length vs ≡ length g.entries
     → ((t : ℕ) (v : ThreadVerdict) → slice_get vs t ≡ Some v
     → StandsAs (thread_machine g.code) (tables (start_flat g r.budget r.profile)) (trace_of r) run t v) → GoesFurthest g r run × AreVerdicts g r vs
-verdicts_of g r is header co run f vs each stands =
+standing_threads_give_verdicts g r is header co run f vs each stands =
     let m = thread_machine g.code in
     let s = tables (start_flat g r.budget r.profile) in
     let tr = trace_of r in
     let n : ℕ = length g.entries in
-    let good = start_good m s (starts g r.budget r.profile) in
+    let good = state_invariant_at_start m s (guest_start_is_start g r.budget r.profile) in
     let top : following.IsMaximal (following.closing m tr) m s tr run =
-    settled n m s (start_idle g r.budget r.profile) tr run f
-    (λ t l. let v = there vs t (subst (λ z. t < z) (sym each) l) in (v.0, stands t v.0 v.1)) in (
+    maximal_if_each_thread_stands n m s (guest_start_is_idle g r.budget r.profile) tr run f
+    (λ t l. let v = get_below_length_is_some vs t (subst (λ z. t < z) (sym each) l) in (v.0, stands t v.0 v.1)) in (
       (f, top),
       (
         each,
-        λ run' furthest t v at. same_verdict m s tr run run'
-            (one_maximal (following.closing m tr) n m (lawful g.code) tr co s good (starts g r.budget r.profile) (start_idle g r.budget r.profile) run run' f
+        λ run' furthest t v at. runs_reaching_same_share_verdict m s tr run run'
+            (maximal_followers_reach_same_end (following.closing m tr) n m (thread_machine_is_lawful g.code) tr co s good (guest_start_is_start g r.budget r.profile) (guest_start_is_idle g r.budget r.profile) run run' f
             top furthest.0 furthest.1) t v
-            (verdict_at n m (lawful g.code) tr co (holds_events g.code r is) s good (starts g r.budget r.profile) (start_idle g r.budget r.profile) run f top t
+            (verdict_from_standing n m (thread_machine_is_lawful g.code) tr co (recorded_trace_holds_events g.code r is) s good (guest_start_is_start g r.budget r.profile) (guest_start_is_idle g r.budget r.profile) run f top t
             v (stands t v at)),
       ),
     )
 
 -- where each thread is the same, the run is complete and has the trace
-pub whole_of : (g : Guest) (r : Recorded) → HasHeader g r → (run : List Step)
+pub run_has_trace_if_threads_same : (g : Guest) (r : Recorded) → HasHeader g r → (run : List Step)
     → following.Follows (following.closing (thread_machine g.code) (trace_of r)) (thread_machine g.code) (tables (start_flat g r.budget r.profile))
     (trace_of r) run
     → ((t : ℕ) → t < length g.entries → StandsAs (thread_machine g.code) (tables (start_flat g r.budget r.profile)) (trace_of r) run t Same)
     → IsRunOf g r run
-whole_of g r header run f same =
+run_has_trace_if_threads_same g r header run f same =
     let m = thread_machine g.code in
     let s = tables (start_flat g r.budget r.profile) in (
       header,
-      all_same (length g.entries) m (closing g.code) (trace_of r) s (lives g r.budget r.profile) run f
-          (all_done (length g.entries) m s (start_idle g r.budget r.profile) (trace_of r) run f same),
+      done_follower_is_whole_run (length g.entries) m (thread_machine_is_closing g.code) (trace_of r) s (guest_start_is_live g r.budget r.profile) run f
+          (done_if_each_thread_is_same (length g.entries) m s (guest_start_is_idle g r.budget r.profile) (trace_of r) run f same),
     )
 
 -- where one isn't, there is no run with the trace
-pub none_of : (g : Guest) (r : Recorded) → IsCoherent (length g.entries) (trace_of r) → (run : List Step) → GoesFurthest g r run
+pub no_run_if_thread_differs : (g : Guest) (r : Recorded) → IsCoherent (length g.entries) (trace_of r) → (run : List Step) → GoesFurthest g r run
     → (t : ℕ) (v : ThreadVerdict) → StandsAs (thread_machine g.code) (tables (start_flat g r.budget r.profile)) (trace_of r) run t v → v ≢ Same
     → (whole : List Step) → IsRunOf g r whole → ⊥
-none_of g r co run furthest t v stands ne whole is =
+no_run_if_thread_differs g r co run furthest t v stands ne whole is =
     let m = thread_machine g.code in
     let s = tables (start_flat g r.budget r.profile) in
-    goes_on m s (trace_of r) run t v stands ne
-    (whole_same (length g.entries) m (lawful g.code) (closing g.code) (trace_of r) co s (start_good m s (starts g r.budget r.profile))
-    (starts g r.budget r.profile) (start_idle g r.budget r.profile) run furthest.0 furthest.1 whole is.1 t)
+    thread_not_same_is_not_done m s (trace_of r) run t v stands ne
+    (maximal_follower_done_if_whole_run (length g.entries) m (thread_machine_is_lawful g.code) (thread_machine_is_closing g.code) (trace_of r) co s (state_invariant_at_start m s (guest_start_is_start g r.budget r.profile))
+    (guest_start_is_start g r.budget r.profile) (guest_start_is_idle g r.budget r.profile) run furthest.0 furthest.1 whole is.1 t)
 
 -- ---- the trace of a run is coherent
 
-no_events : (ts : List RecordedThread) (t : ℕ) → length ts ≤ t → map label_of (get_or ts t absent).events ≡ []
-no_events [] t l = refl
-no_events (x ∷ xs) zero l = absurd (omega (arith, l))
-no_events (x ∷ xs) (suc t) l = no_events xs t (omega (arith, l))
+missing_thread_has_no_events : (ts : List RecordedThread) (t : ℕ) → length ts ≤ t → map label_of (get_or ts t absent).events ≡ []
+missing_thread_has_no_events [] t l = refl
+missing_thread_has_no_events (x ∷ xs) zero l = absurd (omega (arith, l))
+missing_thread_has_no_events (x ∷ xs) (suc t) l = missing_thread_has_no_events xs t (omega (arith, l))
 
 -- each thread's log in the run is the trace's
-logs_are : (g : Guest) (r : Recorded) (run : List Step) → IsRunOf g r run → (t : ℕ)
+run_logs_are_recorded_logs : (g : Guest) (r : Recorded) (run : List Step) → IsRunOf g r run → (t : ℕ)
     → log (thread_machine g.code) (tables (start_flat g r.budget r.profile)) run t ≡ (trace_of r).logs t
-logs_are g r run is t = elim (cases_lt t (length g.entries)) [
+run_logs_are_recorded_logs g r run is t = elim (cases_lt t (length g.entries)) [
   | inl l ↦ is.1.logs t l
   | inr le ↦
       let m = thread_machine g.code in
       let s = tables (start_flat g r.budget r.profile) in
-      let d = (closing g.code).done (s.now t) (start_idle g r.budget r.profile t le) in
-      let k : Over m s run t d.0 = over m (closing g.code) s run is.1.runs is.1.done t d.0 d.1 in
-      k.silent ∙ sym (no_events r.threads t (subst (λ z. z ≤ t) (sym is.0.threads) le))
+      let d = (thread_machine_is_closing g.code).done (s.now t) (guest_start_is_idle g r.budget r.profile t le) in
+      let k : AfterThreadEnd m s run t d.0 = ended_thread_only_leaves m (thread_machine_is_closing g.code) s run is.1.runs is.1.done t d.0 d.1 in
+      k.silent ∙ sym (missing_thread_has_no_events r.threads t (subst (λ z. z ≤ t) (sym is.0.threads) le))
 ]
 
-pub run_coherent : (g : Guest) (r : Recorded) (run : List Step) → IsRunOf g r run → IsCoherent (length g.entries) (trace_of r)
-run_coherent g r run is =
+pub trace_with_run_is_coherent : (g : Guest) (r : Recorded) (run : List Step) → IsRunOf g r run → IsCoherent (length g.entries) (trace_of r)
+trace_with_run_is_coherent g r run is =
     let m = thread_machine g.code in
     let s = tables (start_flat g r.budget r.profile) in
     let own : IsCoherent (length g.entries) (trace m s run) =
-    own_coherent (length g.entries) m (lawful g.code) s (start_good m s (starts g r.budget r.profile)) (starts g r.budget r.profile) (start_idle g r.budget r.profile)
+    own_trace_is_coherent (length g.entries) m (thread_machine_is_lawful g.code) s (state_invariant_at_start m s (guest_start_is_start g r.budget r.profile)) (guest_start_is_start g r.budget r.profile) (guest_start_is_idle g r.budget r.profile)
     run is.1.runs in
-    let same : log m s run ≡ (trace_of r).logs = λ i t. logs_are g r run is t i in
+    let same : log m s run ≡ (trace_of r).logs = λ i t. run_logs_are_recorded_logs g r run is t i in
     subst (λ logs. IsCoherent (length g.entries) (record (trace_of r) { logs = logs })) same
     (record { made = own.made; writer = own.writer; readers = own.readers })
 
 -- ---- what the code answers
 
 -- a list, and one more at its end
-pub get_pushed : {A : Type 0} (xs : List A) (y : A) (t : ℕ) (v : A) → slice_get (xs ++ y ∷ []) t ≡ Some v → (slice_get xs t ≡ Some v)
+pub slice_get_after_push_cases : {A : Type 0} (xs : List A) (y : A) (t : ℕ) (v : A) → slice_get (xs ++ y ∷ []) t ≡ Some v → (slice_get xs t ≡ Some v)
     ⊎ ((t ≡ length xs) × (y ≡ v))
-get_pushed [] y zero v h = inr (refl, cc h)
-get_pushed [] y (suc t) v h = absurd (cc h)
-get_pushed (x ∷ xs) y zero v h = inl h
-get_pushed (x ∷ xs) y (suc t) v h = elim (get_pushed xs y t v h) [ inl g ↦ inl g | inr e ↦ inr (ap suc e.0, e.1) ]
+slice_get_after_push_cases [] y zero v h = inr (refl, cc h)
+slice_get_after_push_cases [] y (suc t) v h = absurd (cc h)
+slice_get_after_push_cases (x ∷ xs) y zero v h = inl h
+slice_get_after_push_cases (x ∷ xs) y (suc t) v h = elim (slice_get_after_push_cases xs y t v h) [ inl g ↦ inl g | inr e ↦ inr (ap suc e.0, e.1) ]
 
 -- why the trace of one of the events is no run's
-pub breaks_refuse : (g : Guest) (r : Recorded) → HasHeader g r → (e : FitErr) → BreaksBy r e → IsRefused g r e
-breaks_refuse g r header NoMem b = tt
-breaks_refuse g r header (Refused (verdict.Header c)) b = absurd b
-breaks_refuse g r header (Refused (verdict.Threads vs)) b = absurd b
-breaks_refuse g r header (Refused (verdict.Incoherent t i c)) b =
+pub broken_coherence_refuses_trace : (g : Guest) (r : Recorded) → HasHeader g r → (e : FitErr) → BreaksBy r e → IsRefused g r e
+broken_coherence_refuses_trace g r header NoMem b = tt
+broken_coherence_refuses_trace g r header (Refused (verdict.Header c)) b = absurd b
+broken_coherence_refuses_trace g r header (Refused (verdict.Threads vs)) b = absurd b
+broken_coherence_refuses_trace g r header (Refused (verdict.Incoherent t i c)) b =
     let first : IsFirstBreak (length g.entries) (trace_of r) t i c = subst (λ n. IsFirstBreak n (trace_of r) t i c) header.threads b in
-    ((header, first), λ run is. coherent_unbroken (length g.entries) (trace_of r) (run_coherent g r run is) t i c first.breaks)
+    ((header, first), λ run is. coherent_trace_is_unbroken (length g.entries) (trace_of r) (trace_with_run_is_coherent g r run is) t i c first.breaks)
 
 -- not all threads are the same at the end of the run that was followed
-pub threads_refuse : (g : Guest) (r : Recorded) → IsRecorded r → HasHeader g r → IsCoherent (length g.entries) (trace_of r)
+pub differing_thread_refuses_trace : (g : Guest) (r : Recorded) → IsRecorded r → HasHeader g r → IsCoherent (length g.entries) (trace_of r)
     → (f : Flat) (ps : List Growing) → IsFollowed g r f ps → (vs : List ThreadVerdict) → length vs ≡ length f.threads → AreStanding r f ps vs
     → (t : ℕ) (v : ThreadVerdict) → slice_get vs t ≡ Some v → v ≢ Same
     → (HasHeader g r × IsCoherent (length g.entries) (trace_of r) × AreVerdicts g r vs) × ((run : List Step) → IsRunOf g r run → ⊥)
-threads_refuse g r is header co f ps followed vs each stand t v at ne =
+differing_thread_refuses_trace g r is header co f ps followed vs each stand t v at ne =
     let k = followed.follower in
-    let both = verdicts_of g r is header co k.run k.follows vs (each ∙ k.threads) (stand g k) in
-    ((header, co, both.1), none_of g r co k.run both.0 t v (stand g k t v at) ne)
+    let both = standing_threads_give_verdicts g r is header co k.run k.follows vs (each ∙ k.threads) (stand g k) in
+    ((header, co, both.1), no_run_if_thread_differs g r co k.run both.0 t v (stand g k t v at) ne)
 
-grown_at : (ps : List Growing) (t : ℕ) → placed_at (map grown ps) t ≡ grown (growing_at ps t)
-grown_at [] t = refl
-grown_at (x ∷ xs) zero = refl
-grown_at (x ∷ xs) (suc t) = grown_at xs t
+placed_at_of_grown : (ps : List Growing) (t : ℕ) → placed_at (map grown ps) t ≡ grown (growing_at ps t)
+placed_at_of_grown [] t = refl
+placed_at_of_grown (x ∷ xs) zero = refl
+placed_at_of_grown (x ∷ xs) (suc t) = placed_at_of_grown xs t
 
 -- all are the same
-pub threads_accept : (g : Guest) (r : Recorded) → HasHeader g r → (f : Flat) (ps : List Growing) → IsFollowed g r f ps
+pub same_threads_give_run : (g : Guest) (r : Recorded) → HasHeader g r → (f : Flat) (ps : List Growing) → IsFollowed g r f ps
     → length ps ≡ length f.threads → (vs : List ThreadVerdict) → length vs ≡ length f.threads → AreStanding r f ps vs
     → ((t : ℕ) (v : ThreadVerdict) → slice_get vs t ≡ Some v → v ≡ Same)
     → HasRun (record { guest = g; recorded = r; placed = map grown ps })
-threads_accept g r header f ps followed placed vs each stand same =
+same_threads_give_run g r header f ps followed placed vs each stand same =
     let k = followed.follower in
     record {
       run = k.run;
-      whole = whole_of g r header k.run k.follows (λ t l.
-          let v = there vs t (omega (arith, l, each, k.threads)) in
+      whole = run_has_trace_if_threads_same g r header k.run k.follows (λ t l.
+          let v = get_below_length_is_some vs t (omega (arith, l, each, k.threads)) in
           subst (StandsAs (thread_machine g.code) (tables (start_flat g r.budget r.profile)) (trace_of r) k.run t) (same t v.0 v.1)
           (stand g k t v.0 v.1));
       each = length-map ps grown ∙ placed ∙ k.threads;
-      entries = λ t l. ap (λ z. z.entries) (grown_at ps t) ∙ k.placed t l;
-      leaves = λ t l. ap (λ z. z.leaves) (grown_at ps t) ∙ k.left t l;
+      entries = λ t l. ap (λ z. z.entries) (placed_at_of_grown ps t) ∙ k.placed t l;
+      leaves = λ t l. ap (λ z. z.leaves) (placed_at_of_grown ps t) ∙ k.left t l;
     }

@@ -11,12 +11,12 @@ use Rattle.ir_runs.specs.declared.env_kind.EnvKind.TheVariants.{Clock}
 use Rattle.ir_flat.specs.Flat.{start_flat, tables, machine}
 use Rattle.ir_runs.specs.Run.{State, Step, after, IsRun, trail, count, events}
 use Rattle.ir_runs.specs.Bounds.{IsIdle}
-use Rattle.ir_flat.proofs.CallerLemmas.{start_idle}
+use Rattle.ir_flat.proofs.CallerLemmas.{guest_start_is_idle}
 use Rattle.ir_log.specs.Logging.{label_of}
 use Rattle.ir_log.specs.declared.event.Event.{Event}
 use Rattle.ir_log.specs.declared.event.Event.TheVariants as logged_event
 use Rattle.ir_trace.specs.Recorded.{recorded_thread}
-use Rattle.ir_runs.proofs.CallerLemmas.{trail_other, below_idle}
+use Rattle.ir_runs.proofs.CallerLemmas.{trail_of_cons_other_thread, step_below_idle_keeps_idle}
 use Rattle.ir_runs.specs.Cuts.{At}
 use Rattle.ir_fit.specs.Fit.{FittedTrace, HasRun}
 use Rattle.ir_fit.specs.Places.{placed_at, place_if, places_from, leave_if, leaves_from}
@@ -26,61 +26,61 @@ use Rattle.ir_fit.specs.declared.leave.Leave.{Leave}
 -- ---- one step
 
 -- whether a label is logged
-record Logs (m : Label) : Type 0 where
+record IsLoggedLabel (m : Label) : Type 0 where
   place : (k : ℕ) (ks : List ℕ) → place_if m k ks ≡ k ∷ ks
   event : (es : List Label) → logged m es ≡ m ∷ es
 
-record Passes (m : Label) : Type 0 where
+record IsUnloggedLabel (m : Label) : Type 0 where
   place : (k : ℕ) (ks : List ℕ) → place_if m k ks ≡ ks
   event : (es : List Label) → logged m es ≡ es
 
-logs_or : (m : Label) → Logs m ⊎ Passes m
-logs_or Quiet = inr (record { place = λ k ks. refl; event = λ es. refl })
-logs_or (Answer kind value) = inl (record { place = λ k ks. refl; event = λ es. refl })
-logs_or (In o a v l) = inl (record { place = λ k ks. refl; event = λ es. refl })
-logs_or (Refused o) = inl (record { place = λ k ks. refl; event = λ es. refl })
-logs_or (Out o a v) = inr (record { place = λ k ks. refl; event = λ es. refl })
+label_is_logged_or_unlogged : (m : Label) → IsLoggedLabel m ⊎ IsUnloggedLabel m
+label_is_logged_or_unlogged Quiet = inr (record { place = λ k ks. refl; event = λ es. refl })
+label_is_logged_or_unlogged (Answer kind value) = inl (record { place = λ k ks. refl; event = λ es. refl })
+label_is_logged_or_unlogged (In o a v l) = inl (record { place = λ k ks. refl; event = λ es. refl })
+label_is_logged_or_unlogged (Refused o) = inl (record { place = λ k ks. refl; event = λ es. refl })
+label_is_logged_or_unlogged (Out o a v) = inr (record { place = λ k ks. refl; event = λ es. refl })
 
 -- ---- events and their positions
 
-places_long : {T : Type 0} (n : ℕ) (xs : List (T × Label)) → length (places_from n xs) ≡ length (events xs)
-places_long n [] = refl
-places_long n (x ∷ xs) = elim (logs_or x.1) [
-  | inl l ↦ ap length (l.place n (places_from (suc n) xs)) ∙ ap suc (places_long (suc n) xs) ∙ sym (ap length (l.event (events xs)))
-  | inr p ↦ ap length (p.place n (places_from (suc n) xs)) ∙ places_long (suc n) xs ∙ sym (ap length (p.event (events xs)))
+length_of_places_is_events : {T : Type 0} (n : ℕ) (xs : List (T × Label)) → length (places_from n xs) ≡ length (events xs)
+length_of_places_is_events n [] = refl
+length_of_places_is_events n (x ∷ xs) = elim (label_is_logged_or_unlogged x.1) [
+  | inl l ↦ ap length (l.place n (places_from (suc n) xs)) ∙ ap suc (length_of_places_is_events (suc n) xs) ∙ sym (ap length (l.event (events xs)))
+  | inr p ↦ ap length (p.place n (places_from (suc n) xs)) ∙ length_of_places_is_events (suc n) xs ∙ sym (ap length (p.event (events xs)))
 ]
 
 -- the step at position k emits e, where the first of these is at n
 abbrev StepAt : {T : Type 0} → ℕ → List (T × Label) → ℕ → Label → Type 0
 StepAt {T} n xs k e = (j : ℕ) × (k ≡ n + j) × ((x : T) × At xs j (x, e))
 
-onward : {T : Type 0} (n : ℕ) (x : T × Label) (xs : List (T × Label)) (k : ℕ) (e : Label) → StepAt (suc n) xs k e → StepAt n (x ∷ xs) k e
-onward n x xs k e g = (suc g.0, g.1 ∙ (let q : suc n + g.0 ≡ n + suc g.0 = omega arith in q), g.2)
+step_at_of_later_steps : {T : Type 0} (n : ℕ) (x : T × Label) (xs : List (T × Label)) (k : ℕ) (e : Label) → StepAt (suc n) xs k e → StepAt n (x ∷ xs) k e
+step_at_of_later_steps n x xs k e g = (suc g.0, g.1 ∙ (let q : suc n + g.0 ≡ n + suc g.0 = omega arith in q), g.2)
 
 -- the step of event i is at entry i of the positions
-step_of_event : {T : Type 0} (n : ℕ) (xs : List (T × Label)) (i k : ℕ) (e : Label) → At (events xs) i e → At (places_from n xs) i k
+step_at_place_of_event : {T : Type 0} (n : ℕ) (xs : List (T × Label)) (i k : ℕ) (e : Label) → At (events xs) i e → At (places_from n xs) i k
     → StepAt n xs k e
-step_of_event n [] i k e h g = absurd h
-step_of_event n (x ∷ xs) zero k e h g = elim (logs_or x.1) [
+step_at_place_of_event n [] i k e h g = absurd h
+step_at_place_of_event n (x ∷ xs) zero k e h g = elim (label_is_logged_or_unlogged x.1) [
   | inl l ↦
       let emits : x.1 ≡ e = subst (λ es. At es 0 e) (l.event (events xs)) h in
       let at : n ≡ k = subst (λ ks. At ks 0 k) (l.place n (places_from (suc n) xs)) g in
       (0, sym at ∙ (let q : n ≡ n + 0 = omega arith in q), (x.0, ap (λ m. (x.0, m)) emits))
-  | inr p ↦ onward n x xs k e (step_of_event (suc n) xs 0 k e (subst (λ es. At es 0 e) (p.event (events xs)) h)
+  | inr p ↦ step_at_of_later_steps n x xs k e (step_at_place_of_event (suc n) xs 0 k e (subst (λ es. At es 0 e) (p.event (events xs)) h)
       (subst (λ ks. At ks 0 k) (p.place n (places_from (suc n) xs)) g))
 ]
-step_of_event n (x ∷ xs) (suc i) k e h g = elim (logs_or x.1) [
-  | inl l ↦ onward n x xs k e (step_of_event (suc n) xs i k e (subst (λ es. At es (suc i) e) (l.event (events xs)) h)
+step_at_place_of_event n (x ∷ xs) (suc i) k e h g = elim (label_is_logged_or_unlogged x.1) [
+  | inl l ↦ step_at_of_later_steps n x xs k e (step_at_place_of_event (suc n) xs i k e (subst (λ es. At es (suc i) e) (l.event (events xs)) h)
       (subst (λ ks. At ks (suc i) k) (l.place n (places_from (suc n) xs)) g))
-  | inr p ↦ onward n x xs k e (step_of_event (suc n) xs (suc i) k e (subst (λ es. At es (suc i) e) (p.event (events xs)) h)
+  | inr p ↦ step_at_of_later_steps n x xs k e (step_at_place_of_event (suc n) xs (suc i) k e (subst (λ es. At es (suc i) e) (p.event (events xs)) h)
       (subst (λ ks. At ks (suc i) k) (p.place n (places_from (suc n) xs)) g))
 ]
 
 -- a step that is logged is some event's
-event_of_step : {T : Type 0} (n : ℕ) (xs : List (T × Label)) (j : ℕ) (x : T) (e : Label) → ((es : List Label) → logged e es ≡ e ∷ es)
+event_of_logged_step : {T : Type 0} (n : ℕ) (xs : List (T × Label)) (j : ℕ) (x : T) (e : Label) → ((es : List Label) → logged e es ≡ e ∷ es)
     → At xs j (x, e) → (i : ℕ) × At (events xs) i e × At (places_from n xs) i (n + j)
-event_of_step n [] j x e h at = absurd at
-event_of_step n (y ∷ ys) zero x e h at = elim (logs_or y.1) [
+event_of_logged_step n [] j x e h at = absurd at
+event_of_logged_step n (y ∷ ys) zero x e h at = elim (label_is_logged_or_unlogged y.1) [
   | inl l ↦ (
     0,
     subst (λ es. At es 0 e) (sym (l.event (events ys))) (ap (λ z. z.1) at),
@@ -92,10 +92,10 @@ event_of_step n (y ∷ ys) zero x e h at = elim (logs_or y.1) [
   where
     longer : {A : Type 0} {z : A} → [] ≡ z ∷ [] → ⊥
     longer q = cc q
-event_of_step n (y ∷ ys) (suc j) x e h at =
-    let g = event_of_step (suc n) ys j x e h at in
+event_of_logged_step n (y ∷ ys) (suc j) x e h at =
+    let g = event_of_logged_step (suc n) ys j x e h at in
     let q : suc n + j ≡ n + suc j = omega arith in
-    elim (logs_or y.1) [
+    elim (label_is_logged_or_unlogged y.1) [
       | inl l ↦ (
         suc g.0,
         subst (λ es. At es (suc g.0) e) (sym (l.event (events ys))) g.1,
@@ -117,31 +117,31 @@ abbrev leave_at : ℕ → ℕ → Access → ℕ → Leave
 leave_at k o a v = record { position = k; object = o; access = a; version = v }
 
 -- a leave, or a step that is none
-leaves_or : (m : Label) → ((o : ℕ) × (a : Access) × (v : ℕ) × (m ≡ Out o a v)) ⊎ ((k : ℕ) (ls : List Leave) → leave_if m k ls ≡ ls)
-leaves_or Quiet = inr (λ k ls. refl)
-leaves_or (Answer kind value) = inr (λ k ls. refl)
-leaves_or (In o a v l) = inr (λ k ls. refl)
-leaves_or (Refused o) = inr (λ k ls. refl)
-leaves_or (Out o a v) = inl (o, a, v, refl)
+label_is_leave_or_not : (m : Label) → ((o : ℕ) × (a : Access) × (v : ℕ) × (m ≡ Out o a v)) ⊎ ((k : ℕ) (ls : List Leave) → leave_if m k ls ≡ ls)
+label_is_leave_or_not Quiet = inr (λ k ls. refl)
+label_is_leave_or_not (Answer kind value) = inr (λ k ls. refl)
+label_is_leave_or_not (In o a v l) = inr (λ k ls. refl)
+label_is_leave_or_not (Refused o) = inr (λ k ls. refl)
+label_is_leave_or_not (Out o a v) = inl (o, a, v, refl)
 
-step_of_leave : {T : Type 0} (n : ℕ) (xs : List (T × Label)) (i : ℕ) (l : Leave) → At (leaves_from n xs) i l
+step_at_place_of_leave : {T : Type 0} (n : ℕ) (xs : List (T × Label)) (i : ℕ) (l : Leave) → At (leaves_from n xs) i l
     → StepAt n xs l.position (Out l.object l.access l.version)
-step_of_leave n [] i l h = absurd h
-step_of_leave n (x ∷ xs) zero l h = elim (leaves_or x.1) [
+step_at_place_of_leave n [] i l h = absurd h
+step_at_place_of_leave n (x ∷ xs) zero l h = elim (label_is_leave_or_not x.1) [
   | inl (o, a, v, is) ↦
       let same : leave_at n o a v ≡ l = subst (λ m. At (leave_if m n (leaves_from (suc n) xs)) 0 l) is h in (
         0,
         ap (λ z. z.position) (sym same) ∙ (let q : n ≡ n + 0 = omega arith in q),
         (x.0, ap (λ m. (x.0, m)) is ∙ ap (λ z. (x.0, Out z.object z.access z.version)) same),
       )
-  | inr p ↦ onward n x xs l.position (Out l.object l.access l.version)
-      (step_of_leave (suc n) xs 0 l (subst (λ ls. At ls 0 l) (p n (leaves_from (suc n) xs)) h))
+  | inr p ↦ step_at_of_later_steps n x xs l.position (Out l.object l.access l.version)
+      (step_at_place_of_leave (suc n) xs 0 l (subst (λ ls. At ls 0 l) (p n (leaves_from (suc n) xs)) h))
 ]
-step_of_leave n (x ∷ xs) (suc i) l h = elim (leaves_or x.1) [
-  | inl (o, a, v, is) ↦ onward n x xs l.position (Out l.object l.access l.version)
-      (step_of_leave (suc n) xs i l (subst (λ m. At (leave_if m n (leaves_from (suc n) xs)) (suc i) l) is h))
-  | inr p ↦ onward n x xs l.position (Out l.object l.access l.version)
-      (step_of_leave (suc n) xs (suc i) l (subst (λ ls. At ls (suc i) l) (p n (leaves_from (suc n) xs)) h))
+step_at_place_of_leave n (x ∷ xs) (suc i) l h = elim (label_is_leave_or_not x.1) [
+  | inl (o, a, v, is) ↦ step_at_of_later_steps n x xs l.position (Out l.object l.access l.version)
+      (step_at_place_of_leave (suc n) xs i l (subst (λ m. At (leave_if m n (leaves_from (suc n) xs)) (suc i) l) is h))
+  | inr p ↦ step_at_of_later_steps n x xs l.position (Out l.object l.access l.version)
+      (step_at_place_of_leave (suc n) xs (suc i) l (subst (λ ls. At ls (suc i) l) (p n (leaves_from (suc n) xs)) h))
 ]
 
 leave_of_step : {T : Type 0} (n : ℕ) (xs : List (T × Label)) (j : ℕ) (x : T) (o : ℕ) (a : Access) (v : ℕ) → At xs j (x, Out o a v) → (i : ℕ)
@@ -156,7 +156,7 @@ leave_of_step n (y ∷ ys) (suc j) x o a v at =
     let g = leave_of_step (suc n) ys j x o a v at in
     let behind : At (leaves_from (suc n) ys) g.0 (leave_at (n + suc j) o a v) =
     subst (λ k. At (leaves_from (suc n) ys) g.0 (leave_at k o a v)) (let q : suc n + j ≡ n + suc j = omega arith in q) g.1 in
-    elim (leaves_or y.1) [
+    elim (label_is_leave_or_not y.1) [
       | inl (p, b, w, is) ↦ (
         suc g.0,
         subst (λ m. At (leave_if m n (leaves_from (suc n) ys)) (suc g.0) (leave_at (n + suc j) o a v))
@@ -172,195 +172,195 @@ abbrev Rises : ℕ → List ℕ → Type 0
 Rises n [] = Unit {0}
 Rises n (k ∷ ks) = (n ≤ k) × Rises (suc k) ks
 
-rises_lower : (m n : ℕ) (ks : List ℕ) → m ≤ n → Rises n ks → Rises m ks
-rises_lower m n [] l h = tt
-rises_lower m n (k ∷ ks) l h = (omega (arith, l, h.0), h.1)
+rises_from_lower_bound : (m n : ℕ) (ks : List ℕ) → m ≤ n → Rises n ks → Rises m ks
+rises_from_lower_bound m n [] l h = tt
+rises_from_lower_bound m n (k ∷ ks) l h = (omega (arith, l, h.0), h.1)
 
 places_rise : {T : Type 0} (n : ℕ) (xs : List (T × Label)) → Rises n (places_from n xs)
 places_rise n [] = tt
-places_rise n (x ∷ xs) = elim (logs_or x.1) [
+places_rise n (x ∷ xs) = elim (label_is_logged_or_unlogged x.1) [
   | inl l ↦ subst (Rises n) (sym (l.place n (places_from (suc n) xs))) (omega arith, places_rise (suc n) xs)
   | inr p ↦ subst (Rises n) (sym (p.place n (places_from (suc n) xs)))
-      (rises_lower n (suc n) (places_from (suc n) xs) (omega arith) (places_rise (suc n) xs))
+      (rises_from_lower_bound n (suc n) (places_from (suc n) xs) (omega arith) (places_rise (suc n) xs))
 ]
 
 abbrev positions : List Leave → List ℕ
 positions ls = map (λ l. l.position) ls
 
-leaves_rise_from : {T : Type 0} (n : ℕ) (xs : List (T × Label)) → Rises n (positions (leaves_from n xs))
-leaves_rise_from n [] = tt
-leaves_rise_from n (x ∷ xs) = elim (leaves_or x.1) [
+leave_positions_from_rise : {T : Type 0} (n : ℕ) (xs : List (T × Label)) → Rises n (positions (leaves_from n xs))
+leave_positions_from_rise n [] = tt
+leave_positions_from_rise n (x ∷ xs) = elim (label_is_leave_or_not x.1) [
   | inl (o, a, v, is) ↦ subst (λ m. Rises n (positions (leave_if m n (leaves_from (suc n) xs)))) (sym is)
-      (omega arith, leaves_rise_from (suc n) xs)
+      (omega arith, leave_positions_from_rise (suc n) xs)
   | inr p ↦ subst (λ ls. Rises n (positions ls)) (sym (p n (leaves_from (suc n) xs)))
-      (rises_lower n (suc n) (positions (leaves_from (suc n) xs)) (omega arith) (leaves_rise_from (suc n) xs))
+      (rises_from_lower_bound n (suc n) (positions (leaves_from (suc n) xs)) (omega arith) (leave_positions_from_rise (suc n) xs))
 ]
 
-rises_from : (n : ℕ) (ks : List ℕ) → Rises n ks → (i : ℕ) → i < length ks → n ≤ get_or ks i 0
-rises_from n [] h i l = absurd (omega (arith, l))
-rises_from n (k ∷ ks) h zero l = h.0
-rises_from n (k ∷ ks) h (suc i) l = let r = rises_from (suc k) ks h.1 i (omega (arith, l)) in omega (arith, r, h.0)
+rising_list_is_above_bound : (n : ℕ) (ks : List ℕ) → Rises n ks → (i : ℕ) → i < length ks → n ≤ get_or ks i 0
+rising_list_is_above_bound n [] h i l = absurd (omega (arith, l))
+rising_list_is_above_bound n (k ∷ ks) h zero l = h.0
+rising_list_is_above_bound n (k ∷ ks) h (suc i) l = let r = rising_list_is_above_bound (suc k) ks h.1 i (omega (arith, l)) in omega (arith, r, h.0)
 
-rises_below : (n : ℕ) (ks : List ℕ) → Rises n ks → (i j : ℕ) → i < j → j < length ks → get_or ks i 0 < get_or ks j 0
-rises_below n [] h i j l m = absurd (omega (arith, m))
-rises_below n (k ∷ ks) h i zero l m = absurd (omega (arith, l))
-rises_below n (k ∷ ks) h zero (suc j) l m = rises_from (suc k) ks h.1 j (omega (arith, m))
-rises_below n (k ∷ ks) h (suc i) (suc j) l m = rises_below (suc k) ks h.1 i j (omega (arith, l)) (omega (arith, m))
+rising_list_is_increasing : (n : ℕ) (ks : List ℕ) → Rises n ks → (i j : ℕ) → i < j → j < length ks → get_or ks i 0 < get_or ks j 0
+rising_list_is_increasing n [] h i j l m = absurd (omega (arith, m))
+rising_list_is_increasing n (k ∷ ks) h i zero l m = absurd (omega (arith, l))
+rising_list_is_increasing n (k ∷ ks) h zero (suc j) l m = rising_list_is_above_bound (suc k) ks h.1 j (omega (arith, m))
+rising_list_is_increasing n (k ∷ ks) h (suc i) (suc j) l m = rising_list_is_increasing (suc k) ks h.1 i j (omega (arith, l)) (omega (arith, m))
 
 -- ---- places in lists
 
-pub at_get : {A : Type 0} (xs : List A) (i : ℕ) (d : A) → i < length xs → At xs i (get_or xs i d)
-at_get [] i d l = absurd (omega (arith, l))
-at_get (x ∷ xs) zero d l = refl
-at_get (x ∷ xs) (suc i) d l = at_get xs i d (omega (arith, l))
+pub at_place_of_get_or : {A : Type 0} (xs : List A) (i : ℕ) (d : A) → i < length xs → At xs i (get_or xs i d)
+at_place_of_get_or [] i d l = absurd (omega (arith, l))
+at_place_of_get_or (x ∷ xs) zero d l = refl
+at_place_of_get_or (x ∷ xs) (suc i) d l = at_place_of_get_or xs i d (omega (arith, l))
 
-pub get_at : {A : Type 0} (xs : List A) (i : ℕ) (x : A) → At xs i x → (i < length xs) × ((d : A) → get_or xs i d ≡ x)
-get_at [] i x h = absurd h
-get_at (y ∷ ys) zero x h = (omega arith, λ d. h)
-get_at (y ∷ ys) (suc i) x h = let g = get_at ys i x h in (omega (arith, g.0), g.1)
+pub get_or_of_at : {A : Type 0} (xs : List A) (i : ℕ) (x : A) → At xs i x → (i < length xs) × ((d : A) → get_or xs i d ≡ x)
+get_or_of_at [] i x h = absurd h
+get_or_of_at (y ∷ ys) zero x h = (omega arith, λ d. h)
+get_or_of_at (y ∷ ys) (suc i) x h = let g = get_or_of_at ys i x h in (omega (arith, g.0), g.1)
 
 -- ---- what is kept of a run
 
 -- the steps of thread t in the run that is kept
-abbrev trail_in : (f : FittedTrace) → HasRun f → ℕ → List (thread.State × Label)
+abbrev trail_in : (f : FittedTrace) → HasRun f → ℕ → List (thread.ThreadState × Label)
 trail_in f h t = trail (machine (start_flat f.guest f.recorded.budget f.recorded.profile)) (tables (start_flat f.guest f.recorded.budget f.recorded.profile)) h.run t
 
-pub idle_trail : {T : Type 0} (m : Machine T) (s : State T) (n : ℕ) → IsIdle m s n → (run : List Step) → IsRun m s run → (t : ℕ) → n ≤ t
+pub idle_thread_has_empty_trail : {T : Type 0} (m : Machine T) (s : State T) (n : ℕ) → IsIdle m s n → (run : List Step) → IsRun m s run → (t : ℕ) → n ≤ t
     → trail m s run t ≡ []
-idle_trail m s n idle [] ok t l = refl
-idle_trail m s n idle (e ∷ run) ok t l =
-    let g = below_idle m s n idle e ok.0 in
-    trail_other m s e run t (λ q. absurd (omega (arith, q, l, g.0))) ∙ idle_trail m (after m s e) n g.1 run ok.1 t l
+idle_thread_has_empty_trail m s n idle [] ok t l = refl
+idle_thread_has_empty_trail m s n idle (e ∷ run) ok t l =
+    let g = step_below_idle_keeps_idle m s n idle e ok.0 in
+    trail_of_cons_other_thread m s e run t (λ q. absurd (omega (arith, q, l, g.0))) ∙ idle_thread_has_empty_trail m (after m s e) n g.1 run ok.1 t l
 
 -- only the guest's threads take steps
-pub emits_below : (f : FittedTrace) (h : HasRun f) (t k : ℕ) (e : Label) → EmitsIn f h t k e → t < length f.guest.entries
-emits_below f h t k e emitted = elim (cases_lt t (length f.guest.entries)) [
+pub emitting_thread_is_guest_thread : (f : FittedTrace) (h : HasRun f) (t k : ℕ) (e : Label) → EmitsIn f h t k e → t < length f.guest.entries
+emitting_thread_is_guest_thread f h t k e emitted = elim (cases_lt t (length f.guest.entries)) [
   | inl l ↦ l
   | inr past ↦
-      let none : trail_in f h t ≡ [] = idle_trail (thread_machine f.guest.code) (tables (start_flat f.guest f.recorded.budget f.recorded.profile))
-      (length f.guest.entries) (start_idle f.guest f.recorded.budget f.recorded.profile) h.run h.whole.1.runs t past in
+      let none : trail_in f h t ≡ [] = idle_thread_has_empty_trail (thread_machine f.guest.code) (tables (start_flat f.guest f.recorded.budget f.recorded.profile))
+      (length f.guest.entries) (guest_start_is_idle f.guest f.recorded.budget f.recorded.profile) h.run h.whole.1.runs t past in
       absurd (subst (λ xs. At xs k (emitted.0, e)) none emitted.1)
 ]
 
 -- a thread takes as many steps in the run as were recorded
-pub steps_in : (f : FittedTrace) (h : HasRun f) (t : ℕ) → t < length f.guest.entries
+pub count_in_run_is_recorded_steps : (f : FittedTrace) (h : HasRun f) (t : ℕ) → t < length f.guest.entries
     → count (machine (start_flat f.guest f.recorded.budget f.recorded.profile)) (tables (start_flat f.guest f.recorded.budget f.recorded.profile)) h.run t ≡
     (recorded_thread f.recorded t).steps
-steps_in f h t l = h.whole.1.steps t l
+count_in_run_is_recorded_steps f h t l = h.whole.1.steps t l
 
 -- no step is past them
-pub emits_within : (f : FittedTrace) (h : HasRun f) (t k : ℕ) (e : Label) → EmitsIn f h t k e → k < (recorded_thread f.recorded t).steps
-emits_within f h t k e emitted = subst (λ n. k < n) (steps_in f h t (emits_below f h t k e emitted))
-    (get_at (trail_in f h t) k (emitted.0, e) emitted.1).0
+pub emitting_step_below_recorded_steps : (f : FittedTrace) (h : HasRun f) (t k : ℕ) (e : Label) → EmitsIn f h t k e → k < (recorded_thread f.recorded t).steps
+emitting_step_below_recorded_steps f h t k e emitted = subst (λ n. k < n) (count_in_run_is_recorded_steps f h t (emitting_thread_is_guest_thread f h t k e emitted))
+    (get_or_of_at (trail_in f h t) k (emitted.0, e) emitted.1).0
 
-emitted_by : (f : FittedTrace) (h : HasRun f) (t k : ℕ) (e : Label) → StepAt 0 (trail_in f h t) k e → EmitsIn f h t k e
-emitted_by f h t k e g = (g.2.0, subst (λ j. At (trail_in f h t) j (g.2.0, e)) (let q : g.0 ≡ k = omega (arith, g.1) in q) g.2.1)
+step_at_trail_is_emitted : (f : FittedTrace) (h : HasRun f) (t k : ℕ) (e : Label) → StepAt 0 (trail_in f h t) k e → EmitsIn f h t k e
+step_at_trail_is_emitted f h t k e g = (g.2.0, subst (λ j. At (trail_in f h t) j (g.2.0, e)) (let q : g.0 ≡ k = omega (arith, g.1) in q) g.2.1)
 
 -- a thread has as many positions as events
-pub entries_long : (f : FittedTrace) (h : HasRun f) (t : ℕ) → t < length f.guest.entries
+pub entries_as_many_as_events : (f : FittedTrace) (h : HasRun f) (t : ℕ) → t < length f.guest.entries
     → length (placed_at f.placed t).entries ≡ length (recorded_thread f.recorded t).events
-entries_long f h t l = ap length (h.entries t l) ∙ places_long 0 (trail_in f h t) ∙ ap length (h.whole.1.logs t l)
+entries_as_many_as_events f h t l = ap length (h.entries t l) ∙ length_of_places_is_events 0 (trail_in f h t) ∙ ap length (h.whole.1.logs t l)
     ∙ length-map (recorded_thread f.recorded t).events label_of
 
 -- the step at the position of event i emits event i
-pub entry_emits : (f : FittedTrace) (h : HasRun f) (t : ℕ) → t < length f.guest.entries → (i : ℕ) (d : Event)
+pub step_of_entry_emits_event : (f : FittedTrace) (h : HasRun f) (t : ℕ) → t < length f.guest.entries → (i : ℕ) (d : Event)
     → i < length (recorded_thread f.recorded t).events
     → EmitsIn f h t (get_or (placed_at f.placed t).entries i 0) (label_of (get_or (recorded_thread f.recorded t).events i d))
-entry_emits f h t l i d li =
+step_of_entry_emits_event f h t l i d li =
     let es : List Event = (recorded_thread f.recorded t).events in
     let k : ℕ = get_or (placed_at f.placed t).entries i 0 in
     let e : Label = label_of (get_or es i d) in
     let event : At (map label_of es) i e = subst (At (map label_of es) i) (get_or-map label_of es i d e li)
-    (at_get (map label_of es) i e (let n = length-map es label_of in omega (arith, n, li))) in
+    (at_place_of_get_or (map label_of es) i e (let n = length-map es label_of in omega (arith, n, li))) in
     let place : At (placed_at f.placed t).entries i k =
-    at_get (placed_at f.placed t).entries i 0 (let n = entries_long f h t l in omega (arith, n, li)) in
-    emitted_by f h t k e (step_of_event 0 (trail_in f h t) i k e (subst (λ xs. At xs i e) (sym (h.whole.1.logs t l)) event)
+    at_place_of_get_or (placed_at f.placed t).entries i 0 (let n = entries_as_many_as_events f h t l in omega (arith, n, li)) in
+    step_at_trail_is_emitted f h t k e (step_at_place_of_event 0 (trail_in f h t) i k e (subst (λ xs. At xs i e) (sym (h.whole.1.logs t l)) event)
     (subst (λ xs. At xs i k) (h.entries t l) place))
 
 -- a step that is logged is an event's, at its position
-pub event_of : (f : FittedTrace) (h : HasRun f) (t k : ℕ) (e : Label) → ((es : List Label) → logged e es ≡ e ∷ es) → EmitsIn f h t k e
+pub logged_step_is_of_event : (f : FittedTrace) (h : HasRun f) (t k : ℕ) (e : Label) → ((es : List Label) → logged e es ≡ e ∷ es) → EmitsIn f h t k e
     → (i : ℕ) × (i < length (recorded_thread f.recorded t).events) × (get_or (placed_at f.placed t).entries i 0 ≡ k)
     × ((d : Event) → label_of (get_or (recorded_thread f.recorded t).events i d) ≡ e)
-event_of f h t k e logs emitted =
-    let l = emits_below f h t k e emitted in
+logged_step_is_of_event f h t k e logs emitted =
+    let l = emitting_thread_is_guest_thread f h t k e emitted in
     let es : List Event = (recorded_thread f.recorded t).events in
-    let g = event_of_step 0 (trail_in f h t) k emitted.0 e logs emitted.1 in
+    let g = event_of_logged_step 0 (trail_in f h t) k emitted.0 e logs emitted.1 in
     let event : At (map label_of es) g.0 e = subst (λ xs. At xs g.0 e) (h.whole.1.logs t l) g.1 in
     let place : At (placed_at f.placed t).entries g.0 (0 + k) = subst (λ xs. At xs g.0 (0 + k)) (sym (h.entries t l)) g.2 in
-    let found = get_at (map label_of es) g.0 e event in
+    let found = get_or_of_at (map label_of es) g.0 e event in
     let li : g.0 < length es = let n = length-map es label_of in let m = found.0 in omega (arith, n, m) in (
       g.0,
       li,
-      (get_at (placed_at f.placed t).entries g.0 (0 + k) place).1 0
+      (get_or_of_at (placed_at f.placed t).entries g.0 (0 + k) place).1 0
           ∙ (let q : 0 + k ≡ k = omega arith in q),
       λ d. sym (get_or-map label_of es g.0 d e li) ∙ found.1 e,
     )
 
 -- each entry is an event's
-pub entry_of : (f : FittedTrace) (h : HasRun f) (t k o : ℕ) (a : Access) (v n : ℕ) → EmitsIn f h t k (In o a v n)
+pub entry_step_is_of_event : (f : FittedTrace) (h : HasRun f) (t k o : ℕ) (a : Access) (v n : ℕ) → EmitsIn f h t k (In o a v n)
     → (i : ℕ) × (i < length (recorded_thread f.recorded t).events) × (get_or (placed_at f.placed t).entries i 0 ≡ k)
     × ((d : Event) → label_of (get_or (recorded_thread f.recorded t).events i d) ≡ In o a v n)
-entry_of f h t k o a v n emitted = event_of f h t k (In o a v n) (λ es. refl) emitted
+entry_step_is_of_event f h t k o a v n emitted = logged_step_is_of_event f h t k (In o a v n) (λ es. refl) emitted
 
 -- so is each answer
-pub answer_of : (f : FittedTrace) (h : HasRun f) (t k : ℕ) (kind : EnvKind) (value : ℕ) → EmitsIn f h t k (Answer kind value)
+pub answer_step_is_of_event : (f : FittedTrace) (h : HasRun f) (t k : ℕ) (kind : EnvKind) (value : ℕ) → EmitsIn f h t k (Answer kind value)
     → (i : ℕ) × (i < length (recorded_thread f.recorded t).events) × (get_or (placed_at f.placed t).entries i 0 ≡ k)
     × ((d : Event) → label_of (get_or (recorded_thread f.recorded t).events i d) ≡ Answer kind value)
-answer_of f h t k kind value emitted = event_of f h t k (Answer kind value) (λ es. refl) emitted
+answer_step_is_of_event f h t k kind value emitted = logged_step_is_of_event f h t k (Answer kind value) (λ es. refl) emitted
 
 -- the positions of the events rise
-pub entries_rise : (f : FittedTrace) (h : HasRun f) (t : ℕ) → t < length f.guest.entries → (i j : ℕ) → i < j
+pub entry_positions_rise : (f : FittedTrace) (h : HasRun f) (t : ℕ) → t < length f.guest.entries → (i j : ℕ) → i < j
     → j < length (placed_at f.placed t).entries → get_or (placed_at f.placed t).entries i 0 < get_or (placed_at f.placed t).entries j 0
-entries_rise f h t l = rises_below 0 (placed_at f.placed t).entries (subst (Rises 0) (sym (h.entries t l)) (places_rise 0 (trail_in f h t)))
+entry_positions_rise f h t l = rising_list_is_increasing 0 (placed_at f.placed t).entries (subst (Rises 0) (sym (h.entries t l)) (places_rise 0 (trail_in f h t)))
 
 -- and are below the thread's steps
-pub entry_within : (f : FittedTrace) (h : HasRun f) (t : ℕ) → t < length f.guest.entries → (i : ℕ)
+pub entry_position_below_steps : (f : FittedTrace) (h : HasRun f) (t : ℕ) → t < length f.guest.entries → (i : ℕ)
     → i < length (placed_at f.placed t).entries → get_or (placed_at f.placed t).entries i 0 < (recorded_thread f.recorded t).steps
-entry_within f h t l i li =
+entry_position_below_steps f h t l i li =
     let d : Event = logged_event.Answer Clock 0 in
-    emits_within f h t (get_or (placed_at f.placed t).entries i 0) (label_of (get_or (recorded_thread f.recorded t).events i d))
-    (entry_emits f h t l i d (let n = entries_long f h t l in omega (arith, n, li)))
+    emitting_step_below_recorded_steps f h t (get_or (placed_at f.placed t).entries i 0) (label_of (get_or (recorded_thread f.recorded t).events i d))
+    (step_of_entry_emits_event f h t l i d (let n = entries_as_many_as_events f h t l in omega (arith, n, li)))
 
 -- the step of leave i emits leave i
-pub leave_emits : (f : FittedTrace) (h : HasRun f) (t : ℕ) → t < length f.guest.entries → (i : ℕ) (d : Leave)
+pub step_of_leave_emits_leave : (f : FittedTrace) (h : HasRun f) (t : ℕ) → t < length f.guest.entries → (i : ℕ) (d : Leave)
     → i < length (placed_at f.placed t).leaves
     → EmitsIn f h t (get_or (placed_at f.placed t).leaves i d).position
     (Out (get_or (placed_at f.placed t).leaves i d).object (get_or (placed_at f.placed t).leaves i d).access
     (get_or (placed_at f.placed t).leaves i d).version)
-leave_emits f h t l i d li =
+step_of_leave_emits_leave f h t l i d li =
     let e : Leave = get_or (placed_at f.placed t).leaves i d in
-    emitted_by f h t e.position (Out e.object e.access e.version)
-    (step_of_leave 0 (trail_in f h t) i e (subst (λ xs. At xs i e) (h.leaves t l) (at_get (placed_at f.placed t).leaves i d li)))
+    step_at_trail_is_emitted f h t e.position (Out e.object e.access e.version)
+    (step_at_place_of_leave 0 (trail_in f h t) i e (subst (λ xs. At xs i e) (h.leaves t l) (at_place_of_get_or (placed_at f.placed t).leaves i d li)))
 
 -- each leave is one of these
-pub leave_of : (f : FittedTrace) (h : HasRun f) (t k o : ℕ) (a : Access) (v : ℕ) → EmitsIn f h t k (Out o a v)
+pub leave_step_is_kept : (f : FittedTrace) (h : HasRun f) (t k o : ℕ) (a : Access) (v : ℕ) → EmitsIn f h t k (Out o a v)
     → (i : ℕ) × (i < length (placed_at f.placed t).leaves)
     × ((d : Leave) → get_or (placed_at f.placed t).leaves i d ≡ record { position = k; object = o; access = a; version = v })
-leave_of f h t k o a v emitted =
-    let l = emits_below f h t k (Out o a v) emitted in
+leave_step_is_kept f h t k o a v emitted =
+    let l = emitting_thread_is_guest_thread f h t k (Out o a v) emitted in
     let g = leave_of_step 0 (trail_in f h t) k emitted.0 o a v emitted.1 in
     let at : At (placed_at f.placed t).leaves g.0 (leave_at (0 + k) o a v) =
     subst (λ xs. At xs g.0 (leave_at (0 + k) o a v)) (sym (h.leaves t l)) g.1 in
-    let found = get_at (placed_at f.placed t).leaves g.0 (leave_at (0 + k) o a v) at in
+    let found = get_or_of_at (placed_at f.placed t).leaves g.0 (leave_at (0 + k) o a v) at in
     (g.0, found.0, λ d. found.1 d ∙ ap (λ j. leave_at j o a v) (let q : 0 + k ≡ k = omega arith in q))
 
 -- the positions of the leaves rise
-pub leaves_rise : (f : FittedTrace) (h : HasRun f) (t : ℕ) → t < length f.guest.entries → (i j : ℕ) (d : Leave) → i < j
+pub leave_positions_rise : (f : FittedTrace) (h : HasRun f) (t : ℕ) → t < length f.guest.entries → (i j : ℕ) (d : Leave) → i < j
     → j < length (placed_at f.placed t).leaves
     → (get_or (placed_at f.placed t).leaves i d).position < (get_or (placed_at f.placed t).leaves j d).position
-leaves_rise f h t l i j d lt lj =
+leave_positions_rise f h t l i j d lt lj =
     let ls : List Leave = (placed_at f.placed t).leaves in
     let place : Leave → ℕ = λ e. e.position in
     let n = length-map ls place in
-    let up = rises_below 0 (positions ls) (subst (λ xs. Rises 0 (positions xs)) (sym (h.leaves t l)) (leaves_rise_from 0 (trail_in f h t)))
+    let up = rising_list_is_increasing 0 (positions ls) (subst (λ xs. Rises 0 (positions xs)) (sym (h.leaves t l)) (leave_positions_from_rise 0 (trail_in f h t)))
     i j lt (omega (arith, n, lj)) in
     let first : get_or (positions ls) i 0 ≡ (get_or ls i d).position = get_or-map place ls i d 0 (omega (arith, lt, lj)) in
     let second : get_or (positions ls) j 0 ≡ (get_or ls j d).position = get_or-map place ls j d 0 lj in
     omega (arith, up, first, second)
 
 -- and are below the thread's steps
-pub leave_within : (f : FittedTrace) (h : HasRun f) (t : ℕ) → t < length f.guest.entries → (i : ℕ) (d : Leave)
+pub leave_position_below_steps : (f : FittedTrace) (h : HasRun f) (t : ℕ) → t < length f.guest.entries → (i : ℕ) (d : Leave)
     → i < length (placed_at f.placed t).leaves → (get_or (placed_at f.placed t).leaves i d).position < (recorded_thread f.recorded t).steps
-leave_within f h t l i d li =
+leave_position_below_steps f h t l i d li =
     let e : Leave = get_or (placed_at f.placed t).leaves i d in
-    emits_within f h t e.position (Out e.object e.access e.version) (leave_emits f h t l i d li)
+    emitting_step_below_recorded_steps f h t e.position (Out e.object e.access e.version) (step_of_leave_emits_leave f h t l i d li)

@@ -11,8 +11,8 @@ use Rattle.ir_fit.specs.Passed.{IsAlong, IsPassed, ArePassed, flat_at}
 use Rattle.ir_fit.specs.declared.passed_state.PassedState.{PassedState}
 
 -- what follows the trace is along it
-pub along_of : (guest : Guest) (r : Recorded) (f : Flat) (ps : List Growing) → IsFollower guest r f ps → IsAlong guest r f
-along_of guest r f ps k = record {
+pub follower_is_along_trace : (guest : Guest) (r : Recorded) (f : Flat) (ps : List Growing) → IsFollower guest r f ps → IsAlong guest r f
+follower_is_along_trace guest r f ps k = record {
   run = k.run;
   follows = k.follows;
   ends = k.ends;
@@ -22,9 +22,9 @@ along_of guest r f ps k = record {
 }
 
 -- a copy of the threads and objects
-pub copied : (guest : Guest) (r : Recorded) (f g : Flat) (s : PassedState) → g ≡ f → s.threads.items ≡ g.threads
+pub copied_state_is_passed : (guest : Guest) (r : Recorded) (f g : Flat) (s : PassedState) → g ≡ f → s.threads.items ≡ g.threads
     → s.objects.items ≡ g.objects → IsFlat g → IsAlong guest r f → IsPassed guest r s
-copied guest r f g s same threads objects flat along =
+copied_state_is_passed guest r f g s same threads objects flat along =
     let is : g ≡ flat_at guest s = λ i. record { code = (ap (λ z. z.code) same ∙ along.code) i; threads = sym threads i; objects = sym objects i } in
     record {
       flat = subst IsFlat is flat;
@@ -32,13 +32,13 @@ copied guest r f g s same threads objects flat along =
     }
 
 -- one more state, if there is memory for it
-pub one_more : (guest : Guest) (r : Recorded) (ss new : List PassedState) (s : PassedState) (b : Bool) → ArePassed guest r ss
+pub passed_states_with_one_added : (guest : Guest) (r : Recorded) (ss new : List PassedState) (s : PassedState) (b : Bool) → ArePassed guest r ss
     → IsPassed guest r s → new ≡ (if b then ss ++ s ∷ [] else ss) → ArePassed guest r new
-one_more guest r ss new s true all one is = subst (ArePassed guest r) (sym is) (All-push (IsPassed guest r) ss s all one)
-one_more guest r ss new s false all one is = subst (ArePassed guest r) (sym is) all
+passed_states_with_one_added guest r ss new s true all one is = subst (ArePassed guest r) (sym is) (All-push (IsPassed guest r) ss s all one)
+passed_states_with_one_added guest r ss new s false all one is = subst (ArePassed guest r) (sym is) all
 
 -- what holds where the run is, for the same trace, threads and objects
-pub passed_on : (guest : Guest) (r q : Recorded) (f g : Flat) (ss new : List PassedState) → q ≡ r → g ≡ f
+pub passed_states_if_run_same : (guest : Guest) (r q : Recorded) (f g : Flat) (ss new : List PassedState) → q ≡ r → g ≡ f
     → (IsAlong guest q g → ArePassed guest q ss → ArePassed guest q new) → IsAlong guest r f → ArePassed guest r ss → ArePassed guest r new
-passed_on guest r q f g ss new same is passes = subst (λ (z : Recorded × Flat). IsAlong guest z.0 z.1 → ArePassed guest z.0 ss → ArePassed guest z.0 new)
+passed_states_if_run_same guest r q f g ss new same is passes = subst (λ (z : Recorded × Flat). IsAlong guest z.0 z.1 → ArePassed guest z.0 ss → ArePassed guest z.0 new)
     (λ i. (same i, is i)) passes

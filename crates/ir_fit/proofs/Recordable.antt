@@ -8,7 +8,7 @@ use Rattle.std.proofs.lemmas.List.{length-map}
 use Rattle.std.proofs.lemmas.List.FromFn.{get_or-map-range_with_len, length-map-range_with_len}
 use Rattle.ir_image.specs.Guest.{Guest, object_count}
 use Rattle.ir_image.specs.Within.{IsGuest}
-use Rattle.ir_image.proofs.CallerLemmas.{few_threads, few_objects}
+use Rattle.ir_image.proofs.CallerLemmas.{guest_threads_at_most_limit, guest_objects_at_most_limit}
 use Rattle.ir_thread.specs.State.{IsAllowed, end_number, end_code}
 use Rattle.ir_thread.specs.Calls.{ask_of, most_budget}
 use Rattle.ir_thread.specs.Permitted.{Permits}
@@ -19,16 +19,16 @@ use Rattle.ir_thread.specs.declared.ask.Ask.TheVariants as ask
 use Rattle.ir_thread.specs.declared.end.End.{End}
 use Rattle.ir_thread.specs.declared.end.End.TheVariants as end_of
 use Rattle.ir_thread.specs.declared.profile.Profile.{Profile}
-use Rattle.ir_thread.proofs.CallerLemmas.{ask_permits, over, closing}
+use Rattle.ir_thread.proofs.CallerLemmas.{ask_of_permitted, end_number_and_code, thread_machine_is_closing}
 use Rattle.ir_runs.specs.Machine.{act_of, Object, Admits, emitted, Label, logged}
 use Rattle.ir_runs.specs.Run.{State, Step, Can, after, label, IsRun, end, events, log, count, IsDone}
 use Rattle.ir_runs.specs.declared.access.Access.TheVariants.{Reading, Writing}
 use Rattle.ir_runs.specs.declared.env_kind.EnvKind.{EnvKind}
 use Rattle.ir_runs.specs.declared.env_kind.EnvKind.TheVariants.{Clock, Random, Input}
-use Rattle.ir_runs.proofs.CallerLemmas.{trail_same, trail_other, run_prefix}
+use Rattle.ir_runs.proofs.CallerLemmas.{trail_of_cons_own_thread, trail_of_cons_other_thread, prefix_of_run_is_run}
 use Rattle.ir_flat.specs.Flat.{tables, start_flat}
 use Rattle.ir_flat.specs.Laws.{Fits}
-use Rattle.ir_flat.proofs.CallerLemmas.{counts_all_fit, no_steps, fresh, tally, StepsFit, CodeFits, IsWithin, profiles_of, thread_at, within_at_end}
+use Rattle.ir_flat.proofs.CallerLemmas.{counts_all_fit, start_thread_has_no_steps, start_thread_is_fresh, tallies_along_run, StepsFit, CodeFits, IsWithin, profiles_of, start_thread_at_place, within_bounds_at_run_end}
 use Rattle.ir_log.specs.Logging.{label_of}
 use Rattle.ir_log.specs.declared.event.Event.{Event}
 use Rattle.ir_log.specs.declared.event.Event.TheVariants.{Answer, Read, Write, Try}
@@ -45,14 +45,14 @@ record AreEvents (profile : Profile) (objects : ℕ) (labels : List Label) : Typ
   same : map label_of events ≡ labels
   fit : AllByRecursion (IsEvent profile objects) events
 
-with_event : {profile : Profile} {objects : ℕ} {labels : List Label} (e : Event) → IsEvent profile objects e
+are_events_with_event_added : {profile : Profile} {objects : ℕ} {labels : List Label} (e : Event) → IsEvent profile objects e
     → AreEvents profile objects labels → AreEvents profile objects (label_of e ∷ labels)
-with_event e fits rest = record { events = e ∷ rest.events; same = ap (λ z. label_of e ∷ z) rest.same; fit = (fits, rest.fit) }
+are_events_with_event_added e fits rest = record { events = e ∷ rest.events; same = ap (λ z. label_of e ∷ z) rest.same; fit = (fits, rest.fit) }
 
-result_fits : (kind : EnvKind) (value : ℕ) → is_result kind value ≡ true → IsResult kind value
-result_fits Clock value h = grind (arith, nat_tests, h)
-result_fits Random value h = grind (arith, nat_tests, h)
-result_fits Input value h = input_fits (nat_lt value (2 ^ 8)) (value == 0xFFFFFFFF) refl refl h
+result_if_is_result_true : (kind : EnvKind) (value : ℕ) → is_result kind value ≡ true → IsResult kind value
+result_if_is_result_true Clock value h = grind (arith, nat_tests, h)
+result_if_is_result_true Random value h = grind (arith, nat_tests, h)
+result_if_is_result_true Input value h = input_fits (nat_lt value (2 ^ 8)) (value == 0xFFFFFFFF) refl refl h
   where
     input_fits : (a b : Bool) → nat_lt value (2 ^ 8) ≡ a → (value == 0xFFFFFFFF) ≡ b → (a || b) ≡ true → IsResult Input value
     input_fits true b p q h = inl (ltb-true value 256 p)
@@ -60,105 +60,105 @@ result_fits Input value h = input_fits (nat_lt value (2 ^ 8)) (value == 0xFFFFFF
     input_fits false false p q h = absurd cc
 
 -- what is logged of a step is an event within the limits
-told : (code : List ℕ) {profile : Profile} {objects : ℕ} {labels : List Label} (n : ℕ) (x : thread.State) (q : Ask) (r : ℕ) (b : Object)
+logged_label_is_event_within_limits : (code : List ℕ) {profile : Profile} {objects : ℕ} {labels : List Label} (n : ℕ) (x : thread.ThreadState) (q : Ask) (r : ℕ) (b : Object)
     → Permits x q → x.profile ≡ profile → length x.held ≤ objects → Fits n b → Admits (thread_machine code) (act_of (shared_ask q) r) b
     → AreEvents profile objects labels → AreEvents profile objects (logged (emitted (act_of (shared_ask q) r) b) labels)
-told code n x ask.Private r b p same few fits can rest = rest
-told code n x (ask.Env kind) r b p same few fits can rest = with_event (Answer kind r) (result_fits kind r can) rest
-told code n x (ask.Enter o Reading) r b p same few fits can rest =
-    with_event (Read o b.version) (omega (arith, p.2, few), fits.version) rest
-told code n x (ask.Enter o Writing) r b p same few fits can rest =
-    with_event (Write o b.version b.left) (omega (arith, p.2, few), fits.version, omega (arith, fits.left)) rest
-told code n x (ask.Try o) zero b p same few fits can rest = with_event (Try o) (sym same ∙ p.4, omega (arith, p.2, few)) rest
-told code n x (ask.Try o) (suc zero) b p same few fits can rest =
-    with_event (Write o b.version b.left) (omega (arith, p.2, few), fits.version, omega (arith, fits.left)) rest
-told code n x (ask.Try o) (suc (suc r)) b p same few fits can rest = absurd can
-told code n x (ask.Leave o a) r b p same few fits can rest = rest
-told code n x (ask.Get o i) r b p same few fits can rest = rest
-told code n x (ask.Put o i w) r b p same few fits can rest = rest
-told code n x ask.Print r b p same few fits can rest = rest
-told code n x (ask.End e) r b p same few fits can rest = rest
-told code n x ask.Done r b p same few fits can rest = absurd can
+logged_label_is_event_within_limits code n x ask.Private r b p same few fits can rest = rest
+logged_label_is_event_within_limits code n x (ask.Env kind) r b p same few fits can rest = are_events_with_event_added (Answer kind r) (result_if_is_result_true kind r can) rest
+logged_label_is_event_within_limits code n x (ask.Enter o Reading) r b p same few fits can rest =
+    are_events_with_event_added (Read o b.version) (omega (arith, p.2, few), fits.version) rest
+logged_label_is_event_within_limits code n x (ask.Enter o Writing) r b p same few fits can rest =
+    are_events_with_event_added (Write o b.version b.left) (omega (arith, p.2, few), fits.version, omega (arith, fits.left)) rest
+logged_label_is_event_within_limits code n x (ask.Try o) zero b p same few fits can rest = are_events_with_event_added (Try o) (sym same ∙ p.4, omega (arith, p.2, few)) rest
+logged_label_is_event_within_limits code n x (ask.Try o) (suc zero) b p same few fits can rest =
+    are_events_with_event_added (Write o b.version b.left) (omega (arith, p.2, few), fits.version, omega (arith, fits.left)) rest
+logged_label_is_event_within_limits code n x (ask.Try o) (suc (suc r)) b p same few fits can rest = absurd can
+logged_label_is_event_within_limits code n x (ask.Leave o a) r b p same few fits can rest = rest
+logged_label_is_event_within_limits code n x (ask.Get o i) r b p same few fits can rest = rest
+logged_label_is_event_within_limits code n x (ask.Put o i w) r b p same few fits can rest = rest
+logged_label_is_event_within_limits code n x ask.Print r b p same few fits can rest = rest
+logged_label_is_event_within_limits code n x (ask.End e) r b p same few fits can rest = rest
+logged_label_is_event_within_limits code n x ask.Done r b p same few fits can rest = absurd can
 
 -- ---- the steps of a run
 
 -- threads and objects are within their bounds, and what the objects count fits
-record AtLimits (n budget objects : ℕ) (profiles : ℕ → Profile) (s : State thread.State) : Type 0 where
+record IsWithinLimits (n budget objects : ℕ) (profiles : ℕ → Profile) (s : State thread.ThreadState) : Type 0 where
   within : IsWithin budget objects profiles s
   counts : (o : ℕ) → Fits n (s.objects o)
 
-step_events : (code : List ℕ) {n budget objects : ℕ} {profiles : ℕ → Profile} {labels : List Label} (s : State thread.State) (e : Step)
-    → AtLimits n budget objects profiles s → Can (thread_machine code) s e → AreEvents (profiles e.0) objects labels
+step_label_is_event_within_limits : (code : List ℕ) {n budget objects : ℕ} {profiles : ℕ → Profile} {labels : List Label} (s : State thread.ThreadState) (e : Step)
+    → IsWithinLimits n budget objects profiles s → Can (thread_machine code) s e → AreEvents (profiles e.0) objects labels
     → AreEvents (profiles e.0) objects (logged (label (thread_machine code) s e) labels)
-step_events code {n} s e h can rest =
-    let x : thread.State = s.now e.0 in
+step_label_is_event_within_limits code {n} s e h can rest =
+    let x : thread.ThreadState = s.now e.0 in
     let bounded = h.within.threads e.0 in
-    told code n x (ask_of code x) e.1 (s.objects _) (ask_permits code x) bounded.profile_is bounded.places (h.counts _) can rest
+    logged_label_is_event_within_limits code n x (ask_of code x) e.1 (s.objects _) (ask_of_permitted code x) bounded.profile_is bounded.places (h.counts _) can rest
 
-log_events : (code : List ℕ) (n budget objects : ℕ) (profiles : ℕ → Profile) (s : State thread.State) (run : List Step)
+log_labels_are_events_within_limits : (code : List ℕ) (n budget objects : ℕ) (profiles : ℕ → Profile) (s : State thread.ThreadState) (run : List Step)
     → IsRun (thread_machine code) s run
-    → ((before more : List Step) → run ≡ before ++ more → AtLimits n budget objects profiles (end (thread_machine code) s before))
+    → ((before more : List Step) → run ≡ before ++ more → IsWithinLimits n budget objects profiles (end (thread_machine code) s before))
     → (t : ℕ) → AreEvents (profiles t) objects (log (thread_machine code) s run t)
-log_events code n budget objects profiles s [] ok at t = record { events = []; same = refl; fit = tt }
-log_events code n budget objects profiles s (e ∷ run) ok at t =
+log_labels_are_events_within_limits code n budget objects profiles s [] ok at t = record { events = []; same = refl; fit = tt }
+log_labels_are_events_within_limits code n budget objects profiles s (e ∷ run) ok at t =
     let m = thread_machine code in
-    let rest = log_events code n budget objects profiles (after m s e) run ok.1
+    let rest = log_labels_are_events_within_limits code n budget objects profiles (after m s e) run ok.1
     (λ before more is. at (e ∷ before) more (ap (λ z. e ∷ z) is)) in
     elim (cases_eq t e.0) [
       | inl same ↦ subst (λ z. AreEvents (profiles z) objects (log m s (e ∷ run) z)) (sym same)
-          (subst (λ xs. AreEvents (profiles e.0) objects (events xs)) (sym (trail_same m s e run))
-          (step_events code s e (at [] (e ∷ run) refl) ok.0 (rest e.0)))
-      | inr other ↦ subst (λ xs. AreEvents (profiles t) objects (events xs)) (sym (trail_other m s e run t other)) (rest t)
+          (subst (λ xs. AreEvents (profiles e.0) objects (events xs)) (sym (trail_of_cons_own_thread m s e run))
+          (step_label_is_event_within_limits code s e (at [] (e ∷ run) refl) ok.0 (rest e.0)))
+      | inr other ↦ subst (λ xs. AreEvents (profiles t) objects (events xs)) (sym (trail_of_cons_other_thread m s e run t other)) (rest t)
     ]
 
 -- ---- what is recorded of the run
 
 -- the end, where there is one
-abbrev end_or : Option End → End
-end_or None = end_of.Breakpoint
-end_or (Some e) = e
+abbrev end_or_breakpoint : Option End → End
+end_or_breakpoint None = end_of.Breakpoint
+end_or_breakpoint (Some e) = e
 
-steps_most : (e : Option End) (x : thread.State) → StepsFit e x → x.steps ≤ x.budget + 1 + length x.held
-steps_most None x h = omega (arith, h)
-steps_most (Some e) x h = omega (arith, h)
+steps_within_budget_and_held : (e : Option End) (x : thread.ThreadState) → StepsFit e x → x.steps ≤ x.budget + 1 + length x.held
+steps_within_budget_and_held None x h = omega (arith, h)
+steps_within_budget_and_held (Some e) x h = omega (arith, h)
 
-code_word : (e : Option End) → CodeFits e → IsWord (end_code (end_or e))
-code_word None h = omega arith
-code_word (Some e) h = h
+end_code_is_word : (e : Option End) → CodeFits e → IsWord (end_code (end_or_breakpoint e))
+end_code_is_word None h = omega arith
+end_code_is_word (Some e) h = h
 
-end_there : (e : Option End) (p : ℕ × ℕ) → over e ≡ Some p → over e ≡ Some (end_number (end_or e), end_code (end_or e))
-end_there None p h = absurd (cc h)
-end_there (Some e) p h = refl
+over_some_is_end_numbers : (e : Option End) (p : ℕ × ℕ) → end_number_and_code e ≡ Some p → end_number_and_code e ≡ Some (end_number (end_or_breakpoint e), end_code (end_or_breakpoint e))
+over_some_is_end_numbers None p h = absurd (cc h)
+over_some_is_end_numbers (Some e) p h = refl
 
-all_made : {X : Type 0} (P : X → Type 0) (f : ℕ → X) (a n : ℕ) → ((t : ℕ) → t < a + n → P (f t))
+all_of_mapped_range : {X : Type 0} (P : X → Type 0) (f : ℕ → X) (a n : ℕ) → ((t : ℕ) → t < a + n → P (f t))
     → AllByRecursion P (map f (range_with_len a n))
-all_made P f a zero h = tt
-all_made P f a (suc n) h = (h a (omega arith), all_made P f (a + 1) n (λ t l. h t (omega (arith, l))))
+all_of_mapped_range P f a zero h = tt
+all_of_mapped_range P f a (suc n) h = (h a (omega arith), all_of_mapped_range P f (a + 1) n (λ t l. h t (omega (arith, l))))
 
 module _ (g : Guest) (budget : ℕ) (profile : Profile) (run : List Step) (guest : IsGuest g)
     (ok : IsRun (thread_machine g.code) (tables (start_flat g budget profile)) run) where
-  abbrev first : State thread.State
+  abbrev first : State thread.ThreadState
   first = tables (start_flat g budget profile)
 
-  abbrev last : State thread.State
+  abbrev last : State thread.ThreadState
   last = end (thread_machine g.code) first run
 
   -- what each thread logs
   logged_of : (t : ℕ) → AreEvents (profiles_of g budget profile t) (object_count g) (log (thread_machine g.code) first run t)
-  logged_of t = log_events g.code (length g.entries) budget (object_count g) (profiles_of g budget profile) first run ok
+  logged_of t = log_labels_are_events_within_limits g.code (length g.entries) budget (object_count g) (profiles_of g budget profile) first run ok
       (λ before more is.
       let begins : IsRun (thread_machine g.code) first before =
-      run_prefix (thread_machine g.code) first before more (subst (IsRun (thread_machine g.code) first) is ok) in
+      prefix_of_run_is_run (thread_machine g.code) first before more (subst (IsRun (thread_machine g.code) first) is ok) in
       record {
-        within = within_at_end g budget profile before guest begins;
-        counts = λ o. counts_all_fit g budget profile before (few_threads g guest) begins o;
+        within = within_bounds_at_run_end g budget profile before guest begins;
+        counts = λ o. counts_all_fit g budget profile before (guest_threads_at_most_limit g guest) begins o;
       }) t
 
   -- what is recorded of each thread, and of all
   abbrev thread_record : ℕ → RecordedThread
   thread_record t = record {
     steps = count (thread_machine g.code) first run t;
-    end = end_or (last.now t).ended;
+    end = end_or_breakpoint (last.now t).ended;
     events = (logged_of t).events;
   }
 
@@ -176,18 +176,18 @@ module _ (g : Guest) (budget : ℕ) (profile : Profile) (run : List Step) (guest
   -- each thread's part is within the limits
   thread_fits : budget ≤ most_budget → (t : ℕ) → t < length g.entries → IsRecordedThread profile (object_count g) (thread_record t)
   thread_fits few t l =
-      let bounded = (within_at_end g budget profile run guest ok).threads t in
-      let counted = tally g.code first run ok t in
-      let no_step = no_steps g budget profile 0 (length g.entries) t in
-      let no_event = (fresh g budget profile 0 (length g.entries) t).events in
-      let most = steps_most (last.now t).ended (last.now t) bounded.steps in
-      let objects = few_objects g guest in
+      let bounded = (within_bounds_at_run_end g budget profile run guest ok).threads t in
+      let counted = tallies_along_run g.code first run ok t in
+      let no_step = start_thread_has_no_steps g budget profile 0 (length g.entries) t in
+      let no_event = (start_thread_is_fresh g budget profile 0 (length g.entries) t).events in
+      let most = steps_within_budget_and_held (last.now t).ended (last.now t) bounded.steps in
+      let objects = guest_objects_at_most_limit g guest in
       let size = length-map (logged_of t).events label_of in
       let same = ap (λ (z : List Label). length z) (logged_of t).same in
-      let own : profiles_of g budget profile t ≡ profile = ap (λ x. x.profile) (thread_at g budget profile 0 (length g.entries) t l) in
+      let own : profiles_of g budget profile t ≡ profile = ap (λ x. x.profile) (start_thread_at_place g budget profile 0 (length g.entries) t l) in
       record {
         steps_fit = omega (arith, counted.steps, no_step, most, bounded.limit, bounded.places, objects, few);
-        code_fits = code_word (last.now t).ended bounded.code;
+        code_fits = end_code_is_word (last.now t).ended bounded.code;
         few_events = omega (arith, counted.events, no_event, size, same, bounded.events);
         events_fit = subst (λ p. AllByRecursion (IsEvent p (object_count g)) (logged_of t).events) own (logged_of t).fit;
       }
@@ -201,7 +201,7 @@ module _ (g : Guest) (budget : ℕ) (profile : Profile) (run : List Step) (guest
         few_threads = omega (arith, size, allowed.0);
         few_objects = allowed.1;
         budget_fits = few;
-        threads_fit = all_made (IsRecordedThread profile (object_count g)) thread_record 0 (length g.entries)
+        threads_fit = all_of_mapped_range (IsRecordedThread profile (object_count g)) thread_record 0 (length g.entries)
             (λ t l. thread_fits few t (omega (arith, l)));
       }
 
@@ -215,8 +215,8 @@ module _ (g : Guest) (budget : ℕ) (profile : Profile) (run : List Step) (guest
       steps = λ t l. sym (ap (λ z. z.steps) (thread_there t l));
       logs = λ t l. sym (ap (λ z. map label_of z.events) (thread_there t l) ∙ (logged_of t).same);
       ends = λ t l.
-          let e = (closing g.code).done (last.now t) (done t) in
-          end_there (last.now t).ended e.0 e.1 ∙ sym (ap (λ z. Some (end_number z.end, end_code z.end)) (thread_there t l));
+          let e = (thread_machine_is_closing g.code).done (last.now t) (done t) in
+          over_some_is_end_numbers (last.now t).ended e.0 e.1 ∙ sym (ap (λ z. Some (end_number z.end, end_code z.end)) (thread_there t l));
     },
   )
 

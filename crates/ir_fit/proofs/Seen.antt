@@ -18,15 +18,15 @@ use Rattle.ir_runs.specs.declared.env_kind.EnvKind.{EnvKind}
 use Rattle.ir_runs.specs.declared.env_kind.EnvKind.TheVariants.{Clock, Random, Input}
 use Rattle.ir_thread.specs.declared.ask.Reply.{Reply}
 use Rattle.ir_thread.specs.declared.end.End as end
-use Rattle.ir_thread.proofs.CallerLemmas.{ask_permits, over}
+use Rattle.ir_thread.proofs.CallerLemmas.{ask_of_permitted, end_number_and_code}
 use Rattle.ir_object.specs.Cell.{Cell}
 use Rattle.ir_object.specs.Standing.{Admitted}
 use Rattle.ir_flat.specs.Flat.{Flat, thread_of, cell_of, tables, machine, IsFlat}
-use Rattle.ir_flat.proofs.CallerLemmas.{may_admits, added}
+use Rattle.ir_flat.proofs.CallerLemmas.{may_step_is_admits, events_added_by}
 use Rattle.std.proofs.lemmas.Option.{slice_get_within}
 use Rattle.ir_log.specs.Logging.{label_of}
 use Rattle.ir_log.specs.Asked.{ask_of as event_ask, Suits}
-use Rattle.ir_log.proofs.CallerLemmas.{call_suits as call_asked, entry_suits as entry_asked}
+use Rattle.ir_log.proofs.CallerLemmas.{ask_of_suiting_call_event as call_asked, ask_of_suiting_entry_event as entry_asked}
 use Rattle.ir_log.specs.declared.event.Event.{Event}
 use Rattle.ir_log.specs.declared.event.Event.TheVariants.{Answer, Read, Write, Try as Refused}
 use Rattle.ir_trace.specs.Recorded.{Recorded, recorded_thread, trace_of}
@@ -45,26 +45,26 @@ abbrev pub end_asked : Ask → Option (ℕ × ℕ)
 end_asked (End e) = Some (end_number e, end_code e)
 end_asked _ = None
 
-same_ends : (x : Option (ℕ × ℕ)) → ends_at x x ≡ None
-same_ends None = refl
-same_ends (Some e) = refl
+ends_at_unchanged_is_none : (x : Option (ℕ × ℕ)) → ends_at x x ≡ None
+ends_at_unchanged_is_none None = refl
+ends_at_unchanged_is_none (Some e) = refl
 
-ends_by : (code : List ℕ) (s : thread.State) (reply : Reply) (q : Ask) → Permits s q
-    → ends_at (over s.ended) (over (after_ask code s q reply).ended) ≡ end_asked q
-ends_by code s reply Private p = same_ends (over s.ended)
-ends_by code s reply (Env kind) p = same_ends (over s.ended)
-ends_by code s reply (Enter object access) p = same_ends (over s.ended)
-ends_by code s reply (Try object) p = same_ends (over s.ended)
-ends_by code s reply (Leave object access) p = same_ends (over s.ended)
-ends_by code s reply (Get object index) p = same_ends (over s.ended)
-ends_by code s reply (Put object index value) p = same_ends (over s.ended)
-ends_by code s reply Print p = same_ends (over s.ended)
-ends_by code s reply (End e) p = ap (λ z. ends_at (over z) (over (Some e))) p
-ends_by code s reply Done p = same_ends (over s.ended)
+end_after_ask_is_end_asked : (code : List ℕ) (s : thread.ThreadState) (reply : Reply) (q : Ask) → Permits s q
+    → ends_at (end_number_and_code s.ended) (end_number_and_code (after_ask code s q reply).ended) ≡ end_asked q
+end_after_ask_is_end_asked code s reply Private p = ends_at_unchanged_is_none (end_number_and_code s.ended)
+end_after_ask_is_end_asked code s reply (Env kind) p = ends_at_unchanged_is_none (end_number_and_code s.ended)
+end_after_ask_is_end_asked code s reply (Enter object access) p = ends_at_unchanged_is_none (end_number_and_code s.ended)
+end_after_ask_is_end_asked code s reply (Try object) p = ends_at_unchanged_is_none (end_number_and_code s.ended)
+end_after_ask_is_end_asked code s reply (Leave object access) p = ends_at_unchanged_is_none (end_number_and_code s.ended)
+end_after_ask_is_end_asked code s reply (Get object index) p = ends_at_unchanged_is_none (end_number_and_code s.ended)
+end_after_ask_is_end_asked code s reply (Put object index value) p = ends_at_unchanged_is_none (end_number_and_code s.ended)
+end_after_ask_is_end_asked code s reply Print p = ends_at_unchanged_is_none (end_number_and_code s.ended)
+end_after_ask_is_end_asked code s reply (End e) p = ap (λ z. ends_at (end_number_and_code z) (end_number_and_code (Some e))) p
+end_after_ask_is_end_asked code s reply Done p = ends_at_unchanged_is_none (end_number_and_code s.ended)
 
-pub ends_asked : (code : List ℕ) (s : thread.State) → ends_now (thread_machine code) s ≡ end_asked (ask_of code s)
+pub ends_now_is_end_asked : (code : List ℕ) (s : thread.ThreadState) → ends_now (thread_machine code) s ≡ end_asked (ask_of code s)
 unfolding after_reply
-ends_asked code s = ends_by code s (reply_of (ask_of code s) 0) (ask_of code s) (ask_permits code s)
+ends_now_is_end_asked code s = end_after_ask_is_end_asked code s (reply_of (ask_of code s) 0) (ask_of code s) (ask_of_permitted code s)
 
 -- ---- steps by what is asked
 
@@ -79,26 +79,26 @@ pub record FollowsAs (r : Recorded) (f : Flat) (t v n : ℕ) (es : List Label) (
   pub logs : logged (emits f q v) (unlogged (emits f q v) es) ≡ es
   pub ends : Meets (end_asked q) ((trace_of r).ends t) (held_count (thread_of f t).held) n es
 
-pub follows_as : (r : Recorded) (f : Flat) (t v : ℕ) (q : Ask) → ask_of f.code (thread_of f t) ≡ q → CanFollow r f t v
+pub follows_as_if_can_follow : (r : Recorded) (f : Flat) (t v : ℕ) (q : Ask) → ask_of f.code (thread_of f t) ≡ q → CanFollow r f t v
     → FollowsAs r f t v (steps_ahead r f t) (log_ahead r f t) q
-follows_as r f t v q is h = subst (FollowsAs r f t v (steps_ahead r f t) (log_ahead r f t)) is (record {
+follows_as_if_can_follow r f t v q is h = subst (FollowsAs r f t v (steps_ahead r f t) (log_ahead r f t)) is (record {
   can = h.0;
   steps = h.1;
   logs = h.2;
   ends = subst (λ e. Meets e ((trace_of r).ends t) (held_count (thread_of f t).held) (steps_ahead r f t) (log_ahead r f t))
-      (ends_asked f.code (thread_of f t)) h.3;
+      (ends_now_is_end_asked f.code (thread_of f t)) h.3;
 })
 
-pub follows_by : (r : Recorded) (f : Flat) (t v : ℕ) (q : Ask) → ask_of f.code (thread_of f t) ≡ q
+pub can_follow_if_follows_as : (r : Recorded) (f : Flat) (t v : ℕ) (q : Ask) → ask_of f.code (thread_of f t) ≡ q
     → FollowsAs r f t v (steps_ahead r f t) (log_ahead r f t) q → CanFollow r f t v
-follows_by r f t v q is h =
+can_follow_if_follows_as r f t v q is h =
     let k : FollowsAs r f t v (steps_ahead r f t) (log_ahead r f t) (ask_of f.code (thread_of f t)) =
     subst (FollowsAs r f t v (steps_ahead r f t) (log_ahead r f t)) (sym is) h in (
       k.can,
       k.steps,
       k.logs,
       subst (λ e. Meets e ((trace_of r).ends t) (held_count (thread_of f t).held) (steps_ahead r f t)
-          (log_ahead r f t)) (sym (ends_asked f.code (thread_of f t))) k.ends,
+          (log_ahead r f t)) (sym (ends_now_is_end_asked f.code (thread_of f t))) k.ends,
     )
 
 -- the next step is the trace's, where it is asked so
@@ -107,128 +107,128 @@ pub record AgreesAs (r : Recorded) (f : Flat) (t n : ℕ) (es : List Label) (q :
   pub suits : verdicts.Suits (shared_ask q) es
   pub ends : Meets (end_asked q) ((trace_of r).ends t) (held_count (thread_of f t).held) n es
 
-pub agrees_as : (r : Recorded) (f : Flat) (t : ℕ) (q : Ask) → ask_of f.code (thread_of f t) ≡ q → AgreesAhead r f t
+pub agrees_as_if_agrees_ahead : (r : Recorded) (f : Flat) (t : ℕ) (q : Ask) → ask_of f.code (thread_of f t) ≡ q → AgreesAhead r f t
     → AgreesAs r f t (steps_ahead r f t) (log_ahead r f t) q
-agrees_as r f t q is h = subst (AgreesAs r f t (steps_ahead r f t) (log_ahead r f t)) is (record {
+agrees_as_if_agrees_ahead r f t q is h = subst (AgreesAs r f t (steps_ahead r f t) (log_ahead r f t)) is (record {
   steps = h.0;
   suits = h.1;
   ends = subst (λ e. Meets e ((trace_of r).ends t) (held_count (thread_of f t).held) (steps_ahead r f t) (log_ahead r f t))
-      (ends_asked f.code (thread_of f t)) h.2;
+      (ends_now_is_end_asked f.code (thread_of f t)) h.2;
 })
 
-pub agrees_by : (r : Recorded) (f : Flat) (t : ℕ) (q : Ask) → ask_of f.code (thread_of f t) ≡ q
+pub agrees_ahead_if_agrees_as : (r : Recorded) (f : Flat) (t : ℕ) (q : Ask) → ask_of f.code (thread_of f t) ≡ q
     → AgreesAs r f t (steps_ahead r f t) (log_ahead r f t) q → AgreesAhead r f t
-agrees_by r f t q is h =
+agrees_ahead_if_agrees_as r f t q is h =
     let k : AgreesAs r f t (steps_ahead r f t) (log_ahead r f t) (ask_of f.code (thread_of f t)) =
     subst (AgreesAs r f t (steps_ahead r f t) (log_ahead r f t)) (sym is) h in (
       k.steps,
       k.suits,
       subst (λ e. Meets e ((trace_of r).ends t) (held_count (thread_of f t).held) (steps_ahead r f t) (log_ahead r f t))
-          (sym (ends_asked f.code (thread_of f t))) k.ends,
+          (sym (ends_now_is_end_asked f.code (thread_of f t))) k.ends,
     )
 
 -- ---- the next event of a log
 
 -- the log from an event on
-pub ahead_at : (xs : List Event) (i : ℕ) (e : Event) → slice_get xs i ≡ Some e → drop i (map label_of xs) ≡ label_of e
+pub labels_ahead_start_with_event : (xs : List Event) (i : ℕ) (e : Event) → slice_get xs i ≡ Some e → drop i (map label_of xs) ≡ label_of e
     ∷ drop (suc i) (map label_of xs)
-ahead_at [] i e h = absurd (cc h)
-ahead_at (x ∷ xs) zero e h = let same : x ≡ e = cc h in ap (λ z. label_of z ∷ map label_of xs) same
-ahead_at (x ∷ xs) (suc i) e h = ahead_at xs i e h
+labels_ahead_start_with_event [] i e h = absurd (cc h)
+labels_ahead_start_with_event (x ∷ xs) zero e h = let same : x ≡ e = cc h in ap (λ z. label_of z ∷ map label_of xs) same
+labels_ahead_start_with_event (x ∷ xs) (suc i) e h = labels_ahead_start_with_event xs i e h
 
-pub event_fits : {X : Type 0} (P : X → Type 0) (xs : List X) (i : ℕ) (e : X) → AllByRecursion P xs → slice_get xs i ≡ Some e → P e
-event_fits P [] i e all h = absurd (cc h)
-event_fits P (x ∷ xs) zero e all h = let same : x ≡ e = cc h in subst P same all.0
-event_fits P (x ∷ xs) (suc i) e all h = event_fits P xs i e all.1 h
+pub found_element_of_all_by_recursion : {X : Type 0} (P : X → Type 0) (xs : List X) (i : ℕ) (e : X) → AllByRecursion P xs → slice_get xs i ≡ Some e → P e
+found_element_of_all_by_recursion P [] i e all h = absurd (cc h)
+found_element_of_all_by_recursion P (x ∷ xs) zero e all h = let same : x ≡ e = cc h in subst P same all.0
+found_element_of_all_by_recursion P (x ∷ xs) (suc i) e all h = found_element_of_all_by_recursion P xs i e all.1 h
 
 -- a log whose next event suits what is asked
-call_suits : (x : Event) (es : List Label) (kind : EnvKind) → verdicts.Suits (machine.Env kind) (label_of x ∷ es) → Suits (Env kind) x
-call_suits (Answer j v) es kind h = inl (ap Env h)
-call_suits (Read o v) es kind h = absurd h
-call_suits (Write o v l) es kind h = absurd h
-call_suits (Refused o) es kind h = absurd h
+event_suits_call_if_label_does : (x : Event) (es : List Label) (kind : EnvKind) → verdicts.Suits (machine.Env kind) (label_of x ∷ es) → Suits (Env kind) x
+event_suits_call_if_label_does (Answer j v) es kind h = inl (ap Env h)
+event_suits_call_if_label_does (Read o v) es kind h = absurd h
+event_suits_call_if_label_does (Write o v l) es kind h = absurd h
+event_suits_call_if_label_does (Refused o) es kind h = absurd h
 
-entry_suits : (x : Event) (es : List Label) (o : ℕ) (a : Access) → verdicts.Suits (machine.Enter o a) (label_of x ∷ es)
+event_suits_entry_if_label_does : (x : Event) (es : List Label) (o : ℕ) (a : Access) → verdicts.Suits (machine.Enter o a) (label_of x ∷ es)
     → Suits (Enter o a) x
-entry_suits (Answer j v) es o a h = absurd h
-entry_suits (Read p v) es o a h = inl (λ i. Enter (h.0 i) (h.1 i))
-entry_suits (Write p v l) es o a h = inl (λ i. Enter (h.0 i) (h.1 i))
-entry_suits (Refused p) es o a h = absurd h
+event_suits_entry_if_label_does (Answer j v) es o a h = absurd h
+event_suits_entry_if_label_does (Read p v) es o a h = inl (λ i. Enter (h.0 i) (h.1 i))
+event_suits_entry_if_label_does (Write p v l) es o a h = inl (λ i. Enter (h.0 i) (h.1 i))
+event_suits_entry_if_label_does (Refused p) es o a h = absurd h
 
-try_suits : (x : Event) (es : List Label) (o : ℕ) → verdicts.Suits (machine.Try o) (label_of x ∷ es) → Suits (Try o) x
-try_suits (Answer j v) es o h = absurd h
-try_suits (Read p v) es o h = absurd (let is : ◌≡◌ {A = Access} Reading Writing = h.1 in cc is)
-try_suits (Write p v l) es o h = inr (λ i. Some (Try (h.0 i)))
-try_suits (Refused p) es o h = inl (ap Try h)
+event_suits_try_if_label_does : (x : Event) (es : List Label) (o : ℕ) → verdicts.Suits (machine.Try o) (label_of x ∷ es) → Suits (Try o) x
+event_suits_try_if_label_does (Answer j v) es o h = absurd h
+event_suits_try_if_label_does (Read p v) es o h = absurd (let is : ◌≡◌ {A = Access} Reading Writing = h.1 in cc is)
+event_suits_try_if_label_does (Write p v l) es o h = inr (λ i. Some (Try (h.0 i)))
+event_suits_try_if_label_does (Refused p) es o h = inl (ap Try h)
 
-entry_by : (x : Event) (es : List Label) (o : ℕ) (a : Access) → event_ask x ≡ Enter o a → verdicts.Suits (machine.Enter o a) (label_of x ∷ es)
-entry_by (Answer j v) es o a h = absurd (cc h)
-entry_by (Read p v) es o a h = ((let e : ◌≡◌ {A = ℕ} p o = cc h in e), (let e : ◌≡◌ {A = Access} Reading a = cc h in e))
-entry_by (Write p v l) es o a h = ((let e : ◌≡◌ {A = ℕ} p o = cc h in e), (let e : ◌≡◌ {A = Access} Writing a = cc h in e))
-entry_by (Refused p) es o a h = absurd (cc h)
+label_suits_entry_by_ask : (x : Event) (es : List Label) (o : ℕ) (a : Access) → event_ask x ≡ Enter o a → verdicts.Suits (machine.Enter o a) (label_of x ∷ es)
+label_suits_entry_by_ask (Answer j v) es o a h = absurd (cc h)
+label_suits_entry_by_ask (Read p v) es o a h = ((let e : ◌≡◌ {A = ℕ} p o = cc h in e), (let e : ◌≡◌ {A = Access} Reading a = cc h in e))
+label_suits_entry_by_ask (Write p v l) es o a h = ((let e : ◌≡◌ {A = ℕ} p o = cc h in e), (let e : ◌≡◌ {A = Access} Writing a = cc h in e))
+label_suits_entry_by_ask (Refused p) es o a h = absurd (cc h)
 
-pub suits_entry : (x : Event) (es : List Label) (o : ℕ) (a : Access) → Suits (Enter o a) x
+pub label_suits_entry_if_event_does : (x : Event) (es : List Label) (o : ℕ) (a : Access) → Suits (Enter o a) x
     → verdicts.Suits (machine.Enter o a) (label_of x ∷ es)
-suits_entry x es o a h = entry_by x es o a (entry_asked o a x h)
+label_suits_entry_if_event_does x es o a h = label_suits_entry_by_ask x es o a (entry_asked o a x h)
 
-pub suits_try : (x : Event) (es : List Label) (o : ℕ) → Suits (Try o) x → verdicts.Suits (machine.Try o) (label_of x ∷ es)
-suits_try (Answer j v) es o (inl h) = absurd (cc h)
-suits_try (Answer j v) es o (inr h) = absurd (cc h)
-suits_try (Read p v) es o (inl h) = absurd (cc h)
-suits_try (Read p v) es o (inr h) = absurd (cc h)
-suits_try (Write p v l) es o (inl h) = absurd (cc h)
-suits_try (Write p v l) es o (inr h) = ((let e : ◌≡◌ {A = ℕ} p o = cc h in e), refl)
-suits_try (Refused p) es o (inl h) = let e : ◌≡◌ {A = ℕ} p o = cc h in e
-suits_try (Refused p) es o (inr h) = absurd (cc h)
+pub label_suits_try_if_event_does : (x : Event) (es : List Label) (o : ℕ) → Suits (Try o) x → verdicts.Suits (machine.Try o) (label_of x ∷ es)
+label_suits_try_if_event_does (Answer j v) es o (inl h) = absurd (cc h)
+label_suits_try_if_event_does (Answer j v) es o (inr h) = absurd (cc h)
+label_suits_try_if_event_does (Read p v) es o (inl h) = absurd (cc h)
+label_suits_try_if_event_does (Read p v) es o (inr h) = absurd (cc h)
+label_suits_try_if_event_does (Write p v l) es o (inl h) = absurd (cc h)
+label_suits_try_if_event_does (Write p v l) es o (inr h) = ((let e : ◌≡◌ {A = ℕ} p o = cc h in e), refl)
+label_suits_try_if_event_does (Refused p) es o (inl h) = let e : ◌≡◌ {A = ℕ} p o = cc h in e
+label_suits_try_if_event_does (Refused p) es o (inr h) = absurd (cc h)
 
-pub call_there : (xs : List Event) (i : ℕ) (kind : EnvKind) → verdicts.Suits (machine.Env kind) (drop i (map label_of xs)) → (e : Event)
+pub suited_call_has_event : (xs : List Event) (i : ℕ) (kind : EnvKind) → verdicts.Suits (machine.Env kind) (drop i (map label_of xs)) → (e : Event)
     × (slice_get xs i ≡ Some e) × Suits (Env kind) e
-call_there [] zero kind h = absurd h
-call_there [] (suc i) kind h = absurd h
-call_there (x ∷ xs) zero kind h = (x, refl, call_suits x (map label_of xs) kind h)
-call_there (x ∷ xs) (suc i) kind h = call_there xs i kind h
+suited_call_has_event [] zero kind h = absurd h
+suited_call_has_event [] (suc i) kind h = absurd h
+suited_call_has_event (x ∷ xs) zero kind h = (x, refl, event_suits_call_if_label_does x (map label_of xs) kind h)
+suited_call_has_event (x ∷ xs) (suc i) kind h = suited_call_has_event xs i kind h
 
-pub entry_there : (xs : List Event) (i o : ℕ) (a : Access) → verdicts.Suits (machine.Enter o a) (drop i (map label_of xs)) → (e : Event)
+pub suited_entry_has_event : (xs : List Event) (i o : ℕ) (a : Access) → verdicts.Suits (machine.Enter o a) (drop i (map label_of xs)) → (e : Event)
     × (slice_get xs i ≡ Some e) × Suits (Enter o a) e
-entry_there [] zero o a h = absurd h
-entry_there [] (suc i) o a h = absurd h
-entry_there (x ∷ xs) zero o a h = (x, refl, entry_suits x (map label_of xs) o a h)
-entry_there (x ∷ xs) (suc i) o a h = entry_there xs i o a h
+suited_entry_has_event [] zero o a h = absurd h
+suited_entry_has_event [] (suc i) o a h = absurd h
+suited_entry_has_event (x ∷ xs) zero o a h = (x, refl, event_suits_entry_if_label_does x (map label_of xs) o a h)
+suited_entry_has_event (x ∷ xs) (suc i) o a h = suited_entry_has_event xs i o a h
 
-pub try_there : (xs : List Event) (i o : ℕ) → verdicts.Suits (machine.Try o) (drop i (map label_of xs)) → (e : Event)
+pub suited_try_has_event : (xs : List Event) (i o : ℕ) → verdicts.Suits (machine.Try o) (drop i (map label_of xs)) → (e : Event)
     × (slice_get xs i ≡ Some e) × Suits (Try o) e
-try_there [] zero o h = absurd h
-try_there [] (suc i) o h = absurd h
-try_there (x ∷ xs) zero o h = (x, refl, try_suits x (map label_of xs) o h)
-try_there (x ∷ xs) (suc i) o h = try_there xs i o h
+suited_try_has_event [] zero o h = absurd h
+suited_try_has_event [] (suc i) o h = absurd h
+suited_try_has_event (x ∷ xs) zero o h = (x, refl, event_suits_try_if_label_does x (map label_of xs) o h)
+suited_try_has_event (x ∷ xs) (suc i) o h = suited_try_has_event xs i o h
 
 -- ---- calls of the environment
 
-pub fits_result : (kind : EnvKind) (value : ℕ) → IsResult kind value → is_result kind value ≡ true
-fits_result Clock value h = grind (arith, nat_tests, h)
-fits_result Random value h = grind (arith, nat_tests, h)
-fits_result Input value (inl h) = ap (λ b. b || (value == 0xFFFFFFFF))
+pub is_result_true_if_result : (kind : EnvKind) (value : ℕ) → IsResult kind value → is_result kind value ≡ true
+is_result_true_if_result Clock value h = grind (arith, nat_tests, h)
+is_result_true_if_result Random value h = grind (arith, nat_tests, h)
+is_result_true_if_result Input value (inl h) = ap (λ b. b || (value == 0xFFFFFFFF))
     (let e : nat_lt value (2 ^ 8) ≡ true = grind (arith, nat_tests, h) in e)
-fits_result Input value (inr h) = either (nat_lt value (2 ^ 8)) (value == 0xFFFFFFFF) (grind (arith, nat_tests, h))
+is_result_true_if_result Input value (inr h) = either (nat_lt value (2 ^ 8)) (value == 0xFFFFFFFF) (grind (arith, nat_tests, h))
   where
     either : (a b : Bool) → b ≡ true → (a || b) ≡ true
     either true b h = refl
     either false b h = h
 
-pub call_follows : (r : Recorded) (f : Flat) (t v : ℕ) (kind j : EnvKind) → IsRecordedThread r.profile r.objects (recorded_thread r t)
+pub suited_call_can_follow : (r : Recorded) (f : Flat) (t v : ℕ) (kind j : EnvKind) → IsRecordedThread r.profile r.objects (recorded_thread r t)
     → ask_of f.code (thread_of f t) ≡ Env kind → 0 < steps_ahead r f t
     → slice_get (recorded_thread r t).events (thread_of f t).events ≡ Some (Answer j v) → Suits (Env kind) (Answer j v) → CanFollow r f t v
-call_follows r f t v kind j fits is steps next suits =
+suited_call_can_follow r f t v kind j fits is steps next suits =
     let asked = call_asked kind (Answer j v) suits in
     let same : j ≡ kind = cc asked in
     let here : Answer j v ≡ Answer kind v = ap (λ z. Answer z v) same in
     let es : log_ahead r f t ≡ machine.Answer kind v ∷ drop (suc (thread_of f t).events) (map label_of (recorded_thread r t).events) =
-    ahead_at (recorded_thread r t).events (thread_of f t).events (Answer kind v)
+    labels_ahead_start_with_event (recorded_thread r t).events (thread_of f t).events (Answer kind v)
     (subst (λ z. slice_get (recorded_thread r t).events (thread_of f t).events ≡ Some z) here next) in
     let result : IsResult kind v = subst (λ z. IsResult z v) same
-    (event_fits (IsEvent r.profile r.objects) (recorded_thread r t).events (thread_of f t).events (Answer j v) fits.events_fit next) in
-    follows_by r f t v (Env kind) is (record {
-      can = fits_result kind v result;
+    (found_element_of_all_by_recursion (IsEvent r.profile r.objects) (recorded_thread r t).events (thread_of f t).events (Answer j v) fits.events_fit next) in
+    can_follow_if_follows_as r f t v (Env kind) is (record {
+      can = is_result_true_if_result kind v result;
       steps = steps;
       logs = ap (λ z. machine.Answer kind v ∷ unlogged (machine.Answer kind v) z) es ∙ sym es;
       ends = tt;
@@ -236,12 +236,12 @@ call_follows r f t v kind j fits is steps next suits =
 
 -- ---- entries
 
-open_entry : (f : Flat) (t v o : ℕ) (a : Access) (e : Event) (es rest : List Label) → es ≡ label_of e ∷ rest → Suits (Enter o a) e
+open_entry_is_admitted_and_logs : (f : Flat) (t v o : ℕ) (a : Access) (e : Event) (es rest : List Label) → es ≡ label_of e ∷ rest → Suits (Enter o a) e
     → IsOpen (cell_of f o) e → (Admitted a (cell_of f o).fields)
     × (logged (emits f (Enter o a) v) (unlogged (emits f (Enter o a) v) es) ≡ es)
-open_entry f t v o a (Answer k w) es rest is suits h = absurd h
-open_entry f t v o a (Refused p) es rest is suits h = absurd h
-open_entry f t v o a (Read p w) es rest is suits h =
+open_entry_is_admitted_and_logs f t v o a (Answer k w) es rest is suits h = absurd h
+open_entry_is_admitted_and_logs f t v o a (Refused p) es rest is suits h = absurd h
+open_entry_is_admitted_and_logs f t v o a (Read p w) es rest is suits h =
     let asked = entry_asked o a (Read p w) suits in
     let object : ◌≡◌ {A = ℕ} o p = sym (let e : ◌≡◌ {A = ℕ} p o = cc asked in e) in
     let access : ◌≡◌ {A = Access} Reading a = cc asked in
@@ -250,7 +250,7 @@ open_entry f t v o a (Read p w) es rest is suits h =
       ap (λ z. machine.In o Reading (cell_of f o).fields.version 0 ∷ unlogged (machine.In o Reading (cell_of f o).fields.version 0) z) is
           ∙ (λ i. machine.In (object i) Reading (h.0 i) 0 ∷ rest) ∙ sym is,
     )
-open_entry f t v o a (Write p w l) es rest is suits h =
+open_entry_is_admitted_and_logs f t v o a (Write p w l) es rest is suits h =
     let asked = entry_asked o a (Write p w l) suits in
     let object : ◌≡◌ {A = ℕ} o p = sym (let e : ◌≡◌ {A = ℕ} p o = cc asked in e) in
     let access : ◌≡◌ {A = Access} Writing a = cc asked in
@@ -261,11 +261,11 @@ open_entry f t v o a (Write p w l) es rest is suits h =
           ∙ (λ i. machine.In (object i) Writing (h.0 i) (h.1 i) ∷ rest) ∙ sym is,
     )
 
-entry_open : (f : Flat) (t v o : ℕ) (a : Access) (e : Event) (es rest : List Label) → es ≡ label_of e ∷ rest → Suits (Enter o a) e
+admitted_entry_that_logs_is_open : (f : Flat) (t v o : ℕ) (a : Access) (e : Event) (es rest : List Label) → es ≡ label_of e ∷ rest → Suits (Enter o a) e
     → Admitted a (cell_of f o).fields → logged (emits f (Enter o a) v) (unlogged (emits f (Enter o a) v) es) ≡ es → IsOpen (cell_of f o) e
-entry_open f t v o a (Answer k w) es rest is suits can h = let asked = entry_asked o a (Answer k w) suits in absurd (cc asked)
-entry_open f t v o a (Refused p) es rest is suits can h = let asked = entry_asked o a (Refused p) suits in absurd (cc asked)
-entry_open f t v o a (Read p w) es rest is suits can h =
+admitted_entry_that_logs_is_open f t v o a (Answer k w) es rest is suits can h = let asked = entry_asked o a (Answer k w) suits in absurd (cc asked)
+admitted_entry_that_logs_is_open f t v o a (Refused p) es rest is suits can h = let asked = entry_asked o a (Refused p) suits in absurd (cc asked)
+admitted_entry_that_logs_is_open f t v o a (Read p w) es rest is suits can h =
     let asked = entry_asked o a (Read p w) suits in
     let access : ◌≡◌ {A = Access} a Reading = sym (let e : ◌≡◌ {A = Access} Reading a = cc asked in e) in
     let emits_read : machine.In o Reading (cell_of f o).fields.version 0
@@ -273,7 +273,7 @@ entry_open f t v o a (Read p w) es rest is suits can h =
     subst (λ z. logged (emits f (Enter o z) v) (unlogged (emits f (Enter o z) v) es) ≡ es) access h in
     let both = emits_read ∙ is in
     ((let e : ◌≡◌ {A = ℕ} (cell_of f o).fields.version w = cc both in e), subst (λ z. Admitted z (cell_of f o).fields) access can)
-entry_open f t v o a (Write p w l) es rest is suits can h =
+admitted_entry_that_logs_is_open f t v o a (Write p w l) es rest is suits can h =
     let asked = entry_asked o a (Write p w l) suits in
     let access : ◌≡◌ {A = Access} a Writing = sym (let e : ◌≡◌ {A = Access} Writing a = cc asked in e) in
     let emits_write : machine.In o Writing (cell_of f o).fields.version (cell_of f o).fields.left
@@ -286,105 +286,105 @@ entry_open f t v o a (Write p w l) es rest is suits can h =
     )
 
 -- what isn't so where its test says no
-pub test_false : (b : Bool) (P : Type 0) → IsTrue b ↔ P → b ≡ false → P → ⊥
-test_false b P test is h = let so : IsTrue b = test.1 h in cc (is, so)
+pub false_test_refutes : (b : Bool) (P : Type 0) → IsTrue b ↔ P → b ≡ false → P → ⊥
+false_test_refutes b P test is h = let so : IsTrue b = test.1 h in cc (is, so)
 
 -- what the test of an object says
-pub found_open : (b : Bool) (found c : Cell) (e : Event) → found ≡ c → IsTrue b ↔ IsOpen found e → b ≡ true → IsOpen c e
-found_open b found c e same test is = subst (λ z. IsOpen z e) same (test.0 is)
+pub found_cell_open_if_test_true : (b : Bool) (found c : Cell) (e : Event) → found ≡ c → IsTrue b ↔ IsOpen found e → b ≡ true → IsOpen c e
+found_cell_open_if_test_true b found c e same test is = subst (λ z. IsOpen z e) same (test.0 is)
 
-pub found_shut : (b : Bool) (found c : Cell) (e : Event) → found ≡ c → IsTrue b ↔ IsOpen found e → b ≡ false → IsOpen c e → ⊥
-found_shut b found c e same test is h = test_false b (IsOpen found e) test is (subst (λ z. IsOpen z e) (sym same) h)
+pub found_cell_shut_if_test_false : (b : Bool) (found c : Cell) (e : Event) → found ≡ c → IsTrue b ↔ IsOpen found e → b ≡ false → IsOpen c e → ⊥
+found_cell_shut_if_test_false b found c e same test is h = false_test_refutes b (IsOpen found e) test is (subst (λ z. IsOpen z e) (sym same) h)
 
-pub entry_follows : (r : Recorded) (f : Flat) (t o : ℕ) (a : Access) (e : Event) → IsFlat f → t < length f.threads
+pub open_entry_can_follow : (r : Recorded) (f : Flat) (t o : ℕ) (a : Access) (e : Event) → IsFlat f → t < length f.threads
     → ask_of f.code (thread_of f t) ≡ Enter o a → 0 < steps_ahead r f t
     → slice_get (recorded_thread r t).events (thread_of f t).events ≡ Some e → Suits (Enter o a) e → IsOpen (cell_of f o) e
     → CanFollow r f t 0
-entry_follows r f t o a e flat l is steps next suits opens =
-    let es = ahead_at (recorded_thread r t).events (thread_of f t).events e next in
-    let both = open_entry f t 0 o a e (log_ahead r f t) (drop (suc (thread_of f t).events) (map label_of (recorded_thread r t).events)) es
+open_entry_can_follow r f t o a e flat l is steps next suits opens =
+    let es = labels_ahead_start_with_event (recorded_thread r t).events (thread_of f t).events e next in
+    let both = open_entry_is_admitted_and_logs f t 0 o a e (log_ahead r f t) (drop (suc (thread_of f t).events) (map label_of (recorded_thread r t).events)) es
     suits opens in
-    follows_by r f t 0 (Enter o a) is (record {
-      can = (may_admits f t 0 (Enter o a) flat l (subst (Permits (thread_of f t)) is (ask_permits f.code (thread_of f t)))).0 both.0;
+    can_follow_if_follows_as r f t 0 (Enter o a) is (record {
+      can = (may_step_is_admits f t 0 (Enter o a) flat l (subst (Permits (thread_of f t)) is (ask_of_permitted f.code (thread_of f t)))).0 both.0;
       steps = steps;
       logs = both.1;
       ends = tt;
     })
 
-pub entry_waits : (r : Recorded) (f : Flat) (t o : ℕ) (a : Access) (e : Event) → IsFlat f → t < length f.threads
+pub shut_entry_is_stopped : (r : Recorded) (f : Flat) (t o : ℕ) (a : Access) (e : Event) → IsFlat f → t < length f.threads
     → ask_of f.code (thread_of f t) ≡ Enter o a
     → slice_get (recorded_thread r t).events (thread_of f t).events ≡ Some e → Suits (Enter o a) e → (IsOpen (cell_of f o) e → ⊥)
     → IsStopped r f t
-entry_waits r f t o a e flat l is next suits shut v h =
-    let k : FollowsAs r f t v (steps_ahead r f t) (log_ahead r f t) (Enter o a) = follows_as r f t v (Enter o a) is h in
-    shut (entry_open f t v o a e (log_ahead r f t) (drop (suc (thread_of f t).events) (map label_of (recorded_thread r t).events))
-    (ahead_at (recorded_thread r t).events (thread_of f t).events e next) suits
-    ((may_admits f t v (Enter o a) flat l (subst (Permits (thread_of f t)) is (ask_permits f.code (thread_of f t)))).1 k.can) k.logs)
+shut_entry_is_stopped r f t o a e flat l is next suits shut v h =
+    let k : FollowsAs r f t v (steps_ahead r f t) (log_ahead r f t) (Enter o a) = follows_as_if_can_follow r f t v (Enter o a) is h in
+    shut (admitted_entry_that_logs_is_open f t v o a e (log_ahead r f t) (drop (suc (thread_of f t).events) (map label_of (recorded_thread r t).events))
+    (labels_ahead_start_with_event (recorded_thread r t).events (thread_of f t).events e next) suits
+    ((may_step_is_admits f t v (Enter o a) flat l (subst (Permits (thread_of f t)) is (ask_of_permitted f.code (thread_of f t)))).1 k.can) k.logs)
 
-pub entry_agrees : (r : Recorded) (f : Flat) (t o : ℕ) (a : Access) (e : Event) → ask_of f.code (thread_of f t) ≡ Enter o a
+pub suited_entry_agrees : (r : Recorded) (f : Flat) (t o : ℕ) (a : Access) (e : Event) → ask_of f.code (thread_of f t) ≡ Enter o a
     → 0 < steps_ahead r f t
     → slice_get (recorded_thread r t).events (thread_of f t).events ≡ Some e → Suits (Enter o a) e → AgreesAhead r f t
-entry_agrees r f t o a e is steps next suits = agrees_by r f t (Enter o a) is (record {
+suited_entry_agrees r f t o a e is steps next suits = agrees_ahead_if_agrees_as r f t (Enter o a) is (record {
   steps = steps;
-  suits = subst (verdicts.Suits (machine.Enter o a)) (sym (ahead_at (recorded_thread r t).events (thread_of f t).events e next))
-      (suits_entry e _ o a suits);
+  suits = subst (verdicts.Suits (machine.Enter o a)) (sym (labels_ahead_start_with_event (recorded_thread r t).events (thread_of f t).events e next))
+      (label_suits_entry_if_event_does e _ o a suits);
   ends = tt;
 })
 
 -- ---- tries
 
 -- an entry for writing, for a try
-entry_of_try : (o p w l : ℕ) → Suits (Try o) (Write p w l) → Suits (Enter o Writing) (Write p w l)
-entry_of_try o p w l (inl h) = absurd (cc h)
-entry_of_try o p w l (inr h) = let same : ◌≡◌ {A = ℕ} p o = cc h in inl (λ i. Enter (same i) Writing)
+event_suiting_try_suits_entry : (o p w l : ℕ) → Suits (Try o) (Write p w l) → Suits (Enter o Writing) (Write p w l)
+event_suiting_try_suits_entry o p w l (inl h) = absurd (cc h)
+event_suiting_try_suits_entry o p w l (inr h) = let same : ◌≡◌ {A = ℕ} p o = cc h in inl (λ i. Enter (same i) Writing)
 
-pub refused_follows : (r : Recorded) (f : Flat) (t o p : ℕ) → ask_of f.code (thread_of f t) ≡ Try o → 0 < steps_ahead r f t
+pub refused_try_can_follow : (r : Recorded) (f : Flat) (t o p : ℕ) → ask_of f.code (thread_of f t) ≡ Try o → 0 < steps_ahead r f t
     → slice_get (recorded_thread r t).events (thread_of f t).events ≡ Some (Refused p) → Suits (Try o) (Refused p) → CanFollow r f t 0
-refused_follows r f t o p is steps next suits =
+refused_try_can_follow r f t o p is steps next suits =
     let rest = drop (suc (thread_of f t).events) (map label_of (recorded_thread r t).events) in
-    let same : ◌≡◌ {A = ℕ} p o = suits_try (Refused p) rest o suits in
+    let same : ◌≡◌ {A = ℕ} p o = label_suits_try_if_event_does (Refused p) rest o suits in
     let es : log_ahead r f t ≡ machine.Refused o ∷ rest =
-    ahead_at (recorded_thread r t).events (thread_of f t).events (Refused p) next ∙ ap (λ z. machine.Refused z ∷ rest) same in
-    follows_by r f t 0 (Try o) is (record {
+    labels_ahead_start_with_event (recorded_thread r t).events (thread_of f t).events (Refused p) next ∙ ap (λ z. machine.Refused z ∷ rest) same in
+    can_follow_if_follows_as r f t 0 (Try o) is (record {
       can = tt;
       steps = steps;
       logs = ap (λ z. machine.Refused o ∷ unlogged (machine.Refused o) z) es ∙ sym es;
       ends = tt;
     })
 
-pub try_enters : (r : Recorded) (f : Flat) (t o : ℕ) (e : Event) → IsFlat f → t < length f.threads
+pub open_try_can_follow : (r : Recorded) (f : Flat) (t o : ℕ) (e : Event) → IsFlat f → t < length f.threads
     → ask_of f.code (thread_of f t) ≡ Try o → 0 < steps_ahead r f t
     → slice_get (recorded_thread r t).events (thread_of f t).events ≡ Some e → Suits (Try o) e → IsOpen (cell_of f o) e → CanFollow r f t 1
-try_enters r f t o (Answer j v) flat l is steps next suits opens = absurd opens
-try_enters r f t o (Read p w) flat l is steps next suits opens = absurd (suits_read suits)
+open_try_can_follow r f t o (Answer j v) flat l is steps next suits opens = absurd opens
+open_try_can_follow r f t o (Read p w) flat l is steps next suits opens = absurd (suits_read suits)
   where
     suits_read : Suits (Try o) (Read p w) → ⊥
     suits_read (inl h) = cc h
     suits_read (inr h) = cc h
-try_enters r f t o (Refused p) flat l is steps next suits opens = absurd opens
-try_enters r f t o (Write p w n) flat l is steps next suits opens =
-    let es = ahead_at (recorded_thread r t).events (thread_of f t).events (Write p w n) next in
-    let both = open_entry f t 0 o Writing (Write p w n) (log_ahead r f t)
-    (drop (suc (thread_of f t).events) (map label_of (recorded_thread r t).events)) es (entry_of_try o p w n suits) opens in
-    follows_by r f t 1 (Try o) is (record {
-      can = (may_admits f t 1 (Try o) flat l (subst (Permits (thread_of f t)) is (ask_permits f.code (thread_of f t)))).0 both.0;
+open_try_can_follow r f t o (Refused p) flat l is steps next suits opens = absurd opens
+open_try_can_follow r f t o (Write p w n) flat l is steps next suits opens =
+    let es = labels_ahead_start_with_event (recorded_thread r t).events (thread_of f t).events (Write p w n) next in
+    let both = open_entry_is_admitted_and_logs f t 0 o Writing (Write p w n) (log_ahead r f t)
+    (drop (suc (thread_of f t).events) (map label_of (recorded_thread r t).events)) es (event_suiting_try_suits_entry o p w n suits) opens in
+    can_follow_if_follows_as r f t 1 (Try o) is (record {
+      can = (may_step_is_admits f t 1 (Try o) flat l (subst (Permits (thread_of f t)) is (ask_of_permitted f.code (thread_of f t)))).0 both.0;
       steps = steps;
       logs = both.1;
       ends = tt;
     })
 
 -- where a try that the log says got in can't get in now, no other result follows either
-try_follows_no : (r : Recorded) (f : Flat) (t o p w n v : ℕ) → IsFlat f → t < length f.threads → ask_of f.code (thread_of f t) ≡ Try o
+shut_try_does_not_follow : (r : Recorded) (f : Flat) (t o p w n v : ℕ) → IsFlat f → t < length f.threads → ask_of f.code (thread_of f t) ≡ Try o
     → slice_get (recorded_thread r t).events (thread_of f t).events ≡ Some (Write p w n) → Suits (Try o) (Write p w n)
     → (IsOpen (cell_of f o) (Write p w n) → ⊥) → FollowsAs r f t v (steps_ahead r f t) (log_ahead r f t) (Try o) → ⊥
-try_follows_no r f t o p w n zero flat l is next suits shut k =
-    let both = k.logs ∙ ahead_at (recorded_thread r t).events (thread_of f t).events (Write p w n) next in cc both
-try_follows_no r f t o p w n (suc zero) flat l is next suits shut k =
-    shut (entry_open f t 0 o Writing (Write p w n) (log_ahead r f t)
+shut_try_does_not_follow r f t o p w n zero flat l is next suits shut k =
+    let both = k.logs ∙ labels_ahead_start_with_event (recorded_thread r t).events (thread_of f t).events (Write p w n) next in cc both
+shut_try_does_not_follow r f t o p w n (suc zero) flat l is next suits shut k =
+    shut (admitted_entry_that_logs_is_open f t 0 o Writing (Write p w n) (log_ahead r f t)
     (drop (suc (thread_of f t).events) (map label_of (recorded_thread r t).events))
-    (ahead_at (recorded_thread r t).events (thread_of f t).events (Write p w n) next) (entry_of_try o p w n suits)
-    ((may_admits f t 1 (Try o) flat l (subst (Permits (thread_of f t)) is (ask_permits f.code (thread_of f t)))).1 k.can) k.logs)
-try_follows_no r f t o p w n (suc (suc v)) flat l is next suits shut k = k.can
+    (labels_ahead_start_with_event (recorded_thread r t).events (thread_of f t).events (Write p w n) next) (event_suiting_try_suits_entry o p w n suits)
+    ((may_step_is_admits f t 1 (Try o) flat l (subst (Permits (thread_of f t)) is (ask_of_permitted f.code (thread_of f t)))).1 k.can) k.logs)
+shut_try_does_not_follow r f t o p w n (suc (suc v)) flat l is next suits shut k = k.can
 
 -- a try that the log says got in
 abbrev pub GotIn : Event → Type 0
@@ -394,48 +394,48 @@ GotIn (Write object version readers) = Unit {0}
 GotIn (Refused object) = ⊥
 
 -- what suits a try and isn't refused got in
-pub got_in : (o : ℕ) (e : Event) → Suits (Try o) e → ((p : ℕ) → e ≢ Refused p) → GotIn e
-got_in o (Answer j v) suits other = absurd (suits_try (Answer j v) [] o suits)
-got_in o (Read p w) suits other = absurd (let is : ◌≡◌ {A = Access} Reading Writing = (suits_try (Read p w) [] o suits).1 in cc is)
-got_in o (Write p w n) suits other = tt
-got_in o (Refused p) suits other = absurd (other p refl)
+pub try_not_refused_got_in : (o : ℕ) (e : Event) → Suits (Try o) e → ((p : ℕ) → e ≢ Refused p) → GotIn e
+try_not_refused_got_in o (Answer j v) suits other = absurd (label_suits_try_if_event_does (Answer j v) [] o suits)
+try_not_refused_got_in o (Read p w) suits other = absurd (let is : ◌≡◌ {A = Access} Reading Writing = (label_suits_try_if_event_does (Read p w) [] o suits).1 in cc is)
+try_not_refused_got_in o (Write p w n) suits other = tt
+try_not_refused_got_in o (Refused p) suits other = absurd (other p refl)
 
-pub try_waits : (r : Recorded) (f : Flat) (t o : ℕ) (e : Event) → IsFlat f → t < length f.threads
+pub shut_try_is_stopped : (r : Recorded) (f : Flat) (t o : ℕ) (e : Event) → IsFlat f → t < length f.threads
     → ask_of f.code (thread_of f t) ≡ Try o
     → slice_get (recorded_thread r t).events (thread_of f t).events ≡ Some e → Suits (Try o) e → GotIn e → (IsOpen (cell_of f o) e → ⊥)
     → IsStopped r f t
-try_waits r f t o (Answer j v) flat l is next suits in_ shut u h = in_
-try_waits r f t o (Read p w) flat l is next suits in_ shut u h = in_
-try_waits r f t o (Refused p) flat l is next suits in_ shut u h = in_
-try_waits r f t o (Write p w n) flat l is next suits in_ shut u h = try_follows_no r f t o p w n u flat l is next suits shut
-    (follows_as r f t u (Try o) is h)
+shut_try_is_stopped r f t o (Answer j v) flat l is next suits in_ shut u h = in_
+shut_try_is_stopped r f t o (Read p w) flat l is next suits in_ shut u h = in_
+shut_try_is_stopped r f t o (Refused p) flat l is next suits in_ shut u h = in_
+shut_try_is_stopped r f t o (Write p w n) flat l is next suits in_ shut u h = shut_try_does_not_follow r f t o p w n u flat l is next suits shut
+    (follows_as_if_can_follow r f t u (Try o) is h)
 
-pub try_awaits : (r : Recorded) (f : Flat) (t o : ℕ) (e : Event) → ask_of f.code (thread_of f t) ≡ Try o
+pub try_that_got_in_awaits : (r : Recorded) (f : Flat) (t o : ℕ) (e : Event) → ask_of f.code (thread_of f t) ≡ Try o
     → slice_get (recorded_thread r t).events (thread_of f t).events ≡ Some e → GotIn e
     → verdicts.Awaits (shared_ask (ask_of f.code (thread_of f t))) (log_ahead r f t)
-try_awaits r f t o (Answer j v) is next in_ = absurd in_
-try_awaits r f t o (Read p w) is next in_ = absurd in_
-try_awaits r f t o (Refused p) is next in_ = absurd in_
-try_awaits r f t o (Write p w n) is next in_ =
+try_that_got_in_awaits r f t o (Answer j v) is next in_ = absurd in_
+try_that_got_in_awaits r f t o (Read p w) is next in_ = absurd in_
+try_that_got_in_awaits r f t o (Refused p) is next in_ = absurd in_
+try_that_got_in_awaits r f t o (Write p w n) is next in_ =
     subst (λ q. verdicts.Awaits (shared_ask q) (log_ahead r f t)) (sym is)
-    (subst (verdicts.Awaits (machine.Try o)) (sym (ahead_at (recorded_thread r t).events (thread_of f t).events (Write p w n) next)) tt)
+    (subst (verdicts.Awaits (machine.Try o)) (sym (labels_ahead_start_with_event (recorded_thread r t).events (thread_of f t).events (Write p w n) next)) tt)
 
-pub entry_awaits : (r : Recorded) (f : Flat) (t o : ℕ) (a : Access) → ask_of f.code (thread_of f t) ≡ Enter o a
+pub entry_awaits_event : (r : Recorded) (f : Flat) (t o : ℕ) (a : Access) → ask_of f.code (thread_of f t) ≡ Enter o a
     → verdicts.Awaits (shared_ask (ask_of f.code (thread_of f t))) (log_ahead r f t)
-entry_awaits r f t o a is = subst (λ q. verdicts.Awaits (shared_ask q) (log_ahead r f t)) (sym is) tt
+entry_awaits_event r f t o a is = subst (λ q. verdicts.Awaits (shared_ask q) (log_ahead r f t)) (sym is) tt
 
-pub try_agrees : (r : Recorded) (f : Flat) (t o : ℕ) (e : Event) → ask_of f.code (thread_of f t) ≡ Try o → 0 < steps_ahead r f t
+pub suited_try_agrees : (r : Recorded) (f : Flat) (t o : ℕ) (e : Event) → ask_of f.code (thread_of f t) ≡ Try o → 0 < steps_ahead r f t
     → slice_get (recorded_thread r t).events (thread_of f t).events ≡ Some e → Suits (Try o) e → AgreesAhead r f t
-try_agrees r f t o e is steps next suits = agrees_by r f t (Try o) is (record {
+suited_try_agrees r f t o e is steps next suits = agrees_ahead_if_agrees_as r f t (Try o) is (record {
   steps = steps;
-  suits = subst (verdicts.Suits (machine.Try o)) (sym (ahead_at (recorded_thread r t).events (thread_of f t).events e next))
-      (suits_try e _ o suits);
+  suits = subst (verdicts.Suits (machine.Try o)) (sym (labels_ahead_start_with_event (recorded_thread r t).events (thread_of f t).events e next))
+      (label_suits_try_if_event_does e _ o suits);
   ends = tt;
 })
 
 -- who awaits an entry isn't done
-pub awaits_some : (q : Ask) (es : List Label) → verdicts.Awaits (shared_ask q) es → q ≢ Done
-awaits_some q es awaits done = no_wait es (subst (λ z. verdicts.Awaits (shared_ask z) es) done awaits)
+pub awaiting_ask_is_not_done : (q : Ask) (es : List Label) → verdicts.Awaits (shared_ask q) es → q ≢ Done
+awaiting_ask_is_not_done q es awaits done = no_wait es (subst (λ z. verdicts.Awaits (shared_ask z) es) done awaits)
   where
     no_wait : (es : List Label) → verdicts.Awaits machine.Done es → ⊥
     no_wait [] h = h
@@ -443,76 +443,76 @@ awaits_some q es awaits done = no_wait es (subst (λ z. verdicts.Awaits (shared_
 
 -- ---- disagreements
 
-pub asks_try : (q : Ask) (o : ℕ) → q ≡ Try o → q ≢ Done
-asks_try q o is done = cc (is, done)
+pub try_is_not_done : (q : Ask) (o : ℕ) → q ≡ Try o → q ≢ Done
+try_is_not_done q o is done = cc (is, done)
 
-pub asks_env : (q : Ask) (kind : EnvKind) → q ≡ Env kind → q ≢ Done
-asks_env q kind is done = cc (is, done)
+pub environment_call_is_not_done : (q : Ask) (kind : EnvKind) → q ≡ Env kind → q ≢ Done
+environment_call_is_not_done q kind is done = cc (is, done)
 
-pub asks_entry : (q : Ask) (o : ℕ) (a : Access) → q ≡ Enter o a → q ≢ Done
-asks_entry q o a is done = cc (is, done)
+pub entry_is_not_done : (q : Ask) (o : ℕ) (a : Access) → q ≡ Enter o a → q ≢ Done
+entry_is_not_done q o a is done = cc (is, done)
 
-pub asks_end : (q : Ask) (e : end.End) → q ≡ End e → q ≢ Done
-asks_end q e is done = cc (is, done)
+pub end_is_not_done : (q : Ask) (e : end.End) → q ≡ End e → q ≢ Done
+end_is_not_done q e is done = cc (is, done)
 
-pub call_disagrees : (r : Recorded) (f : Flat) (t : ℕ) (kind : EnvKind) → ask_of f.code (thread_of f t) ≡ Env kind
+pub unsuited_call_disagrees : (r : Recorded) (f : Flat) (t : ℕ) (kind : EnvKind) → ask_of f.code (thread_of f t) ≡ Env kind
     → ((e : Event) → slice_get (recorded_thread r t).events (thread_of f t).events ≡ Some e → Suits (Env kind) e → ⊥) → AgreesAhead r f t
     → ⊥
-call_disagrees r f t kind is none h =
-    let k : AgreesAs r f t (steps_ahead r f t) (log_ahead r f t) (Env kind) = agrees_as r f t (Env kind) is h in
-    let e = call_there (recorded_thread r t).events (thread_of f t).events kind k.suits in
+unsuited_call_disagrees r f t kind is none h =
+    let k : AgreesAs r f t (steps_ahead r f t) (log_ahead r f t) (Env kind) = agrees_as_if_agrees_ahead r f t (Env kind) is h in
+    let e = suited_call_has_event (recorded_thread r t).events (thread_of f t).events kind k.suits in
     none e.0 e.1 e.2
 
-pub entry_disagrees : (r : Recorded) (f : Flat) (t o : ℕ) (a : Access) → ask_of f.code (thread_of f t) ≡ Enter o a
+pub unsuited_entry_disagrees : (r : Recorded) (f : Flat) (t o : ℕ) (a : Access) → ask_of f.code (thread_of f t) ≡ Enter o a
     → ((e : Event) → slice_get (recorded_thread r t).events (thread_of f t).events ≡ Some e → Suits (Enter o a) e → ⊥) → AgreesAhead r f t
     → ⊥
-entry_disagrees r f t o a is none h =
-    let k : AgreesAs r f t (steps_ahead r f t) (log_ahead r f t) (Enter o a) = agrees_as r f t (Enter o a) is h in
-    let e = entry_there (recorded_thread r t).events (thread_of f t).events o a k.suits in
+unsuited_entry_disagrees r f t o a is none h =
+    let k : AgreesAs r f t (steps_ahead r f t) (log_ahead r f t) (Enter o a) = agrees_as_if_agrees_ahead r f t (Enter o a) is h in
+    let e = suited_entry_has_event (recorded_thread r t).events (thread_of f t).events o a k.suits in
     none e.0 e.1 e.2
 
-pub try_disagrees : (r : Recorded) (f : Flat) (t o : ℕ) → ask_of f.code (thread_of f t) ≡ Try o
+pub unsuited_try_disagrees : (r : Recorded) (f : Flat) (t o : ℕ) → ask_of f.code (thread_of f t) ≡ Try o
     → ((e : Event) → slice_get (recorded_thread r t).events (thread_of f t).events ≡ Some e → Suits (Try o) e → ⊥) → AgreesAhead r f t → ⊥
-try_disagrees r f t o is none h =
-    let k : AgreesAs r f t (steps_ahead r f t) (log_ahead r f t) (Try o) = agrees_as r f t (Try o) is h in
-    let e = try_there (recorded_thread r t).events (thread_of f t).events o k.suits in
+unsuited_try_disagrees r f t o is none h =
+    let k : AgreesAs r f t (steps_ahead r f t) (log_ahead r f t) (Try o) = agrees_as_if_agrees_ahead r f t (Try o) is h in
+    let e = suited_try_has_event (recorded_thread r t).events (thread_of f t).events o k.suits in
     none e.0 e.1 e.2
 
-pub spent_disagrees : (r : Recorded) (f : Flat) (t : ℕ) → steps_ahead r f t ≡ 0 → AgreesAhead r f t → ⊥
-spent_disagrees r f t none h = let some : 0 < steps_ahead r f t = h.0 in omega (arith, none, some)
+pub spent_thread_disagrees : (r : Recorded) (f : Flat) (t : ℕ) → steps_ahead r f t ≡ 0 → AgreesAhead r f t → ⊥
+spent_thread_disagrees r f t none h = let some : 0 < steps_ahead r f t = h.0 in omega (arith, none, some)
 
 -- ---- ends
 
-no_events : (xs : List Event) (i : ℕ) → length xs ≤ i → ◌≡◌ {A = List Label} (drop i (map label_of xs)) []
-no_events [] zero h = refl
-no_events [] (suc i) h = refl
-no_events (x ∷ xs) zero h = absurd (omega (arith, h))
-no_events (x ∷ xs) (suc i) h = no_events xs i (omega (arith, h))
+no_labels_past_length : (xs : List Event) (i : ℕ) → length xs ≤ i → ◌≡◌ {A = List Label} (drop i (map label_of xs)) []
+no_labels_past_length [] zero h = refl
+no_labels_past_length [] (suc i) h = refl
+no_labels_past_length (x ∷ xs) zero h = absurd (omega (arith, h))
+no_labels_past_length (x ∷ xs) (suc i) h = no_labels_past_length xs i (omega (arith, h))
 
-events_used : (xs : List Event) (i : ℕ) → ◌≡◌ {A = List Label} (drop i (map label_of xs)) [] → length xs ≤ i
-events_used [] i h = omega arith
-events_used (x ∷ xs) zero h = absurd (cc h)
-events_used (x ∷ xs) (suc i) h = let rest : length xs ≤ i = events_used xs i h in omega (arith, rest)
+no_labels_means_past_length : (xs : List Event) (i : ℕ) → ◌≡◌ {A = List Label} (drop i (map label_of xs)) [] → length xs ≤ i
+no_labels_means_past_length [] i h = omega arith
+no_labels_means_past_length (x ∷ xs) zero h = absurd (cc h)
+no_labels_means_past_length (x ∷ xs) (suc i) h = let rest : length xs ≤ i = no_labels_means_past_length xs i h in omega (arith, rest)
 
-pub end_follows : (r : Recorded) (f : Flat) (t : ℕ) (e : end.End) → ask_of f.code (thread_of f t) ≡ End e → 0 < steps_ahead r f t
+pub end_as_recorded_can_follow : (r : Recorded) (f : Flat) (t : ℕ) (e : end.End) → ask_of f.code (thread_of f t) ≡ End e → 0 < steps_ahead r f t
     → EndsSo r f t e → CanFollow r f t 0
-end_follows r f t e is steps so = follows_by r f t 0 (End e) is (record {
+end_as_recorded_can_follow r f t e is steps so = can_follow_if_follows_as r f t 0 (End e) is (record {
   can = tt;
   steps = steps;
   logs = refl;
-  ends = ((λ i. Some (so.number i, so.code i)), so.steps, no_events (recorded_thread r t).events (thread_of f t).events so.events);
+  ends = ((λ i. Some (so.number i, so.code i)), so.steps, no_labels_past_length (recorded_thread r t).events (thread_of f t).events so.events);
 })
 
-pub end_disagrees : (r : Recorded) (f : Flat) (t : ℕ) (e : end.End) → ask_of f.code (thread_of f t) ≡ End e → (EndsSo r f t e → ⊥)
+pub end_not_as_recorded_disagrees : (r : Recorded) (f : Flat) (t : ℕ) (e : end.End) → ask_of f.code (thread_of f t) ≡ End e → (EndsSo r f t e → ⊥)
     → AgreesAhead r f t → ⊥
-end_disagrees r f t e is other h =
-    let k : AgreesAs r f t (steps_ahead r f t) (log_ahead r f t) (End e) = agrees_as r f t (End e) is h in
+end_not_as_recorded_disagrees r f t e is other h =
+    let k : AgreesAs r f t (steps_ahead r f t) (log_ahead r f t) (End e) = agrees_as_if_agrees_ahead r f t (End e) is h in
     let pair = some_pair k.ends.0 in
     other (record {
       number = ap (λ z. z.0) pair;
       code = ap (λ z. z.1) pair;
       steps = k.ends.1;
-      events = events_used (recorded_thread r t).events (thread_of f t).events k.ends.2;
+      events = no_labels_means_past_length (recorded_thread r t).events (thread_of f t).events k.ends.2;
     })
   where
     some_pair : {x y : ℕ × ℕ} → ◌≡◌ {A = Option (ℕ × ℕ)} (Some x) (Some y) → x ≡ y
@@ -520,99 +520,99 @@ end_disagrees r f t e is other h =
 
 -- ---- steps that are the thread's own
 
-own_by : (r : Recorded) (f : Flat) (t n : ℕ) (es : List Label) (q : Ask) → IsOwn q → 0 < n → FollowsAs r f t 0 n es q
-own_by r f t n es Private k steps = record { can = tt; steps = steps; logs = refl; ends = tt }
-own_by r f t n es (Env kind) k steps = absurd k
-own_by r f t n es (Enter o a) k steps = absurd k
-own_by r f t n es (Try o) k steps = absurd k
-own_by r f t n es (Leave o a) k steps = record { can = tt; steps = steps; logs = refl; ends = tt }
-own_by r f t n es (Get o i) k steps = record { can = tt; steps = steps; logs = refl; ends = tt }
-own_by r f t n es (Put o i w) k steps = record { can = tt; steps = steps; logs = refl; ends = tt }
-own_by r f t n es Print k steps = record { can = tt; steps = steps; logs = refl; ends = tt }
-own_by r f t n es (End e) k steps = absurd k
-own_by r f t n es Done k steps = absurd k
+own_step_follows_as : (r : Recorded) (f : Flat) (t n : ℕ) (es : List Label) (q : Ask) → IsOwn q → 0 < n → FollowsAs r f t 0 n es q
+own_step_follows_as r f t n es Private k steps = record { can = tt; steps = steps; logs = refl; ends = tt }
+own_step_follows_as r f t n es (Env kind) k steps = absurd k
+own_step_follows_as r f t n es (Enter o a) k steps = absurd k
+own_step_follows_as r f t n es (Try o) k steps = absurd k
+own_step_follows_as r f t n es (Leave o a) k steps = record { can = tt; steps = steps; logs = refl; ends = tt }
+own_step_follows_as r f t n es (Get o i) k steps = record { can = tt; steps = steps; logs = refl; ends = tt }
+own_step_follows_as r f t n es (Put o i w) k steps = record { can = tt; steps = steps; logs = refl; ends = tt }
+own_step_follows_as r f t n es Print k steps = record { can = tt; steps = steps; logs = refl; ends = tt }
+own_step_follows_as r f t n es (End e) k steps = absurd k
+own_step_follows_as r f t n es Done k steps = absurd k
 
-pub own_follows : (r : Recorded) (f : Flat) (t : ℕ) → IsOwn (ask_of f.code (thread_of f t)) → 0 < steps_ahead r f t → CanFollow r f t 0
-own_follows r f t own steps = follows_by r f t 0 (ask_of f.code (thread_of f t))
-    refl (own_by r f t (steps_ahead r f t) (log_ahead r f t) (ask_of f.code (thread_of f t)) own steps)
+pub own_step_can_follow : (r : Recorded) (f : Flat) (t : ℕ) → IsOwn (ask_of f.code (thread_of f t)) → 0 < steps_ahead r f t → CanFollow r f t 0
+own_step_can_follow r f t own steps = can_follow_if_follows_as r f t 0 (ask_of f.code (thread_of f t))
+    refl (own_step_follows_as r f t (steps_ahead r f t) (log_ahead r f t) (ask_of f.code (thread_of f t)) own steps)
 
 -- ---- threads that are stopped
 
 -- what is seen of a thread that is stopped, and neither done nor waiting
-pub seen_other : (r : Recorded) (f : Flat) (t : ℕ) (l : Look) → IsSeen r f t l → IsStopped r f t → (l ≡ look.Disagrees)
+pub stopped_thread_seen_otherwise_disagrees : (r : Recorded) (f : Flat) (t : ℕ) (l : Look) → IsSeen r f t l → IsStopped r f t → (l ≡ look.Disagrees)
     ⊎ ((m : Move) × (l ≡ look.Goes m)) → (ask_of f.code (thread_of f t) ≢ Done) × (AgreesAhead r f t → ⊥)
-seen_other r f t l seen stopped (inl e) = subst (IsSeen r f t) e seen
-seen_other r f t l seen stopped (inr g) =
+stopped_thread_seen_otherwise_disagrees r f t l seen stopped (inl e) = subst (IsSeen r f t) e seen
+stopped_thread_seen_otherwise_disagrees r f t l seen stopped (inr g) =
     let goes = subst (IsSeen r f t) g.1 seen in
     absurd (stopped g.0.result (subst (λ u. CanFollow r f u g.0.result) goes.0 goes.1.follows))
 
-suits_logged : (f : Flat) (v : ℕ) (es : List Label) (q : Ask)
+ask_suits_log_if_step_follows : (f : Flat) (v : ℕ) (es : List Label) (q : Ask)
     → Admits (machine f) (act_of (shared_ask q) v) ((tables f).objects (target (act_of (shared_ask q) v)))
     → logged (emits f q v) (unlogged (emits f q v) es) ≡ es → verdicts.Suits (shared_ask q) es
-suits_logged f v es Private can h = tt
-suits_logged f v es (Env kind) can h = subst (verdicts.Suits (machine.Env kind)) h refl
-suits_logged f v es (Enter o Reading) can h = subst (verdicts.Suits (machine.Enter o Reading)) h (refl, refl)
-suits_logged f v es (Enter o Writing) can h = subst (verdicts.Suits (machine.Enter o Writing)) h (refl, refl)
-suits_logged f zero es (Try o) can h = subst (verdicts.Suits (machine.Try o)) h refl
-suits_logged f (suc zero) es (Try o) can h = subst (verdicts.Suits (machine.Try o)) h (refl, refl)
-suits_logged f (suc (suc v)) es (Try o) can h = absurd can
-suits_logged f v es (Leave o a) can h = tt
-suits_logged f v es (Get o i) can h = tt
-suits_logged f v es (Put o i w) can h = tt
-suits_logged f v es Print can h = tt
-suits_logged f v es (End e) can h = tt
-suits_logged f v es Done can h = tt
+ask_suits_log_if_step_follows f v es Private can h = tt
+ask_suits_log_if_step_follows f v es (Env kind) can h = subst (verdicts.Suits (machine.Env kind)) h refl
+ask_suits_log_if_step_follows f v es (Enter o Reading) can h = subst (verdicts.Suits (machine.Enter o Reading)) h (refl, refl)
+ask_suits_log_if_step_follows f v es (Enter o Writing) can h = subst (verdicts.Suits (machine.Enter o Writing)) h (refl, refl)
+ask_suits_log_if_step_follows f zero es (Try o) can h = subst (verdicts.Suits (machine.Try o)) h refl
+ask_suits_log_if_step_follows f (suc zero) es (Try o) can h = subst (verdicts.Suits (machine.Try o)) h (refl, refl)
+ask_suits_log_if_step_follows f (suc (suc v)) es (Try o) can h = absurd can
+ask_suits_log_if_step_follows f v es (Leave o a) can h = tt
+ask_suits_log_if_step_follows f v es (Get o i) can h = tt
+ask_suits_log_if_step_follows f v es (Put o i w) can h = tt
+ask_suits_log_if_step_follows f v es Print can h = tt
+ask_suits_log_if_step_follows f v es (End e) can h = tt
+ask_suits_log_if_step_follows f v es Done can h = tt
 
 -- what follows agrees
-follows_agrees : (r : Recorded) (f : Flat) (t v : ℕ) → CanFollow r f t v → AgreesAhead r f t
-follows_agrees r f t v h = (h.1, suits_logged f v (log_ahead r f t) (ask_of f.code (thread_of f t)) h.0 h.2, h.3)
+following_step_agrees : (r : Recorded) (f : Flat) (t v : ℕ) → CanFollow r f t v → AgreesAhead r f t
+following_step_agrees r f t v h = (h.1, ask_suits_log_if_step_follows f v (log_ahead r f t) (ask_of f.code (thread_of f t)) h.0 h.2, h.3)
 
-pub done_stops : (r : Recorded) (f : Flat) (t : ℕ) → ask_of f.code (thread_of f t) ≡ Done → IsStopped r f t
-done_stops r f t is v h = (follows_as r f t v Done is h).can
+pub done_thread_is_stopped : (r : Recorded) (f : Flat) (t : ℕ) → ask_of f.code (thread_of f t) ≡ Done → IsStopped r f t
+done_thread_is_stopped r f t is v h = (follows_as_if_can_follow r f t v Done is h).can
 
-pub seen_stops : (r : Recorded) (f : Flat) (t : ℕ) (l : Look) → IsSeen r f t l → ((m : Move) → l ≢ look.Goes m) → IsStopped r f t
-seen_stops r f t look.Done seen no_move = done_stops r f t seen
-seen_stops r f t look.Disagrees seen no_move = λ v h. seen.1 (follows_agrees r f t v h)
-seen_stops r f t (look.Waits o) seen no_move = seen.2
-seen_stops r f t (look.Goes m) seen no_move = absurd (no_move m refl)
+pub thread_without_move_is_stopped : (r : Recorded) (f : Flat) (t : ℕ) (l : Look) → IsSeen r f t l → ((m : Move) → l ≢ look.Goes m) → IsStopped r f t
+thread_without_move_is_stopped r f t look.Done seen no_move = done_thread_is_stopped r f t seen
+thread_without_move_is_stopped r f t look.Disagrees seen no_move = λ v h. seen.1 (following_step_agrees r f t v h)
+thread_without_move_is_stopped r f t (look.Waits o) seen no_move = seen.2
+thread_without_move_is_stopped r f t (look.Goes m) seen no_move = absurd (no_move m refl)
 
 -- ---- events and the log
 
 -- an event that suits is in the log
-pub event_left : (r : Recorded) (f : Flat) (t : ℕ) (q : Ask) → ask_of f.code (thread_of f t) ≡ q → AgreesAhead r f t → added q ≡ 1
+pub suited_event_is_left : (r : Recorded) (f : Flat) (t : ℕ) (q : Ask) → ask_of f.code (thread_of f t) ≡ q → AgreesAhead r f t → events_added_by q ≡ 1
     → (thread_of f t).events < length (recorded_thread r t).events
-event_left r f t (Env kind) is h one = let e =
-    call_there (recorded_thread r t).events (thread_of f t).events kind (agrees_as r f t (Env kind) is h).suits in
+suited_event_is_left r f t (Env kind) is h one = let e =
+    suited_call_has_event (recorded_thread r t).events (thread_of f t).events kind (agrees_as_if_agrees_ahead r f t (Env kind) is h).suits in
     slice_get_within (recorded_thread r t).events (thread_of f t).events e.0 e.1
-event_left r f t (Enter o a) is h one = let e =
-    entry_there (recorded_thread r t).events (thread_of f t).events o a (agrees_as r f t (Enter o a) is h).suits in
+suited_event_is_left r f t (Enter o a) is h one = let e =
+    suited_entry_has_event (recorded_thread r t).events (thread_of f t).events o a (agrees_as_if_agrees_ahead r f t (Enter o a) is h).suits in
     slice_get_within (recorded_thread r t).events (thread_of f t).events e.0 e.1
-event_left r f t (Try o) is h one = let e =
-    try_there (recorded_thread r t).events (thread_of f t).events o (agrees_as r f t (Try o) is h).suits in
+suited_event_is_left r f t (Try o) is h one = let e =
+    suited_try_has_event (recorded_thread r t).events (thread_of f t).events o (agrees_as_if_agrees_ahead r f t (Try o) is h).suits in
     slice_get_within (recorded_thread r t).events (thread_of f t).events e.0 e.1
-event_left r f t Private is h one = absurd (cc one)
-event_left r f t (Leave o a) is h one = absurd (cc one)
-event_left r f t (Get o i) is h one = absurd (cc one)
-event_left r f t (Put o i w) is h one = absurd (cc one)
-event_left r f t Print is h one = absurd (cc one)
-event_left r f t (End e) is h one = absurd (cc one)
-event_left r f t Done is h one = absurd (cc one)
+suited_event_is_left r f t Private is h one = absurd (cc one)
+suited_event_is_left r f t (Leave o a) is h one = absurd (cc one)
+suited_event_is_left r f t (Get o i) is h one = absurd (cc one)
+suited_event_is_left r f t (Put o i w) is h one = absurd (cc one)
+suited_event_is_left r f t Print is h one = absurd (cc one)
+suited_event_is_left r f t (End e) is h one = absurd (cc one)
+suited_event_is_left r f t Done is h one = absurd (cc one)
 
-within_by : (code : List ℕ) (x : thread.State) (q : Ask) (reply : Reply) (n : ℕ) → (added q ≡ 1 → x.events < n) → x.events ≤ n
+events_within_after_ask : (code : List ℕ) (x : thread.ThreadState) (q : Ask) (reply : Reply) (n : ℕ) → (events_added_by q ≡ 1 → x.events < n) → x.events ≤ n
     → (after_ask code x q reply).events ≤ n
-within_by code x Private reply n less le = le
-within_by code x (Env kind) reply n less le = let l = less refl in omega (arith, l)
-within_by code x (Enter o a) reply n less le = let l = less refl in omega (arith, l)
-within_by code x (Try o) reply n less le = let l = less refl in omega (arith, l)
-within_by code x (Leave o a) reply n less le = le
-within_by code x (Get o i) reply n less le = le
-within_by code x (Put o i w) reply n less le = le
-within_by code x Print reply n less le = le
-within_by code x (End e) reply n less le = le
-within_by code x Done reply n less le = le
+events_within_after_ask code x Private reply n less le = le
+events_within_after_ask code x (Env kind) reply n less le = let l = less refl in omega (arith, l)
+events_within_after_ask code x (Enter o a) reply n less le = let l = less refl in omega (arith, l)
+events_within_after_ask code x (Try o) reply n less le = let l = less refl in omega (arith, l)
+events_within_after_ask code x (Leave o a) reply n less le = le
+events_within_after_ask code x (Get o i) reply n less le = le
+events_within_after_ask code x (Put o i w) reply n less le = le
+events_within_after_ask code x Print reply n less le = le
+events_within_after_ask code x (End e) reply n less le = le
+events_within_after_ask code x Done reply n less le = le
 
-pub events_within : (r : Recorded) (f : Flat) (t v : ℕ) (reply : Reply) → CanFollow r f t v
+pub events_within_after_following_step : (r : Recorded) (f : Flat) (t v : ℕ) (reply : Reply) → CanFollow r f t v
     → (thread_of f t).events ≤ length (recorded_thread r t).events
     → (after_ask f.code (thread_of f t) (ask_of f.code (thread_of f t)) reply).events ≤ length (recorded_thread r t).events
-events_within r f t v reply h le = within_by f.code (thread_of f t) (ask_of f.code (thread_of f t)) reply
-    (length (recorded_thread r t).events) (event_left r f t (ask_of f.code (thread_of f t)) refl (follows_agrees r f t v h)) le
+events_within_after_following_step r f t v reply h le = events_within_after_ask f.code (thread_of f t) (ask_of f.code (thread_of f t)) reply
+    (length (recorded_thread r t).events) (suited_event_is_left r f t (ask_of f.code (thread_of f t)) refl (following_step_agrees r f t v h)) le

@@ -28,7 +28,8 @@ abbrev pub IsRunOf : Guest → Recorded → List Step → Type 0
 IsRunOf guest r run = let f = start_flat guest r.budget r.profile in HasHeader guest r
     × IsWhole (machine f) (tables f) (length guest.entries) (trace_of r) run
 
--- a run of the guest that follows the trace as far as any can
+-- a run of the guest that follows the trace, so far that no step more of any thread does; of a coherent trace each such run has the same
+-- verdicts (`one_verdict` of ir_fit's laws)
 abbrev pub GoesFurthest : Guest → Recorded → List Step → Type 0
 GoesFurthest guest r run = let f = start_flat guest r.budget r.profile in
     Follows (closing (machine f) (trace_of r)) (machine f) (tables f) (trace_of r) run
@@ -63,8 +64,8 @@ abbrev pub IsOther : Guest → Recorded → HeaderCause → Type 0
 IsOther guest r Threads = length r.threads ≢ length guest.entries
 IsOther guest r Objects = (length r.threads ≡ length guest.entries) × (r.objects ≢ object_count guest)
 
--- why no run of the guest has the trace: its header isn't the guest's; or an event can't occur with the others, the first such; or not
--- all threads of a run that follows it furthest are the same
+-- why no run of the guest has the trace: its header isn't the guest's; or an event can't occur with the others, the first such; or the
+-- trace is coherent, and these are the verdicts on its threads: not all are the same, since no run has the trace (`fits_exactly`)
 abbrev pub IsRefusal : Guest → Recorded → Verdict → Type 0
 IsRefusal guest r (Header c) = IsOther guest r c
 IsRefusal guest r (Incoherent t i c) = HasHeader guest r × IsFirstBreak (length guest.entries) (trace_of r) t i c

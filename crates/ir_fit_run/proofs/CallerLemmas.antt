@@ -1,11 +1,11 @@
 -- What callers may cite of bytes that are opened as a guest and a trace of one of its runs.
 -- the trace of a run is coherent
-pub use Rattle.ir_fit_run.proofs.Coherent.{run_coherent}
+pub use Rattle.ir_fit_run.proofs.Coherent.{run_trace_is_coherent}
 -- answers that say why bytes don't fit, and that no answer leaves the status of a failure or of bad arguments
-pub use Rattle.ir_fit_run.proofs.Shown.{refusal_shown, refusal_not, not_failed}
+pub use Rattle.ir_fit_run.proofs.Shown.{refusal_is_answered_or_stopped, refusal_status_is_no_failure, answered_status_is_not_failed}
 -- where the events of a thread are among its steps, and the leaves of what it entered
-pub use Rattle.ir_fit_run.proofs.Leaves.{inside, event_inside, entry_fits, leave_past, leave_within, leave_fits}
+pub use Rattle.ir_fit_run.proofs.Leaves.{recorded_event_is_inside, inside_event_is_recorded, entry_position_fits, leave_is_past_event, leave_is_within_thread, leave_position_fits}
 -- lists whose elements belong to those of another, made one element after the other
-pub use Rattle.ir_fit_run.proofs.Paired.{at_index, ArePairedTo, none_paired, next_paired, all_paired}
+pub use Rattle.ir_fit_run.proofs.Paired.{element_below_length_is_listed, ArePairedTo, paired_to_none, paired_to_next_element, paired_if_all_paired_to}
 -- what an event enters its thread leaves
-pub use Rattle.ir_fit_run.proofs.Left.{event_left}
+pub use Rattle.ir_fit_run.proofs.Left.{entering_event_has_leave}

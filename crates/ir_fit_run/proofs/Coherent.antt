@@ -9,26 +9,26 @@ use Rattle.ir_runs.specs.declared.access.Access.TheVariants.{Writing}
 use Rattle.ir_runs.specs.Run.{log, events}
 use Rattle.ir_runs.specs.Cuts.{At}
 use Rattle.ir_runs.specs.Coherent.{reads, sum_below}
-use Rattle.ir_runs.proofs.CallerLemmas.{own_coherent}
-use Rattle.ir_flat.proofs.CallerLemmas.{start_idle}
+use Rattle.ir_runs.proofs.CallerLemmas.{own_trace_is_coherent}
+use Rattle.ir_flat.proofs.CallerLemmas.{guest_start_is_idle}
 use Rattle.ir_log.specs.Logging.{label_of}
 use Rattle.ir_trace.specs.Recorded.{RecordedThread, trace_of, absent}
 use Rattle.ir_fit.specs.Fit.{FittedTrace, HasRun}
-use Rattle.ir_fit.proofs.CallerLemmas.{starts}
+use Rattle.ir_fit.proofs.CallerLemmas.{guest_start_is_start}
 use Rattle.ir_cut.specs.Positions.{machine_of, start_of}
-use Rattle.ir_cut.proofs.CallerLemmas.{no_trail}
-use Rattle.ir_weave.proofs.CallerLemmas.{law, good}
+use Rattle.ir_cut.proofs.CallerLemmas.{no_trail_of_missing_thread}
+use Rattle.ir_weave.proofs.CallerLemmas.{guest_machine_is_lawful, state_invariant_at_guest_start}
 use Rattle.ir_past.specs.Answers.{AreCoherent}
 
-pub run_coherent : (f : FittedTrace) → HasRun f → AreCoherent f.recorded
-run_coherent f h =
+pub run_trace_is_coherent : (f : FittedTrace) → HasRun f → AreCoherent f.recorded
+run_trace_is_coherent f h =
     let n : ℕ = length f.recorded.threads in
     let size : n ≡ length f.guest.entries = h.whole.0.threads in
-    let c = own_coherent (length f.guest.entries) (machine_of f) (law f) (start_of f) (good f)
-    (starts f.guest f.recorded.budget f.recorded.profile) (start_idle f.guest f.recorded.budget f.recorded.profile) h.run h.whole.1.runs in
+    let c = own_trace_is_coherent (length f.guest.entries) (machine_of f) (guest_machine_is_lawful f) (start_of f) (state_invariant_at_guest_start f)
+    (guest_start_is_start f.guest f.recorded.budget f.recorded.profile) (guest_start_is_idle f.guest f.recorded.budget f.recorded.profile) h.run h.whole.1.runs in
     let same : (λ (t : ℕ). log (machine_of f) (start_of f) h.run t) ≡ (trace_of f.recorded).logs = fun_ext (λ t. elim (cases_lt t (length f.guest.entries)) [
       | inl l ↦ h.whole.1.logs t l
-      | inr past ↦ ap events (no_trail f h.run h.whole t past)
+      | inr past ↦ ap events (no_trail_of_missing_thread f h.run h.whole t past)
           ∙ ap (λ (x : RecordedThread). map label_of x.events) (sym (get_or_past f.recorded.threads t absent (omega (arith, past, size))))
     ]) in
     record {

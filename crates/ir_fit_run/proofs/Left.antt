@@ -10,50 +10,50 @@ use Rattle.ir_log.specs.declared.event.Event.{Event}
 use Rattle.ir_log.specs.declared.event.Event.TheVariants.{Answer, Read, Write, Try}
 use Rattle.ir_trace.specs.Recorded.{recorded_thread}
 use Rattle.ir_fit.specs.Fit.{FittedTrace, HasRun}
-use Rattle.ir_fit.proofs.CallerLemmas.{starts, entry_emits}
+use Rattle.ir_fit.proofs.CallerLemmas.{guest_start_is_start, step_of_entry_emits_event}
 use Rattle.ir_cut.specs.Positions.{machine_of, start_of}
 use Rattle.ir_past.specs.Leaving.{LeavesFirst}
 use Rattle.ir_past.specs.Past.{event_at, entered}
 use Rattle.ir_past.proofs.CallerLemmas.{entries_left}
 use Rattle.ir_events.specs.Events.{entry_of}
 use Rattle.ir_fit_run.specs.Positions.{LeavesFrom, EntryLeaves, IsLeaveOf}
-use Rattle.ir_fit_run.proofs.Leaves.{in_each, inside}
-use Rattle.ir_fit_run.proofs.Paired.{at_index}
+use Rattle.ir_fit_run.proofs.Leaves.{step_emits_in_each_run, recorded_event_is_inside}
+use Rattle.ir_fit_run.proofs.Paired.{element_below_length_is_listed}
 
 -- the step of an event emits what is logged as it
-event_emits : (f : FittedTrace) (h : HasRun f) (t i : ℕ) (e : Event) → event_at f.recorded t i ≡ Some e
+event_step_emits_its_label : (f : FittedTrace) (h : HasRun f) (t i : ℕ) (e : Event) → event_at f.recorded t i ≡ Some e
     → Emits (machine_of f) (start_of f) h.run t (entry_of f t i) (label_of e)
-event_emits f h t i e there =
+event_step_emits_its_label f h t i e there =
     let es : List Event = (recorded_thread f.recorded t).events in
     let l : i < length es = slice_get_within es i e there in
-    let same = same_Some _ e (sym (at_index es i e l) ∙ there) in
-    subst (λ z. Emits (machine_of f) (start_of f) h.run t (entry_of f t i) (label_of z)) same (entry_emits f h t (inside f h t i e there).thread i e l)
+    let same = same_Some _ e (sym (element_below_length_is_listed es i e l) ∙ there) in
+    subst (λ z. Emits (machine_of f) (start_of f) h.run t (entry_of f t i) (label_of z)) same (step_of_entry_emits_event f h t (recorded_event_is_inside f h t i e there).thread i e l)
 
 -- the first leave behind an entry
-first_leave : (f : FittedTrace) (h : HasRun f) (t j o : ℕ) (a : Access) (v l : ℕ) → Emits (machine_of f) (start_of f) h.run t j (In o a v l)
+first_leave_behind_entry_exists : (f : FittedTrace) (h : HasRun f) (t j o : ℕ) (a : Access) (v l : ℕ) → Emits (machine_of f) (start_of f) h.run t j (In o a v l)
     → (k : ℕ) × LeavesFrom f t (j + 1) o a v k × ((n : ℕ) → LeavesFrom f t (j + 1) o a v n → k ≤ n)
-first_leave f h t j o a v l enters =
+first_leave_behind_entry_exists f h t j o a v l enters =
     let x : LeavesFirst (machine_of f) (start_of f) h.run t j o a v = entries_left f.guest.code (start_of f)
-    (starts f.guest f.recorded.budget f.recorded.profile) h.run (h.whole.1.runs, h.whole.1.done) t j o a v l enters in (
+    (guest_start_is_start f.guest f.recorded.budget f.recorded.profile) h.run (h.whole.1.runs, h.whole.1.done) t j o a v l enters in (
       x.leave,
-      ((let past = x.past in omega (arith, past)), in_each f h t x.leave (Out o a v) x.leaves),
+      ((let past = x.past in omega (arith, past)), step_emits_in_each_run f h t x.leave (Out o a v) x.leaves),
       λ n at. x.first n (let from = at.0 in omega (arith, from)) (at.1 h.run h.whole),
     )
 
-is_leave : (f : FittedTrace) (t i k : ℕ) (e : Event) → event_at f.recorded t i ≡ Some e → EntryLeaves f t (entry_of f t i + 1) (Some e) k
+first_leave_is_leave_of_event : (f : FittedTrace) (t i k : ℕ) (e : Event) → event_at f.recorded t i ≡ Some e → EntryLeaves f t (entry_of f t i + 1) (Some e) k
     → ((n : ℕ) → EntryLeaves f t (entry_of f t i + 1) (Some e) n → k ≤ n) → IsLeaveOf f t i k
-is_leave f t i k e there leaves first = record {
+first_leave_is_leave_of_event f t i k e there leaves first = record {
   leaves = subst (λ z. EntryLeaves f t (entry_of f t i + 1) z k) (sym there) leaves;
   first = λ n at. first n (subst (λ z. EntryLeaves f t (entry_of f t i + 1) z n) there at);
 }
 
-pub event_left : (f : FittedTrace) → HasRun f → (t i o : ℕ) (e : Event) → event_at f.recorded t i ≡ Some e → entered e ≡ Some o
+pub entering_event_has_leave : (f : FittedTrace) → HasRun f → (t i o : ℕ) (e : Event) → event_at f.recorded t i ≡ Some e → entered e ≡ Some o
     → (k : ℕ) × IsLeaveOf f t i k
-event_left f h t i o (Answer kind value) there enters = absurd (none-some o enters)
-event_left f h t i o (Read p v) there enters =
-    let x = first_leave f h t (entry_of f t i) p Reading v 0 (event_emits f h t i (Read p v) there) in
-    (x.0, is_leave f t i x.0 (Read p v) there x.1 x.2)
-event_left f h t i o (Write p v readers) there enters =
-    let x = first_leave f h t (entry_of f t i) p Writing v readers (event_emits f h t i (Write p v readers) there) in
-    (x.0, is_leave f t i x.0 (Write p v readers) there x.1 x.2)
-event_left f h t i o (Try p) there enters = absurd (none-some o enters)
+entering_event_has_leave f h t i o (Answer kind value) there enters = absurd (none-some o enters)
+entering_event_has_leave f h t i o (Read p v) there enters =
+    let x = first_leave_behind_entry_exists f h t (entry_of f t i) p Reading v 0 (event_step_emits_its_label f h t i (Read p v) there) in
+    (x.0, first_leave_is_leave_of_event f t i x.0 (Read p v) there x.1 x.2)
+entering_event_has_leave f h t i o (Write p v readers) there enters =
+    let x = first_leave_behind_entry_exists f h t (entry_of f t i) p Writing v readers (event_step_emits_its_label f h t i (Write p v readers) there) in
+    (x.0, first_leave_is_leave_of_event f t i x.0 (Write p v readers) there x.1 x.2)
+entering_event_has_leave f h t i o (Try p) there enters = absurd (none-some o enters)

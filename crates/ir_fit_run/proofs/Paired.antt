@@ -4,34 +4,34 @@ use Rattle.std.specs.Prelude.{slice_get}
 use Rattle.std.proofs.lemmas.Option.{same_Some, none-some}
 use Rattle.ir_fit_run.specs.Paired.{ArePaired}
 
-joined_cases : {X : Type 0} (xs ys : List X) (k : ℕ) (x : X) → slice_get (xs ++ ys) k ≡ Some x
+slice_get_of_append_cases : {X : Type 0} (xs ys : List X) (k : ℕ) (x : X) → slice_get (xs ++ ys) k ≡ Some x
     → (slice_get xs k ≡ Some x) ⊎ ((m : ℕ) × (k ≡ length xs + m) × (slice_get ys m ≡ Some x))
-joined_cases [] ys k x e = inr (k, (let same : k ≡ 0 + k = omega arith in same), e)
-joined_cases (z ∷ zs) ys zero x e = inl e
-joined_cases (z ∷ zs) ys (suc k) x e = elim (joined_cases zs ys k x e) [
+slice_get_of_append_cases [] ys k x e = inr (k, (let same : k ≡ 0 + k = omega arith in same), e)
+slice_get_of_append_cases (z ∷ zs) ys zero x e = inl e
+slice_get_of_append_cases (z ∷ zs) ys (suc k) x e = elim (slice_get_of_append_cases zs ys k x e) [
   | inl h ↦ inl h
   | inr h ↦ inr (h.0, (let same : suc k ≡ suc (length zs) + h.0 = omega (arith, h.1) in same), h.2)
 ]
 
 -- an element of a list is at its place
-pub at_index : {X : Type 0} (xs : List X) (n : ℕ) (d : X) → n < length xs → slice_get xs n ≡ Some (get_or xs n d)
-at_index [] n d l = absurd (omega arith)
-at_index (x ∷ xs) zero d l = refl
-at_index (x ∷ xs) (suc n) d l = at_index xs n d (omega arith)
+pub element_below_length_is_listed : {X : Type 0} (xs : List X) (n : ℕ) (d : X) → n < length xs → slice_get xs n ≡ Some (get_or xs n d)
+element_below_length_is_listed [] n d l = absurd (omega arith)
+element_below_length_is_listed (x ∷ xs) zero d l = refl
+element_below_length_is_listed (x ∷ xs) (suc n) d l = element_below_length_is_listed xs n d (omega arith)
 
 -- the first n elements have theirs
 pub record ArePairedTo {X Y : Type 0} (P : X → Y → Type 0) (xs : List X) (n : ℕ) (ys : List Y) : Type 0 where
   pub size : length ys ≡ n
   pub each : (k : ℕ) (x : X) (y : Y) → slice_get xs k ≡ Some x → slice_get ys k ≡ Some y → P x y
 
-pub none_paired : {X Y : Type 0} (P : X → Y → Type 0) (xs : List X) → ArePairedTo P xs 0 []
-none_paired P xs = record { size = refl; each = λ k x y a b. absurd (none-some y b) }
+pub paired_to_none : {X Y : Type 0} (P : X → Y → Type 0) (xs : List X) → ArePairedTo P xs 0 []
+paired_to_none P xs = record { size = refl; each = λ k x y a b. absurd (none-some y b) }
 
-pub next_paired : {X Y : Type 0} (P : X → Y → Type 0) (xs : List X) (n : ℕ) (ys : List Y) (x : X) (y : Y) → ArePairedTo P xs n ys
+pub paired_to_next_element : {X Y : Type 0} (P : X → Y → Type 0) (xs : List X) (n : ℕ) (ys : List Y) (x : X) (y : Y) → ArePairedTo P xs n ys
     → slice_get xs n ≡ Some x → P x y → ArePairedTo P xs (n + 1) (ys ++ y ∷ [])
-next_paired P xs n ys x y h at is = record {
+paired_to_next_element P xs n ys x y h at is = record {
   size = long ys y ∙ ap (λ k. k + 1) h.size;
-  each = λ k z w a b. elim (joined_cases ys (y ∷ []) k w b) [
+  each = λ k z w a b. elim (slice_get_of_append_cases ys (y ∷ []) k w b) [
     | inl before ↦ h.each k z w a before
     | inr here ↦ last k z w a here.0 here.1 here.2
   ];
@@ -51,6 +51,6 @@ next_paired P xs n ys x y h at is = record {
         (subst (λ q. P q y) (same_Some x z (sym at ∙ subst (λ q. slice_get xs q ≡ Some z) same a)) is)
     last k z w a (suc m) e b = absurd (none-some w b)
 
-pub all_paired : {X Y : Type 0} (P : X → Y → Type 0) (xs : List X) (n : ℕ) (ys : List Y) → ArePairedTo P xs n ys → length xs ≤ n → n ≤ length xs
+pub paired_if_all_paired_to : {X Y : Type 0} (P : X → Y → Type 0) (xs : List X) (n : ℕ) (ys : List Y) → ArePairedTo P xs n ys → length xs ≤ n → n ≤ length xs
     → ArePaired P xs ys
-all_paired P xs n ys h a b = record { size = let s = h.size in omega (arith, s, a, b); each = h.each }
+paired_if_all_paired_to P xs n ys h a b = record { size = let s = h.size in omega (arith, s, a, b); each = h.each }

@@ -13,58 +13,58 @@ use Rattle.ir_runs.specs.declared.access.Access.TheVariants.{Reading, Writing}
 use Rattle.ir_thread.specs.declared.ask.Ask.{Ask}
 use Rattle.ir_thread.specs.declared.ask.Ask.TheVariants.{Private, Env, Enter, Try, Leave, Get, Put, Print, End, Done}
 use Rattle.ir_thread.specs.declared.ask.Reply.TheVariants.{Go, Value}
-use Rattle.ir_thread.proofs.CallerLemmas.{ask_permits, above_held}
+use Rattle.ir_thread.proofs.CallerLemmas.{ask_of_permitted, nothing_held_above_highest}
 use Rattle.ir_object.specs.Cell.{Cell, Counts, readers, one_if_reading, bit_of}
 use Rattle.ir_object.specs.Standing.{CanLeave}
 use Rattle.ir_object.specs.Word.{IsFields, entered, left_by}
-use Rattle.ir_object.proofs.CallerLemmas.{admits_reader, reader_admitted, admits_writer, writer_admitted, entry_counts, can_leave, leave_counts}
-use Rattle.ir_runs.proofs.CallerLemmas.{upd_elim, upd_id}
+use Rattle.ir_object.proofs.CallerLemmas.{no_writer_if_reader_admitted, reader_admitted_if_no_writer, nobody_inside_if_writer_admitted, writer_admitted_if_nobody_inside, counts_after_entry, inside_thread_can_leave, counts_after_leave}
+use Rattle.ir_runs.proofs.CallerLemmas.{upd_by_cases, upd_with_old_value}
 use Rattle.ir_flat.specs.Flat.{Flat, idle, empty, thread_of, cell_of, inside_of, tables, machine, IsShared, IsFlat}
 use Rattle.ir_flat.specs.Kept.{IsKept}
 use Rattle.ir_flat.specs.Next.{with_thread, with_object, answered, next, next_try, MayStep, MayTry}
 use Rattle.ir_runs.specs.Run.{Can, after}
-use Rattle.ir_flat.proofs.Kept.{held_length, stays_kept, events_most}
-use Rattle.ir_flat.proofs.Next.{table-set, inside-set, still, next_after}
+use Rattle.ir_flat.proofs.Kept.{length_of_held_after_ask, kept_after_step, events_below_within_limit}
+use Rattle.ir_flat.proofs.Next.{list_set_is_upd, inside_of_with_thread, held_at_other_place_after_set, tables_of_permitted_next_are_after}
 
 -- the code's tests are those of the step
-pub may_admits : (f : Flat) (t r : ℕ) (q : Ask) → IsFlat f → t < length f.threads → Permits (thread_of f t) q
+pub may_step_is_admits : (f : Flat) (t r : ℕ) (q : Ask) → IsFlat f → t < length f.threads → Permits (thread_of f t) q
     → MayStep f r q ↔ Admits (machine f) (act_of (shared_ask q) r) ((tables f).objects (target (act_of (shared_ask q) r)))
-may_admits f t r Private flat l p = ((λ _. tt), λ _. tt)
-may_admits f t r (Env kind) flat l p = ((λ h. h), λ h. h)
-may_admits f t r (Enter o Reading) flat l p =
+may_step_is_admits f t r Private flat l p = ((λ _. tt), λ _. tt)
+may_step_is_admits f t r (Env kind) flat l p = ((λ h. h), λ h. h)
+may_step_is_admits f t r (Enter o Reading) flat l p =
     let c = (flat.objects o (omega (arith, p.2, flat.places t l))).counts in (
-      admits_reader (length f.threads) (cell_of f o).fields (inside_of f o) c,
-      reader_admitted (length f.threads) (cell_of f o).fields
+      no_writer_if_reader_admitted (length f.threads) (cell_of f o).fields (inside_of f o) c,
+      reader_admitted_if_no_writer (length f.threads) (cell_of f o).fields
           (inside_of f o) c,
     )
-may_admits f t r (Enter o Writing) flat l p =
+may_step_is_admits f t r (Enter o Writing) flat l p =
     let c = (flat.objects o (omega (arith, p.2, flat.places t l))).counts in (
-      admits_writer (length f.threads) (cell_of f o).fields (inside_of f o) c,
-      writer_admitted (length f.threads) (cell_of f o).fields
+      nobody_inside_if_writer_admitted (length f.threads) (cell_of f o).fields (inside_of f o) c,
+      writer_admitted_if_nobody_inside (length f.threads) (cell_of f o).fields
           (inside_of f o) c,
     )
-may_admits f t zero (Try o) flat l p = ((λ _. tt), λ _. tt)
-may_admits f t (suc zero) (Try o) flat l p =
+may_step_is_admits f t zero (Try o) flat l p = ((λ _. tt), λ _. tt)
+may_step_is_admits f t (suc zero) (Try o) flat l p =
     let c = (flat.objects o (omega (arith, p.2, flat.places t l))).counts in (
-      admits_writer (length f.threads) (cell_of f o).fields (inside_of f o) c,
-      writer_admitted (length f.threads) (cell_of f o).fields
+      nobody_inside_if_writer_admitted (length f.threads) (cell_of f o).fields (inside_of f o) c,
+      writer_admitted_if_nobody_inside (length f.threads) (cell_of f o).fields
           (inside_of f o) c,
     )
-may_admits f t (suc (suc r)) (Try o) flat l p = ((λ h. h), λ h. h)
-may_admits f t r (Leave o a) flat l p = ((λ _. tt), λ _. tt)
-may_admits f t r (Get o i) flat l p = ((λ _. tt), λ _. tt)
-may_admits f t r (Put o i w) flat l p = ((λ _. tt), λ _. tt)
-may_admits f t r Print flat l p = ((λ _. tt), λ _. tt)
-may_admits f t r (End e) flat l p = ((λ _. tt), λ _. tt)
-may_admits f t r Done flat l p = ((λ h. h), λ h. h)
+may_step_is_admits f t (suc (suc r)) (Try o) flat l p = ((λ h. h), λ h. h)
+may_step_is_admits f t r (Leave o a) flat l p = ((λ _. tt), λ _. tt)
+may_step_is_admits f t r (Get o i) flat l p = ((λ _. tt), λ _. tt)
+may_step_is_admits f t r (Put o i w) flat l p = ((λ _. tt), λ _. tt)
+may_step_is_admits f t r Print flat l p = ((λ _. tt), λ _. tt)
+may_step_is_admits f t r (End e) flat l p = ((λ _. tt), λ _. tt)
+may_step_is_admits f t r Done flat l p = ((λ h. h), λ h. h)
 
-pub may_can : (f : Flat) (t r : ℕ) → IsFlat f → t < length f.threads
+pub may_step_is_can : (f : Flat) (t r : ℕ) → IsFlat f → t < length f.threads
     → MayStep f r (ask_of f.code (thread_of f t)) ↔ Can (machine f) (tables f) (t, r)
-may_can f t r flat l = may_admits f t r (ask_of f.code (thread_of f t)) flat l (ask_permits f.code (thread_of f t))
+may_step_is_can f t r flat l = may_step_is_admits f t r (ask_of f.code (thread_of f t)) flat l (ask_of_permitted f.code (thread_of f t))
 
-pub readers_le : (n : ℕ) (inside : ℕ → Option Access) → readers n inside ≤ n
-readers_le zero inside = omega arith
-readers_le (suc n) inside = let rest = readers_le n inside in let one = at_most_one (inside n) in omega (arith, rest, one)
+pub readers_at_most_threads : (n : ℕ) (inside : ℕ → Option Access) → readers n inside ≤ n
+readers_at_most_threads zero inside = omega arith
+readers_at_most_threads (suc n) inside = let rest = readers_at_most_threads n inside in let one = at_most_one (inside n) in omega (arith, rest, one)
   where
     at_most_one : (x : Option Access) → one_if_reading x ≤ 1
     at_most_one None = omega arith
@@ -72,245 +72,245 @@ readers_le (suc n) inside = let rest = readers_le n inside in let one = at_most_
     at_most_one (Some Writing) = omega arith
 
 -- what a word counts was logged, so it fits
-pub logged_fits : (f : Flat) (o : ℕ) → IsFlat f → o < length f.objects
+pub counts_within_logged_limit : (f : Flat) (o : ℕ) → IsFlat f → o < length f.objects
     → (cell_of f o).fields.version + (cell_of f o).fields.left + (cell_of f o).fields.inside + bit_of (cell_of f o).fields.writer ≤
     most_threads * most_events
-logged_fits f o flat l =
+counts_within_logged_limit f o flat l =
     let c = (flat.objects o l).counts in
     let seen = flat.kept.logged o in
-    let most = events_most (length f.threads) (thread_of f) flat.kept.events in
+    let most = events_below_within_limit (length f.threads) (thread_of f) flat.kept.events in
     let few = flat.few_threads in
     let inside = c.readers in
     let writer : bit_of (cell_of f o).fields.writer ≡ bit_of _ = ap bit_of c.writer in
     omega (arith, seen, most, few, inside, writer)
 
-pub few_inside : (f : Flat) (o : ℕ) → IsFlat f → o < length f.objects → (cell_of f o).fields.inside ≤ most_threads
-few_inside f o flat l =
+pub inside_within_most_threads : (f : Flat) (o : ℕ) → IsFlat f → o < length f.objects → (cell_of f o).fields.inside ≤ most_threads
+inside_within_most_threads f o flat l =
     let inside = (flat.objects o l).counts.readers in
-    let most = readers_le (length f.threads) (inside_of f o) in
+    let most = readers_at_most_threads (length f.threads) (inside_of f o) in
     let few = flat.few_threads in
     omega (arith, inside, most, few)
 
-pub enter_fits : (f : Flat) (o : ℕ) (a : Access) → IsFlat f → o < length f.objects → IsFields (entered a (cell_of f o).fields)
-enter_fits f o Reading flat l = let all = logged_fits f o flat l in let few = few_inside f o flat l in
+pub entered_fields_fit : (f : Flat) (o : ℕ) (a : Access) → IsFlat f → o < length f.objects → IsFields (entered a (cell_of f o).fields)
+entered_fields_fit f o Reading flat l = let all = counts_within_logged_limit f o flat l in let few = inside_within_most_threads f o flat l in
     record { version = omega (arith, all); left = omega (arith, all); inside = omega (arith, few) }
-enter_fits f o Writing flat l = let all = logged_fits f o flat l in let few = few_inside f o flat l in
+entered_fields_fit f o Writing flat l = let all = counts_within_logged_limit f o flat l in let few = inside_within_most_threads f o flat l in
     record { version = omega (arith, all); left = omega (arith, all); inside = omega (arith, few) }
 
-pub leave_fits : (f : Flat) (o : ℕ) (a : Access) → IsFlat f → o < length f.objects → IsFields (left_by a (cell_of f o).fields)
-leave_fits f o Reading flat l = let all = logged_fits f o flat l in let few = few_inside f o flat l in
+pub left_fields_fit : (f : Flat) (o : ℕ) (a : Access) → IsFlat f → o < length f.objects → IsFields (left_by a (cell_of f o).fields)
+left_fields_fit f o Reading flat l = let all = counts_within_logged_limit f o flat l in let few = inside_within_most_threads f o flat l in
     record { version = omega (arith, all); left = omega (arith, all); inside = omega (arith, few) }
-leave_fits f o Writing flat l = let all = logged_fits f o flat l in
+left_fields_fit f o Writing flat l = let all = counts_within_logged_limit f o flat l in
     record { version = omega (arith, all); left = omega arith; inside = omega arith }
 
-pub leave_allowed : (f : Flat) (t o : ℕ) (a : Access) → IsFlat f → t < length f.threads → o < length f.objects → inside_of f o t ≡ Some a
+pub flat_inside_thread_can_leave : (f : Flat) (t o : ℕ) (a : Access) → IsFlat f → t < length f.threads → o < length f.objects → inside_of f o t ≡ Some a
     → CanLeave a (cell_of f o).fields
-leave_allowed f t o a flat l k e = can_leave (length f.threads) (cell_of f o).fields (inside_of f o) t a l e (flat.objects o k).counts
+flat_inside_thread_can_leave f t o a flat l k e = inside_thread_can_leave (length f.threads) (cell_of f o).fields (inside_of f o) t a l e (flat.objects o k).counts
 
 -- what doesn't touch an object leaves all objects
-quiet_shared : (f : Flat) (t : ℕ) (y : thread.State) → t < length f.threads → y.held ≡ (thread_of f t).held → (o : ℕ) → IsShared f o
+shared_after_quiet_thread_change : (f : Flat) (t : ℕ) (y : thread.ThreadState) → t < length f.threads → y.held ≡ (thread_of f t).held → (o : ℕ) → IsShared f o
     → IsShared (with_thread f t y) o
-quiet_shared f t y l same o old = record {
+shared_after_quiet_thread_change f t y l same o old = record {
   counts = subst (λ n. Counts n (cell_of f o).fields (inside_of (with_thread f t y) o)) (sym (length-set f.threads t y))
       (subst (Counts (length f.threads) (cell_of f o).fields)
-      (sym (inside-set f t y o l ∙ upd_id (inside_of f o) t (held_at y.held o) (ap (λ h. held_at h o) (sym same)))) old.counts);
+      (sym (inside_of_with_thread f t y o l ∙ upd_with_old_value (inside_of f o) t (held_at y.held o) (ap (λ h. held_at h o) (sym same)))) old.counts);
   words = old.words;
 }
 
 -- what touches one object leaves the others
-touched : (f : Flat) (t : ℕ) (y : thread.State) (o : ℕ) (c : Cell) → t < length f.threads → o < length f.objects
+shared_after_object_change : (f : Flat) (t : ℕ) (y : thread.ThreadState) (o : ℕ) (c : Cell) → t < length f.threads → o < length f.objects
     → ((i : ℕ) → i ≢ o → held_at y.held i ≡ held_at (thread_of f t).held i)
     → Counts (length f.threads) c.fields (upd (inside_of f o) t (held_at y.held o)) → length c.words ≡ most_object_words → (i : ℕ) → IsShared f i
     → IsShared (with_object (with_thread f t y) o c) i
-touched f t y o c l k same counts count i old =
+shared_after_object_change f t y o c l k same counts count i old =
     let cell : cell_of (with_object (with_thread f t y) o c) i ≡ upd (cell_of f) o c i =
-    ap (λ table. table i) (table-set f.objects o c empty k) in
+    ap (λ table. table i) (list_set_is_upd f.objects o c empty k) in
     record {
       counts = subst (λ n. Counts n (cell_of (with_object (with_thread f t y) o c) i).fields (inside_of (with_thread f t y) i))
           (sym (length-set f.threads t y))
           (subst (λ z. Counts (length f.threads) z.fields (inside_of (with_thread f t y) i)) (sym cell)
-          (subst (Counts (length f.threads) (upd (cell_of f) o c i).fields) (sym (inside-set f t y i l))
-          (upd_elim (cell_of f) o c i (λ z. Counts (length f.threads) z.fields (upd (inside_of f i) t (held_at y.held i)))
+          (subst (Counts (length f.threads) (upd (cell_of f) o c i).fields) (sym (inside_of_with_thread f t y i l))
+          (upd_by_cases (cell_of f) o c i (λ z. Counts (length f.threads) z.fields (upd (inside_of f i) t (held_at y.held i)))
           (λ e. subst (λ j. Counts (length f.threads) c.fields (upd (inside_of f j) t (held_at y.held j))) (sym e) counts)
           (λ ne. subst (Counts (length f.threads) (cell_of f i).fields)
-          (sym (upd_id (inside_of f i) t (held_at y.held i) (sym (same i ne)))) old.counts))));
+          (sym (upd_with_old_value (inside_of f i) t (held_at y.held i) (sym (same i ne)))) old.counts))));
       words = subst (λ z. length z.words ≡ most_object_words) (sym cell)
-          (upd_elim (cell_of f) o c i (λ z. length z.words ≡ most_object_words) (λ _. count) (λ _. old.words));
+          (upd_by_cases (cell_of f) o c i (λ z. length z.words ≡ most_object_words) (λ _. count) (λ _. old.words));
     }
 
 -- an object that thread t has entered
-entered_shared : (f : Flat) (t : ℕ) (y : thread.State) (o : ℕ) (a : Access) → IsFlat f → t < length f.threads → o < length f.objects
+shared_after_entry : (f : Flat) (t : ℕ) (y : thread.ThreadState) (o : ℕ) (a : Access) → IsFlat f → t < length f.threads → o < length f.objects
     → inside_of f o t ≡ None → ((i : ℕ) → i ≢ o → held_at y.held i ≡ held_at (thread_of f t).held i) → held_at y.held o ≡ Some a → (i : ℕ)
     → i < length f.objects → IsShared (with_object (with_thread f t y) o (record (cell_of f o) { fields = entered a (cell_of f o).fields })) i
-entered_shared f t y o a flat l k none same is i h =
-    touched f t y o _ l k same
+shared_after_entry f t y o a flat l k none same is i h =
+    shared_after_object_change f t y o _ l k same
     (subst (λ x. Counts (length f.threads) (entered a (cell_of f o).fields) (upd (inside_of f o) t x)) (sym is)
-    (entry_counts (length f.threads) (cell_of f o).fields (inside_of f o) t a l none (flat.objects o k).counts)) (flat.objects o k).words i
+    (counts_after_entry (length f.threads) (cell_of f o).fields (inside_of f o) t a l none (flat.objects o k).counts)) (flat.objects o k).words i
     (flat.objects i h)
 
-next_shared : (f : Flat) (t r : ℕ) (q : Ask) → IsFlat f → t < length f.threads → Permits (thread_of f t) q → MayStep f r q → (i : ℕ)
+shared_after_next : (f : Flat) (t r : ℕ) (q : Ask) → IsFlat f → t < length f.threads → Permits (thread_of f t) q → MayStep f r q → (i : ℕ)
     → i < length f.objects → IsShared (next f t r q) i
-next_shared f t r Private flat l p may i h = quiet_shared f t _ l refl i (flat.objects i h)
-next_shared f t r (Env kind) flat l p may i h = quiet_shared f t _ l refl i (flat.objects i h)
-next_shared f t r Print flat l p may i h = quiet_shared f t _ l refl i (flat.objects i h)
-next_shared f t r (End e) flat l p may i h = quiet_shared f t _ l refl i (flat.objects i h)
-next_shared f t r (Get o j) flat l p may i h = quiet_shared f t _ l refl i (flat.objects i h)
-next_shared f t r Done flat l p may i h = absurd may
-next_shared f t r (Enter o a) flat l p may i h =
-    entered_shared f t _ o a flat l (omega (arith, p.2, flat.places t l)) (above_held (thread_of f t).held o p.3 o (le_refl o))
-    (still (thread_of f t).held o (Some a)) (get_or-set_same (thread_of f t).held o (Some a) None p.2) i h
-next_shared f t zero (Try o) flat l p may i h = quiet_shared f t _ l refl i (flat.objects i h)
-next_shared f t (suc zero) (Try o) flat l p may i h =
-    entered_shared f t _ o Writing flat l (omega (arith, p.2, flat.places t l)) (above_held (thread_of f t).held o p.3 o (le_refl o))
-    (still (thread_of f t).held o (Some Writing)) (get_or-set_same (thread_of f t).held o (Some Writing) None p.2) i h
-next_shared f t (suc (suc r)) (Try o) flat l p may i h = absurd may
-next_shared f t r (Leave o a) flat l p may i h =
+shared_after_next f t r Private flat l p may i h = shared_after_quiet_thread_change f t _ l refl i (flat.objects i h)
+shared_after_next f t r (Env kind) flat l p may i h = shared_after_quiet_thread_change f t _ l refl i (flat.objects i h)
+shared_after_next f t r Print flat l p may i h = shared_after_quiet_thread_change f t _ l refl i (flat.objects i h)
+shared_after_next f t r (End e) flat l p may i h = shared_after_quiet_thread_change f t _ l refl i (flat.objects i h)
+shared_after_next f t r (Get o j) flat l p may i h = shared_after_quiet_thread_change f t _ l refl i (flat.objects i h)
+shared_after_next f t r Done flat l p may i h = absurd may
+shared_after_next f t r (Enter o a) flat l p may i h =
+    shared_after_entry f t _ o a flat l (omega (arith, p.2, flat.places t l)) (nothing_held_above_highest (thread_of f t).held o p.3 o (le_refl o))
+    (held_at_other_place_after_set (thread_of f t).held o (Some a)) (get_or-set_same (thread_of f t).held o (Some a) None p.2) i h
+shared_after_next f t zero (Try o) flat l p may i h = shared_after_quiet_thread_change f t _ l refl i (flat.objects i h)
+shared_after_next f t (suc zero) (Try o) flat l p may i h =
+    shared_after_entry f t _ o Writing flat l (omega (arith, p.2, flat.places t l)) (nothing_held_above_highest (thread_of f t).held o p.3 o (le_refl o))
+    (held_at_other_place_after_set (thread_of f t).held o (Some Writing)) (get_or-set_same (thread_of f t).held o (Some Writing) None p.2) i h
+shared_after_next f t (suc (suc r)) (Try o) flat l p may i h = absurd may
+shared_after_next f t r (Leave o a) flat l p may i h =
     let k : o < length f.objects = omega (arith, p.1, flat.places t l) in
-    touched f t _ o _ l k (still (thread_of f t).held o None)
+    shared_after_object_change f t _ o _ l k (held_at_other_place_after_set (thread_of f t).held o None)
     (subst (λ x. Counts (length f.threads) (left_by a (cell_of f o).fields) (upd (inside_of f o) t x))
     (sym (get_or-set_same (thread_of f t).held o None None p.1))
-    (leave_counts (length f.threads) (cell_of f o).fields (inside_of f o) t a l p.2
+    (counts_after_leave (length f.threads) (cell_of f o).fields (inside_of f o) t a l p.2
     (λ e u ne. flat.kept.exclusive o t u (λ s. ne (sym s)) (p.2 ∙ ap Some e)) (flat.objects o k).counts)) (flat.objects o k).words i
     (flat.objects i h)
-next_shared f t r (Put o j w) flat l p may i h =
+shared_after_next f t r (Put o j w) flat l p may i h =
     let k : o < length f.objects = omega (arith, p.1, flat.places t l) in
-    touched f t _ o _ l k (λ _ _. refl)
-    (subst (Counts (length f.threads) (cell_of f o).fields) (sym (upd_id (inside_of f o) t (inside_of f o t) refl))
+    shared_after_object_change f t _ o _ l k (λ _ _. refl)
+    (subst (Counts (length f.threads) (cell_of f o).fields) (sym (upd_with_old_value (inside_of f o) t (inside_of f o t) refl))
     (flat.objects o k).counts)
     (length-set (cell_of f o).words j w ∙ (flat.objects o k).words) i (flat.objects i h)
 
-pub thread_count : (f : Flat) (t r : ℕ) (q : Ask) → length (next f t r q).threads ≡ length f.threads
-thread_count f t r Private = length-set f.threads t _
-thread_count f t r (Env kind) = length-set f.threads t _
-thread_count f t r (Enter o a) = length-set f.threads t _
-thread_count f t zero (Try o) = length-set f.threads t _
-thread_count f t (suc zero) (Try o) = length-set f.threads t _
-thread_count f t (suc (suc r)) (Try o) = length-set f.threads t _
-thread_count f t r (Leave o a) = length-set f.threads t _
-thread_count f t r (Get o i) = length-set f.threads t _
-thread_count f t r (Put o i w) = length-set f.threads t _
-thread_count f t r Print = length-set f.threads t _
-thread_count f t r (End e) = length-set f.threads t _
-thread_count f t r Done = length-set f.threads t _
+pub next_keeps_thread_count : (f : Flat) (t r : ℕ) (q : Ask) → length (next f t r q).threads ≡ length f.threads
+next_keeps_thread_count f t r Private = length-set f.threads t _
+next_keeps_thread_count f t r (Env kind) = length-set f.threads t _
+next_keeps_thread_count f t r (Enter o a) = length-set f.threads t _
+next_keeps_thread_count f t zero (Try o) = length-set f.threads t _
+next_keeps_thread_count f t (suc zero) (Try o) = length-set f.threads t _
+next_keeps_thread_count f t (suc (suc r)) (Try o) = length-set f.threads t _
+next_keeps_thread_count f t r (Leave o a) = length-set f.threads t _
+next_keeps_thread_count f t r (Get o i) = length-set f.threads t _
+next_keeps_thread_count f t r (Put o i w) = length-set f.threads t _
+next_keeps_thread_count f t r Print = length-set f.threads t _
+next_keeps_thread_count f t r (End e) = length-set f.threads t _
+next_keeps_thread_count f t r Done = length-set f.threads t _
 
-pub object_count : (f : Flat) (t r : ℕ) (q : Ask) → length (next f t r q).objects ≡ length f.objects
-object_count f t r Private = refl
-object_count f t r (Env kind) = refl
-object_count f t r (Enter o a) = length-set f.objects o _
-object_count f t zero (Try o) = refl
-object_count f t (suc zero) (Try o) = length-set f.objects o _
-object_count f t (suc (suc r)) (Try o) = refl
-object_count f t r (Leave o a) = length-set f.objects o _
-object_count f t r (Get o i) = refl
-object_count f t r (Put o i w) = length-set f.objects o _
-object_count f t r Print = refl
-object_count f t r (End e) = refl
-object_count f t r Done = refl
+pub next_keeps_object_count : (f : Flat) (t r : ℕ) (q : Ask) → length (next f t r q).objects ≡ length f.objects
+next_keeps_object_count f t r Private = refl
+next_keeps_object_count f t r (Env kind) = refl
+next_keeps_object_count f t r (Enter o a) = length-set f.objects o _
+next_keeps_object_count f t zero (Try o) = refl
+next_keeps_object_count f t (suc zero) (Try o) = length-set f.objects o _
+next_keeps_object_count f t (suc (suc r)) (Try o) = refl
+next_keeps_object_count f t r (Leave o a) = length-set f.objects o _
+next_keeps_object_count f t r (Get o i) = refl
+next_keeps_object_count f t r (Put o i w) = length-set f.objects o _
+next_keeps_object_count f t r Print = refl
+next_keeps_object_count f t r (End e) = refl
+next_keeps_object_count f t r Done = refl
 
 -- a thread that is written keeps its places
-place : (f : Flat) (t : ℕ) (y : thread.State) → t < length f.threads → length y.held ≡ length (thread_of f t).held → (u : ℕ)
+written_thread_keeps_places : (f : Flat) (t : ℕ) (y : thread.ThreadState) → t < length f.threads → length y.held ≡ length (thread_of f t).held → (u : ℕ)
     → length (thread_of (with_thread f t y) u).held ≡ length (thread_of f u).held
-place f t y l same u = ap (λ table. length (table u).held) (table-set f.threads t y idle l)
-    ∙ upd_elim (thread_of f) t y u (λ z. length z.held ≡ length (thread_of f u).held)
+written_thread_keeps_places f t y l same u = ap (λ table. length (table u).held) (list_set_is_upd f.threads t y idle l)
+    ∙ upd_by_cases (thread_of f) t y u (λ z. length z.held ≡ length (thread_of f u).held)
     (λ e. same ∙ ap (λ j. length (thread_of f j).held) (sym e)) (λ _. refl)
 
-place_count : (f : Flat) (t r : ℕ) (q : Ask) → t < length f.threads → (u : ℕ)
+next_keeps_places : (f : Flat) (t r : ℕ) (q : Ask) → t < length f.threads → (u : ℕ)
     → length (thread_of (next f t r q) u).held ≡ length (thread_of f u).held
-place_count f t r Private l = place f t _ l (held_length f.code (thread_of f t) Private Go)
-place_count f t r (Env kind) l = place f t _ l (held_length f.code (thread_of f t) (Env kind) (Value r))
-place_count f t r (Enter o a) l = place f t _ l (held_length f.code (thread_of f t) (Enter o a) Go)
-place_count f t zero (Try o) l = place f t _ l (held_length f.code (thread_of f t) (Try o) (Value 0))
-place_count f t (suc zero) (Try o) l = place f t _ l (held_length f.code (thread_of f t) (Try o) (Value 1))
-place_count f t (suc (suc r)) (Try o) l = place f t _ l (held_length f.code (thread_of f t) (Try o) (Value (suc (suc r))))
-place_count f t r (Leave o a) l = place f t _ l (held_length f.code (thread_of f t) (Leave o a) Go)
-place_count f t r (Get o i) l = place f t _ l (held_length f.code (thread_of f t) (Get o i) (Value (slice_index (cell_of f o).words i)))
-place_count f t r (Put o i w) l = place f t _ l (held_length f.code (thread_of f t) (Put o i w) Go)
-place_count f t r Print l = place f t _ l (held_length f.code (thread_of f t) Print Go)
-place_count f t r (End e) l = place f t _ l (held_length f.code (thread_of f t) (End e) Go)
-place_count f t r Done l = place f t _ l (held_length f.code (thread_of f t) Done Go)
+next_keeps_places f t r Private l = written_thread_keeps_places f t _ l (length_of_held_after_ask f.code (thread_of f t) Private Go)
+next_keeps_places f t r (Env kind) l = written_thread_keeps_places f t _ l (length_of_held_after_ask f.code (thread_of f t) (Env kind) (Value r))
+next_keeps_places f t r (Enter o a) l = written_thread_keeps_places f t _ l (length_of_held_after_ask f.code (thread_of f t) (Enter o a) Go)
+next_keeps_places f t zero (Try o) l = written_thread_keeps_places f t _ l (length_of_held_after_ask f.code (thread_of f t) (Try o) (Value 0))
+next_keeps_places f t (suc zero) (Try o) l = written_thread_keeps_places f t _ l (length_of_held_after_ask f.code (thread_of f t) (Try o) (Value 1))
+next_keeps_places f t (suc (suc r)) (Try o) l = written_thread_keeps_places f t _ l (length_of_held_after_ask f.code (thread_of f t) (Try o) (Value (suc (suc r))))
+next_keeps_places f t r (Leave o a) l = written_thread_keeps_places f t _ l (length_of_held_after_ask f.code (thread_of f t) (Leave o a) Go)
+next_keeps_places f t r (Get o i) l = written_thread_keeps_places f t _ l (length_of_held_after_ask f.code (thread_of f t) (Get o i) (Value (slice_index (cell_of f o).words i)))
+next_keeps_places f t r (Put o i w) l = written_thread_keeps_places f t _ l (length_of_held_after_ask f.code (thread_of f t) (Put o i w) Go)
+next_keeps_places f t r Print l = written_thread_keeps_places f t _ l (length_of_held_after_ask f.code (thread_of f t) Print Go)
+next_keeps_places f t r (End e) l = written_thread_keeps_places f t _ l (length_of_held_after_ask f.code (thread_of f t) (End e) Go)
+next_keeps_places f t r Done l = written_thread_keeps_places f t _ l (length_of_held_after_ask f.code (thread_of f t) Done Go)
 
-pub next_flat : (f : Flat) (t r : ℕ) (q : Ask) → q ≡ ask_of f.code (thread_of f t) → IsFlat f → t < length f.threads → MayStep f r q
+pub next_is_flat : (f : Flat) (t r : ℕ) (q : Ask) → q ≡ ask_of f.code (thread_of f t) → IsFlat f → t < length f.threads → MayStep f r q
     → IsFlat (next f t r q)
-next_flat f t r q is flat l may =
-    let p : Permits (thread_of f t) q = subst (Permits (thread_of f t)) (sym is) (ask_permits f.code (thread_of f t)) in
-    let can : Can (machine f) (tables f) (t, r) = (may_can f t r flat l).0 (subst (MayStep f r) is may) in
-    let n : length (next f t r q).threads ≡ length f.threads = thread_count f t r q in
-    let m : length (next f t r q).objects ≡ length f.objects = object_count f t r q in
+next_is_flat f t r q is flat l may =
+    let p : Permits (thread_of f t) q = subst (Permits (thread_of f t)) (sym is) (ask_of_permitted f.code (thread_of f t)) in
+    let can : Can (machine f) (tables f) (t, r) = (may_step_is_can f t r flat l).0 (subst (MayStep f r) is may) in
+    let n : length (next f t r q).threads ≡ length f.threads = next_keeps_thread_count f t r q in
+    let m : length (next f t r q).objects ≡ length f.objects = next_keeps_object_count f t r q in
     record {
       few_threads = omega (arith, n, flat.few_threads);
       few_objects = omega (arith, m, flat.few_objects);
-      places = λ u h. place_count f t r q l u ∙ flat.places u (omega (arith, n, h)) ∙ sym m;
-      objects = λ i h. next_shared f t r q flat l p may i (omega (arith, m, h));
+      places = λ u h. next_keeps_places f t r q l u ∙ flat.places u (omega (arith, n, h)) ∙ sym m;
+      objects = λ i h. shared_after_next f t r q flat l p may i (omega (arith, m, h));
       kept = subst (λ k. IsKept k (tables (next f t r q))) (sym n)
-          (subst (IsKept (length f.threads)) (sym (next_after f t r q (sym is) flat l p may))
-          (stays_kept f.code (length f.threads) (tables f) (t, r) l flat.kept can));
+          (subst (IsKept (length f.threads)) (sym (tables_of_permitted_next_are_after f t r q (sym is) flat l p may))
+          (kept_after_step f.code (length f.threads) (tables f) (t, r) l flat.kept can));
     }
 
 -- what is known where the step is taken
 -- the object that is entered is one of the guest's
-pub enter_object : (f : Flat) (t o : ℕ) (a : Access) → IsFlat f → t < length f.threads → ask_of f.code (thread_of f t) ≡ Enter o a
+pub entered_object_is_of_state : (f : Flat) (t o : ℕ) (a : Access) → IsFlat f → t < length f.threads → ask_of f.code (thread_of f t) ≡ Enter o a
     → o < length f.objects
-enter_object f t o a flat l is = let p = subst (Permits (thread_of f t)) is (ask_permits f.code (thread_of f t)) in
+entered_object_is_of_state f t o a flat l is = let p = subst (Permits (thread_of f t)) is (ask_of_permitted f.code (thread_of f t)) in
     omega (arith, p.2, flat.places t l)
 
-pub enters_fit : (f : Flat) (t : ℕ) (q : Ask) (o : ℕ) (a : Access) → IsFlat f → t < length f.threads → Permits (thread_of f t) q
+pub entry_ask_fields_fit : (f : Flat) (t : ℕ) (q : Ask) (o : ℕ) (a : Access) → IsFlat f → t < length f.threads → Permits (thread_of f t) q
     → q ≡ Enter o a → IsFields (entered a (cell_of f o).fields)
-enters_fit f t q o a flat l permits is = let p = subst (Permits (thread_of f t)) is permits in
-    enter_fits f o a flat (omega (arith, p.2, flat.places t l))
+entry_ask_fields_fit f t q o a flat l permits is = let p = subst (Permits (thread_of f t)) is permits in
+    entered_fields_fit f o a flat (omega (arith, p.2, flat.places t l))
 
 -- so it is where thread t tries to enter
-pub try_object : (f : Flat) (t o : ℕ) → IsFlat f → t < length f.threads → ask_of f.code (thread_of f t) ≡ Try o → o < length f.objects
-try_object f t o flat l is = let p = subst (Permits (thread_of f t)) is (ask_permits f.code (thread_of f t)) in
+pub tried_object_is_of_state : (f : Flat) (t o : ℕ) → IsFlat f → t < length f.threads → ask_of f.code (thread_of f t) ≡ Try o → o < length f.objects
+tried_object_is_of_state f t o flat l is = let p = subst (Permits (thread_of f t)) is (ask_of_permitted f.code (thread_of f t)) in
     omega (arith, p.2, flat.places t l)
 
-pub tries_fit : (f : Flat) (t o : ℕ) → IsFlat f → t < length f.threads → Permits (thread_of f t) (Try o)
+pub try_ask_fields_fit : (f : Flat) (t o : ℕ) → IsFlat f → t < length f.threads → Permits (thread_of f t) (Try o)
     → IsFields (entered Writing (cell_of f o).fields)
-tries_fit f t o flat l permits = enter_fits f o Writing flat (omega (arith, permits.2, flat.places t l))
+try_ask_fields_fit f t o flat l permits = entered_fields_fit f o Writing flat (omega (arith, permits.2, flat.places t l))
 
 -- a try that isn't answered 1 is answered 0
-pub next_other : (f : Flat) (t o r : ℕ) → MayTry (cell_of f o).fields r → r ≢ 1 → answered f t (Try o) (Value 0) ≡ next_try f t o r
-next_other f t o zero may ne = refl
-next_other f t o (suc zero) may ne = absurd (ne refl)
-next_other f t o (suc (suc r)) may ne = absurd may
+pub next_try_not_one_is_refused : (f : Flat) (t o r : ℕ) → MayTry (cell_of f o).fields r → r ≢ 1 → answered f t (Try o) (Value 0) ≡ next_try f t o r
+next_try_not_one_is_refused f t o zero may ne = refl
+next_try_not_one_is_refused f t o (suc zero) may ne = absurd (ne refl)
+next_try_not_one_is_refused f t o (suc (suc r)) may ne = absurd may
 
-pub leaves_fit : (f : Flat) (t : ℕ) (q : Ask) (o : ℕ) (a : Access) → IsFlat f → t < length f.threads → Permits (thread_of f t) q
+pub leave_ask_fields_fit : (f : Flat) (t : ℕ) (q : Ask) (o : ℕ) (a : Access) → IsFlat f → t < length f.threads → Permits (thread_of f t) q
     → q ≡ Leave o a → IsFields (left_by a (cell_of f o).fields)
-leaves_fit f t q o a flat l permits is = let p = subst (Permits (thread_of f t)) is permits in
-    leave_fits f o a flat (omega (arith, p.1, flat.places t l))
+leave_ask_fields_fit f t q o a flat l permits is = let p = subst (Permits (thread_of f t)) is permits in
+    left_fields_fit f o a flat (omega (arith, p.1, flat.places t l))
 
-pub leaves_inside : (f : Flat) (t : ℕ) (q : Ask) (o : ℕ) (a : Access) → IsFlat f → t < length f.threads → Permits (thread_of f t) q
+pub leave_ask_can_leave : (f : Flat) (t : ℕ) (q : Ask) (o : ℕ) (a : Access) → IsFlat f → t < length f.threads → Permits (thread_of f t) q
     → q ≡ Leave o a → CanLeave a (cell_of f o).fields
-leaves_inside f t q o a flat l permits is = let p = subst (Permits (thread_of f t)) is permits in
-    leave_allowed f t o a flat l (omega (arith, p.1, flat.places t l)) p.2
+leave_ask_can_leave f t q o a flat l permits is = let p = subst (Permits (thread_of f t)) is permits in
+    flat_inside_thread_can_leave f t o a flat l (omega (arith, p.1, flat.places t l)) p.2
 
-pub can_by_may : (f : Flat) (t r : ℕ) (q : Ask) → IsFlat f → t < length f.threads → q ≡ ask_of f.code (thread_of f t)
+pub may_step_is_can_for_ask : (f : Flat) (t r : ℕ) (q : Ask) → IsFlat f → t < length f.threads → q ≡ ask_of f.code (thread_of f t)
     → MayStep f r q ↔ Can (machine f) (tables f) (t, r)
-can_by_may f t r q flat l is = subst (λ z. MayStep f r z ↔ Can (machine f) (tables f) (t, r)) (sym is) (may_can f t r flat l)
+may_step_is_can_for_ask f t r q flat l is = subst (λ z. MayStep f r z ↔ Can (machine f) (tables f) (t, r)) (sym is) (may_step_is_can f t r flat l)
 
-pub taken_by : (f : Flat) (t r : ℕ) (q : Ask) → IsFlat f → t < length f.threads → q ≡ ask_of f.code (thread_of f t) → MayStep f r q
+pub tables_of_next_are_after : (f : Flat) (t r : ℕ) (q : Ask) → IsFlat f → t < length f.threads → q ≡ ask_of f.code (thread_of f t) → MayStep f r q
     → tables (next f t r q) ≡ after (machine f) (tables f) (t, r)
-taken_by f t r q flat l is may = next_after f t r q (sym is) flat l
-    (subst (Permits (thread_of f t)) (sym is) (ask_permits f.code (thread_of f t))) may
+tables_of_next_are_after f t r q flat l is may = tables_of_permitted_next_are_after f t r q (sym is) flat l
+    (subst (Permits (thread_of f t)) (sym is) (ask_of_permitted f.code (thread_of f t))) may
 
 -- the same, of the value that the code's parts are
-pub step_can : (p f : Flat) (t r : ℕ) (q : Ask) (b : Bool) → p ≡ f → t < length f.threads → IsFlat p → q ≡ ask_of p.code (thread_of p t)
+pub test_is_can_of_value : (p f : Flat) (t r : ℕ) (q : Ask) (b : Bool) → p ≡ f → t < length f.threads → IsFlat p → q ≡ ask_of p.code (thread_of p t)
     → IsTrue b ↔ MayStep p r q → IsTrue b ↔ Can (machine f) (tables f) (t, r)
-step_can p f t r q b same l flat is may = subst (λ z. IsTrue b ↔ Can (machine z) (tables z) (t, r)) same
-    (let can = can_by_may p t r q flat (subst (λ z. t < length z.threads) (sym same) l) is in
+test_is_can_of_value p f t r q b same l flat is may = subst (λ z. IsTrue b ↔ Can (machine z) (tables z) (t, r)) same
+    (let can = may_step_is_can_for_ask p t r q flat (subst (λ z. t < length z.threads) (sym same) l) is in
     ((λ h. can.0 (may.0 h)), λ h. may.1 (can.1 h)))
 
-pub step_refused : (p f : Flat) (t r : ℕ) (q : Ask) (b : Bool) → p ≡ f → t < length f.threads → IsFlat p → q ≡ ask_of p.code (thread_of p t)
+pub failed_test_cannot_step : (p f : Flat) (t r : ℕ) (q : Ask) (b : Bool) → p ≡ f → t < length f.threads → IsFlat p → q ≡ ask_of p.code (thread_of p t)
     → IsTrue b ↔ MayStep p r q → b ≡ false → Can (machine f) (tables f) (t, r) → ⊥
-step_refused p f t r q b same l flat is may no' can = let h : IsTrue b = (step_can p f t r q b same l flat is may).1 can in cc (no', h)
+failed_test_cannot_step p f t r q b same l flat is may no' can = let h : IsTrue b = (test_is_can_of_value p f t r q b same l flat is may).1 can in cc (no', h)
 
-pub step_flat : (p f new : Flat) (t r : ℕ) (q : Ask) (b : Bool) → p ≡ f → t < length f.threads → IsFlat p
+pub flat_after_tested_step : (p f new : Flat) (t r : ℕ) (q : Ask) (b : Bool) → p ≡ f → t < length f.threads → IsFlat p
     → q ≡ ask_of p.code (thread_of p t) → IsTrue b ↔ MayStep p r q → b ≡ true → new ≡ next p t r q → IsFlat new
-step_flat p f new t r q b same l flat is may yes' e =
-    subst IsFlat (sym e) (next_flat p t r q is flat (subst (λ z. t < length z.threads) (sym same) l) (may.0 yes'))
+flat_after_tested_step p f new t r q b same l flat is may yes' e =
+    subst IsFlat (sym e) (next_is_flat p t r q is flat (subst (λ z. t < length z.threads) (sym same) l) (may.0 yes'))
 
-pub step_taken : (p f new : Flat) (t r : ℕ) (q : Ask) (b : Bool) → p ≡ f → t < length f.threads → IsFlat p
+pub tables_after_tested_step : (p f new : Flat) (t r : ℕ) (q : Ask) (b : Bool) → p ≡ f → t < length f.threads → IsFlat p
     → q ≡ ask_of p.code (thread_of p t) → IsTrue b ↔ MayStep p r q → b ≡ true → new ≡ next p t r q
     → tables new ≡ after (machine f) (tables f) (t, r)
-step_taken p f new t r q b same l flat is may yes' e =
+tables_after_tested_step p f new t r q b same l flat is may yes' e =
     ap tables e ∙ subst (λ z. tables (next p t r q) ≡ after (machine z) (tables z) (t, r)) same
-    (taken_by p t r q flat (subst (λ z. t < length z.threads) (sym same) l) is (may.0 yes'))
+    (tables_of_next_are_after p t r q flat (subst (λ z. t < length z.threads) (sym same) l) is (may.0 yes'))

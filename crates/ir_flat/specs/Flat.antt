@@ -3,7 +3,7 @@ use Rattle.std.specs.Prelude.{◌≡◌, ◌<◌, ◌≤◌, ℕ, zero, suc, Lis
 use Rattle.std.specs.List.{slice_index_or}
 use Rattle.ir_image.specs.Guest.{Guest, most_threads, most_objects, most_object_words, object_count, first_words}
 use Rattle.ir_image.specs.declared.form.ImageForm.TheVariants.{Small}
-use Rattle.ir_thread.specs.State.{held_at, State, start_state}
+use Rattle.ir_thread.specs.State.{held_at, ThreadState, start_state}
 use Rattle.ir_thread.specs.Instance.{thread_machine}
 use Rattle.ir_runs.specs.Machine.{Machine, Object}
 use Rattle.ir_runs.specs.declared.access.Access.{Access}
@@ -17,11 +17,11 @@ use Rattle.ir_runs.specs.Run as run
 -- the lists that the code keeps
 pub record Flat : Type 0 where
   pub code : List ℕ
-  pub threads : List State
+  pub threads : List ThreadState
   pub objects : List Cell
 
 -- a thread that is none of the guest's: it has ended and holds nothing
-abbrev pub idle : State
+abbrev pub idle : ThreadState
 idle = record {
   core = record { pc = 0; registers = []; memory = [] };
   number = 0;
@@ -41,7 +41,7 @@ abbrev pub empty : Cell
 empty = record { fields = record { version = 0; left = 0; inside = 0; writer = false }; words = [] }
 
 -- the thread of a number
-abbrev pub thread_of : Flat → ℕ → State
+abbrev pub thread_of : Flat → ℕ → ThreadState
 thread_of f t = slice_index_or f.threads t idle
 
 -- the object of a number, as the code keeps it
@@ -57,15 +57,15 @@ abbrev pub object_with : Cell → (ℕ → Option Access) → Object
 object_with c inside = record { version = c.fields.version; left = c.fields.left; inside = inside; words = slice_index c.words }
 
 -- the threads and objects as tables
-abbrev pub tables : Flat → run.State State
+abbrev pub tables : Flat → run.State ThreadState
 tables f = record { now = thread_of f; objects = λ o. object_with (cell_of f o) (inside_of f o) }
 
--- what a thread does
-abbrev pub machine : Flat → Machine State
+-- the machine of each of its threads
+abbrev pub machine : Flat → Machine ThreadState
 machine f = thread_machine f.code
 
 -- the threads of a guest from a number on
-abbrev pub start_threads : Guest → ℕ → Profile → ℕ → ℕ → List State
+abbrev pub start_threads : Guest → ℕ → Profile → ℕ → ℕ → List ThreadState
 start_threads guest budget profile from zero = []
 start_threads guest budget profile from (suc n) = start_state guest from budget profile ∷ start_threads guest budget profile (suc from) n
 
@@ -87,7 +87,7 @@ start_flat guest budget profile = record {
 }
 
 -- each of these threads has a place for each of this many objects
-abbrev pub HaveRoom : List State → ℕ → Type 0
+abbrev pub HaveRoom : List ThreadState → ℕ → Type 0
 HaveRoom threads objects = (t : ℕ) → t < length threads → length (slice_index_or threads t idle).held ≡ objects
 
 -- an object of a guest's: its word counts who holds it

@@ -15,7 +15,7 @@ use Rattle.ir_object.specs.Word.{entered, left_by}
 use Rattle.ir_flat.specs.Flat.{Flat, thread_of, cell_of}
 
 -- another thread t
-abbrev pub with_thread : Flat → ℕ → thread.State → Flat
+abbrev pub with_thread : Flat → ℕ → thread.ThreadState → Flat
 with_thread f t x = record f { threads = slice_set f.threads t x }
 
 -- another object o

@@ -62,12 +62,12 @@ Splices T = (m : Machine T) (s : State T) (replies : ℕ → List ℕ) (n : ℕ)
     → IsSplice m s replies order (splice m s.now replies n order)
 
 -- the replies to a thread that runs alone, as it takes them
-abbrev pub replies_to : List ℕ → thread.State → List ℕ → List Reply
+abbrev pub replies_to : List ℕ → thread.ThreadState → List ℕ → List Reply
 replies_to code x [] = []
 replies_to code x (v ∷ vs) = reply_of (ask_of code x) v ∷ replies_to code ((thread_machine code).take x v) vs
 
 -- a thread of a guest that may be given these replies is, after them, the thread run alone with the values among them
 abbrev pub AloneIsLone : Type 0
-AloneIsLone = (code : List ℕ) (x : thread.State) (vs : List ℕ) → MayRun (thread_machine code) x vs
+AloneIsLone = (code : List ℕ) (x : thread.ThreadState) (vs : List ℕ) → MayRun (thread_machine code) x vs
     → lone_run code (length (replies_to code x vs)) (record { thread = x; values = values_of (replies_to code x vs) }) ≡ Some
     (record { thread = alone_after (thread_machine code) x vs; values = [] })

@@ -27,7 +27,7 @@ pub fn counts_fit()
 
 /// Runs of threads alone, and one order of their object steps, make a run of all.
 pub fn splices()
-    ensures { Splices thread.State }
+    ensures { Splices thread.ThreadState }
 {}
 
 /// A thread with replies that it may be given is the thread run alone with the values among them.

@@ -5,32 +5,32 @@ use Rattle.std.proofs.lemmas.Nat.{from_le_bytes-to_le_bytes_2}
 use Rattle.std.specs.Int.{w16, from_le_bytes}
 use Rattle.ir_mach.specs.Core.{memory_size}
 use Rattle.ir_mach.specs.Pages.{page_of, pages_of, memory_pages}
-use Rattle.ir_mach.proofs.CallerLemmas.{from_at, same_again}
+use Rattle.ir_mach.proofs.CallerLemmas.{page_at_place_of_pages_from, core_of_own_pages}
 use Rattle.ir_runs.specs.declared.access.Access.{Access}
 use Rattle.ir_thread.specs.Frames.{frame_of, thread_of}
-use Rattle.ir_thread.specs.State.{State}
+use Rattle.ir_thread.specs.State.{ThreadState}
 use Rattle.ir_thread.specs.declared.end.End.{End}
 use Rattle.ir_freeze.specs.Frozen.{changes, word, held_byte, end_bytes, is_over, fixed_bytes, going_bytes, frozen}
 use Rattle.ir_freeze.specs.Twins.{IsBounded}
-use Rattle.ir_freeze.proofs.Apart.{either}
+use Rattle.ir_freeze.proofs.Apart.{change_is_empty_or_written}
 use Rattle.ir_freeze.specs.Thawed.{changed, before_changes, thawed}
 
 -- fewer than three bytes are no change
-too_few : (memory bytes : List ℕ) → length bytes < 3 → changed memory bytes ≡ memory
-too_few memory [] few = refl
-too_few memory (a ∷ []) few = refl
-too_few memory (a ∷ b ∷ []) few = refl
-too_few memory (a ∷ b ∷ c ∷ bytes) few = absurd (omega (arith, few))
+changed_by_too_few_bytes : (memory bytes : List ℕ) → length bytes < 3 → changed memory bytes ≡ memory
+changed_by_too_few_bytes memory [] few = refl
+changed_by_too_few_bytes memory (a ∷ []) few = refl
+changed_by_too_few_bytes memory (a ∷ b ∷ []) few = refl
+changed_by_too_few_bytes memory (a ∷ b ∷ c ∷ bytes) few = absurd (omega (arith, few))
 
 -- one change more
-pub change_more : (memory bytes : List ℕ) (k place : ℕ) (whole : List ℕ) → k < length bytes / 3
+pub changed_step : (memory bytes : List ℕ) (k place : ℕ) (whole : List ℕ) → k < length bytes / 3
     → place ≡ from_le_bytes w16 (get_or bytes (3 * k) 0 ∷ get_or bytes (3 * k + 1) 0 ∷ [])
     → length memory ≡ memory_size → changed memory (drop (3 * k) bytes) ≡ whole
     → record {
       size : length (set memory place (get_or bytes (3 * k + 2) 0)) ≡ memory_size;
       same : changed (set memory place (get_or bytes (3 * k + 2) 0)) (drop (3 * (k + 1)) bytes) ≡ whole;
     }
-change_more memory bytes k place whole below is size before =
+changed_step memory bytes k place whole below is size before =
     let a : 3 * k < length bytes = omega (arith, below) in
     let b : 3 * k + 1 < length bytes = omega (arith, below) in
     let c : 3 * k + 2 < length bytes = omega (arith, below) in
@@ -47,115 +47,115 @@ change_more memory bytes k place whole below is size before =
           ∙ sym (ap (changed memory) three) ∙ before;
     }
 
-pub no_more : (memory bytes : List ℕ) (k : ℕ) (whole : List ℕ) → length bytes / 3 ≤ k → changed memory (drop (3 * k) bytes) ≡ whole
+pub changed_is_whole_at_end : (memory bytes : List ℕ) (k : ℕ) (whole : List ℕ) → length bytes / 3 ≤ k → changed memory (drop (3 * k) bytes) ≡ whole
     → memory ≡ whole
-no_more memory bytes k whole past before =
+changed_is_whole_at_end memory bytes k whole past before =
     let few : length (drop (3 * k) bytes) < 3 = omega (arith, length-drop (3 * k) bytes, past) in
-    sym (too_few memory (drop (3 * k) bytes) few) ∙ before
+    sym (changed_by_too_few_bytes memory (drop (3 * k) bytes) few) ∙ before
 
 -- one page more
-pub page_added : {X : Type 0} (g : X → List ℕ) (pages : List X) (x : X) (memory : List ℕ) (i : ℕ) → length pages ≡ 16 → i < 16
+pub pages_after_page_set : {X : Type 0} (g : X → List ℕ) (pages : List X) (x : X) (memory : List ℕ) (i : ℕ) → length pages ≡ 16 → i < 16
     → g x ≡ page_of memory i → map g (take i pages) ≡ take i (pages_of memory)
     → map g (take (i + 1) (set pages i x)) ≡ take (i + 1) (pages_of memory)
-page_added g pages x memory i many lt is before =
+pages_after_page_set g pages x memory i many lt is before =
     ap (map g) (take_more_set pages i x (omega (arith, many, lt))) ∙ map_push g (take i pages) x
-    ∙ (λ j. before j ++ (is ∙ ap (page_of memory) (omega arith) ∙ sym (from_at memory 0 memory_pages i [] lt)) j ∷ [])
+    ∙ (λ j. before j ++ (is ∙ ap (page_of memory) (omega arith) ∙ sym (page_at_place_of_pages_from memory 0 memory_pages i [] lt)) j ∷ [])
     ∙ sym (take_more (pages_of memory) i [] lt)
 
-pub pages_made : {X : Type 0} (g : X → List ℕ) (pages : List X) (memory : List ℕ) (i : ℕ) → length pages ≡ 16 → 16 ≤ i
+pub pages_complete_at_sixteen : {X : Type 0} (g : X → List ℕ) (pages : List X) (memory : List ℕ) (i : ℕ) → length pages ≡ 16 → 16 ≤ i
     → map g (take i pages) ≡ take i (pages_of memory) → map g pages ≡ pages_of memory
-pages_made g pages memory i many past e =
+pages_complete_at_sixteen g pages memory i many past e =
     ap (map g) (sym (take_all i pages (omega (arith, many, past)))) ∙ e ∙ take_all i (pages_of memory) past
 
 -- a place's byte is written behind what is before it
-set_behind : (before rest : List ℕ) (old new : ℕ) → set (before ++ old ∷ rest) (length before) new ≡ before ++ new ∷ rest
-set_behind [] rest old new = refl
-set_behind (x ∷ before) rest old new = ap (λ l. x ∷ l) (set_behind before rest old new)
+set_at_prefix_length : (before rest : List ℕ) (old new : ℕ) → set (before ++ old ∷ rest) (length before) new ≡ before ++ new ∷ rest
+set_at_prefix_length [] rest old new = refl
+set_at_prefix_length (x ∷ before) rest old new = ap (λ l. x ∷ l) (set_at_prefix_length before rest old new)
 
-push_behind : (before rest : List ℕ) (x : ℕ) → before ++ x ∷ rest ≡ (before ++ x ∷ []) ++ rest
-push_behind before rest x = sym (append_assoc before (x ∷ []) rest)
+element_joined_to_prefix : (before rest : List ℕ) (x : ℕ) → before ++ x ∷ rest ≡ (before ++ x ∷ []) ++ rest
+element_joined_to_prefix before rest x = sym (append_assoc before (x ∷ []) rest)
 
 -- the changes give the memory, from the place on before which all is as it is there
-made_again : (before start memory : List ℕ) → length memory ≡ length start → length before + length start ≤ 2 ^ 16
+changed_by_changes_gives_memory : (before start memory : List ℕ) → length memory ≡ length start → length before + length start ≤ 2 ^ 16
     → changed (before ++ start) (changes (length before) start memory) ≡ before ++ memory
-made_again before [] [] same room = refl
-made_again before [] (y ∷ memory) same room = absurd (cc same)
-made_again before (x ∷ start) [] same room = absurd (cc same)
-made_again before (x ∷ start) (y ∷ memory) same room =
+changed_by_changes_gives_memory before [] [] same room = refl
+changed_by_changes_gives_memory before [] (y ∷ memory) same room = absurd (cc same)
+changed_by_changes_gives_memory before (x ∷ start) [] same room = absurd (cc same)
+changed_by_changes_gives_memory before (x ∷ start) (y ∷ memory) same room =
     let place : length (before ++ y ∷ []) ≡ suc (length before) = length-append before (y ∷ []) ∙ omega arith in
     let less : length (before ++ y ∷ []) + length start ≤ 2 ^ 16 = omega (arith, place, room) in
     let next : changed ((before ++ y ∷ []) ++ start) (changes (suc (length before)) start memory) ≡ before ++ y ∷ memory =
     ap (λ p. changed ((before ++ y ∷ []) ++ start) (changes p start memory)) (sym place)
-    ∙ made_again (before ++ y ∷ []) start memory (omega (arith, same)) less ∙ sym (push_behind before memory y) in
-    elim (either (length before) x y) [
+    ∙ changed_by_changes_gives_memory (before ++ y ∷ []) start memory (omega (arith, same)) less ∙ sym (element_joined_to_prefix before memory y) in
+    elim (change_is_empty_or_written (length before) x y) [
       | inl p ↦
           ap (λ l. changed (before ++ x ∷ start) (l ++ changes (suc (length before)) start memory)) p.1
           ∙ ap (λ z. changed (before ++ z ∷ start) (changes (suc (length before)) start memory)) (sym p.0)
-          ∙ ap (λ l. changed l (changes (suc (length before)) start memory)) (push_behind before start y)
+          ∙ ap (λ l. changed l (changes (suc (length before)) start memory)) (element_joined_to_prefix before start y)
           ∙ next
       | inr p ↦
           ap (λ l. changed (before ++ x ∷ start) (l ++ changes (suc (length before)) start memory)) p
           ∙ ap (λ q. changed (set (before ++ x ∷ start) q y) (changes (suc (length before)) start memory))
           (from_le_bytes-to_le_bytes_2 (length before) (omega (arith, room)))
-          ∙ ap (λ l. changed l (changes (suc (length before)) start memory)) (set_behind before start x y ∙ push_behind before start y)
+          ∙ ap (λ l. changed l (changes (suc (length before)) start memory)) (set_at_prefix_length before start x y ∙ element_joined_to_prefix before start y)
           ∙ next
     ]
 
 -- what is behind the bytes of a fixed length, the output's length, and the output
-pub words_long : (xs : List ℕ) → length (flat_map word xs) ≡ 4 * length xs
-words_long [] = refl
-words_long (x ∷ xs) = ap (λ n. suc (suc (suc (suc n)))) (words_long xs) ∙ omega arith
+pub length_of_flat_words : (xs : List ℕ) → length (flat_map word xs) ≡ 4 * length xs
+length_of_flat_words [] = refl
+length_of_flat_words (x ∷ xs) = ap (λ n. suc (suc (suc (suc n)))) (length_of_flat_words xs) ∙ omega arith
 
-pub held_long : (xs : List (Option Access)) → length (map held_byte xs) ≡ length xs
-held_long [] = refl
-held_long (x ∷ xs) = ap suc (held_long xs)
+pub length_of_held_bytes : (xs : List (Option Access)) → length (map held_byte xs) ≡ length xs
+length_of_held_bytes [] = refl
+length_of_held_bytes (x ∷ xs) = ap suc (length_of_held_bytes xs)
 
-pub end_long : (e : Option End) → length (end_bytes e) ≡ 5
-end_long None = refl
-end_long (Some e) = refl
+pub length_of_end_bytes : (e : Option End) → length (end_bytes e) ≡ 5
+length_of_end_bytes None = refl
+length_of_end_bytes (Some e) = refl
 
-going_front : (start : List ℕ) (s : State) (mark : List ℕ) → is_over s ≡ false
+frozen_bytes_of_going_thread : (start : List ℕ) (s : ThreadState) (mark : List ℕ) → is_over s ≡ false
     → frozen start s mark ≡ (end_bytes s.ended ++ 0 ∷ ((fixed_bytes s mark ++ word (length s.output)) ++ s.output)) ++ changes 0 start s.core.memory
-going_front start s mark goes =
+frozen_bytes_of_going_thread start s mark goes =
     let front : List ℕ = (fixed_bytes s mark ++ word (length s.output)) ++ s.output in
     let rest : List ℕ = changes 0 start s.core.memory in
     ap (λ b. end_bytes s.ended ++ cond b (1 ∷ s.output) (0 ∷ going_bytes start s mark)) goes
     ∙ sym (append_assoc (end_bytes s.ended) (0 ∷ front) rest)
 
-pub fixed_length : (a b c d : List ℕ) → length (((a ++ b) ++ c) ++ d) ≡ length a + length b + length c + length d
-fixed_length a b c d =
+pub length_of_four_parts : (a b c d : List ℕ) → length (((a ++ b) ++ c) ++ d) ≡ length a + length b + length c + length d
+length_of_four_parts a b c d =
     let p = length-append ((a ++ b) ++ c) d in let q = length-append (a ++ b) c in let r = length-append a b in omega (arith, p, q, r)
 
-front_length : (e a b c : List ℕ) → length (e ++ 0 ∷ ((a ++ b) ++ c)) ≡ length e + 1 + length a + length b + length c
-front_length e a b c =
+length_of_flagged_parts : (e a b c : List ℕ) → length (e ++ 0 ∷ ((a ++ b) ++ c)) ≡ length e + 1 + length a + length b + length c
+length_of_flagged_parts e a b c =
     let p = length-append e (0 ∷ ((a ++ b) ++ c)) in let q = length-append (a ++ b) c in let r = length-append a b in omega (arith, p, q, r)
 
-pub fixed_long : (s : State) (mark : List ℕ) → length s.core.registers ≡ 32 → length (fixed_bytes s mark) ≡ 132 + length s.held + length mark
-fixed_long s mark many =
-    fixed_length (word s.core.pc) (flat_map word s.core.registers) (map held_byte s.held) mark
-    ∙ (let r = words_long s.core.registers in let h = held_long s.held in omega (arith, r, h, many))
+pub length_of_fixed_bytes : (s : ThreadState) (mark : List ℕ) → length s.core.registers ≡ 32 → length (fixed_bytes s mark) ≡ 132 + length s.held + length mark
+length_of_fixed_bytes s mark many =
+    length_of_four_parts (word s.core.pc) (flat_map word s.core.registers) (map held_byte s.held) mark
+    ∙ (let r = length_of_flat_words s.core.registers in let h = length_of_held_bytes s.held in omega (arith, r, h, many))
 
-front_long : (s : State) (mark : List ℕ) → length s.core.registers ≡ 32
+length_of_bytes_before_changes : (s : ThreadState) (mark : List ℕ) → length s.core.registers ≡ 32
     → length (end_bytes s.ended ++ 0 ∷ ((fixed_bytes s mark ++ word (length s.output)) ++ s.output)) ≡ before_changes s (length mark)
-front_long s mark many =
-    front_length (end_bytes s.ended) (fixed_bytes s mark) (word (length s.output)) s.output
-    ∙ (let e = end_long s.ended in let f = fixed_long s mark many in omega (arith, e, f))
+length_of_bytes_before_changes s mark many =
+    length_of_flagged_parts (end_bytes s.ended) (fixed_bytes s mark) (word (length s.output)) s.output
+    ∙ (let e = length_of_end_bytes s.ended in let f = length_of_fixed_bytes s mark many in omega (arith, e, f))
 
-pub comes_back : (start : List ℕ) → length start ≡ memory_size → (s : State) → IsBounded s → (mark : List ℕ) → is_over s ≡ false
+pub thawed_of_frozen_thread : (start : List ℕ) → length start ≡ memory_size → (s : ThreadState) → IsBounded s → (mark : List ℕ) → is_over s ≡ false
     → thawed start (frame_of s) (before_changes s (length mark)) (frozen start s mark) ≡ s
-comes_back start size s bounded mark goes =
+thawed_of_frozen_thread start size s bounded mark goes =
     let front : List ℕ = end_bytes s.ended ++ 0 ∷ ((fixed_bytes s mark ++ word (length s.output)) ++ s.output) in
     let rest : List ℕ = changes 0 start s.core.memory in
     let tail : drop (before_changes s (length mark)) (frozen start s mark) ≡ rest =
-    ap (drop (before_changes s (length mark))) (going_front start s mark goes)
-    ∙ drop_at front rest (before_changes s (length mark)) (front_long s mark bounded.core.register_count) in
+    ap (drop (before_changes s (length mark))) (frozen_bytes_of_going_thread start s mark goes)
+    ∙ drop_at front rest (before_changes s (length mark)) (length_of_bytes_before_changes s mark bounded.core.register_count) in
     ap (λ l. thread_of (frame_of s) (pages_of (changed start l))) tail
     ∙ ap (λ l. thread_of (frame_of s) (pages_of l))
-    (made_again [] start s.core.memory (bounded.core.memory_length ∙ sym size) (omega (arith, size)))
-    ∙ ap (λ c. record s { core = c }) (same_again s.core bounded.core.memory_length)
+    (changed_by_changes_gives_memory [] start s.core.memory (bounded.core.memory_length ∙ sym size) (omega (arith, size)))
+    ∙ ap (λ c. record s { core = c }) (core_of_own_pages s.core bounded.core.memory_length)
 
-pub changes_come_back : (start : List ℕ) → length start ≡ memory_size → (s : State) → length s.core.memory ≡ memory_size
+pub thawed_of_changes : (start : List ℕ) → length start ≡ memory_size → (s : ThreadState) → length s.core.memory ≡ memory_size
     → thawed start (frame_of s) 0 (changes 0 start s.core.memory) ≡ s
-changes_come_back start size s same =
-    ap (λ l. thread_of (frame_of s) (pages_of l)) (made_again [] start s.core.memory (same ∙ sym size) (omega (arith, size)))
-    ∙ ap (λ c. record s { core = c }) (same_again s.core same)
+thawed_of_changes start size s same =
+    ap (λ l. thread_of (frame_of s) (pages_of l)) (changed_by_changes_gives_memory [] start s.core.memory (same ∙ sym size) (omega (arith, size)))
+    ∙ ap (λ c. record s { core = c }) (core_of_own_pages s.core same)

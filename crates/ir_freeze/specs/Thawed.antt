@@ -3,7 +3,7 @@ use Rattle.std.specs.Prelude.{ℕ, ◌+◌, List, [], ◌∷◌, length, slice_s
 use Rattle.std.specs.Int.{w16, from_le_bytes}
 use Rattle.ir_mach.specs.Pages.{pages_of}
 use Rattle.ir_thread.specs.Frames.{ThreadFrame, thread_of}
-use Rattle.ir_thread.specs.State.{State}
+use Rattle.ir_thread.specs.State.{ThreadState}
 
 -- the memory with each of these changes; fewer than three bytes at the end are none
 abbrev pub changed : List ℕ → List ℕ → List ℕ
@@ -14,9 +14,9 @@ changed memory (low ∷ high ∷ new ∷ rest) = changed (slice_set memory (from
 
 -- How many bytes of a frozen thread that isn't over come before the changes: of its end 5, one more, of pc and registers 132, of each object
 -- held 1, of the mark, of the output's length 4, and of the output.
-abbrev pub before_changes : State → ℕ → ℕ
+abbrev pub before_changes : ThreadState → ℕ → ℕ
 before_changes s mark = 142 + length s.held + mark + length s.output
 
 -- the thread of this frame, with the changes from byte `at` on in its private memory
-abbrev pub thawed : List ℕ → ThreadFrame → ℕ → List ℕ → State
+abbrev pub thawed : List ℕ → ThreadFrame → ℕ → List ℕ → ThreadState
 thawed start frame at bytes = thread_of frame (pages_of (changed start (drop at bytes)))

@@ -4,37 +4,37 @@ use Rattle.ir_image.specs.Guest.{IsWord}
 use Rattle.ir_mach.specs.Core.{memory_size}
 use Rattle.ir_mach.specs.Within.{IsCore}
 use Rattle.ir_thread.specs.Calls.{most_output}
-use Rattle.ir_thread.specs.State.{end_code, State}
+use Rattle.ir_thread.specs.State.{end_code, ThreadState}
 use Rattle.ir_thread.specs.Frames.{frame_of}
 use Rattle.ir_seen.specs.Seen.{Same, view}
 use Rattle.ir_freeze.specs.Frozen.{changes, frozen, is_over}
 use Rattle.ir_freeze.specs.Thawed.{before_changes, thawed}
 
 -- two moments of the thread of one number in one guest
-pub record AreTwins (x y : State) : Type 0 where
+pub record AreTwins (x y : ThreadState) : Type 0 where
   pub number : x.number ≡ y.number
   pub profile : x.profile ≡ y.profile
   pub form : x.form ≡ y.form
   pub objects : length x.held ≡ length y.held
 
 -- what each thread keeps
-pub record IsBounded (s : State) : Type 0 where
+pub record IsBounded (s : ThreadState) : Type 0 where
   pub core : IsCore s.core
   pub output : length s.output ≤ most_output
   pub code : MatchOption s.ended ⊤ (λ e. IsWord (end_code e))
 
 -- two moments of a thread, beside marks of one length, have equal bytes exactly where they look the same
 abbrev pub TellsApart : Type 0
-TellsApart = (code start : List ℕ) → length start ≡ memory_size → (x y : State) → AreTwins x y → IsBounded x → IsBounded y
+TellsApart = (code start : List ℕ) → length start ≡ memory_size → (x y : ThreadState) → AreTwins x y → IsBounded x → IsBounded y
     → (m n : List ℕ) → length m ≡ length n
     → (frozen start x m ≡ frozen start y n) ↔ Same code (view x, m) (view y, n)
 
 -- a thread that isn't over comes back from its bytes and its frame as it was
 abbrev pub ComesBack : Type 0
-ComesBack = (start : List ℕ) → length start ≡ memory_size → (s : State) → IsBounded s → (mark : List ℕ) → is_over s ≡ false
+ComesBack = (start : List ℕ) → length start ≡ memory_size → (s : ThreadState) → IsBounded s → (mark : List ℕ) → is_over s ≡ false
     → thawed start (frame_of s) (before_changes s (length mark)) (frozen start s mark) ≡ s
 
 -- a thread comes back from its frame and what is changed in its private memory, whether it is over or not
 abbrev pub ChangesComeBack : Type 0
-ChangesComeBack = (start : List ℕ) → length start ≡ memory_size → (s : State) → length s.core.memory ≡ memory_size
+ChangesComeBack = (start : List ℕ) → length start ≡ memory_size → (s : ThreadState) → length s.core.memory ≡ memory_size
     → thawed start (frame_of s) 0 (changes 0 start s.core.memory) ≡ s

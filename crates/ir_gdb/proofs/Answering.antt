@@ -4,7 +4,7 @@ use Rattle.std.specs.Prelude.{⊤}
 use Rattle.std.specs.Io.KnownBytes.{Appends}
 use Rattle.std.proofs.KnownBytes.{Appends-nil, Appends-trans}
 use Rattle.ir_stream.specs.Answers.{AppendsPrefix}
-use Rattle.ir_stream.proofs.CallerLemmas.{prefix_after, prefix_longer}
+use Rattle.ir_stream.proofs.CallerLemmas.{prefix_after_whole_text, prefix_of_longer_text}
 use Rattle.ir_cut.specs.Positions.{EachRun}
 use Rattle.ir_packet.specs.Packets.{packet_of}
 use Rattle.ir_packet.specs.Replies.{reply_text}
@@ -16,57 +16,57 @@ use Rattle.ir_gdb.specs.Stub.{Stub}
 use Rattle.ir_gdb.specs.Replies.{CarriesOut, Lacks, Replies}
 use Rattle.ir_gdb.specs.Connection.{Link, sent, sign, answer_text, Responds, AnswersLine, AnswersBy, AnswersRequest, AnswersPacket, AnswersNew, Sent, SentInPart}
 
-pub on_ok : {X E : Type 0} (r : Result X E) (P Q : Type 0) → (P → Q) → OnOk r P → OnOk r Q
-on_ok (Ok x) P Q go p = go p
-on_ok (Err e) P Q go p = tt
+pub on_ok_of_implied : {X E : Type 0} (r : Result X E) (P Q : Type 0) → (P → Q) → OnOk r P → OnOk r Q
+on_ok_of_implied (Ok x) P Q go p = go p
+on_ok_of_implied (Err e) P Q go p = tt
 
-pub on_err : {X E : Type 0} (r : Result X E) (P Q : Type 0) → (P → Q) → OnErr r P → OnErr r Q
-on_err (Ok x) P Q go p = tt
-on_err (Err e) P Q go p = go p
+pub on_err_of_implied : {X E : Type 0} (r : Result X E) (P Q : Type 0) → (P → Q) → OnErr r P → OnErr r Q
+on_err_of_implied (Ok x) P Q go p = tt
+on_err_of_implied (Err e) P Q go p = go p
 
-pub err_from : {X E : Type 0} (r : Result X E) (P : Type 0) → P → OnErr r P
-err_from (Ok x) P p = tt
-err_from (Err e) P p = p
+pub on_err_from_fact : {X E : Type 0} (r : Result X E) (P : Type 0) → P → OnErr r P
+on_err_from_fact (Ok x) P p = tt
+on_err_from_fact (Err e) P p = p
 
 -- ---- requests
 
-pub reply_carried : (s : Stub) (asked : Request) (next : Stub) (old new : List ℕ)
+pub replies_if_carried_out : (s : Stub) (asked : Request) (next : Stub) (old new : List ℕ)
     → ((text : List ℕ) × EachRun s.desk.fitted (λ run. CarriesOut run s asked text next) × (new ≡ old ++ text)) → old ≡ []
     → Replies s asked new next
-reply_carried s asked next old new r none =
+replies_if_carried_out s asked next old new r none =
     subst (λ (text : List ℕ). Replies s asked text next) (sym (r.2 ∙ ap (λ (xs : List ℕ). xs ++ r.0) none)) (inl r.1)
 
-pub reply_lacks : (s : Stub) (asked : Request) (next : Stub) → Lacks s asked next → Replies s asked (reply_text reply.NoMemory) next
-reply_lacks s asked next lacks = inr (lacks, refl)
+pub replies_no_memory_if_lacks : (s : Stub) (asked : Request) (next : Stub) → Lacks s asked next → Replies s asked (reply_text reply.NoMemory) next
+replies_no_memory_if_lacks s asked next lacks = inr (lacks, refl)
 
-answers_by : (l : Link) (asked : Request) (s : Stub) (payload : List ℕ) (mid next : Link) → Replies l.stub asked payload s
+answers_by_reply_packet : (l : Link) (asked : Request) (s : Stub) (payload : List ℕ) (mid next : Link) → Replies l.stub asked payload s
     → mid ≡ record l { stub = s } → next ≡ sent mid mid.stub → AnswersBy l asked (packet_of payload) next
-answers_by l asked s payload mid next replies is after = (payload, s, replies, refl, after ∙ ap (λ (m : Link). sent m m.stub) is)
+answers_by_reply_packet l asked s payload mid next replies is after = (payload, s, replies, refl, after ∙ ap (λ (m : Link). sent m m.stub) is)
 
-pub sent_by : (l : Link) (asked : Request) (s : Stub) (payload : List ℕ) (mid next : Link) (w w' : Option (List ℕ))
+pub sent_reply_packet : (l : Link) (asked : Request) (s : Stub) (payload : List ℕ) (mid next : Link) (w w' : Option (List ℕ))
     → Replies l.stub asked payload s → mid ≡ record l { stub = s } → next ≡ sent mid mid.stub → Appends w w' (packet_of payload)
     → Sent (AnswersBy l asked) next w w'
-sent_by l asked s payload mid next w w' replies is after grown = record {
+sent_reply_packet l asked s payload mid next w w' replies is after grown = record {
   text = packet_of payload;
-  is = answers_by l asked s payload mid next replies is after;
+  is = answers_by_reply_packet l asked s payload mid next replies is after;
   grown = grown;
 }
 
-pub part_by : (l : Link) (asked : Request) (s : Stub) (payload : List ℕ) (mid next : Link) (w w' : Option (List ℕ))
+pub sent_part_of_reply_packet : (l : Link) (asked : Request) (s : Stub) (payload : List ℕ) (mid next : Link) (w w' : Option (List ℕ))
     → Replies l.stub asked payload s → mid ≡ record l { stub = s } → next ≡ sent mid mid.stub → AppendsPrefix w w' (packet_of payload)
     → SentInPart (AnswersBy l asked) [] w w'
-part_by l asked s payload mid next w w' replies is after grown = record {
+sent_part_of_reply_packet l asked s payload mid next w w' replies is after grown = record {
   text = packet_of payload;
-  is = inl (next, answers_by l asked s payload mid next replies is after);
+  is = inl (next, answers_by_reply_packet l asked s payload mid next replies is after);
   grown = grown;
 }
 
 -- ---- a session's line
 
-line_answered : (b : Bool) (l : Link) (line : List ℕ) (s : Stub) (answer : List ℕ) → b ≡ false → Responds l.stub line s (λ text. answer ≡ text)
+answers_line_by_response : (b : Bool) (l : Link) (line : List ℕ) (s : Stub) (answer : List ℕ) → b ≡ false → Responds l.stub line s (λ text. answer ≡ text)
     → AnswersLine b l line (answer_text answer ++ packet_of (reply_text reply.Done)) (sent l s)
-line_answered true l line s answer goes r = absurd cc
-line_answered false l line s answer goes r = inl (
+answers_line_by_response true l line s answer goes r = absurd cc
+answers_line_by_response false l line s answer goes r = inl (
   s,
   (
     r.0,
@@ -79,142 +79,116 @@ line_answered false l line s answer goes r = inl (
 )
 
 -- where the answer leads
-line_next : (l : Link) (s : Stub) (mid answered next : Link) → mid ≡ record l { stub = s } → sent answered answered.stub ≡ sent mid mid.stub
+link_after_line_is_sent : (l : Link) (s : Stub) (mid answered next : Link) → mid ≡ record l { stub = s } → sent answered answered.stub ≡ sent mid mid.stub
     → next ≡ sent answered answered.stub → next ≡ sent l s
-line_next l s mid answered next is same after = after ∙ same ∙ ap (λ (m : Link). sent m m.stub) is
+link_after_line_is_sent l s mid answered next is same after = after ∙ same ∙ ap (λ (m : Link). sent m m.stub) is
 
-pub line_sent : (b : Bool) (l : Link) (line : List ℕ) (s : Stub) (answer : List ℕ) (mid answered next : Link) (w w1 w2 : Option (List ℕ))
+pub sent_answer_to_line : (b : Bool) (l : Link) (line : List ℕ) (s : Stub) (answer : List ℕ) (mid answered next : Link) (w w1 w2 : Option (List ℕ))
     → b ≡ false → Responds l.stub line s (λ text. answer ≡ text) → mid ≡ record l { stub = s }
     → sent answered answered.stub ≡ sent mid mid.stub → next ≡ sent answered answered.stub → Appends w w1 (answer_text answer)
     → Appends w1 w2 (packet_of (reply_text reply.Done)) → Sent (AnswersLine b l line) next w w2
-line_sent b l line s answer mid answered next w w1 w2 goes r is same after first rest = record {
+sent_answer_to_line b l line s answer mid answered next w w1 w2 goes r is same after first rest = record {
   text = answer_text answer ++ packet_of (reply_text reply.Done);
   is = subst (AnswersLine b l line (answer_text answer ++ packet_of (reply_text reply.Done)))
-      (sym (line_next l s mid answered next is same after)) (line_answered b l line s answer goes r);
+      (sym (link_after_line_is_sent l s mid answered next is same after)) (answers_line_by_response b l line s answer goes r);
   grown = Appends-trans w w1 w2 (answer_text answer) (packet_of (reply_text reply.Done)) first rest;
 }
 
-pub line_part_last : (b : Bool) (l : Link) (line : List ℕ) (s : Stub) (answer : List ℕ) (w w1 w2 : Option (List ℕ))
+pub sent_part_of_closing_packet : (b : Bool) (l : Link) (line : List ℕ) (s : Stub) (answer : List ℕ) (w w1 w2 : Option (List ℕ))
     → b ≡ false → Responds l.stub line s (λ text. answer ≡ text) → Appends w w1 (answer_text answer)
     → AppendsPrefix w1 w2 (packet_of (reply_text reply.Done)) → SentInPart (AnswersLine b l line) [] w w2
-line_part_last b l line s answer w w1 w2 goes r first rest = record {
+sent_part_of_closing_packet b l line s answer w w1 w2 goes r first rest = record {
   text = answer_text answer ++ packet_of (reply_text reply.Done);
-  is = inl (sent l s, line_answered b l line s answer goes r);
-  grown = prefix_after w w1 w2 (answer_text answer) (packet_of (reply_text reply.Done)) first rest;
+  is = inl (sent l s, answers_line_by_response b l line s answer goes r);
+  grown = prefix_after_whole_text w w1 w2 (answer_text answer) (packet_of (reply_text reply.Done)) first rest;
 }
 
-pub line_part_first : (b : Bool) (l : Link) (line : List ℕ) (s : Stub) (answer : List ℕ) (w w1 : Option (List ℕ))
+pub sent_part_of_answer_to_line : (b : Bool) (l : Link) (line : List ℕ) (s : Stub) (answer : List ℕ) (w w1 : Option (List ℕ))
     → b ≡ false → Responds l.stub line s (λ text. answer ≡ text) → AppendsPrefix w w1 (answer_text answer)
     → SentInPart (AnswersLine b l line) [] w w1
-line_part_first b l line s answer w w1 goes r first = record {
+sent_part_of_answer_to_line b l line s answer w w1 goes r first = record {
   text = answer_text answer ++ packet_of (reply_text reply.Done);
-  is = inl (sent l s, line_answered b l line s answer goes r);
-  grown = prefix_longer w w1 (answer_text answer) (packet_of (reply_text reply.Done)) first;
+  is = inl (sent l s, answers_line_by_response b l line s answer goes r);
+  grown = prefix_of_longer_text w w1 (answer_text answer) (packet_of (reply_text reply.Done)) first;
 }
 
-line_quits : (b : Bool) (l : Link) (line : List ℕ) → b ≡ true → AnswersLine b l line (packet_of (reply_text reply.NotPermitted)) (sent l l.stub)
-line_quits true l line quits = (refl, refl)
-line_quits false l line quits = absurd cc
+answers_quitting_line_not_permitted : (b : Bool) (l : Link) (line : List ℕ) → b ≡ true → AnswersLine b l line (packet_of (reply_text reply.NotPermitted)) (sent l l.stub)
+answers_quitting_line_not_permitted true l line quits = (refl, refl)
+answers_quitting_line_not_permitted false l line quits = absurd cc
 
-pub quit_sent : (b : Bool) (l : Link) (line : List ℕ) (mid next : Link) (w w' : Option (List ℕ)) → b ≡ true → mid ≡ l → next ≡ sent mid mid.stub
-    → Appends w w' (packet_of (reply_text reply.NotPermitted)) → Sent (AnswersLine b l line) next w w'
-quit_sent b l line mid next w w' quits is after grown = record {
-  text = packet_of (reply_text reply.NotPermitted);
-  is = subst (AnswersLine b l line (packet_of (reply_text reply.NotPermitted))) (sym (after ∙ ap (λ (m : Link). sent m m.stub) is))
-      (line_quits b l line quits);
-  grown = grown;
-}
-
-pub quit_part : (b : Bool) (l : Link) (line : List ℕ) (w w' : Option (List ℕ)) → b ≡ true
+pub sent_part_to_quitting_line : (b : Bool) (l : Link) (line : List ℕ) (w w' : Option (List ℕ)) → b ≡ true
     → AppendsPrefix w w' (packet_of (reply_text reply.NotPermitted)) → SentInPart (AnswersLine b l line) [] w w'
-quit_part b l line w w' quits grown = record {
+sent_part_to_quitting_line b l line w w' quits grown = record {
   text = packet_of (reply_text reply.NotPermitted);
-  is = inl (sent l l.stub, line_quits b l line quits);
+  is = inl (sent l l.stub, answers_quitting_line_not_permitted b l line quits);
   grown = grown;
 }
 
-line_lacks : (b : Bool) (l : Link) (line : List ℕ) (mid next : Link) → b ≡ false
+answers_line_no_memory : (b : Bool) (l : Link) (line : List ℕ) (mid next : Link) → b ≡ false
     → ((mid ≡ l) ⊎ ((s : Stub) × Responds l.stub line s (λ text. ⊤) × (mid ≡ record l { stub = s }))) → next ≡ sent mid mid.stub
     → AnswersLine b l line (packet_of (reply_text reply.NoMemory)) next
-line_lacks true l line mid next goes r after = absurd cc
-line_lacks false l line mid next goes (inl same) after = inr (inl (after ∙ ap (λ (m : Link). sent m m.stub) same), refl)
-line_lacks false l line mid next goes (inr (s, r, is)) after = inr (inr (s, r, after ∙ ap (λ (m : Link). sent m m.stub) is), refl)
+answers_line_no_memory true l line mid next goes r after = absurd cc
+answers_line_no_memory false l line mid next goes (inl same) after = inr (inl (after ∙ ap (λ (m : Link). sent m m.stub) same), refl)
+answers_line_no_memory false l line mid next goes (inr (s, r, is)) after = inr (inr (s, r, after ∙ ap (λ (m : Link). sent m m.stub) is), refl)
 
-pub lacks_sent : (b : Bool) (l : Link) (line : List ℕ) (mid next : Link) (w w' : Option (List ℕ)) → b ≡ false
-    → ((mid ≡ l) ⊎ ((s : Stub) × Responds l.stub line s (λ text. ⊤) × (mid ≡ record l { stub = s }))) → next ≡ sent mid mid.stub
-    → Appends w w' (packet_of (reply_text reply.NoMemory)) → Sent (AnswersLine b l line) next w w'
-lacks_sent b l line mid next w w' goes r after grown = record {
-  text = packet_of (reply_text reply.NoMemory);
-  is = line_lacks b l line mid next goes r after;
-  grown = grown;
-}
-
-pub lacks_part : (b : Bool) (l : Link) (line : List ℕ) (mid : Link) (w w' : Option (List ℕ)) → b ≡ false
+pub sent_part_of_no_memory_reply : (b : Bool) (l : Link) (line : List ℕ) (mid : Link) (w w' : Option (List ℕ)) → b ≡ false
     → ((mid ≡ l) ⊎ ((s : Stub) × Responds l.stub line s (λ text. ⊤) × (mid ≡ record l { stub = s })))
     → AppendsPrefix w w' (packet_of (reply_text reply.NoMemory)) → SentInPart (AnswersLine b l line) [] w w'
-lacks_part b l line mid w w' goes r grown = record {
+sent_part_of_no_memory_reply b l line mid w w' goes r grown = record {
   text = packet_of (reply_text reply.NoMemory);
-  is = inl (sent mid mid.stub, line_lacks b l line mid (sent mid mid.stub) goes r refl);
+  is = inl (sent mid mid.stub, answers_line_no_memory b l line mid (sent mid mid.stub) goes r refl);
   grown = grown;
 }
 
 -- ---- packets
 
-pub packet_sent : (l : Link) (payload : List ℕ) (next : Link) (w w1 w2 : Option (List ℕ)) → Appends w w1 (sign l (codes "+"))
+pub sent_answer_to_packet : (l : Link) (payload : List ℕ) (next : Link) (w w1 w2 : Option (List ℕ)) → Appends w w1 (sign l (codes "+"))
     → Sent (AnswersRequest l payload (request_of payload)) next w1 w2 → Sent (AnswersPacket l payload) next w w2
-packet_sent l payload next w w1 w2 first rest = record {
+sent_answer_to_packet l payload next w w1 w2 first rest = record {
   text = sign l (codes "+") ++ rest.text;
   is = (rest.text, rest.is, refl);
   grown = Appends-trans w w1 w2 (sign l (codes "+")) rest.text first rest.grown;
 }
 
-packet_is : (l : Link) (payload text : List ℕ) → ((next : Link) × AnswersRequest l payload (request_of payload) text next) ⊎ (text ≡ [])
+signed_answer_is_packet_answer : (l : Link) (payload text : List ℕ) → ((next : Link) × AnswersRequest l payload (request_of payload) text next) ⊎ (text ≡ [])
     → ((next : Link) × AnswersPacket l payload (sign l (codes "+") ++ text) next) ⊎ (sign l (codes "+") ++ text ≡ sign l (codes "+"))
-packet_is l payload text (inl (next, is)) = inl (next, (text, is, refl))
-packet_is l payload text (inr none) = inr (ap (λ (x : List ℕ). sign l (codes "+") ++ x) none ∙ append-nil (sign l (codes "+")))
+signed_answer_is_packet_answer l payload text (inl (next, is)) = inl (next, (text, is, refl))
+signed_answer_is_packet_answer l payload text (inr none) = inr (ap (λ (x : List ℕ). sign l (codes "+") ++ x) none ∙ append-nil (sign l (codes "+")))
 
-pub packet_part : (l : Link) (payload : List ℕ) (w w1 w2 : Option (List ℕ)) → Appends w w1 (sign l (codes "+"))
+pub sent_part_of_answer_to_packet : (l : Link) (payload : List ℕ) (w w1 w2 : Option (List ℕ)) → Appends w w1 (sign l (codes "+"))
     → SentInPart (AnswersRequest l payload (request_of payload)) [] w1 w2 → SentInPart (AnswersPacket l payload) (sign l (codes "+")) w w2
-packet_part l payload w w1 w2 first rest = record {
+sent_part_of_answer_to_packet l payload w w1 w2 first rest = record {
   text = sign l (codes "+") ++ rest.text;
-  is = packet_is l payload rest.text rest.is;
-  grown = prefix_after w w1 w2 (sign l (codes "+")) rest.text first rest.grown;
+  is = signed_answer_is_packet_answer l payload rest.text rest.is;
+  grown = prefix_after_whole_text w w1 w2 (sign l (codes "+")) rest.text first rest.grown;
 }
 
-pub packet_unsigned : (l : Link) (payload : List ℕ) (w w1 : Option (List ℕ)) → AppendsPrefix w w1 (sign l (codes "+"))
-    → SentInPart (AnswersPacket l payload) (sign l (codes "+")) w w1
-packet_unsigned l payload w w1 grown = record { text = sign l (codes "+"); is = inr refl; grown = grown }
-
-no_reply : reply_text reply.Nothing ≡ []
+text_of_no_reply_is_empty : reply_text reply.Nothing ≡ []
 unfolding reply_text
-no_reply = refl
+text_of_no_reply_is_empty = refl
 
-long_is : (l next : Link) → next ≡ sent l l.stub → AnswersNew l TooLong (sign l (codes "+") ++ packet_of (reply_text reply.Nothing)) next
-long_is l next after = (ap (λ (x : List ℕ). sign l (codes "+") ++ packet_of x) no_reply, after)
+answers_too_long_by_empty_packet : (l next : Link) → next ≡ sent l l.stub → AnswersNew l TooLong (sign l (codes "+") ++ packet_of (reply_text reply.Nothing)) next
+answers_too_long_by_empty_packet l next after = (ap (λ (x : List ℕ). sign l (codes "+") ++ packet_of x) text_of_no_reply_is_empty, after)
 
-pub long_sent : (l next : Link) (w w1 w2 : Option (List ℕ)) → next ≡ sent l l.stub → Appends w w1 (sign l (codes "+"))
+pub sent_answer_to_too_long_packet : (l next : Link) (w w1 w2 : Option (List ℕ)) → next ≡ sent l l.stub → Appends w w1 (sign l (codes "+"))
     → Appends w1 w2 (packet_of (reply_text reply.Nothing)) → Sent (AnswersNew l TooLong) next w w2
-long_sent l next w w1 w2 after first rest = record {
+sent_answer_to_too_long_packet l next w w1 w2 after first rest = record {
   text = sign l (codes "+") ++ packet_of (reply_text reply.Nothing);
-  is = long_is l next after;
+  is = answers_too_long_by_empty_packet l next after;
   grown = Appends-trans w w1 w2 (sign l (codes "+")) (packet_of (reply_text reply.Nothing)) first rest;
 }
 
-pub long_part : (l : Link) (w w1 w2 : Option (List ℕ)) → Appends w w1 (sign l (codes "+"))
+pub sent_part_to_too_long_packet : (l : Link) (w w1 w2 : Option (List ℕ)) → Appends w w1 (sign l (codes "+"))
     → AppendsPrefix w1 w2 (packet_of (reply_text reply.Nothing)) → SentInPart (AnswersNew l TooLong) [] w w2
-long_part l w w1 w2 first rest = record {
+sent_part_to_too_long_packet l w w1 w2 first rest = record {
   text = sign l (codes "+") ++ packet_of (reply_text reply.Nothing);
-  is = inl (sent l l.stub, long_is l (sent l l.stub) refl);
-  grown = prefix_after w w1 w2 (sign l (codes "+")) (packet_of (reply_text reply.Nothing)) first rest;
+  is = inl (sent l l.stub, answers_too_long_by_empty_packet l (sent l l.stub) refl);
+  grown = prefix_after_whole_text w w1 w2 (sign l (codes "+")) (packet_of (reply_text reply.Nothing)) first rest;
 }
 
-pub long_unsigned : (l : Link) (w w1 : Option (List ℕ)) → AppendsPrefix w w1 (sign l (codes "+")) → SentInPart (AnswersNew l TooLong) [] w w1
-long_unsigned l w w1 first = record {
+pub sent_part_of_too_long_sign : (l : Link) (w w1 : Option (List ℕ)) → AppendsPrefix w w1 (sign l (codes "+")) → SentInPart (AnswersNew l TooLong) [] w w1
+sent_part_of_too_long_sign l w w1 first = record {
   text = sign l (codes "+") ++ packet_of (reply_text reply.Nothing);
-  is = inl (sent l l.stub, long_is l (sent l l.stub) refl);
-  grown = prefix_longer w w1 (sign l (codes "+")) (packet_of (reply_text reply.Nothing)) first;
+  is = inl (sent l l.stub, answers_too_long_by_empty_packet l (sent l l.stub) refl);
+  grown = prefix_of_longer_text w w1 (sign l (codes "+")) (packet_of (reply_text reply.Nothing)) first;
 }
-
--- nothing is written
-pub nothing_sent : (May : List ℕ → Link → Type 0) (next : Link) (w : Option (List ℕ)) → May [] next → Sent May next w w
-nothing_sent May next w is = record { text = []; is = is; grown = Appends-nil w }

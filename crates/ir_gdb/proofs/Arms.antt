@@ -17,7 +17,7 @@ use Rattle.ir_packet.specs.declared.reply.Reply.TheVariants as reply
 use Rattle.ir_packet.specs.declared.request.Request.{Request}
 use Rattle.ir_packet.specs.declared.request.Request.TheVariants as request
 use Rattle.ir_debug.specs.Machine.Answers.{quits}
-use Rattle.ir_gdb.proofs.Answering.{packet_sent, packet_part}
+use Rattle.ir_gdb.proofs.Answering.{sent_answer_to_packet, sent_part_of_answer_to_packet}
 use Rattle.ir_gdb.specs.Connection.{Link, sent, sign, unacknowledged, is_copy, is_packet, before_reply, AnswersLine, AnswersBy, AnswersRequest, AnswersPacket, AnswersNew, AnswersItem, AnswersItemBy, ends_request, ends_by, ends, Sent, SentInPart}
 
 -- ---- requests
@@ -26,88 +26,88 @@ use Rattle.ir_gdb.specs.Connection.{Link, sent, sign, unacknowledged, is_copy, i
 abbrev pub IsReplied : Request → Type 0
 IsReplied asked = (l : Link) (payload text : List ℕ) (next : Link) → AnswersBy l asked text next → AnswersRequest l payload asked text next
 
-replied : (asked : Request) → (asked ≡ request.Kill → ⊥) → (asked ≡ request.Console → ⊥) → (asked ≡ request.NoAcknowledgements → ⊥) → IsReplied asked
-replied request.Supported kill console quiet = λ l payload text next is. is
-replied request.NoAcknowledgements kill console quiet = absurd (quiet refl)
-replied request.Reason kill console quiet = λ l payload text next is. is
-replied (request.General who) kill console quiet = λ l payload text next is. is
-replied (request.Choose who) kill console quiet = λ l payload text next is. is
-replied (request.Alive id) kill console quiet = λ l payload text next is. is
-replied (request.Description from most) kill console quiet = λ l payload text next is. is
-replied (request.Threads from most) kill console quiet = λ l payload text next is. is
-replied request.Attached kill console quiet = λ l payload text next is. is
-replied request.Offsets kill console quiet = λ l payload text next is. is
-replied request.Symbols kill console quiet = λ l payload text next is. is
-replied request.Motions kill console quiet = λ l payload text next is. is
-replied request.Registers kill console quiet = λ l payload text next is. is
-replied (request.Register i) kill console quiet = λ l payload text next is. is
-replied (request.Memory a size) kill console quiet = λ l payload text next is. is
-replied request.Change kill console quiet = λ l payload text next is. is
-replied (request.SetBreak a hardware) kill console quiet = λ l payload text next is. is
-replied (request.ClearBreak a hardware) kill console quiet = λ l payload text next is. is
-replied (request.SetWatch a size) kill console quiet = λ l payload text next is. is
-replied (request.ClearWatch a size) kill console quiet = λ l payload text next is. is
-replied (request.Move motion who) kill console quiet = λ l payload text next is. is
-replied request.Console kill console quiet = absurd (console refl)
-replied request.Extended kill console quiet = λ l payload text next is. is
-replied request.Restart kill console quiet = λ l payload text next is. is
-replied (request.RestartAt i) kill console quiet = λ l payload text next is. is
-replied request.EndProcess kill console quiet = λ l payload text next is. is
-replied request.Detach kill console quiet = λ l payload text next is. is
-replied request.Kill kill console quiet = absurd (kill refl)
-replied request.Malformed kill console quiet = λ l payload text next is. is
-replied request.Unknown kill console quiet = λ l payload text next is. is
+is_replied_unless_special : (asked : Request) → (asked ≡ request.Kill → ⊥) → (asked ≡ request.Console → ⊥) → (asked ≡ request.NoAcknowledgements → ⊥) → IsReplied asked
+is_replied_unless_special request.Supported kill console quiet = λ l payload text next is. is
+is_replied_unless_special request.NoAcknowledgements kill console quiet = absurd (quiet refl)
+is_replied_unless_special request.Reason kill console quiet = λ l payload text next is. is
+is_replied_unless_special (request.General who) kill console quiet = λ l payload text next is. is
+is_replied_unless_special (request.Choose who) kill console quiet = λ l payload text next is. is
+is_replied_unless_special (request.Alive id) kill console quiet = λ l payload text next is. is
+is_replied_unless_special (request.Description from most) kill console quiet = λ l payload text next is. is
+is_replied_unless_special (request.Threads from most) kill console quiet = λ l payload text next is. is
+is_replied_unless_special request.Attached kill console quiet = λ l payload text next is. is
+is_replied_unless_special request.Offsets kill console quiet = λ l payload text next is. is
+is_replied_unless_special request.Symbols kill console quiet = λ l payload text next is. is
+is_replied_unless_special request.Motions kill console quiet = λ l payload text next is. is
+is_replied_unless_special request.Registers kill console quiet = λ l payload text next is. is
+is_replied_unless_special (request.Register i) kill console quiet = λ l payload text next is. is
+is_replied_unless_special (request.Memory a size) kill console quiet = λ l payload text next is. is
+is_replied_unless_special request.Change kill console quiet = λ l payload text next is. is
+is_replied_unless_special (request.SetBreak a hardware) kill console quiet = λ l payload text next is. is
+is_replied_unless_special (request.ClearBreak a hardware) kill console quiet = λ l payload text next is. is
+is_replied_unless_special (request.SetWatch a size) kill console quiet = λ l payload text next is. is
+is_replied_unless_special (request.ClearWatch a size) kill console quiet = λ l payload text next is. is
+is_replied_unless_special (request.Move motion who) kill console quiet = λ l payload text next is. is
+is_replied_unless_special request.Console kill console quiet = absurd (console refl)
+is_replied_unless_special request.Extended kill console quiet = λ l payload text next is. is
+is_replied_unless_special request.Restart kill console quiet = λ l payload text next is. is
+is_replied_unless_special (request.RestartAt i) kill console quiet = λ l payload text next is. is
+is_replied_unless_special request.EndProcess kill console quiet = λ l payload text next is. is
+is_replied_unless_special request.Detach kill console quiet = λ l payload text next is. is
+is_replied_unless_special request.Kill kill console quiet = absurd (kill refl)
+is_replied_unless_special request.Malformed kill console quiet = λ l payload text next is. is
+is_replied_unless_special request.Unknown kill console quiet = λ l payload text next is. is
 
-pub goes_on : (asked : Request) → (asked ≡ request.Kill → ⊥) → (asked ≡ request.Detach → ⊥) → ends_request asked ≡ false
-goes_on request.Supported kill detach = refl
-goes_on request.NoAcknowledgements kill detach = refl
-goes_on request.Reason kill detach = refl
-goes_on (request.General who) kill detach = refl
-goes_on (request.Choose who) kill detach = refl
-goes_on (request.Alive id) kill detach = refl
-goes_on (request.Description from most) kill detach = refl
-goes_on (request.Threads from most) kill detach = refl
-goes_on request.Attached kill detach = refl
-goes_on request.Offsets kill detach = refl
-goes_on request.Symbols kill detach = refl
-goes_on request.Motions kill detach = refl
-goes_on request.Registers kill detach = refl
-goes_on (request.Register i) kill detach = refl
-goes_on (request.Memory a size) kill detach = refl
-goes_on request.Change kill detach = refl
-goes_on (request.SetBreak a hardware) kill detach = refl
-goes_on (request.ClearBreak a hardware) kill detach = refl
-goes_on (request.SetWatch a size) kill detach = refl
-goes_on (request.ClearWatch a size) kill detach = refl
-goes_on (request.Move motion who) kill detach = refl
-goes_on request.Console kill detach = refl
-goes_on request.Extended kill detach = refl
-goes_on request.Restart kill detach = refl
-goes_on (request.RestartAt i) kill detach = refl
-goes_on request.EndProcess kill detach = refl
-goes_on request.Detach kill detach = absurd (detach refl)
-goes_on request.Kill kill detach = absurd (kill refl)
-goes_on request.Malformed kill detach = refl
-goes_on request.Unknown kill detach = refl
+pub connection_goes_on_after_request : (asked : Request) → (asked ≡ request.Kill → ⊥) → (asked ≡ request.Detach → ⊥) → ends_request asked ≡ false
+connection_goes_on_after_request request.Supported kill detach = refl
+connection_goes_on_after_request request.NoAcknowledgements kill detach = refl
+connection_goes_on_after_request request.Reason kill detach = refl
+connection_goes_on_after_request (request.General who) kill detach = refl
+connection_goes_on_after_request (request.Choose who) kill detach = refl
+connection_goes_on_after_request (request.Alive id) kill detach = refl
+connection_goes_on_after_request (request.Description from most) kill detach = refl
+connection_goes_on_after_request (request.Threads from most) kill detach = refl
+connection_goes_on_after_request request.Attached kill detach = refl
+connection_goes_on_after_request request.Offsets kill detach = refl
+connection_goes_on_after_request request.Symbols kill detach = refl
+connection_goes_on_after_request request.Motions kill detach = refl
+connection_goes_on_after_request request.Registers kill detach = refl
+connection_goes_on_after_request (request.Register i) kill detach = refl
+connection_goes_on_after_request (request.Memory a size) kill detach = refl
+connection_goes_on_after_request request.Change kill detach = refl
+connection_goes_on_after_request (request.SetBreak a hardware) kill detach = refl
+connection_goes_on_after_request (request.ClearBreak a hardware) kill detach = refl
+connection_goes_on_after_request (request.SetWatch a size) kill detach = refl
+connection_goes_on_after_request (request.ClearWatch a size) kill detach = refl
+connection_goes_on_after_request (request.Move motion who) kill detach = refl
+connection_goes_on_after_request request.Console kill detach = refl
+connection_goes_on_after_request request.Extended kill detach = refl
+connection_goes_on_after_request request.Restart kill detach = refl
+connection_goes_on_after_request (request.RestartAt i) kill detach = refl
+connection_goes_on_after_request request.EndProcess kill detach = refl
+connection_goes_on_after_request request.Detach kill detach = absurd (detach refl)
+connection_goes_on_after_request request.Kill kill detach = absurd (kill refl)
+connection_goes_on_after_request request.Malformed kill detach = refl
+connection_goes_on_after_request request.Unknown kill detach = refl
 
-replied_is : (l : Link) (payload : List ℕ) (asked : Request) (text : List ℕ) → IsReplied asked
+replied_request_is_answered : (l : Link) (payload : List ℕ) (asked : Request) (text : List ℕ) → IsReplied asked
     → ((next : Link) × AnswersBy l asked text next) ⊎ (text ≡ []) → ((next : Link) × AnswersRequest l payload asked text next) ⊎ (text ≡ [])
-replied_is l payload asked text replies (inl (next, is)) = inl (next, replies l payload text next is)
-replied_is l payload asked text replies (inr none) = inr none
+replied_request_is_answered l payload asked text replies (inl (next, is)) = inl (next, replies l payload text next is)
+replied_request_is_answered l payload asked text replies (inr none) = inr none
 
 module _ (l : Link) (payload : List ℕ) (asked : Request) (next : Link) (w w' : Option (List ℕ)) where
   reply_sent : IsReplied asked → Sent (AnswersBy l asked) next w w' → Sent (AnswersRequest l payload asked) next w w'
   reply_sent replies s = record { text = s.text; is = replies l payload s.text next s.is; grown = s.grown }
 
   reply_part : IsReplied asked → SentInPart (AnswersBy l asked) [] w w' → SentInPart (AnswersRequest l payload asked) [] w w'
-  reply_part replies s = record { text = s.text; is = replied_is l payload asked s.text replies s.is; grown = s.grown }
+  reply_part replies s = record { text = s.text; is = replied_request_is_answered l payload asked s.text replies s.is; grown = s.grown }
 
   module _ (kill : asked ≡ request.Kill → ⊥) (console : asked ≡ request.Console → ⊥) (quiet : asked ≡ request.NoAcknowledgements → ⊥) where
     pub replied_sent : Sent (AnswersBy l asked) next w w' → Sent (AnswersRequest l payload asked) next w w'
-    replied_sent = reply_sent (replied asked kill console quiet)
+    replied_sent = reply_sent (is_replied_unless_special asked kill console quiet)
 
     pub replied_part : SentInPart (AnswersBy l asked) [] w w' → SentInPart (AnswersRequest l payload asked) [] w w'
-    replied_part = reply_part (replied asked kill console quiet)
+    replied_part = reply_part (is_replied_unless_special asked kill console quiet)
 
   pub detach_sent : asked ≡ request.Detach → Sent (AnswersBy l asked) next w w' → Sent (AnswersRequest l payload asked) next w w'
   detach_sent is = reply_sent (subst IsReplied (sym is) (λ l payload text next a. a))
@@ -135,9 +135,9 @@ module _ (l : Link) (payload : List ℕ) (asked : Request) (next : Link) (w w' :
   quiet_part is grown = subst (λ (r : Request). SentInPart (AnswersRequest l payload r) [] w w') (sym is)
       (record { text = packet_of (reply_text reply.Done); is = inl (unacknowledged (sent l l.stub), (refl, refl)); grown = grown })
 
-pub kill_sent : (l : Link) (payload : List ℕ) (asked : Request) (w : Option (List ℕ)) → asked ≡ request.Kill
+pub sent_nothing_after_kill : (l : Link) (payload : List ℕ) (asked : Request) (w : Option (List ℕ)) → asked ≡ request.Kill
     → Sent (AnswersRequest l payload asked) l w w
-kill_sent l payload asked w is = subst (λ (r : Request). Sent (AnswersRequest l payload r) l w w) (sym is)
+sent_nothing_after_kill l payload asked w is = subst (λ (r : Request). Sent (AnswersRequest l payload r) l w w) (sym is)
     (record { text = []; is = (refl, refl); grown = Appends-nil w })
 
 -- ---- items that are no copies
@@ -183,12 +183,12 @@ module _ (l : Link) (payload : List ℕ) (f : Found) (next : Link) (w : Option (
   refused_answered is same = subst (λ (x : Found). Sent (AnswersNew l (item_found x payload)) next w w) (sym is)
       (record { text = []; is = (refl, same); grown = Appends-nil w })
 
-pub packet_flow : {E : Type 0} (r : Result Flow E) (payload : List ℕ) (f : Found) → f ≡ found.Packet
+pub flow_after_packet_by_request : {E : Type 0} (r : Result Flow E) (payload : List ℕ) (f : Found) → f ≡ found.Packet
     → IfOk r (λ x. x ≡ flow_after (ends_request (request_of payload))) → IfOk r (λ x. x ≡ flow_after (ends_by (item_found f payload)))
-packet_flow r payload f is p = subst (λ (y : Found). IfOk r (λ x. x ≡ flow_after (ends_by (item_found y payload)))) (sym is) p
+flow_after_packet_by_request r payload f is p = subst (λ (y : Found). IfOk r (λ x. x ≡ flow_after (ends_by (item_found y payload)))) (sym is) p
 
-pub goes_flow : {E : Type 0} (r : Result Flow E) (b : Bool) → b ≡ false → IfOk r (λ x. x ≡ flow_after false) → IfOk r (λ x. x ≡ flow_after b)
-goes_flow r b is p = subst (λ (c : Bool). IfOk r (λ x. x ≡ flow_after c)) (sym is) p
+pub flow_goes_on_if_not_ended : {E : Type 0} (r : Result Flow E) (b : Bool) → b ≡ false → IfOk r (λ x. x ≡ flow_after false) → IfOk r (λ x. x ≡ flow_after b)
+flow_goes_on_if_not_ended r b is p = subst (λ (c : Bool). IfOk r (λ x. x ≡ flow_after c)) (sym is) p
 
 -- ---- copies
 
@@ -217,38 +217,38 @@ module _ (l : Link) (item : Item) where
       → SentInPart (AnswersItem l item) before w w'
   new_part before w w' new s = record { text = s.text; is = part_is s.text before new s.is; grown = s.grown }
 
-pub copy_goes : (l : Link) (item : Item) → (is_copy l && is_packet item) ≡ true → ends l item ≡ false
-copy_goes l item both = by_copy (is_copy l) both
+pub copy_ends_no_connection : (l : Link) (item : Item) → (is_copy l && is_packet item) ≡ true → ends l item ≡ false
+copy_ends_no_connection l item both = by_copy (is_copy l) both
   where
     by_copy : (b : Bool) → (b && is_packet item) ≡ true → (not b && ends_by item) ≡ false
     by_copy true e = refl
     by_copy false e = absurd cc
 
-no_packet_goes : (item : Item) → is_packet item ≡ false → ends_by item ≡ false
-no_packet_goes (stream.Packet payload) e = absurd cc
-no_packet_goes stream.BadSum e = refl
-no_packet_goes stream.TooLong e = refl
-no_packet_goes stream.Interrupt e = refl
-no_packet_goes stream.Acknowledged e = refl
-no_packet_goes stream.Refused e = refl
+item_without_packet_ends_nothing : (item : Item) → is_packet item ≡ false → ends_by item ≡ false
+item_without_packet_ends_nothing (stream.Packet payload) e = absurd cc
+item_without_packet_ends_nothing stream.BadSum e = refl
+item_without_packet_ends_nothing stream.TooLong e = refl
+item_without_packet_ends_nothing stream.Interrupt e = refl
+item_without_packet_ends_nothing stream.Acknowledged e = refl
+item_without_packet_ends_nothing stream.Refused e = refl
 
-new_ends : (b : Bool) (item : Item) → (b && is_packet item) ≡ false → (not b && ends_by item) ≡ ends_by item
-new_ends true item new = sym (no_packet_goes item new)
-new_ends false item new = refl
+new_item_ends_by_itself : (b : Bool) (item : Item) → (b && is_packet item) ≡ false → (not b && ends_by item) ≡ ends_by item
+new_item_ends_by_itself true item new = sym (item_without_packet_ends_nothing item new)
+new_item_ends_by_itself false item new = refl
 
-pub new_flow : {E : Type 0} (r : Result Flow E) (l : Link) (item : Item) → (is_copy l && is_packet item) ≡ false
+pub flow_after_new_item : {E : Type 0} (r : Result Flow E) (l : Link) (item : Item) → (is_copy l && is_packet item) ≡ false
     → IfOk r (λ x. x ≡ flow_after (ends_by item)) → IfOk r (λ x. x ≡ flow_after (ends l item))
-new_flow r l item new p = subst (λ (b : Bool). IfOk r (λ x. x ≡ flow_after b)) (sym (new_ends (is_copy l) item new)) p
+flow_after_new_item r l item new p = subst (λ (b : Bool). IfOk r (λ x. x ≡ flow_after b)) (sym (new_item_ends_by_itself (is_copy l) item new)) p
 
 -- ---- packets, whose request is read first
 
-pub packet_sent_by : (l : Link) (payload : List ℕ) (asked : Request) (next : Link) (w w1 w2 : Option (List ℕ)) → asked ≡ request_of payload
+pub sent_answer_to_read_packet : (l : Link) (payload : List ℕ) (asked : Request) (next : Link) (w w1 w2 : Option (List ℕ)) → asked ≡ request_of payload
     → Appends w w1 (sign l (codes "+")) → Sent (AnswersRequest l payload asked) next w1 w2 → Sent (AnswersPacket l payload) next w w2
-packet_sent_by l payload asked next w w1 w2 is first rest = packet_sent l payload next w w1 w2 first
+sent_answer_to_read_packet l payload asked next w w1 w2 is first rest = sent_answer_to_packet l payload next w w1 w2 first
     (subst (λ (r : Request). Sent (AnswersRequest l payload r) next w1 w2) is rest)
 
-pub packet_part_by : (l : Link) (payload : List ℕ) (asked : Request) (w w1 w2 : Option (List ℕ)) → asked ≡ request_of payload
+pub sent_part_to_read_packet : (l : Link) (payload : List ℕ) (asked : Request) (w w1 w2 : Option (List ℕ)) → asked ≡ request_of payload
     → Appends w w1 (sign l (codes "+")) → SentInPart (AnswersRequest l payload asked) [] w1 w2
     → SentInPart (AnswersPacket l payload) (sign l (codes "+")) w w2
-packet_part_by l payload asked w w1 w2 is first rest = packet_part l payload w w1 w2 first
+sent_part_to_read_packet l payload asked w w1 w2 is first rest = sent_part_of_answer_to_packet l payload w w1 w2 first
     (subst (λ (r : Request). SentInPart (AnswersRequest l payload r) [] w1 w2) is rest)

@@ -7,41 +7,41 @@ use Rattle.ir_command.specs.declared.command.Direction.TheVariants.{Forwards, Ba
 use Rattle.ir_command.specs.declared.hit.Hit.{Hit}
 use Rattle.ir_hits.specs.Hits.{Numbered}
 use Rattle.ir_timeline.specs.Positions.{threads_of, last_of, Finds}
-use Rattle.ir_debug.proofs.CallerLemmas.{found_within}
+use Rattle.ir_debug.proofs.CallerLemmas.{found_hit_at_most_last_position}
 use Rattle.ir_packet.specs.declared.reply.Reason.{Reason}
 use Rattle.ir_gdb.specs.declared.point.Breakpoint.{Breakpoint}
 use Rattle.ir_gdb.specs.declared.point.Watched.{Watched}
 use Rattle.ir_gdb.specs.Stops.{stopped, stop_above, stop_below, end_above, end_below, watch_reason, break_reason}
 
-above_by : (b : Bool) (k last : ℕ) (why other : Reason) → k ≤ last → (if b then stopped (k - 1) why else stopped k other).position ≤ last
-above_by true k last why other le = omega (arith, le)
-above_by false k last why other le = le
+choice_of_stops_above_within : (b : Bool) (k last : ℕ) (why other : Reason) → k ≤ last → (if b then stopped (k - 1) why else stopped k other).position ≤ last
+choice_of_stops_above_within true k last why other le = omega (arith, le)
+choice_of_stops_above_within false k last why other le = le
 
-pub stops_above : (watches : List Watched) (breaks : List Breakpoint) (h : Hit) (last : ℕ) → h.position ≤ last
+pub stop_above_within_last : (watches : List Watched) (breaks : List Breakpoint) (h : Hit) (last : ℕ) → h.position ≤ last
     → (stop_above watches breaks h).position ≤ last
-stops_above watches breaks h last le =
-    above_by (nat_lt h.number (length watches)) h.position last (watch_reason watches h.number) (break_reason breaks (h.number - length watches)) le
+stop_above_within_last watches breaks h last le =
+    choice_of_stops_above_within (nat_lt h.number (length watches)) h.position last (watch_reason watches h.number) (break_reason breaks (h.number - length watches)) le
 
-below_by : (b : Bool) (k last : ℕ) (why other : Reason) → k ≤ last → (if b then stopped k why else stopped k other).position ≤ last
-below_by true k last why other le = le
-below_by false k last why other le = le
+choice_of_stops_below_within : (b : Bool) (k last : ℕ) (why other : Reason) → k ≤ last → (if b then stopped k why else stopped k other).position ≤ last
+choice_of_stops_below_within true k last why other le = le
+choice_of_stops_below_within false k last why other le = le
 
-pub stops_below : (watches : List Watched) (breaks : List Breakpoint) (h : Hit) (last : ℕ) → h.position ≤ last
+pub stop_below_within_last : (watches : List Watched) (breaks : List Breakpoint) (h : Hit) (last : ℕ) → h.position ≤ last
     → (stop_below watches breaks h).position ≤ last
-stops_below watches breaks h last le =
-    below_by (nat_lt h.number (length breaks)) h.position last (break_reason breaks h.number) (watch_reason watches (h.number - length breaks)) le
+stop_below_within_last watches breaks h last le =
+    choice_of_stops_below_within (nat_lt h.number (length breaks)) h.position last (break_reason breaks h.number) (watch_reason watches (h.number - length breaks)) le
 
 -- where a search ends is at one of the thread's positions
-pub above_within : (f : FittedTrace) (points : List Numbered) (t p : ℕ) (watches : List Watched) (breaks : List Breakpoint) (hit : Option Hit)
+pub end_above_within_last : (f : FittedTrace) (points : List Numbered) (t p : ℕ) (watches : List Watched) (breaks : List Breakpoint) (hit : Option Hit)
     → HasRun f → t < threads_of f → EachRun f (λ run. Finds run f points t p Forwards hit)
     → (end_above watches breaks (last_of f t) hit).position ≤ last_of f t
-above_within f points t p watches breaks (Some h) has l finds =
-    stops_above watches breaks h (last_of f t) (found_within f points t p Forwards h has l finds)
-above_within f points t p watches breaks None has l finds = omega arith
+end_above_within_last f points t p watches breaks (Some h) has l finds =
+    stop_above_within_last watches breaks h (last_of f t) (found_hit_at_most_last_position f points t p Forwards h has l finds)
+end_above_within_last f points t p watches breaks None has l finds = omega arith
 
-pub below_within : (f : FittedTrace) (points : List Numbered) (t p : ℕ) (watches : List Watched) (breaks : List Breakpoint) (hit : Option Hit)
+pub end_below_within_last : (f : FittedTrace) (points : List Numbered) (t p : ℕ) (watches : List Watched) (breaks : List Breakpoint) (hit : Option Hit)
     → HasRun f → t < threads_of f → EachRun f (λ run. Finds run f points t p Backwards hit)
     → (end_below watches breaks hit).position ≤ last_of f t
-below_within f points t p watches breaks (Some h) has l finds =
-    stops_below watches breaks h (last_of f t) (found_within f points t p Backwards h has l finds)
-below_within f points t p watches breaks None has l finds = omega arith
+end_below_within_last f points t p watches breaks (Some h) has l finds =
+    stop_below_within_last watches breaks h (last_of f t) (found_hit_at_most_last_position f points t p Backwards h has l finds)
+end_below_within_last f points t p watches breaks None has l finds = omega arith

@@ -2,48 +2,48 @@
 use Rattle.std.proofs.Common.{◌≡◌, ◌≤◌, ◌+◌, ◌∙◌, ℕ, zero, suc, List, [], ◌∷◌, ◌++◌, length, Option, Some, None, refl, sym, ap, arith}
 use Rattle.ir_gdb.specs.Reads.{with_byte, bytes_there}
 
-some_more : (first : Option ℕ) (xs ys : List ℕ) (n b : ℕ) → length (with_byte first xs) ≡ suc n → (length xs ≡ n → ys ≡ xs ++ b ∷ [])
+with_byte_of_longer_tail : (first : Option ℕ) (xs ys : List ℕ) (n b : ℕ) → length (with_byte first xs) ≡ suc n → (length xs ≡ n → ys ≡ xs ++ b ∷ [])
     → with_byte first ys ≡ with_byte first xs ++ b ∷ []
-some_more None xs ys n b len go = absurd (none n len)
+with_byte_of_longer_tail None xs ys n b len go = absurd (none n len)
   where
     none : (n : ℕ) → 0 ≡ suc n → ⊥
     none n e = omega (arith, e)
-some_more (Some x) xs ys n b len go = let less : length xs ≡ n = omega (arith, len) in ap (λ (zs : List ℕ). x ∷ zs) (go less)
+with_byte_of_longer_tail (Some x) xs ys n b len go = let less : length xs ≡ n = omega (arith, len) in ap (λ (zs : List ℕ). x ∷ zs) (go less)
 
 -- all so far are there, and the next is
-pub more_bytes_there : (seen : ℕ → Option ℕ) (n address b : ℕ) → length (bytes_there seen n address) ≡ n → seen (address + n) ≡ Some b
+pub bytes_there_step : (seen : ℕ → Option ℕ) (n address b : ℕ) → length (bytes_there seen n address) ≡ n → seen (address + n) ≡ Some b
     → bytes_there seen (n + 1) address ≡ bytes_there seen n address ++ b ∷ []
 unfolding bytes_there
-more_bytes_there seen zero address b len is =
+bytes_there_step seen zero address b len is =
     let same : address ≡ address + 0 = omega arith in ap (λ (first : Option ℕ). with_byte first []) (ap seen same ∙ is)
-more_bytes_there seen (suc n) address b len is =
+bytes_there_step seen (suc n) address b len is =
     let next : address + suc n ≡ address + 1 + n = omega arith in
     let up : suc n + 1 ≡ suc (n + 1) = omega arith in
-    ap (λ (k : ℕ). bytes_there seen k address) up ∙ some_more (seen address) (bytes_there seen n (address + 1)) (bytes_there seen (n + 1) (address + 1)) n b len
-    (λ less. more_bytes_there seen n (address + 1) b less (ap seen (sym next) ∙ is))
+    ap (λ (k : ℕ). bytes_there seen k address) up ∙ with_byte_of_longer_tail (seen address) (bytes_there seen n (address + 1)) (bytes_there seen (n + 1) (address + 1)) n b len
+    (λ less. bytes_there_step seen n (address + 1) b less (ap seen (sym next) ∙ is))
 
-some_same : (first : Option ℕ) (xs ys : List ℕ) (n : ℕ) → length (with_byte first xs) ≡ suc n → (length xs ≡ n → ys ≡ xs)
+with_byte_of_equal_tail : (first : Option ℕ) (xs ys : List ℕ) (n : ℕ) → length (with_byte first xs) ≡ suc n → (length xs ≡ n → ys ≡ xs)
     → with_byte first ys ≡ with_byte first xs
-some_same None xs ys n len go = refl
-some_same (Some x) xs ys n len go = let less : length xs ≡ n = omega (arith, len) in ap (λ (zs : List ℕ). x ∷ zs) (go less)
+with_byte_of_equal_tail None xs ys n len go = refl
+with_byte_of_equal_tail (Some x) xs ys n len go = let less : length xs ≡ n = omega (arith, len) in ap (λ (zs : List ℕ). x ∷ zs) (go less)
 
 -- all so far are there, and the next isn't
-pub bytes_there_stop : (seen : ℕ → Option ℕ) (n count address : ℕ) → n ≤ count → length (bytes_there seen n address) ≡ n
+pub bytes_there_end_at_missing_byte : (seen : ℕ → Option ℕ) (n count address : ℕ) → n ≤ count → length (bytes_there seen n address) ≡ n
     → seen (address + n) ≡ None → bytes_there seen count address ≡ bytes_there seen n address
 unfolding bytes_there
-bytes_there_stop seen zero zero address within len is = refl
-bytes_there_stop seen zero (suc count) address within len is =
+bytes_there_end_at_missing_byte seen zero zero address within len is = refl
+bytes_there_end_at_missing_byte seen zero (suc count) address within len is =
     let same : address ≡ address + 0 = omega arith in
     ap (λ (first : Option ℕ). with_byte first (bytes_there seen count (address + 1))) (ap seen same ∙ is)
-bytes_there_stop seen (suc n) zero address within len is = absurd (none n within)
+bytes_there_end_at_missing_byte seen (suc n) zero address within len is = absurd (none n within)
   where
     none : (n : ℕ) → suc n ≤ 0 → ⊥
     none n h = omega (arith, h)
-bytes_there_stop seen (suc n) (suc count) address within len is =
+bytes_there_end_at_missing_byte seen (suc n) (suc count) address within len is =
     let next : address + suc n ≡ address + 1 + n = omega arith in
-    some_same (seen address) (bytes_there seen n (address + 1)) (bytes_there seen count (address + 1)) n len
-    (λ less. bytes_there_stop seen n count (address + 1) (omega (arith, within)) less (ap seen (sym next) ∙ is))
+    with_byte_of_equal_tail (seen address) (bytes_there seen n (address + 1)) (bytes_there seen count (address + 1)) n len
+    (λ less. bytes_there_end_at_missing_byte seen n count (address + 1) (omega (arith, within)) less (ap seen (sym next) ∙ is))
 
-pub no_bytes_there : (seen : ℕ → Option ℕ) (address : ℕ) → bytes_there seen 0 address ≡ []
+pub bytes_there_of_no_count : (seen : ℕ → Option ℕ) (address : ℕ) → bytes_there seen 0 address ≡ []
 unfolding bytes_there
-no_bytes_there seen address = refl
+bytes_there_of_no_count seen address = refl

@@ -2,7 +2,7 @@
 use Rattle.std.proofs.Common.{◌≡◌, ◌==◌, if◌then◌else◌, ◌≤◌, ◌<◌, ◌+◌, ◌-◌, ◌∙◌, ℕ, zero, suc, Bool, true, false, cond, ltb, List, [], ◌∷◌, ◌++◌, length, take, Option, Some, None, Ok, Err, IfSome, refl, sym, ap, subst, arith, append_assoc, append-nil, length-append, ltb-false, lt-ltb, le-ltb, take_all}
 use Rattle.std.specs.Io.KnownBytes.{Appends, Consumes, Keeps, IsAtEnd}
 use Rattle.std.proofs.KnownBytes.{Consumes-nil, Consumes-trans, Consumes-kept, Consumes-whole, Appends-nil, Appends-trans}
-use Rattle.ir_stream.specs.Answers.{Reads}
+use Rattle.ir_stream.specs.Answers.{ReadsUpTo}
 use Rattle.ir_stream.specs.declared.serving.Served.TheVariants.{Quit, InputEnd}
 use Rattle.ir_stream.specs.declared.serving.Fault.TheVariants as fault
 use Rattle.ir_packet.specs.Packets.{unescaped, unescaped_from, escape, two_digits, checksum, is_number}
@@ -11,18 +11,18 @@ use Rattle.ir_packet.specs.Stream as stream
 use Rattle.ir_packet.specs.Reading.{kept, items_found, item_found}
 use Rattle.ir_packet.specs.declared.found.Found.{Found}
 use Rattle.ir_packet.specs.declared.found.Found.TheVariants as found
-use Rattle.ir_packet.proofs.CallerLemmas.{ends-kept, step-kept, items_from-append}
+use Rattle.ir_packet.proofs.CallerLemmas.{ends_of_kept, kept_step_of_kept, items_from_of_append}
 use Rattle.ir_gdb.specs.Connection.{Link, AnswersItem, Rest, Answers, ends, Wrote, Sent, SentInPart, before_reply, WroteInPart, LeadsTo}
 
 -- ---- the payload of a packet that is found
 
-unescaped_few : (e : Bool) (raw : List ℕ) → length (unescaped_from e raw) ≤ length raw
+unescaped_not_longer : (e : Bool) (raw : List ℕ) → length (unescaped_from e raw) ≤ length raw
 unfolding unescaped_from
-unescaped_few e [] = omega arith
-unescaped_few true (b ∷ rest) = let few = unescaped_few false rest in omega (arith, few)
-unescaped_few false (b ∷ rest) =
-    let kept : length (unescaped_from false rest) ≤ length rest = unescaped_few false rest in
-    let begun : length (unescaped_from true rest) ≤ length rest = unescaped_few true rest in
+unescaped_not_longer e [] = omega arith
+unescaped_not_longer true (b ∷ rest) = let few = unescaped_not_longer false rest in omega (arith, few)
+unescaped_not_longer false (b ∷ rest) =
+    let kept : length (unescaped_from false rest) ≤ length rest = unescaped_not_longer false rest in
+    let begun : length (unescaped_from true rest) ≤ length rest = unescaped_not_longer true rest in
     by_escape (b == escape) rest b kept begun
   where
     by_escape : (t : Bool) (rest : List ℕ) (b : ℕ) → length (unescaped_from false rest) ≤ length rest → length (unescaped_from true rest) ≤ length rest
@@ -30,108 +30,108 @@ unescaped_few false (b ∷ rest) =
     by_escape true rest b p q = omega (arith, q)
     by_escape false rest b p q = omega (arith, p)
 
-packet_few : (raw : List ℕ) (a b : ℕ) (payload : List ℕ) (long is : Bool) → ltb 4096 (length raw) ≡ long → is_number (two_digits a b) (checksum raw) ≡ is
+packet_payload_within_limit : (raw : List ℕ) (a b : ℕ) (payload : List ℕ) (long is : Bool) → ltb 4096 (length raw) ≡ long → is_number (two_digits a b) (checksum raw) ≡ is
     → (if long then TooLong else if is then Packet (unescaped raw) else BadSum) ≡ Packet payload → length payload ≤ 4096
-packet_few raw a b payload true is l i e = absurd cc
-packet_few raw a b payload false true l i e =
+packet_payload_within_limit raw a b payload true is l i e = absurd cc
+packet_payload_within_limit raw a b payload false true l i e =
     let same : unescaped raw ≡ payload = cc in
     let most : length raw ≤ 4096 = ltb-false 4096 (length raw) l in
-    let few : length (unescaped raw) ≤ length raw = unescaped_few false raw in
+    let few : length (unescaped raw) ≤ length raw = unescaped_not_longer false raw in
     let len : length (unescaped raw) ≡ length payload = ap (λ (xs : List ℕ). length xs) same in
     omega (arith, most, few, len)
-packet_few raw a b payload false false l i e = absurd cc
+packet_payload_within_limit raw a b payload false false l i e = absurd cc
 
-head_is : (x y : Item) (xs ys : List Item) → x ∷ xs ≡ y ∷ ys → x ≡ y
-head_is x y xs ys e = cc
+head_of_equal_lists : (x y : Item) (xs ys : List Item) → x ∷ xs ≡ y ∷ ys → x ≡ y
+head_of_equal_lists x y xs ys e = cc
 
-byte_none : (b : ℕ) (payload : List ℕ) (one two three : Bool) → Packet payload ∷ [] ≡ (if one then stream.Interrupt ∷ [] else if two then stream.Acknowledged ∷ []
+single_byte_item_is_no_packet : (b : ℕ) (payload : List ℕ) (one two three : Bool) → Packet payload ∷ [] ≡ (if one then stream.Interrupt ∷ [] else if two then stream.Acknowledged ∷ []
     else if three then stream.Refused ∷ [] else []) → ⊥
-byte_none b payload true two three e = absurd cc
-byte_none b payload false true three e = absurd cc
-byte_none b payload false false true e = absurd cc
-byte_none b payload false false false e = absurd cc
+single_byte_item_is_no_packet b payload true two three e = absurd cc
+single_byte_item_is_no_packet b payload false true three e = absurd cc
+single_byte_item_is_no_packet b payload false false true e = absurd cc
+single_byte_item_is_no_packet b payload false false false e = absurd cc
 
-ends_few : (p : Place) (b : ℕ) (payload : List ℕ) → Packet payload ∷ [] ≡ stream.ends p b → length payload ≤ 4096
-ends_few Between b payload e = absurd (byte_none b payload (b == 3) (b == 43) (b == 45) e)
-ends_few (Inside raw) b payload e = absurd cc
-ends_few (Summing raw) b payload e = absurd cc
-ends_few (Digit raw a) b payload e = packet_few raw a b payload (ltb 4096 (length raw)) (is_number (two_digits a b) (checksum raw)) refl refl
-    (sym (head_is (Packet payload) (packet_item raw a b) [] [] e))
+ended_payload_within_limit : (p : Place) (b : ℕ) (payload : List ℕ) → Packet payload ∷ [] ≡ stream.ends p b → length payload ≤ 4096
+ended_payload_within_limit Between b payload e = absurd (single_byte_item_is_no_packet b payload (b == 3) (b == 43) (b == 45) e)
+ended_payload_within_limit (Inside raw) b payload e = absurd cc
+ended_payload_within_limit (Summing raw) b payload e = absurd cc
+ended_payload_within_limit (Digit raw a) b payload e = packet_payload_within_limit raw a b payload (ltb 4096 (length raw)) (is_number (two_digits a b) (checksum raw)) refl refl
+    (sym (head_of_equal_lists (Packet payload) (packet_item raw a b) [] [] e))
 
 -- a payload that a reader has found is no longer than the most bytes of a packet
-pub payload_few : (f : Found) (p : Place) (b : ℕ) (payload : List ℕ) → items_found (Some f) payload ≡ stream.ends p b → f ≡ found.Packet
+pub found_payload_within_limit : (f : Found) (p : Place) (b : ℕ) (payload : List ℕ) → items_found (Some f) payload ≡ stream.ends p b → f ≡ found.Packet
     → length payload ≤ 4096
-payload_few found.Packet p b payload e is = ends_few p b payload e
-payload_few found.BadSum p b payload e is = absurd cc
-payload_few found.TooLong p b payload e is = absurd cc
-payload_few found.Interrupt p b payload e is = absurd cc
-payload_few found.Acknowledged p b payload e is = absurd cc
-payload_few found.Refused p b payload e is = absurd cc
+found_payload_within_limit found.Packet p b payload e is = ended_payload_within_limit p b payload e
+found_payload_within_limit found.BadSum p b payload e is = absurd cc
+found_payload_within_limit found.TooLong p b payload e is = absurd cc
+found_payload_within_limit found.Interrupt p b payload e is = absurd cc
+found_payload_within_limit found.Acknowledged p b payload e is = absurd cc
+found_payload_within_limit found.Refused p b payload e is = absurd cc
 
 -- ---- answers to items, one list after the other
 
-Answers-nil : (l : Link) → Answers l [] false [] l
+answers_to_no_items : (l : Link) → Answers l [] false [] l
 unfolding Answers
-Answers-nil l = (refl, refl, refl)
+answers_to_no_items l = (refl, refl, refl)
 
-rest_append : (b : Bool) (more after : Bool → List ℕ → Link → Type 0) (next : Link) (ended : Bool) (text text' : List ℕ) (mid last : Link)
+rest_of_appended_items : (b : Bool) (more after : Bool → List ℕ → Link → Type 0) (next : Link) (ended : Bool) (text text' : List ℕ) (mid last : Link)
     → ((more false text mid) → after ended (text ++ text') last) → Rest b more next false text mid → Rest b after next ended (text ++ text') last
-rest_append true more after next ended text text' mid last go p = absurd (true-not-false p.0)
+rest_of_appended_items true more after next ended text text' mid last go p = absurd (true-not-false p.0)
   where
     true-not-false : false ≡ true → ⊥
     true-not-false e = absurd cc
-rest_append false more after next ended text text' mid last go p = go p
+rest_of_appended_items false more after next ended text text' mid last go p = go p
 
 -- none of the first ends the connection
-Answers-append : (l : Link) (xs ys : List Item) (ended : Bool) (text text' : List ℕ) (mid last : Link) → Answers l xs false text mid
+answers_to_appended_items : (l : Link) (xs ys : List Item) (ended : Bool) (text text' : List ℕ) (mid last : Link) → Answers l xs false text mid
     → Answers mid ys ended text' last → Answers l (xs ++ ys) ended (text ++ text') last
 unfolding Answers
-Answers-append l [] ys ended text text' mid last a b =
+answers_to_appended_items l [] ys ended text text' mid last a b =
     subst (λ (m : Link). Answers m ys ended (text ++ text') last) a.2
     (subst (λ (t : List ℕ). Answers mid ys ended (t ++ text') last) (sym a.1) b)
-Answers-append l (x ∷ xs) ys ended text text' mid last (first, next, rest, answers, more, is) b = (
+answers_to_appended_items l (x ∷ xs) ys ended text text' mid last (first, next, rest, answers, more, is) b = (
   first,
   next,
   rest ++ text',
   answers,
-  rest_append (ends l x) (Answers next xs) (Answers next (xs ++ ys)) next ended rest text' mid last
-      (λ p. Answers-append next xs ys ended rest text' mid last p b) more,
+  rest_of_appended_items (ends l x) (Answers next xs) (Answers next (xs ++ ys)) next ended rest text' mid last
+      (λ p. answers_to_appended_items next xs ys ended rest text' mid last p b) more,
   ap (λ (t : List ℕ). t ++ text') is ∙ append_assoc first rest text',
 )
 
-rest_past : (b : Bool) (more after : Bool → List ℕ → Link → Type 0) (next : Link) (text : List ℕ) (last : Link)
+rest_past_ending_item : (b : Bool) (more after : Bool → List ℕ → Link → Type 0) (next : Link) (text : List ℕ) (last : Link)
     → (more true text last → after true text last) → Rest b more next true text last → Rest b after next true text last
-rest_past true more after next text last go p = p
-rest_past false more after next text last go p = go p
+rest_past_ending_item true more after next text last go p = p
+rest_past_ending_item false more after next text last go p = go p
 
 -- behind one that ends the connection nothing counts
-Answers-past : (l : Link) (xs ys : List Item) (text : List ℕ) (last : Link) → Answers l xs true text last → Answers l (xs ++ ys) true text last
+answers_past_ending_item : (l : Link) (xs ys : List Item) (text : List ℕ) (last : Link) → Answers l xs true text last → Answers l (xs ++ ys) true text last
 unfolding Answers
-Answers-past l [] ys text last a = absurd cc
-Answers-past l (x ∷ xs) ys text last (first, next, rest, answers, more, is) = (
+answers_past_ending_item l [] ys text last a = absurd cc
+answers_past_ending_item l (x ∷ xs) ys text last (first, next, rest, answers, more, is) = (
   first,
   next,
   rest,
   answers,
-  rest_past (ends l x) (Answers next xs) (Answers next (xs ++ ys)) next rest last (λ p. Answers-past next xs ys rest last p) more,
+  rest_past_ending_item (ends l x) (Answers next xs) (Answers next (xs ++ ys)) next rest last (λ p. answers_past_ending_item next xs ys rest last p) more,
   is,
 )
 
-rest_one : (b : Bool) (next : Link) → Rest b (Answers next []) next b [] next
+rest_of_single_item : (b : Bool) (next : Link) → Rest b (Answers next []) next b [] next
 unfolding Answers
-rest_one true next = (refl, refl, refl)
-rest_one false next = (refl, refl, refl)
+rest_of_single_item true next = (refl, refl, refl)
+rest_of_single_item false next = (refl, refl, refl)
 
-Answers-one : (l : Link) (x : Item) (b : Bool) (text : List ℕ) (next : Link) → ends l x ≡ b → AnswersItem l x text next
+answers_to_single_item : (l : Link) (x : Item) (b : Bool) (text : List ℕ) (next : Link) → ends l x ≡ b → AnswersItem l x text next
     → Answers l (x ∷ []) b text next
 unfolding Answers
-Answers-one l x b text next is a =
-    (text, next, [], a, subst (λ (c : Bool). Rest c (Answers next []) next b [] next) (sym is) (rest_one b next), sym (append-nil text))
+answers_to_single_item l x b text next is a =
+    (text, next, [], a, subst (λ (c : Bool). Rest c (Answers next []) next b [] next) (sym is) (rest_of_single_item b next), sym (append-nil text))
 
 -- ---- after each byte
 
 -- after these bytes: what is left, what was written, the connection, and the reader's place
-pub record At (l0 : Link) (input w0 left written : Option (List ℕ)) (l : Link) (place : Place) (n : ℕ) : Type 0 where
+pub record AfterBytes (l0 : Link) (input w0 left written : Option (List ℕ)) (l : Link) (place : Place) (n : ℕ) : Type 0 where
   pub bytes : List ℕ
   pub count : length bytes ≡ n
   pub parts : Consumes input left bytes
@@ -140,84 +140,84 @@ pub record At (l0 : Link) (input w0 left written : Option (List ℕ)) (l : Link)
   pub grown : Appends w0 written text
   pub stands : place ≡ kept (place_after Between bytes)
 
-pub at_start : (l : Link) (input w0 : Option (List ℕ)) (place : Place) → place ≡ Between → At l input w0 input w0 l place 0
+pub after_no_bytes : (l : Link) (input w0 : Option (List ℕ)) (place : Place) → place ≡ Between → AfterBytes l input w0 input w0 l place 0
 unfolding items_from place_after
-at_start l input w0 place begins = record {
+after_no_bytes l input w0 place begins = record {
   bytes = [];
   count = refl;
   parts = Consumes-nil input;
   text = [];
-  answers = Answers-nil l;
+  answers = answers_to_no_items l;
   grown = Appends-nil w0;
   stands = begins;
 }
 
-items_from-one : (p : Place) (b : ℕ) → items_from p (b ∷ []) ≡ stream.ends p b
+items_from_single_byte : (p : Place) (b : ℕ) → items_from p (b ∷ []) ≡ stream.ends p b
 unfolding items_from
-items_from-one p b = append-nil (stream.ends p b)
+items_from_single_byte p b = append-nil (stream.ends p b)
 
-place_after-push : (p : Place) (bytes : List ℕ) (b : ℕ) → place_after p (bytes ++ b ∷ []) ≡ step (place_after p bytes) b
+place_after_pushed_byte : (p : Place) (bytes : List ℕ) (b : ℕ) → place_after p (bytes ++ b ∷ []) ≡ step (place_after p bytes) b
 unfolding place_after
-place_after-push p [] b = refl
-place_after-push p (x ∷ bytes) b = place_after-push (step p x) bytes b
+place_after_pushed_byte p [] b = refl
+place_after_pushed_byte p (x ∷ bytes) b = place_after_pushed_byte (step p x) bytes b
 
 -- what a byte ends is found, whatever of the packet is kept
-items-push : (bytes : List ℕ) (b : ℕ) (place : Place) (ended : List Item) → place ≡ kept (place_after Between bytes) → ended ≡ stream.ends place b
+items_of_pushed_byte : (bytes : List ℕ) (b : ℕ) (place : Place) (ended : List Item) → place ≡ kept (place_after Between bytes) → ended ≡ stream.ends place b
     → items (bytes ++ b ∷ []) ≡ items bytes ++ ended
-items-push bytes b place ended is finds = items_from-append Between bytes (b ∷ [])
-    ∙ ap (λ (xs : List Item). items bytes ++ xs) (items_from-one (place_after Between bytes) b ∙ sym (ends-kept (place_after Between bytes) b)
+items_of_pushed_byte bytes b place ended is finds = items_from_of_append Between bytes (b ∷ [])
+    ∙ ap (λ (xs : List Item). items bytes ++ xs) (items_from_single_byte (place_after Between bytes) b ∙ sym (ends_of_kept (place_after Between bytes) b)
     ∙ ap (λ (p : Place). stream.ends p b) (sym is) ∙ sym finds)
 
-place-push : (bytes : List ℕ) (b : ℕ) (place next : Place) → place ≡ kept (place_after Between bytes) → next ≡ kept (step place b)
+kept_place_after_pushed_byte : (bytes : List ℕ) (b : ℕ) (place next : Place) → place ≡ kept (place_after Between bytes) → next ≡ kept (step place b)
     → next ≡ kept (place_after Between (bytes ++ b ∷ []))
-place-push bytes b place next is steps = steps ∙ ap (λ (p : Place). kept (step p b)) is ∙ step-kept (place_after Between bytes) b
-    ∙ ap kept (sym (place_after-push Between bytes b))
+kept_place_after_pushed_byte bytes b place next is steps = steps ∙ ap (λ (p : Place). kept (step p b)) is ∙ kept_step_of_kept (place_after Between bytes) b
+    ∙ ap kept (sym (place_after_pushed_byte Between bytes b))
 
-take-whole : (xs rest : List ℕ) (n : ℕ) → length xs ≡ n → take n (xs ++ rest) ≡ xs
-take-whole [] rest n e = ap (λ (k : ℕ). take k rest) (sym e)
-take-whole (x ∷ xs) rest zero e = absurd (positive (length xs) e)
+take_of_append_is_first_part : (xs rest : List ℕ) (n : ℕ) → length xs ≡ n → take n (xs ++ rest) ≡ xs
+take_of_append_is_first_part [] rest n e = ap (λ (k : ℕ). take k rest) (sym e)
+take_of_append_is_first_part (x ∷ xs) rest zero e = absurd (positive (length xs) e)
   where
     positive : (k : ℕ) → suc k ≡ 0 → ⊥
     positive k h = omega (arith, h)
-take-whole (x ∷ xs) rest (suc n) e = let less : length xs ≡ n = omega (arith, e) in ap (λ (ys : List ℕ). x ∷ ys) (take-whole xs rest n less)
+take_of_append_is_first_part (x ∷ xs) rest (suc n) e = let less : length xs ≡ n = omega (arith, e) in ap (λ (ys : List ℕ). x ∷ ys) (take_of_append_is_first_part xs rest n less)
 
-take-front : (xs rest : List ℕ) (limit : ℕ) → length xs ≤ limit → take limit (xs ++ rest) ≡ xs ++ take (limit - length xs) rest
-take-front [] rest limit h = let all : limit ≡ limit - 0 = omega arith in ap (λ (k : ℕ). take k rest) all
-take-front (x ∷ xs) rest zero h = absurd (none (length xs) h)
+take_of_append_beyond_first_part : (xs rest : List ℕ) (limit : ℕ) → length xs ≤ limit → take limit (xs ++ rest) ≡ xs ++ take (limit - length xs) rest
+take_of_append_beyond_first_part [] rest limit h = let all : limit ≡ limit - 0 = omega arith in ap (λ (k : ℕ). take k rest) all
+take_of_append_beyond_first_part (x ∷ xs) rest zero h = absurd (none (length xs) h)
   where
     none : (k : ℕ) → suc k ≤ 0 → ⊥
     none k h = omega (arith, h)
-take-front (x ∷ xs) rest (suc limit) h =
+take_of_append_beyond_first_part (x ∷ xs) rest (suc limit) h =
     let less : limit - length xs ≡ suc limit - suc (length xs) = omega arith in
-    ap (λ (ys : List ℕ). x ∷ ys) (take-front xs rest limit (omega (arith, h))) ∙ ap (λ (k : ℕ). x ∷ (xs ++ take k rest)) less
+    ap (λ (ys : List ℕ). x ∷ ys) (take_of_append_beyond_first_part xs rest limit (omega (arith, h))) ∙ ap (λ (k : ℕ). x ∷ (xs ++ take k rest)) less
 
 -- whatever comes behind
-any_behind : (input left : Option (List ℕ)) (bytes : List ℕ) (P : List ℕ → Type 0) → Consumes input left bytes
+property_of_all_consumed : (input left : Option (List ℕ)) (bytes : List ℕ) (P : List ℕ → Type 0) → Consumes input left bytes
     → ((rest : List ℕ) → P (bytes ++ rest)) → IfSome input P
-any_behind None left bytes P took go = tt
-any_behind (Some xs) None bytes P took go = absurd took
-any_behind (Some xs) (Some ys) bytes P took go = subst P (sym took) (go ys)
+property_of_all_consumed None left bytes P took go = tt
+property_of_all_consumed (Some xs) None bytes P took go = absurd took
+property_of_all_consumed (Some xs) (Some ys) bytes P took go = subst P (sym took) (go ys)
 
 module _ (l0 : Link) (input w0 left left' written : Option (List ℕ)) (l : Link) (place : Place) (n : ℕ)
-    (at : At l0 input w0 left written l place n) where
+    (at : AfterBytes l0 input w0 left written l place n) where
   -- a byte that ends nothing
   pub at_byte : (b : ℕ) (next : Place) (payload : List ℕ) → Consumes left left' (b ∷ []) → items_found None payload ≡ stream.ends place b
-      → next ≡ kept (step place b) → At l0 input w0 left' written l next (n + 1)
+      → next ≡ kept (step place b) → AfterBytes l0 input w0 left' written l next (n + 1)
   at_byte b next payload took finds steps = record {
     bytes = at.bytes ++ b ∷ [];
     count = omega (arith, length-append at.bytes (b ∷ []), at.count);
     parts = Consumes-trans input left left' at.bytes (b ∷ []) at.parts took;
     text = at.text;
     answers = subst (λ (xs : List Item). Answers l0 xs false at.text l)
-        (sym (items-push at.bytes b place [] at.stands finds ∙ append-nil (items at.bytes))) at.answers;
+        (sym (items_of_pushed_byte at.bytes b place [] at.stands finds ∙ append-nil (items at.bytes))) at.answers;
     grown = at.grown;
-    stands = place-push at.bytes b place next at.stands steps;
+    stands = kept_place_after_pushed_byte at.bytes b place next at.stands steps;
   }
 
   module _ (b : ℕ) (f : Found) (payload : List ℕ) (took : Consumes left left' (b ∷ []))
       (finds : items_found (Some f) payload ≡ stream.ends place b) where
     all_items : items (at.bytes ++ b ∷ []) ≡ items at.bytes ++ item_found f payload ∷ []
-    all_items = items-push at.bytes b place (item_found f payload ∷ []) at.stands finds
+    all_items = items_of_pushed_byte at.bytes b place (item_found f payload ∷ []) at.stands finds
 
     all_taken : Consumes input left' (at.bytes ++ b ∷ [])
     all_taken = Consumes-trans input left left' at.bytes (b ∷ []) at.parts took
@@ -229,12 +229,12 @@ module _ (l0 : Link) (input w0 left left' written : Option (List ℕ)) (l : Link
     all_answers : (next : Link) (written' : Option (List ℕ)) (e : Bool) → ends l (item_found f payload) ≡ e
         → (s : Sent (AnswersItem l (item_found f payload)) next written written') → Answers l0 (items (at.bytes ++ b ∷ [])) e (at.text ++ s.text) next
     all_answers next written' e is s = subst (λ (xs : List Item). Answers l0 xs e (at.text ++ s.text) next) (sym all_items)
-        (Answers-append l0 (items at.bytes) (item_found f payload ∷ []) e at.text s.text l next at.answers
-        (Answers-one l (item_found f payload) e s.text next is s.is))
+        (answers_to_appended_items l0 (items at.bytes) (item_found f payload ∷ []) e at.text s.text l next at.answers
+        (answers_to_single_item l (item_found f payload) e s.text next is s.is))
 
     pub at_item : (next : Link) (written' : Option (List ℕ)) (place' : Place) → place' ≡ kept (step place b)
         → ends l (item_found f payload) ≡ false → Sent (AnswersItem l (item_found f payload)) next written written'
-        → At l0 input w0 left' written' next place' (n + 1)
+        → AfterBytes l0 input w0 left' written' next place' (n + 1)
     at_item next written' place' steps goes s = record {
       bytes = at.bytes ++ b ∷ [];
       count = all_count;
@@ -242,13 +242,13 @@ module _ (l0 : Link) (input w0 left left' written : Option (List ℕ)) (l : Link
       text = at.text ++ s.text;
       answers = all_answers next written' false goes s;
       grown = Appends-trans w0 written written' at.text s.text at.grown s.grown;
-      stands = place-push at.bytes b place place' at.stands steps;
+      stands = kept_place_after_pushed_byte at.bytes b place place' at.stands steps;
     }
 
     module _ (limit : ℕ) (below : n < limit) where
       -- the first bytes that may be read are these and others
       within_limit : (rest : List ℕ) → take limit ((at.bytes ++ b ∷ []) ++ rest) ≡ (at.bytes ++ b ∷ []) ++ take (limit - length (at.bytes ++ b ∷ [])) rest
-      within_limit rest = take-front (at.bytes ++ b ∷ []) rest limit (omega (arith, all_count, below))
+      within_limit rest = take_of_append_beyond_first_part (at.bytes ++ b ∷ []) rest limit (omega (arith, all_count, below))
 
       -- the item ended the connection
       quit_leads : (next : Link) (written' : Option (List ℕ)) (rest : List ℕ) → ends l (item_found f payload) ≡ true
@@ -261,14 +261,14 @@ module _ (l0 : Link) (input w0 left left' written : Option (List ℕ)) (l : Link
           last = next;
           answers = subst (λ (bytes : List ℕ). Answers l0 (items bytes) true (at.text ++ s.text) next) (sym (within_limit rest))
               (subst (λ (xs : List Item). Answers l0 xs true (at.text ++ s.text) next)
-              (sym (items_from-append Between (at.bytes ++ b ∷ []) (take (limit - length (at.bytes ++ b ∷ [])) rest)))
-              (Answers-past l0 (items (at.bytes ++ b ∷ [])) _ (at.text ++ s.text) next (all_answers next written' true quits s)));
+              (sym (items_from_of_append Between (at.bytes ++ b ∷ []) (take (limit - length (at.bytes ++ b ∷ [])) rest)))
+              (answers_past_ending_item l0 (items (at.bytes ++ b ∷ [])) _ (at.text ++ s.text) next (all_answers next written' true quits s)));
           grown = Appends-trans w0 written written' at.text s.text at.grown s.grown;
         };
       }
 
       pub quit_ended : (next : Link) (written' : Option (List ℕ)) → ends l (item_found f payload) ≡ true
-          → Sent (AnswersItem l (item_found f payload)) next written written' → Reads limit input left' (LeadsTo l0 limit (Ok Quit) w0 written')
+          → Sent (AnswersItem l (item_found f payload)) next written written' → ReadsUpTo limit input left' (LeadsTo l0 limit (Ok Quit) w0 written')
       quit_ended next written' quits s = record {
         consumed = at.bytes ++ b ∷ [];
         taken = all_taken;
@@ -278,13 +278,13 @@ module _ (l0 : Link) (input w0 left left' written : Option (List ℕ)) (l : Link
 
       pub quit_known : (next : Link) (written' : Option (List ℕ)) → ends l (item_found f payload) ≡ true
           → Sent (AnswersItem l (item_found f payload)) next written written' → IfSome input (LeadsTo l0 limit (Ok Quit) w0 written')
-      quit_known next written' quits s = any_behind input left' (at.bytes ++ b ∷ []) (LeadsTo l0 limit (Ok Quit) w0 written') all_taken
+      quit_known next written' quits s = property_of_all_consumed input left' (at.bytes ++ b ∷ []) (LeadsTo l0 limit (Ok Quit) w0 written') all_taken
           (λ rest. quit_leads next written' rest quits s)
 
       -- the writer failed in the answer to the item
       pub write_failed : (written' : Option (List ℕ))
           → SentInPart (AnswersItem l (item_found f payload)) (before_reply l (item_found f payload)) written written'
-          → Reads limit input left' (λ consumed. WroteInPart l0 (items consumed) w0 written')
+          → ReadsUpTo limit input left' (λ consumed. WroteInPart l0 (items consumed) w0 written')
       write_failed written' s = record {
         consumed = at.bytes ++ b ∷ [];
         taken = all_taken;
@@ -301,7 +301,7 @@ module _ (l0 : Link) (input w0 left left' written : Option (List ℕ)) (l : Link
 
   module _ (limit : ℕ) (below : n < limit) where
     -- the reader failed
-    pub read_failed : Keeps left left' → Reads limit input left' (λ consumed. Wrote l0 (items consumed) false w0 written)
+    pub read_failed : Keeps left left' → ReadsUpTo limit input left' (λ consumed. Wrote l0 (items consumed) false w0 written)
     read_failed kept = record {
       consumed = at.bytes;
       taken = Consumes-kept input left left' at.bytes at.parts kept;
@@ -327,7 +327,7 @@ module _ (l0 : Link) (input w0 left left' written : Option (List ℕ)) (l : Link
     ended_bytes : Consumes left left' [] → Consumes input left' at.bytes
     ended_bytes took = subst (Consumes input left') (append-nil at.bytes) (Consumes-trans input left left' at.bytes [] at.parts took)
 
-    pub end_ended : Consumes left left' [] → Reads limit input left' (LeadsTo l0 limit (Ok InputEnd) w0 written)
+    pub end_ended : Consumes left left' [] → ReadsUpTo limit input left' (LeadsTo l0 limit (Ok InputEnd) w0 written)
     end_ended took = record {
       consumed = at.bytes;
       taken = ended_bytes took;
@@ -340,7 +340,7 @@ module _ (l0 : Link) (input w0 left left' written : Option (List ℕ)) (l : Link
 
 -- the limit came
 module _ (l0 : Link) (input w0 left written : Option (List ℕ)) (l : Link) (place : Place) (limit : ℕ)
-    (at : At l0 input w0 left written l place limit) where
+    (at : AfterBytes l0 input w0 left written l place limit) where
   long_leads : (rest : List ℕ) → LeadsTo l0 limit (Err fault.TooLong) w0 written (at.bytes ++ rest)
   long_leads rest =
       let long : limit ≤ length (at.bytes ++ rest) = omega (arith, length-append at.bytes rest, at.count) in
@@ -350,12 +350,12 @@ module _ (l0 : Link) (input w0 left written : Option (List ℕ)) (l : Link) (pla
         wrote = record {
           text = at.text;
           last = l;
-          answers = subst (λ (bytes : List ℕ). Answers l0 (items bytes) false at.text l) (sym (take-whole at.bytes rest limit at.count)) at.answers;
+          answers = subst (λ (bytes : List ℕ). Answers l0 (items bytes) false at.text l) (sym (take_of_append_is_first_part at.bytes rest limit at.count)) at.answers;
           grown = at.grown;
         };
       }
 
-  pub long_ended : Reads limit input left (LeadsTo l0 limit (Err fault.TooLong) w0 written)
+  pub long_ended : ReadsUpTo limit input left (LeadsTo l0 limit (Err fault.TooLong) w0 written)
   long_ended = record {
     consumed = at.bytes;
     taken = at.parts;
@@ -364,4 +364,4 @@ module _ (l0 : Link) (input w0 left written : Option (List ℕ)) (l : Link) (pla
   }
 
   pub long_known : IfSome input (LeadsTo l0 limit (Err fault.TooLong) w0 written)
-  long_known = any_behind input left at.bytes (LeadsTo l0 limit (Err fault.TooLong) w0 written) at.parts long_leads
+  long_known = property_of_all_consumed input left at.bytes (LeadsTo l0 limit (Err fault.TooLong) w0 written) at.parts long_leads

@@ -7,7 +7,7 @@ use Rattle.ir_command.specs.declared.command.Direction.TheVariants.{Forwards}
 use Rattle.ir_command.specs.declared.hit.Hit.{Hit}
 use Rattle.ir_hits.specs.Hits.{Numbered, thread_at}
 use Rattle.ir_hits.specs.Searching.{IsNextHit}
-use Rattle.ir_timeline.specs.Positions.{Cuts, threads_of, last_of}
+use Rattle.ir_timeline.specs.Positions.{IsCutOf, threads_of, last_of}
 use Rattle.ir_packet.specs.declared.request.Motion.{Motion}
 use Rattle.ir_packet.specs.declared.request.Motion.TheVariants as motion
 use Rattle.ir_gdb.specs.declared.point.Breakpoint.{Breakpoint}
@@ -20,143 +20,136 @@ use Rattle.ir_gdb.specs.Stops.{position_of, MovesTo}
 use Rattle.ir_gdb.specs.Together.{Halt, Comes, MovesAlone}
 use Rattle.ir_gdb.specs.Over.{pc_of, points_over, OnWay, HasHit, NoneHasHit, OtherHasHit, PassesHit, over, StepsOver, is_step, waits, no_more, LeadsBy, LeadsAlone}
 use Rattle.ir_gdb.specs.Moves.{settled, told_text, Leads, Moves, MovesBy, together_after, with_together}
-use Rattle.ir_gdb.proofs.Together.{and_next}
+use Rattle.ir_gdb.proofs.Together.{holds_below_next_but_one}
 
 -- ---- hits of a thread on its way
 
--- a thread that isn't moved has none
-pub not_moved : (s v : Stub) (pc u to here : ℕ) (cut : List ℕ) → v ≡ spoken s → to ≡ cut_of cut u → here ≡ position_of v u → to ≤ here
-    → EachRun s.desk.fitted (λ run. HasHit false run s pc cut u)
-not_moved s v pc u to here cut same at from le run whole =
-    let first : here ≡ position_of s u = from ∙ ap (λ (x : Stub). position_of x u) same in
-    λ j n low high hit. absurd (omega (arith, at, first, le, low, high))
+pub cut_position_within_last : (f : FittedTrace) (cut : List ℕ) (t : ℕ) → HasRun f → IsCutOf f cut → t < threads_of f → cut_of cut t ≤ last_of f t
+cut_position_within_last f cut t has is l = subst (λ (n : ℕ). cut_of cut t ≤ n) (has.whole.1.steps t l) ((is.1 has.run has.whole).0 t)
 
-pub cut_within : (f : FittedTrace) (cut : List ℕ) (t : ℕ) → HasRun f → Cuts f cut → t < threads_of f → cut_of cut t ≤ last_of f t
-cut_within f cut t has is l = subst (λ (n : ℕ). cut_of cut t ≤ n) (has.whole.1.steps t l) ((is.1 has.run has.whole).0 t)
+pub own_position_at_most_target : (to p t : ℕ) (here at : List ℕ) → p < to → here ≡ at → p ≡ cut_of at t → cut_of here t ≤ to
+own_position_at_most_target to p t here at far is from = let same = ap (λ (x : List ℕ). cut_of x t) is in omega (arith, far, same, from)
 
-pub ahead : (to p t : ℕ) (here at : List ℕ) → p < to → here ≡ at → p ≡ cut_of at t → cut_of here t ≤ to
-ahead to p t here at far is from = let same = ap (λ (x : List ℕ). cut_of x t) is in omega (arith, far, same, from)
-
-by_found : (run : List Step) (s : Stub) (pc u : ℕ) (cut : List ℕ) (hit : Option Hit) → OnWay run s pc cut u hit
+has_hit_by_found : (run : List Step) (s : Stub) (pc u : ℕ) (cut : List ℕ) (hit : Option Hit) → OnWay run s pc cut u hit
     → HasHit (is_some hit) run s pc cut u
-by_found run s pc u cut None way = way
-by_found run s pc u cut (Some h) way = (h, way)
+has_hit_by_found run s pc u cut None way = way
+has_hit_by_found run s pc u cut (Some h) way = (h, way)
 
-pub points_are : (s v : Stub) (pc u : ℕ) (points : List Numbered) (ws : List Watched) (bs : List Breakpoint) (own : List Numbered) → v ≡ spoken s
+pub search_points_are_points_over : (s v : Stub) (pc u : ℕ) (points : List Numbered) (ws : List Watched) (bs : List Breakpoint) (own : List Numbered) → v ≡ spoken s
     → points ≡ with_point (points_upwards u ws bs own) u pc → ws ≡ [] → bs ≡ v.breaks → own ≡ v.desk.points → points ≡ points_over s pc u
-points_are s v pc u points ws bs own same is watches breaks mine =
+search_points_are_points_over s v pc u points ws bs own same is watches breaks mine =
     is ∙ ap (λ (x : List Watched). with_point (points_upwards u x bs own) u pc) watches
     ∙ ap (λ (x : List Breakpoint). with_point (points_upwards u [] x own) u pc) (breaks ∙ ap (λ (x : Stub). x.breaks) same)
     ∙ ap (λ (x : List Numbered). with_point (points_upwards u [] s.breaks x) u pc) (mine ∙ ap (λ (x : Stub). x.desk.points) same)
 
-pub way_found : (s : Stub) (f : FittedTrace) (pc u to : ℕ) (cut here : List ℕ) (points : List Numbered) (hit : Option Hit) (is : Bool)
+pub has_hit_by_search_on_way : (s : Stub) (f : FittedTrace) (pc u to : ℕ) (cut here : List ℕ) (points : List Numbered) (hit : Option Hit) (is : Bool)
     → f ≡ s.desk.fitted → here ≡ s.desk.at → to ≡ cut_of cut u → points ≡ points_over s pc u
     → EachRun f (λ run. IsNextHit f run points u (cut_of here u) to hit) → is ≡ is_some hit
     → EachRun s.desk.fitted (λ run. HasHit is run s pc cut u)
-way_found s f pc u to cut here points hit is same at ends are finds found run whole =
+has_hit_by_search_on_way s f pc u to cut here points hit is same at ends are finds found run whole =
     let one = subst (λ (g : FittedTrace). EachRun g (λ r. IsNextHit g r points u (cut_of here u) to hit)) same finds run whole in
     let by_points = subst (λ (ps : List Numbered). IsNextHit s.desk.fitted run ps u (cut_of here u) to hit) are one in
     let by_here = subst (λ (xs : List ℕ). IsNextHit s.desk.fitted run (points_over s pc u) u (cut_of xs u) to hit) at by_points in
     let by_end = subst (λ (n : ℕ). IsNextHit s.desk.fitted run (points_over s pc u) u (position_of s u) n hit) ends by_here in
-    subst (λ (b : Bool). HasHit b run s pc cut u) (sym found) (by_found run s pc u cut hit by_end)
+    subst (λ (b : Bool). HasHit b run s pc cut u) (sym found) (has_hit_by_found run s pc u cut hit by_end)
 
 -- ---- hits of the others
 
-hit_said : (is : Bool) (run : List Step) (s : Stub) (pc u : ℕ) (cut : List ℕ) → HasHit is run (spoken s) pc cut u → HasHit is run s pc cut u
-hit_said true run s pc u cut has = has
-hit_said false run s pc u cut has = has
+has_hit_ignores_spoken : (is : Bool) (run : List Step) (s : Stub) (pc u : ℕ) (cut : List ℕ) → HasHit is run (spoken s) pc cut u → HasHit is run s pc cut u
+has_hit_ignores_spoken true run s pc u cut has = has
+has_hit_ignores_spoken false run s pc u cut has = has
 
-has_said : (s v : Stub) (is : Bool) (pc u : ℕ) (cut : List ℕ) → v ≡ spoken s → EachRun v.desk.fitted (λ run. HasHit is run v pc cut u)
+has_hit_before_spoken : (s v : Stub) (is : Bool) (pc u : ℕ) (cut : List ℕ) → v ≡ spoken s → EachRun v.desk.fitted (λ run. HasHit is run v pc cut u)
     → EachRun s.desk.fitted (λ run. HasHit is run s pc cut u)
-has_said s v is pc u cut same has run whole =
-    hit_said is run s pc u cut (subst (λ (x : Stub). EachRun x.desk.fitted (λ r. HasHit is r x pc cut u)) same has run whole)
+has_hit_before_spoken s v is pc u cut same has run whole =
+    has_hit_ignores_spoken is run s pc u cut (subst (λ (x : Stub). EachRun x.desk.fitted (λ r. HasHit is r x pc cut u)) same has run whole)
 
-pub none_yet : (s : Stub) (pc t : ℕ) (cut : List ℕ) → EachRun s.desk.fitted (λ run. NoneHasHit run s pc cut t 0)
-none_yet s pc t cut run whole = λ u below other. absurd (omega (arith, below))
+pub none_has_hit_at_start : (s : Stub) (pc t : ℕ) (cut : List ℕ) → EachRun s.desk.fitted (λ run. NoneHasHit run s pc cut t 0)
+none_has_hit_at_start s pc t cut run whole = λ u below other. absurd (omega (arith, below))
 
 -- the mover itself is left out
-pub none_but : (s : Stub) (pc t n : ℕ) (cut : List ℕ) → n ≡ t → EachRun s.desk.fitted (λ run. NoneHasHit run s pc cut t n)
+pub none_has_hit_step_for_mover : (s : Stub) (pc t n : ℕ) (cut : List ℕ) → n ≡ t → EachRun s.desk.fitted (λ run. NoneHasHit run s pc cut t n)
     → EachRun s.desk.fitted (λ run. NoneHasHit run s pc cut t (n + 1))
-none_but s pc t n cut same none run whole =
-    and_next (λ u. HasHit false run s pc cut u) t n (none run whole) (λ other. absurd (other same))
+none_has_hit_step_for_mover s pc t n cut same none run whole =
+    holds_below_next_but_one (λ u. HasHit false run s pc cut u) t n (none run whole) (λ other. absurd (other same))
 
-pub none_next : (s v : Stub) (is : Bool) (pc t n : ℕ) (cut : List ℕ) → v ≡ spoken s → is ≡ false
+pub none_has_hit_step : (s v : Stub) (is : Bool) (pc t n : ℕ) (cut : List ℕ) → v ≡ spoken s → is ≡ false
     → EachRun v.desk.fitted (λ run. HasHit is run v pc cut n) → EachRun s.desk.fitted (λ run. NoneHasHit run s pc cut t n)
     → EachRun s.desk.fitted (λ run. NoneHasHit run s pc cut t (n + 1))
-none_next s v is pc t n cut same lacks has none run whole =
-    and_next (λ u. HasHit false run s pc cut u) t n (none run whole)
-    (λ other. subst (λ (b : Bool). HasHit b run s pc cut n) lacks (has_said s v is pc n cut same has run whole))
+none_has_hit_step s v is pc t n cut same lacks has none run whole =
+    holds_below_next_but_one (λ u. HasHit false run s pc cut u) t n (none run whole)
+    (λ other. subst (λ (b : Bool). HasHit b run s pc cut n) lacks (has_hit_before_spoken s v is pc n cut same has run whole))
 
-pub pc_is : (s : Stub) (t p pc : ℕ) → p ≡ position_of s t → EachRun s.desk.fitted (λ run. pc ≡ (thread_at s.desk.fitted run t p).core.pc)
+pub pc_at_read_position : (s : Stub) (t p pc : ℕ) → p ≡ position_of s t → EachRun s.desk.fitted (λ run. pc ≡ (thread_at s.desk.fitted run t p).core.pc)
     → EachRun s.desk.fitted (λ run. pc ≡ pc_of run s t)
-pc_is s t p pc at is run whole = is run whole ∙ ap (λ (n : ℕ). (thread_at s.desk.fitted run t n).core.pc) at
+pc_at_read_position s t p pc at is run whole = is run whole ∙ ap (λ (n : ℕ). (thread_at s.desk.fitted run t n).core.pc) at
 
-pub one_found : (s v : Stub) (is : Bool) (pc t n : ℕ) (cut : List ℕ) → v ≡ spoken s → is ≡ true → n ≢ t → n < threads_of s.desk.fitted
+pub other_has_hit_if_found : (s v : Stub) (is : Bool) (pc t n : ℕ) (cut : List ℕ) → v ≡ spoken s → is ≡ true → n ≢ t → n < threads_of s.desk.fitted
     → EachRun s.desk.fitted (λ run. pc ≡ pc_of run s t) → EachRun v.desk.fitted (λ run. HasHit is run v pc cut n)
     → EachRun s.desk.fitted (λ run. OtherHasHit true run s (pc_of run s t) cut t)
-one_found s v is pc t n cut same hits other below at has run whole =
-    let said = subst (λ (b : Bool). HasHit b run s pc cut n) hits (has_said s v is pc n cut same has run whole) in
+other_has_hit_if_found s v is pc t n cut same hits other below at has run whole =
+    let said = subst (λ (b : Bool). HasHit b run s pc cut n) hits (has_hit_before_spoken s v is pc n cut same has run whole) in
     (n, below, other, subst (λ (a : ℕ). HasHit true run s a cut n) (at run whole) said)
 
-pub none_found : (s : Stub) (pc t n : ℕ) (cut : List ℕ) → threads_of s.desk.fitted ≤ n → EachRun s.desk.fitted (λ run. pc ≡ pc_of run s t)
+pub no_other_hit_if_none_found : (s : Stub) (pc t n : ℕ) (cut : List ℕ) → threads_of s.desk.fitted ≤ n → EachRun s.desk.fitted (λ run. pc ≡ pc_of run s t)
     → EachRun s.desk.fitted (λ run. NoneHasHit run s pc cut t n) → EachRun s.desk.fitted (λ run. OtherHasHit false run s (pc_of run s t) cut t)
-none_found s pc t n cut all at none run whole =
+no_other_hit_if_none_found s pc t n cut all at none run whole =
     subst (λ (a : ℕ). NoneHasHit run s a cut t (threads_of s.desk.fitted)) (at run whole)
     (λ u below other. none run whole u (omega (arith, below, all)) other)
 
 -- ---- whether one is passed
 
-pub passes_together : (s : Stub) (is : Bool) (t : ℕ) (cut : List ℕ) → s.together ≡ true
+pub passes_hit_if_together : (s : Stub) (is : Bool) (t : ℕ) (cut : List ℕ) → s.together ≡ true
     → EachRun s.desk.fitted (λ run. OtherHasHit is run s (pc_of run s t) cut t) → EachRun s.desk.fitted (λ run. PassesHit s.together is run s cut t)
-passes_together s is t cut so has run whole = subst (λ (b : Bool). PassesHit b is run s cut t) (sym so) (has run whole)
+passes_hit_if_together s is t cut so has run whole = subst (λ (b : Bool). PassesHit b is run s cut t) (sym so) (has run whole)
 
-pub passes_none : (s : Stub) (t : ℕ) (cut : List ℕ) → s.together ≡ false → EachRun s.desk.fitted (λ run. PassesHit s.together false run s cut t)
-passes_none s t cut so run whole = subst (λ (b : Bool). PassesHit b false run s cut t) (sym so) refl
+pub passes_no_hit_unless_together : (s : Stub) (t : ℕ) (cut : List ℕ) → s.together ≡ false → EachRun s.desk.fitted (λ run. PassesHit s.together false run s cut t)
+passes_no_hit_unless_together s t cut so run whole = subst (λ (b : Bool). PassesHit b false run s cut t) (sym so) refl
 
-passes_said : (b is : Bool) (run : List Step) (s : Stub) (t : ℕ) (cut : List ℕ) → PassesHit b is run (spoken s) cut t → PassesHit b is run s cut t
-passes_said true true run s t cut passes = passes
-passes_said true false run s t cut passes = passes
-passes_said false is run s t cut passes = passes
+passes_hit_ignores_spoken : (b is : Bool) (run : List Step) (s : Stub) (t : ℕ) (cut : List ℕ) → PassesHit b is run (spoken s) cut t → PassesHit b is run s cut t
+passes_hit_ignores_spoken true true run s t cut passes = passes
+passes_hit_ignores_spoken true false run s t cut passes = passes
+passes_hit_ignores_spoken false is run s t cut passes = passes
 
 -- ---- the step
 
-pub stepped_over : (s u v w : Stub) (t : ℕ) (to : Stopped) (cut : List ℕ) (is : Bool) (h : Halt) → u ≡ spoken s → v ≡ spoken u
+pub steps_over_and_settles : (s u v w : Stub) (t : ℕ) (to : Stopped) (cut : List ℕ) (is : Bool) (h : Halt) → u ≡ spoken s → v ≡ spoken u
     → EachRun s.desk.fitted (λ run. MovesTo run s t motion.Step to) → EachRun u.desk.fitted (λ run. Comes run u Forwards t to.position cut)
     → EachRun u.desk.fitted (λ run. PassesHit u.together is run u cut t) → h ≡ over is s t cut to → w ≡ settled v h
     → (h : Halt) × EachRun s.desk.fitted (λ run. StepsOver run s t h) × (w ≡ settled s h)
-stepped_over s u v w t to cut is h same again moves comes passes ends settles =
+steps_over_and_settles s u v w t to cut is h same again moves comes passes ends settles =
     let come = subst (λ (x : Stub). EachRun x.desk.fitted (λ run. Comes run x Forwards t to.position cut)) same comes in
     let pass = subst (λ (x : Stub). EachRun x.desk.fitted (λ run. PassesHit x.together is run x cut t)) same passes in
     let said : v ≡ spoken s = again ∙ ap (λ (x : Stub). spoken x) same in (
       h,
-      λ run whole. (to, moves run whole, (cut, come run whole, (is, passes_said s.together is run s t cut (pass run whole), ends))),
+      λ run whole. (to, moves run whole, (cut, come run whole, (is, passes_hit_ignores_spoken s.together is run s t cut (pass run whole), ends))),
       settles ∙ ap (λ (x : Stub). settled x h) said,
     )
 
 -- ---- a move alone
 
-pub led_waiting : (s v : Stub) (t : ℕ) (m n : Motion) → waits s t ≡ true → n ≡ no_more m
+pub leads_alone_if_waiting : (s v : Stub) (t : ℕ) (m n : Motion) → waits s t ≡ true → n ≡ no_more m
     → ((h : Halt) × EachRun s.desk.fitted (λ run. MovesAlone run s t n h) × (v ≡ settled s h))
     → (h : Halt) × EachRun s.desk.fitted (λ run. LeadsAlone run s t m h) × (v ≡ settled s h)
-led_waiting s v t m n so is (h, moves, settles) = (
+leads_alone_if_waiting s v t m n so is (h, moves, settles) = (
   h,
   λ run whole. subst (λ (b : Bool). LeadsBy b (is_step m) run s t m h) (sym so) (subst (λ (x : Motion). MovesAlone run s t x h) is (moves run whole)),
   settles,
 )
 
-pub led_over : (s v : Stub) (t : ℕ) (m : Motion) → waits s t ≡ false → is_step m ≡ true
+pub leads_alone_by_step_over : (s v : Stub) (t : ℕ) (m : Motion) → waits s t ≡ false → is_step m ≡ true
     → ((h : Halt) × EachRun s.desk.fitted (λ run. StepsOver run s t h) × (v ≡ settled s h))
     → (h : Halt) × EachRun s.desk.fitted (λ run. LeadsAlone run s t m h) × (v ≡ settled s h)
-led_over s v t m free step (h, moves, settles) = (
+leads_alone_by_step_over s v t m free step (h, moves, settles) = (
   h,
   λ run whole. subst (λ (b : Bool). LeadsBy b (is_step m) run s t m h) (sym free) (subst (λ (b : Bool). LeadsBy false b run s t m h) (sym step) (moves run whole)),
   settles,
 )
 
-pub led_on : (s v : Stub) (t : ℕ) (m : Motion) → waits s t ≡ false → is_step m ≡ false
+pub leads_alone_by_move : (s v : Stub) (t : ℕ) (m : Motion) → waits s t ≡ false → is_step m ≡ false
     → ((h : Halt) × EachRun s.desk.fitted (λ run. MovesAlone run s t m h) × (v ≡ settled s h))
     → (h : Halt) × EachRun s.desk.fitted (λ run. LeadsAlone run s t m h) × (v ≡ settled s h)
-led_on s v t m free step (h, moves, settles) = (
+leads_alone_by_move s v t m free step (h, moves, settles) = (
   h,
   λ run whole. subst (λ (b : Bool). LeadsBy b (is_step m) run s t m h) (sym free) (subst (λ (b : Bool). LeadsBy false b run s t m h) (sym step) (moves run whole)),
   settles,
@@ -164,11 +157,11 @@ led_on s v t m free step (h, moves, settles) = (
 
 -- ---- a move, and its reply
 
-pub carried_out : (s u v x : Stub) (who : Moving) (m : Motion) (together : Bool) (old new : List ℕ) → s.interrupted ≡ false
+pub moves_and_replies : (s u v x : Stub) (who : Moving) (m : Motion) (together : Bool) (old new : List ℕ) → s.interrupted ≡ false
     → ((h : Halt) × EachRun s.desk.fitted (λ run. Leads run s who.among who.thread m h) × (u ≡ settled s h))
     → together ≡ together_after s who m → v ≡ with_together u together → EachRun v.desk.fitted (λ run. new ≡ old ++ told_text run v) → x ≡ spoken v
     → (after : Stub) × EachRun s.desk.fitted (λ run. Moves run s who m after × (new ≡ old ++ told_text run after)) × (x ≡ spoken after)
-carried_out s u v x who m together old new goes (h, leads, settles) says is told last =
+moves_and_replies s u v x who m together old new goes (h, leads, settles) says is told last =
     let after : Stub = with_together (settled s h) (together_after s who m) in
     let same : v ≡ after = is ∙ ap (λ (y : Stub). with_together y together) settles ∙ ap (λ (b : Bool). with_together (settled s h) b) says in
     let text = subst (λ (y : Stub). EachRun y.desk.fitted (λ run. new ≡ old ++ told_text run y)) same told in (

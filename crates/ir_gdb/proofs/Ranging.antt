@@ -10,57 +10,57 @@ use Rattle.ir_gdb.specs.declared.stopped.Stopped.{Stopped}
 use Rattle.ir_gdb.specs.Stub.{Stub, spoken}
 use Rattle.ir_gdb.specs.Stops.{Leaves, RangesTo, position_of, upwards_of, after_range, end_of_range, ranged}
 
-upwards_said : (s : Stub) (t : ℕ) (w : Bool) → upwards_of (spoken s) t w ≡ upwards_of s t w
-upwards_said s t true = refl
-upwards_said s t false = refl
+upwards_of_ignores_spoken : (s : Stub) (t : ℕ) (w : Bool) → upwards_of (spoken s) t w ≡ upwards_of s t w
+upwards_of_ignores_spoken s t true = refl
+upwards_of_ignores_spoken s t false = refl
 
-end_is : (last : ℕ) (left : Option ℕ) → (after_range last left).position ≡ end_of_range last left
-end_is last None = refl
-end_is last (Some k) = refl
+position_of_after_range : (last : ℕ) (left : Option ℕ) → (after_range last left).position ≡ end_of_range last left
+position_of_after_range last None = refl
+position_of_after_range last (Some k) = refl
 
-range_end : (s : Stub) (t low high : ℕ) (left : Option ℕ) → HasRun s.desk.fitted → position_of s t ≤ last_of s.desk.fitted t
+end_of_range_within_thread : (s : Stub) (t low high : ℕ) (left : Option ℕ) → HasRun s.desk.fitted → position_of s t ≤ last_of s.desk.fitted t
     → EachRun s.desk.fitted (λ run. Leaves run s t low high left)
     → (position_of s t ≤ end_of_range (last_of s.desk.fitted t) left) × (end_of_range (last_of s.desk.fitted t) left ≤ last_of s.desk.fitted t)
-range_end s t low high None has le leaves = (le, omega arith)
-range_end s t low high (Some k) has le leaves = let all = leaves has.run has.whole in (omega (arith, all.0), all.1)
+end_of_range_within_thread s t low high None has le leaves = (le, omega arith)
+end_of_range_within_thread s t low high (Some k) has le leaves = let all = leaves has.run has.whole in (omega (arith, all.0), all.1)
 
-pub ends_at : (s u : Stub) (t last : ℕ) (left : Option ℕ) (e : Stopped) → u ≡ spoken s → last ≡ last_of u.desk.fitted t → e ≡ after_range last left
+pub after_range_of_spoken_stub : (s u : Stub) (t last : ℕ) (left : Option ℕ) (e : Stopped) → u ≡ spoken s → last ≡ last_of u.desk.fitted t → e ≡ after_range last left
     → e ≡ after_range (last_of s.desk.fitted t) left
-ends_at s u t last left e same at is =
+after_range_of_spoken_stub s u t last left e same at is =
     is ∙ ap (λ (n : ℕ). after_range n left) (at ∙ ap (λ (x : Stub). last_of x.desk.fitted t) same)
 
-pub range_fits : (s u : Stub) (t low high : ℕ) (left : Option ℕ) (here : List ℕ) (e : Stopped) → u ≡ spoken s → HasRun u.desk.fitted
+pub range_end_between_own_and_last : (s u : Stub) (t low high : ℕ) (left : Option ℕ) (here : List ℕ) (e : Stopped) → u ≡ spoken s → HasRun u.desk.fitted
     → position_of u t ≤ last_of u.desk.fitted t → EachRun s.desk.fitted (λ run. Leaves run s t low high left) → here ≡ u.desk.at
     → e ≡ after_range (last_of s.desk.fitted t) left → (cut_of here t ≤ e.position) × (e.position ≤ last_of u.desk.fitted t)
-range_fits s u t low high left here e same has le leaves at is =
+range_end_between_own_and_last s u t low high left here e same has le leaves at is =
     let has_run = subst (λ (x : Stub). HasRun x.desk.fitted) same has in
     let low_end = subst (λ (x : Stub). position_of x t ≤ last_of x.desk.fitted t) same le in
-    let both = range_end s t low high left has_run low_end leaves in
-    let ends = ap (λ (x : Stopped). x.position) is ∙ end_is (last_of s.desk.fitted t) left in
+    let both = end_of_range_within_thread s t low high left has_run low_end leaves in
+    let ends = ap (λ (x : Stopped). x.position) is ∙ position_of_after_range (last_of s.desk.fitted t) left in
     let first = ap (λ (x : List ℕ). cut_of x t) at ∙ ap (λ (x : Stub). position_of x t) same in
     let last = ap (λ (x : Stub). last_of x.desk.fitted t) same in
     let up : cut_of here t ≤ e.position = omega (arith, first, ends, both.0) in
     let down : e.position ≤ last_of u.desk.fitted t = omega (arith, ends, last, both.1) in
     (up, down)
 
-pub range_on : (s u v : Stub) (t low high : ℕ) (w : Bool) (left : Option ℕ) (here : List ℕ) (e to : Stopped) (points : List Numbered) (hit : Option Hit)
+pub ranges_to_found_stop : (s u v : Stub) (t low high : ℕ) (w : Bool) (left : Option ℕ) (here : List ℕ) (e to : Stopped) (points : List Numbered) (hit : Option Hit)
     → u ≡ spoken s → v ≡ spoken s → EachRun s.desk.fitted (λ run. Leaves run s t low high left) → here ≡ u.desk.at
     → e ≡ after_range (last_of s.desk.fitted t) left → points ≡ upwards_of v t w
     → EachRun u.desk.fitted (λ run. IsNextHit u.desk.fitted run points t (cut_of here t) e.position hit) → to ≡ ranged s t w left hit
     → EachRun s.desk.fitted (λ run. RangesTo run s t low high w to)
-range_on s u v t low high w left here e to points hit same other leaves at is are finds ends run whole =
+ranges_to_found_stop s u v t low high w left here e to points hit same other leaves at is are finds ends run whole =
     let p = cut_of here t in
-    let mine = are ∙ ap (λ (x : Stub). upwards_of x t w) other ∙ upwards_said s t w in
+    let mine = are ∙ ap (λ (x : Stub). upwards_of x t w) other ∙ upwards_of_ignores_spoken s t w in
     let first = ap (λ (x : List ℕ). cut_of x t) at ∙ ap (λ (x : Stub). position_of x t) same in
-    let last = ap (λ (x : Stopped). x.position) is ∙ end_is (last_of s.desk.fitted t) left in
+    let last = ap (λ (x : Stopped). x.position) is ∙ position_of_after_range (last_of s.desk.fitted t) left in
     let found = subst (λ (x : Stub). EachRun x.desk.fitted (λ r. IsNextHit x.desk.fitted r points t p e.position hit)) same finds run whole in
     let by_points = subst (λ (ps : List Numbered). IsNextHit s.desk.fitted run ps t p e.position hit) mine found in
     let by_first = subst (λ (n : ℕ). IsNextHit s.desk.fitted run (upwards_of s t w) t n e.position hit) first by_points in
     let by_last = subst (λ (n : ℕ). IsNextHit s.desk.fitted run (upwards_of s t w) t (position_of s t) n hit) last by_first in
     (left, leaves run whole, (hit, by_last, ends))
 
-pub next_within : (f : FittedTrace) (t p to : ℕ) (points : List Numbered) (hit : Option Hit) (h : Hit) → HasRun f
+pub next_hit_within_target : (f : FittedTrace) (t p to : ℕ) (points : List Numbered) (hit : Option Hit) (h : Hit) → HasRun f
     → EachRun f (λ run. IsNextHit f run points t p to hit) → hit ≡ Some h → h.position ≤ to
-next_within f t p to points hit h has finds is =
+next_hit_within_target f t p to points hit h has finds is =
     let found = subst (λ (x : Option Hit). IsNextHit f has.run points t p to x) is (finds has.run has.whole) in
     found.1

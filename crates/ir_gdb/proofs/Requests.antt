@@ -10,187 +10,187 @@ use Rattle.ir_packet.specs.declared.request.Who.{Who}
 use Rattle.ir_packet.specs.declared.request.Motion.{Motion}
 
 -- the register of a request, if it is for one, is x0 to x31 or pc
-abbrev pub IsThere : Request → Type 0
-IsThere r = (n : ℕ) → r ≡ request.Register n → n < 33
+abbrev pub HasKnownRegister : Request → Type 0
+HasKnownRegister r = (n : ℕ) → r ≡ request.Register n → n < 33
 
-abbrev pub AreThere : Option Request → Type 0
-AreThere None = ⊤
-AreThere (Some r) = IsThere r
+abbrev pub MayHaveKnownRegister : Option Request → Type 0
+MayHaveKnownRegister None = ⊤
+MayHaveKnownRegister (Some r) = HasKnownRegister r
 
 -- ---- what is made of the bytes behind a name
 
-either : (b : Bool) (x y : Request) → IsThere x → IsThere y → IsThere (if b then x else y)
-either true x y p q = p
-either false x y p q = q
+known_register_in_either : (b : Bool) (x y : Request) → HasKnownRegister x → HasKnownRegister y → HasKnownRegister (if b then x else y)
+known_register_in_either true x y p q = p
+known_register_in_either false x y p q = q
 
-malformed : IsThere request.Malformed
-malformed = λ n e. absurd cc
+malformed_has_known_register : HasKnownRegister request.Malformed
+malformed_has_known_register = λ n e. absurd cc
 
-plain_there : (r : Request) → IsThere r → (rest : List ℕ) → IsThere (plain r rest)
-plain_there r p [] = p
-plain_there r p (b ∷ rest) = malformed
+plain_request_has_known_register : (r : Request) → HasKnownRegister r → (rest : List ℕ) → HasKnownRegister (plain r rest)
+plain_request_has_known_register r p [] = p
+plain_request_has_known_register r p (b ∷ rest) = malformed_has_known_register
 
-by_number : (makes : ℕ → Request) → ((n : ℕ) → IsThere (makes n)) → (m : Option ℕ) → IsThere (of_number makes m)
-by_number makes p None = malformed
-by_number makes p (Some n) = p n
+known_register_by_number : (makes : ℕ → Request) → ((n : ℕ) → HasKnownRegister (makes n)) → (m : Option ℕ) → HasKnownRegister (of_number makes m)
+known_register_by_number makes p None = malformed_has_known_register
+known_register_by_number makes p (Some n) = p n
 
-by_numbers : (makes : ℕ → ℕ → Request) → ((m n : ℕ) → IsThere (makes m n)) → (m n : Option ℕ) → IsThere (of_numbers makes m n)
-by_numbers makes p None n = malformed
-by_numbers makes p (Some m) None = malformed
-by_numbers makes p (Some m) (Some n) = p m n
+known_register_by_two_numbers : (makes : ℕ → ℕ → Request) → ((m n : ℕ) → HasKnownRegister (makes m n)) → (m n : Option ℕ) → HasKnownRegister (of_numbers makes m n)
+known_register_by_two_numbers makes p None n = malformed_has_known_register
+known_register_by_two_numbers makes p (Some m) None = malformed_has_known_register
+known_register_by_two_numbers makes p (Some m) (Some n) = p m n
 
-by_who : (makes : Who → Request) → ((w : Who) → IsThere (makes w)) → (w : Option Who) → IsThere (of_who makes w)
-by_who makes p None = malformed
-by_who makes p (Some w) = p w
+known_register_by_who : (makes : Who → Request) → ((w : Who) → HasKnownRegister (makes w)) → (w : Option Who) → HasKnownRegister (of_who makes w)
+known_register_by_who makes p None = malformed_has_known_register
+known_register_by_who makes p (Some w) = p w
 
-one_there : (makes : ℕ → Request) → ((n : ℕ) → IsThere (makes n)) → (rest : List ℕ) → IsThere (one makes rest)
+known_register_of_one_number : (makes : ℕ → Request) → ((n : ℕ) → HasKnownRegister (makes n)) → (rest : List ℕ) → HasKnownRegister (one makes rest)
 unfolding one
-one_there makes p rest = by_number makes p (number rest)
+known_register_of_one_number makes p rest = known_register_by_number makes p (number rest)
 
-two_there : (makes : ℕ → ℕ → Request) → ((m n : ℕ) → IsThere (makes m n)) → (rest : List ℕ) → IsThere (two makes rest)
+known_register_of_two_numbers : (makes : ℕ → ℕ → Request) → ((m n : ℕ) → HasKnownRegister (makes m n)) → (rest : List ℕ) → HasKnownRegister (two makes rest)
 unfolding two
-two_there makes p rest = by_numbers makes p (number (before 44 rest)) (number (behind 44 rest))
+known_register_of_two_numbers makes p rest = known_register_by_two_numbers makes p (number (before 44 rest)) (number (behind 44 rest))
 
-thread_there : (makes : Who → Request) → ((w : Who) → IsThere (makes w)) → (rest : List ℕ) → IsThere (thread makes rest)
+known_register_of_thread_request : (makes : Who → Request) → ((w : Who) → HasKnownRegister (makes w)) → (rest : List ℕ) → HasKnownRegister (thread makes rest)
 unfolding thread
-thread_there makes p rest = by_who makes p (who_of rest)
+known_register_of_thread_request makes p rest = known_register_by_who makes p (who_of rest)
 
-register_by : (n : ℕ) (b : Bool) → leb n 32 ≡ b → IsThere (if b then request.Register n else request.Malformed)
-register_by n true h = λ m e.
+known_register_by_number_test : (n : ℕ) (b : Bool) → leb n 32 ≡ b → HasKnownRegister (if b then request.Register n else request.Malformed)
+known_register_by_number_test n true h = λ m e.
     let few : n ≤ 32 = leb-true n 32 h in
     let same : n ≡ m = cc in
     omega (arith, few, same)
-register_by n false h = malformed
+known_register_by_number_test n false h = malformed_has_known_register
 
-register_there : (n : ℕ) → IsThere (register n)
-register_there n = register_by n (leb n 32) refl
+register_request_has_known_register : (n : ℕ) → HasKnownRegister (register n)
+register_request_has_known_register n = known_register_by_number_test n (leb n 32) refl
 
-console_there : (rest : List ℕ) → IsThere (console rest)
+console_request_has_known_register : (rest : List ℕ) → HasKnownRegister (console rest)
 unfolding console
-console_there rest = either (are_pairs rest) request.Console request.Malformed (λ n e. absurd cc) malformed
+console_request_has_known_register rest = known_register_in_either (are_pairs rest) request.Console request.Malformed (λ n e. absurd cc) malformed_has_known_register
 
-by_move : (m : Option Motion) (w : Option Who) (others : Option Bool) → IsThere (move_of m w others)
-by_move None w others = malformed
-by_move (Some m) None others = malformed
-by_move (Some m) (Some w) None = malformed
-by_move (Some m) (Some w) (Some others) = λ n e. absurd cc
+move_request_has_known_register : (m : Option Motion) (w : Option Who) (others : Option Bool) → HasKnownRegister (move_of m w others)
+move_request_has_known_register None w others = malformed_has_known_register
+move_request_has_known_register (Some m) None others = malformed_has_known_register
+move_request_has_known_register (Some m) (Some w) None = malformed_has_known_register
+move_request_has_known_register (Some m) (Some w) (Some others) = λ n e. absurd cc
 
-actions_there : (rest : List ℕ) → IsThere (actions rest)
+actions_have_known_register : (rest : List ℕ) → HasKnownRegister (actions rest)
 unfolding actions first_action
-actions_there rest = by_move (motion_of (before 58 (before 59 rest))) (thread_behind (drop (index_of 58 (before 59 rest)) (before 59 rest)))
+actions_have_known_register rest = move_request_has_known_register (motion_of (before 58 (before 59 rest))) (thread_behind (drop (index_of 58 (before 59 rest)) (before 59 rest)))
     (others_of (drop (index_of 59 rest) rest))
 
-by_restart : (argument : List ℕ) → IsThere (restart_with argument)
-by_restart [] = λ n e. absurd cc
-by_restart (b ∷ argument) = by_number request.RestartAt (λ m n e. absurd cc) (decimal_number argument)
+restart_argument_has_known_register : (argument : List ℕ) → HasKnownRegister (restart_with argument)
+restart_argument_has_known_register [] = λ n e. absurd cc
+restart_argument_has_known_register (b ∷ argument) = known_register_by_number request.RestartAt (λ m n e. absurd cc) (decimal_number argument)
 
-restart_there : (rest : List ℕ) → IsThere (restart rest)
+restart_has_known_register : (rest : List ℕ) → HasKnownRegister (restart rest)
 unfolding restart
-restart_there rest = by_restart (drop (index_of 59 rest) rest)
+restart_has_known_register rest = restart_argument_has_known_register (drop (index_of 59 rest) rest)
 
 -- ---- rows
 
-abbrev pub AllMake : List Row → Type 0
-AllMake [] = ⊤
-AllMake (r ∷ rows) = ((rest : List ℕ) → IsThere (r.makes rest)) × AllMake rows
+abbrev pub AllMakeKnownRegisters : List Row → Type 0
+AllMakeKnownRegisters [] = ⊤
+AllMakeKnownRegisters (r ∷ rows) = ((rest : List ℕ) → HasKnownRegister (r.makes rest)) × AllMakeKnownRegisters rows
 
-both : {P Q : Type 0} → P → Q → P × Q
-both p q = (p, q)
+pair_of_facts : {P Q : Type 0} → P → Q → P × Q
+pair_of_facts p q = (p, q)
 
-by_row : (r : Row) (rest : Option (List ℕ)) (next : Option Request) → ((rest : List ℕ) → IsThere (r.makes rest)) → AreThere next
-    → AreThere (made_by r rest next)
-by_row r None next p q = q
-by_row r (Some rest) next p q = p rest
+known_register_by_row : (r : Row) (rest : Option (List ℕ)) (next : Option Request) → ((rest : List ℕ) → HasKnownRegister (r.makes rest)) → MayHaveKnownRegister next
+    → MayHaveKnownRegister (made_by r rest next)
+known_register_by_row r None next p q = q
+known_register_by_row r (Some rest) next p q = p rest
 
-by_rows : (rows : List Row) (payload : List ℕ) → AllMake rows → AreThere (asked_in rows payload)
-by_rows [] payload all = tt
-by_rows (r ∷ rows) payload all = by_row r (after_name r.name payload) (asked_in rows payload) all.0 (by_rows rows payload all.1)
+known_register_by_rows : (rows : List Row) (payload : List ℕ) → AllMakeKnownRegisters rows → MayHaveKnownRegister (asked_in rows payload)
+known_register_by_rows [] payload all = tt
+known_register_by_rows (r ∷ rows) payload all = known_register_by_row r (after_name r.name payload) (asked_in rows payload) all.0 (known_register_by_rows rows payload all.1)
 
-by_first : (a b : Option Request) → AreThere a → AreThere b → AreThere (or_else a b)
-by_first None b p q = q
-by_first (Some r) b p q = p
+known_register_of_either_request : (a b : Option Request) → MayHaveKnownRegister a → MayHaveKnownRegister b → MayHaveKnownRegister (or_else a b)
+known_register_of_either_request None b p q = q
+known_register_of_either_request (Some r) b p q = p
 
-by_any : (a : Option Request) → AreThere a → IsThere (or_unknown a)
-by_any None p = λ n e. absurd cc
-by_any (Some r) p = p
+known_register_or_unknown_request : (a : Option Request) → MayHaveKnownRegister a → HasKnownRegister (or_unknown a)
+known_register_or_unknown_request None p = λ n e. absurd cc
+known_register_or_unknown_request (Some r) p = p
 
-queries_make : AllMake queries
-queries_make =
-    both (λ rest n e. absurd cc)
-    (both (plain_there request.NoAcknowledgements (λ n e. absurd cc))
-    (both (λ rest n e. absurd cc)
-    (both (plain_there request.Offsets (λ n e. absurd cc))
-    (both (plain_there request.Symbols (λ n e. absurd cc)) tt))))
+queries_make_known_registers : AllMakeKnownRegisters queries
+queries_make_known_registers =
+    pair_of_facts (λ rest n e. absurd cc)
+    (pair_of_facts (plain_request_has_known_register request.NoAcknowledgements (λ n e. absurd cc))
+    (pair_of_facts (λ rest n e. absurd cc)
+    (pair_of_facts (plain_request_has_known_register request.Offsets (λ n e. absurd cc))
+    (pair_of_facts (plain_request_has_known_register request.Symbols (λ n e. absurd cc)) tt))))
 
-texts_make : AllMake texts
-texts_make =
-    both (two_there request.Description (λ a b n e. absurd cc))
-    (both (two_there request.Threads (λ a b n e. absurd cc)) tt)
+texts_make_known_registers : AllMakeKnownRegisters texts
+texts_make_known_registers =
+    pair_of_facts (known_register_of_two_numbers request.Description (λ a b n e. absurd cc))
+    (pair_of_facts (known_register_of_two_numbers request.Threads (λ a b n e. absurd cc)) tt)
 
-restarts_make : AllMake restarts
-restarts_make =
-    both (plain_there request.Extended (λ n e. absurd cc))
-    (both restart_there
-    (both (λ rest n e. absurd cc) tt))
+restarts_make_known_registers : AllMakeKnownRegisters restarts
+restarts_make_known_registers =
+    pair_of_facts (plain_request_has_known_register request.Extended (λ n e. absurd cc))
+    (pair_of_facts restart_has_known_register
+    (pair_of_facts (λ rest n e. absurd cc) tt))
 
-commands_make : AllMake commands
-commands_make =
-    both console_there
-    (both (plain_there request.Motions (λ n e. absurd cc))
-    (both actions_there tt))
+commands_make_known_registers : AllMakeKnownRegisters commands
+commands_make_known_registers =
+    pair_of_facts console_request_has_known_register
+    (pair_of_facts (plain_request_has_known_register request.Motions (λ n e. absurd cc))
+    (pair_of_facts actions_have_known_register tt))
 
-points_make : AllMake points
-points_make =
-    both (two_there (λ a kind. request.SetBreak a false) (λ a b n e. absurd cc))
-    (both (two_there (λ a kind. request.SetBreak a true) (λ a b n e. absurd cc))
-    (both (two_there request.SetWatch (λ a b n e. absurd cc))
-    (both (two_there (λ a kind. request.ClearBreak a false) (λ a b n e. absurd cc))
-    (both (two_there (λ a kind. request.ClearBreak a true) (λ a b n e. absurd cc))
-    (both (two_there request.ClearWatch (λ a b n e. absurd cc)) tt)))))
+points_make_known_registers : AllMakeKnownRegisters points
+points_make_known_registers =
+    pair_of_facts (known_register_of_two_numbers (λ a kind. request.SetBreak a false) (λ a b n e. absurd cc))
+    (pair_of_facts (known_register_of_two_numbers (λ a kind. request.SetBreak a true) (λ a b n e. absurd cc))
+    (pair_of_facts (known_register_of_two_numbers request.SetWatch (λ a b n e. absurd cc))
+    (pair_of_facts (known_register_of_two_numbers (λ a kind. request.ClearBreak a false) (λ a b n e. absurd cc))
+    (pair_of_facts (known_register_of_two_numbers (λ a kind. request.ClearBreak a true) (λ a b n e. absurd cc))
+    (pair_of_facts (known_register_of_two_numbers request.ClearWatch (λ a b n e. absurd cc)) tt)))))
 
-letters_make : AllMake letters
-letters_make =
-    both (plain_there request.Reason (λ n e. absurd cc))
-    (both (thread_there request.General (λ w n e. absurd cc))
-    (both (thread_there request.Choose (λ w n e. absurd cc))
-    (both (one_there request.Alive (λ a n e. absurd cc))
-    (both (plain_there request.Registers (λ n e. absurd cc))
-    (both (one_there register register_there)
-    (both (two_there request.Memory (λ a b n e. absurd cc)) tt))))))
+letters_make_known_registers : AllMakeKnownRegisters letters
+letters_make_known_registers =
+    pair_of_facts (plain_request_has_known_register request.Reason (λ n e. absurd cc))
+    (pair_of_facts (known_register_of_thread_request request.General (λ w n e. absurd cc))
+    (pair_of_facts (known_register_of_thread_request request.Choose (λ w n e. absurd cc))
+    (pair_of_facts (known_register_of_one_number request.Alive (λ a n e. absurd cc))
+    (pair_of_facts (plain_request_has_known_register request.Registers (λ n e. absurd cc))
+    (pair_of_facts (known_register_of_one_number register register_request_has_known_register)
+    (pair_of_facts (known_register_of_two_numbers request.Memory (λ a b n e. absurd cc)) tt))))))
 
-ends_make : AllMake requests.ends
-ends_make =
-    both (λ rest n e. absurd cc)
-    (both (λ rest n e. absurd cc)
-    (both (λ rest n e. absurd cc)
-    (both (plain_there _ (λ n e. absurd cc))
-    (both (plain_there _ (λ n e. absurd cc))
-    (both (plain_there _ (λ n e. absurd cc))
-    (both (plain_there _ (λ n e. absurd cc))
-    (both (λ rest n e. absurd cc)
-    (both (λ rest n e. absurd cc) tt))))))))
+ends_make_known_registers : AllMakeKnownRegisters requests.ends
+ends_make_known_registers =
+    pair_of_facts (λ rest n e. absurd cc)
+    (pair_of_facts (λ rest n e. absurd cc)
+    (pair_of_facts (λ rest n e. absurd cc)
+    (pair_of_facts (plain_request_has_known_register _ (λ n e. absurd cc))
+    (pair_of_facts (plain_request_has_known_register _ (λ n e. absurd cc))
+    (pair_of_facts (plain_request_has_known_register _ (λ n e. absurd cc))
+    (pair_of_facts (plain_request_has_known_register _ (λ n e. absurd cc))
+    (pair_of_facts (λ rest n e. absurd cc)
+    (pair_of_facts (λ rest n e. absurd cc) tt))))))))
 
-named_there : (payload : List ℕ) → AreThere (asked_named payload)
+named_request_has_known_register : (payload : List ℕ) → MayHaveKnownRegister (asked_named payload)
 unfolding asked_named asked_queries asked_texts asked_restarts asked_commands
-named_there payload = by_first (asked_in queries payload) _ (by_rows queries payload queries_make)
-    (by_first (asked_in texts payload) _ (by_rows texts payload texts_make)
-    (by_first (asked_in restarts payload) (asked_in commands payload) (by_rows restarts payload restarts_make)
-    (by_rows commands payload commands_make)))
+named_request_has_known_register payload = known_register_of_either_request (asked_in queries payload) _ (known_register_by_rows queries payload queries_make_known_registers)
+    (known_register_of_either_request (asked_in texts payload) _ (known_register_by_rows texts payload texts_make_known_registers)
+    (known_register_of_either_request (asked_in restarts payload) (asked_in commands payload) (known_register_by_rows restarts payload restarts_make_known_registers)
+    (known_register_by_rows commands payload commands_make_known_registers)))
 
-points_there : (payload : List ℕ) → AreThere (asked_points payload)
+points_request_has_known_register : (payload : List ℕ) → MayHaveKnownRegister (asked_points payload)
 unfolding asked_points
-points_there payload = by_rows points payload points_make
+points_request_has_known_register payload = known_register_by_rows points payload points_make_known_registers
 
-letters_there : (payload : List ℕ) → AreThere (asked_letters payload)
+letters_request_has_known_register : (payload : List ℕ) → MayHaveKnownRegister (asked_letters payload)
 unfolding asked_letters asked_ends
-letters_there payload = by_first (asked_in letters payload) (asked_in requests.ends payload) (by_rows letters payload letters_make)
-    (by_rows requests.ends payload ends_make)
+letters_request_has_known_register payload = known_register_of_either_request (asked_in letters payload) (asked_in requests.ends payload) (known_register_by_rows letters payload letters_make_known_registers)
+    (known_register_by_rows requests.ends payload ends_make_known_registers)
 
-pub register_there_is : (payload : List ℕ) → IsThere (request_of payload)
+pub request_has_known_register : (payload : List ℕ) → HasKnownRegister (request_of payload)
 unfolding request_of
-register_there_is payload = by_any (or_else (asked_named payload) (or_else (asked_points payload) (asked_letters payload)))
-    (by_first (asked_named payload) _ (named_there payload)
-    (by_first (asked_points payload) (asked_letters payload) (points_there payload) (letters_there payload)))
+request_has_known_register payload = known_register_or_unknown_request (or_else (asked_named payload) (or_else (asked_points payload) (asked_letters payload)))
+    (known_register_of_either_request (asked_named payload) _ (named_request_has_known_register payload)
+    (known_register_of_either_request (asked_points payload) (asked_letters payload) (points_request_has_known_register payload) (letters_request_has_known_register payload)))
 
-pub asked_register : (payload : List ℕ) (r : Request) (n : ℕ) → r ≡ request_of payload → r ≡ request.Register n → n < 33
-asked_register payload r n is e = subst IsThere (sym is) (register_there_is payload) n e
+pub asked_register_below_33 : (payload : List ℕ) (r : Request) (n : ℕ) → r ≡ request_of payload → r ≡ request.Register n → n < 33
+asked_register_below_33 payload r n is e = subst HasKnownRegister (sym is) (request_has_known_register payload) n e

@@ -11,66 +11,66 @@ use Rattle.ir_gdb.specs.Points.{word_points, words_in, watch_points, break_point
 
 -- ---- words, one by one
 
-pub words-more : (t number n address : ℕ) → (n ≡ 0 → ⊥)
+pub word_points_step : (t number n address : ℕ) → (n ≡ 0 → ⊥)
     → word_points t number n address ≡ record { number = number; point = Watch t address } ∷ word_points t number (n - 1) (address + 4)
 unfolding word_points
-words-more t number zero address some = absurd (some refl)
-words-more t number (suc n) address some =
+word_points_step t number zero address some = absurd (some refl)
+word_points_step t number (suc n) address some =
     let less : n ≡ suc n - 1 = omega arith in
     ap (λ k. record { number = number; point = Watch t address } ∷ word_points t number k (address + 4)) less
 
-pub put_more : (old items new tail whole : List Numbered) (x : Numbered) → items ≡ old ++ x ∷ [] → whole ≡ x ∷ tail → new ≡ items ++ tail
+pub append_after_pushed_point : (old items new tail whole : List Numbered) (x : Numbered) → items ≡ old ++ x ∷ [] → whole ≡ x ∷ tail → new ≡ items ++ tail
     → new ≡ old ++ whole
-put_more old items new tail whole x pushed is put =
+append_after_pushed_point old items new tail whole x pushed is put =
     put ∙ ap (λ xs. xs ++ tail) pushed ∙ append_assoc old (x ∷ []) tail ∙ ap (λ xs. old ++ xs) (sym is)
 
 -- ---- watched words are words of private memory
 
-both_watchable : (xs ys : List Numbered) → AreWatchable xs → AreWatchable ys → AreWatchable (xs ++ ys)
-both_watchable [] ys first rest = rest
-both_watchable (x ∷ xs) ys first rest = (first.0, both_watchable xs ys first.1 rest)
+appended_points_are_watchable : (xs ys : List Numbered) → AreWatchable xs → AreWatchable ys → AreWatchable (xs ++ ys)
+appended_points_are_watchable [] ys first rest = rest
+appended_points_are_watchable (x ∷ xs) ys first rest = (first.0, appended_points_are_watchable xs ys first.1 rest)
 
-words_watchable : (t number n address : ℕ) → address % 4 ≡ 0 → memory_start ≤ address → address + 4 * n ≤ memory_start + memory_size
+word_points_are_watchable : (t number n address : ℕ) → address % 4 ≡ 0 → memory_start ≤ address → address + 4 * n ≤ memory_start + memory_size
     → AreWatchable (word_points t number n address)
 unfolding word_points
-words_watchable t number zero address aligned low high = tt
-words_watchable t number (suc n) address aligned low high = (
+word_points_are_watchable t number zero address aligned low high = tt
+word_points_are_watchable t number (suc n) address aligned low high = (
   record { aligned = aligned; low = low; high = omega (arith, high) },
-  words_watchable t number n (address + 4) (omega (arith, aligned)) (omega (arith, low)) (omega (arith, high)),
+  word_points_are_watchable t number n (address + 4) (omega (arith, aligned)) (omega (arith, low)) (omega (arith, high)),
 )
 
-watches_watchable : (t number : ℕ) (ws : List Watched) → AllByRecursion IsWatched ws → AreWatchable (watch_points t number ws)
+watch_points_are_watchable : (t number : ℕ) (ws : List Watched) → AllByRecursion IsWatched ws → AreWatchable (watch_points t number ws)
 unfolding watch_points
-watches_watchable t number [] all = tt
-watches_watchable t number (w ∷ ws) all =
+watch_points_are_watchable t number [] all = tt
+watch_points_are_watchable t number (w ∷ ws) all =
     let first = all.0 in
-    both_watchable (word_points t number (words_in w) (w.address / 4 * 4)) (watch_points t (number + 1) ws)
-    (words_watchable t number (words_in w) (w.address / 4 * 4) (omega arith) (omega (arith, first.low)) (omega (arith, first.low, first.high)))
-    (watches_watchable t (number + 1) ws all.1)
+    appended_points_are_watchable (word_points t number (words_in w) (w.address / 4 * 4)) (watch_points t (number + 1) ws)
+    (word_points_are_watchable t number (words_in w) (w.address / 4 * 4) (omega arith) (omega (arith, first.low)) (omega (arith, first.low, first.high)))
+    (watch_points_are_watchable t (number + 1) ws all.1)
 
-breaks_watchable : (t number : ℕ) (bs : List Breakpoint) → AreWatchable (break_points t number bs)
+break_points_are_watchable : (t number : ℕ) (bs : List Breakpoint) → AreWatchable (break_points t number bs)
 unfolding break_points
-breaks_watchable t number [] = tt
-breaks_watchable t number (b ∷ bs) = (tt, breaks_watchable t (number + 1) bs)
+break_points_are_watchable t number [] = tt
+break_points_are_watchable t number (b ∷ bs) = (tt, break_points_are_watchable t (number + 1) bs)
 
-own_watchable : (number : ℕ) (ps : List Numbered) → AreWatchable ps → AreWatchable (own_points number ps)
+own_points_are_watchable : (number : ℕ) (ps : List Numbered) → AreWatchable ps → AreWatchable (own_points number ps)
 unfolding own_points
-own_watchable number [] all = tt
-own_watchable number (p ∷ ps) all = (all.0, own_watchable number ps all.1)
+own_points_are_watchable number [] all = tt
+own_points_are_watchable number (p ∷ ps) all = (all.0, own_points_are_watchable number ps all.1)
 
-pub watch_watchable : (items : List Numbered) (t : ℕ) (ws : List Watched) → items ≡ watch_points t 0 ws → AllByRecursion IsWatched ws → AreWatchable items
-watch_watchable items t ws is all = subst AreWatchable (sym is) (watches_watchable t 0 ws all)
+pub put_watch_points_are_watchable : (items : List Numbered) (t : ℕ) (ws : List Watched) → items ≡ watch_points t 0 ws → AllByRecursion IsWatched ws → AreWatchable items
+put_watch_points_are_watchable items t ws is all = subst AreWatchable (sym is) (watch_points_are_watchable t 0 ws all)
 
-pub upwards_watchable : (items : List Numbered) (t : ℕ) (ws : List Watched) (bs : List Breakpoint) (own : List Numbered)
+pub points_upwards_are_watchable : (items : List Numbered) (t : ℕ) (ws : List Watched) (bs : List Breakpoint) (own : List Numbered)
     → items ≡ points_upwards t ws bs own → AllByRecursion IsWatched ws → AreWatchable own → AreWatchable items
-upwards_watchable items t ws bs own is all mine =
-    let first = both_watchable (watch_points t 0 ws) (break_points t (length ws) bs) (watches_watchable t 0 ws all) (breaks_watchable t (length ws) bs) in
-    subst AreWatchable (sym is) (both_watchable (watch_points t 0 ws ++ break_points t (length ws) bs) (own_points (length ws + length bs) own) first
-    (own_watchable (length ws + length bs) own mine))
+points_upwards_are_watchable items t ws bs own is all mine =
+    let first = appended_points_are_watchable (watch_points t 0 ws) (break_points t (length ws) bs) (watch_points_are_watchable t 0 ws all) (break_points_are_watchable t (length ws) bs) in
+    subst AreWatchable (sym is) (appended_points_are_watchable (watch_points t 0 ws ++ break_points t (length ws) bs) (own_points (length ws + length bs) own) first
+    (own_points_are_watchable (length ws + length bs) own mine))
 
-pub downwards_watchable : (items : List Numbered) (t : ℕ) (ws : List Watched) (bs : List Breakpoint) (own : List Numbered)
+pub points_downwards_are_watchable : (items : List Numbered) (t : ℕ) (ws : List Watched) (bs : List Breakpoint) (own : List Numbered)
     → items ≡ points_downwards t ws bs own → AllByRecursion IsWatched ws → AreWatchable own → AreWatchable items
-downwards_watchable items t ws bs own is all mine =
-    let first = both_watchable (break_points t 0 bs) (watch_points t (length bs) ws) (breaks_watchable t 0 bs) (watches_watchable t (length bs) ws all) in
-    subst AreWatchable (sym is) (both_watchable (break_points t 0 bs ++ watch_points t (length bs) ws) (own_points (length bs + length ws) own) first
-    (own_watchable (length bs + length ws) own mine))
+points_downwards_are_watchable items t ws bs own is all mine =
+    let first = appended_points_are_watchable (break_points t 0 bs) (watch_points t (length bs) ws) (break_points_are_watchable t 0 bs) (watch_points_are_watchable t (length bs) ws all) in
+    subst AreWatchable (sym is) (appended_points_are_watchable (break_points t 0 bs ++ watch_points t (length bs) ws) (own_points (length bs + length ws) own) first
+    (own_points_are_watchable (length bs + length ws) own mine))

@@ -2,7 +2,7 @@
 use Rattle.std.proofs.Common.{◌≡◌, ◌∙◌, ℕ, Bool, true, false, List, [], Option, Some, None, Result, Ok, Err, OnOk, OnErr, IfSome, refl, sym, ap, subst, arith, append-nil}
 use Rattle.std.specs.Io.KnownBytes.{Appends}
 use Rattle.std.proofs.KnownBytes.{Appends-nil, Consumes-nil}
-use Rattle.ir_stream.specs.Answers.{AppendsPrefix, Reads}
+use Rattle.ir_stream.specs.Answers.{AppendsPrefix, ReadsUpTo}
 use Rattle.ir_stream.specs.Endings.{IfEnded}
 use Rattle.ir_stream.specs.declared.serving.Served.{Served}
 use Rattle.ir_stream.specs.declared.serving.Served.TheVariants as served
@@ -20,184 +20,148 @@ use Rattle.ir_debug.specs.declared.ended.Ended.{Ended}
 use Rattle.ir_debug.specs.declared.ended.Ended.TheVariants as ended
 use Rattle.ir_debug.specs.declared.ended.SessionErr.{SessionErr}
 use Rattle.ir_debug.specs.declared.ended.SessionErr.TheVariants as err
+use Rattle.ir_debug.proofs.CallerLemmas.{if_some_of_implied, if_served_by_implied_end}
+pub use Rattle.ir_debug.proofs.CallerLemmas.{reads_of_implied, ready_debugger_opens, read_fault_if_ended_by_read, write_fault_if_ended_by_write}
 use Rattle.ir_gdb.specs.Stub.{Stub, stub_of}
 use Rattle.ir_gdb.specs.Connection.{Link, link_of, LeadsTo}
 use Rattle.ir_gdb.specs.Session.{first_link, Serves, Refuses, Connects, Connected, Announced, IfNotRefused}
 
 -- ---- a connection
 
-pub link_is : (l : Link) (s : Stub) (d : Desk) → l ≡ link_of s → s ≡ stub_of d → l ≡ first_link d
-link_is l s d is of = is ∙ ap link_of of
+pub link_is_first_link : (l : Link) (s : Stub) (d : Desk) → l ≡ link_of s → s ≡ stub_of d → l ≡ first_link d
+link_is_first_link l s d is of = is ∙ ap link_of of
 
-pub Reads-map : (limit : ℕ) (a b : Option (List ℕ)) (P Q : List ℕ → Type 0) → ((consumed : List ℕ) → P consumed → Q consumed)
-    → Reads limit a b P → Reads limit a b Q
-Reads-map limit a b P Q go reads = record {
-  consumed = reads.consumed;
-  taken = reads.taken;
-  within = reads.within;
-  holds = go reads.consumed reads.holds;
-}
-
-IfSome-map : (a : Option (List ℕ)) (P Q : List ℕ → Type 0) → ((input : List ℕ) → P input → Q input) → IfSome a P → IfSome a Q
-IfSome-map None P Q go p = tt
-IfSome-map (Some xs) P Q go p = go xs p
-
-IfServed-by : (r : Result Served Fault) (P Q : Type 0) → (P → Q) → IfEnded r P → IfServed (ended_by r) Q
-IfServed-by (Ok served.Quit) P Q go p = go p
-IfServed-by (Ok served.InputEnd) P Q go p = go p
-IfServed-by (Err fault.Read) P Q go p = tt
-IfServed-by (Err fault.Write) P Q go p = tt
-IfServed-by (Err fault.TooLong) P Q go p = go p
-
-serves : (d : Desk) (l : Link) (r : Result Served Fault) (w w' : Option (List ℕ)) (input : List ℕ) → l ≡ first_link d
+serves_if_leads_to : (d : Desk) (l : Link) (r : Result Served Fault) (w w' : Option (List ℕ)) (input : List ℕ) → l ≡ first_link d
     → LeadsTo l most_input r w w' input → Serves d (ended_by r) w w' input
-serves d l r w w' input is leads = record {
+serves_if_leads_to d l r w w' input is leads = record {
   served = r;
   ending = refl;
   leads = subst (λ (x : Link). LeadsTo x most_input r w w' input) is leads;
 }
 
-pub serves_ended : (d : Desk) (l : Link) (result : Result Ended SessionErr) (r : Result Served Fault) (a b w w' : Option (List ℕ))
-    → result ≡ ended_by r → l ≡ first_link d → IfEnded r (Reads most_input a b (LeadsTo l most_input r w w'))
-    → IfServed result (Reads most_input a b (Serves d result w w'))
-serves_ended d l result r a b w w' ended is p =
-    subst (λ (x : Result Ended SessionErr). IfServed x (Reads most_input a b (Serves d x w w'))) (sym ended)
-    (IfServed-by r _ _ (Reads-map most_input a b _ _ (λ input leads. serves d l r w w' input is leads)) p)
+pub serves_by_read_input : (d : Desk) (l : Link) (result : Result Ended SessionErr) (r : Result Served Fault) (a b w w' : Option (List ℕ))
+    → result ≡ ended_by r → l ≡ first_link d → IfEnded r (ReadsUpTo most_input a b (LeadsTo l most_input r w w'))
+    → IfServed result (ReadsUpTo most_input a b (Serves d result w w'))
+serves_by_read_input d l result r a b w w' ended is p =
+    subst (λ (x : Result Ended SessionErr). IfServed x (ReadsUpTo most_input a b (Serves d x w w'))) (sym ended)
+    (if_served_by_implied_end r _ _ (reads_of_implied most_input a b _ _ (λ input leads. serves_if_leads_to d l r w w' input is leads)) p)
 
-pub serves_known : (d : Desk) (l : Link) (result : Result Ended SessionErr) (r : Result Served Fault) (a w w' : Option (List ℕ))
+pub serves_by_known_input : (d : Desk) (l : Link) (result : Result Ended SessionErr) (r : Result Served Fault) (a w w' : Option (List ℕ))
     → result ≡ ended_by r → l ≡ first_link d → IfEnded r (IfSome a (LeadsTo l most_input r w w'))
     → IfServed result (IfSome a (Serves d result w w'))
-serves_known d l result r a w w' ended is p =
+serves_by_known_input d l result r a w w' ended is p =
     subst (λ (x : Result Ended SessionErr). IfServed x (IfSome a (Serves d x w w'))) (sym ended)
-    (IfServed-by r _ _ (IfSome-map a _ _ (λ input leads. serves d l r w w' input is leads)) p)
+    (if_served_by_implied_end r _ _ (if_some_of_implied a _ _ (λ input leads. serves_if_leads_to d l r w w' input is leads)) p)
 
-pub serves_works : (result : Result Ended SessionErr) (r : Result Served Fault) (P : Type 0) → result ≡ ended_by r → IfEnded r P
+pub if_served_by_end : (result : Result Ended SessionErr) (r : Result Served Fault) (P : Type 0) → result ≡ ended_by r → IfEnded r P
     → IfServed result P
-serves_works result r P ended p = subst (λ (x : Result Ended SessionErr). IfServed x P) (sym ended) (IfServed-by r P P (λ q. q) p)
+if_served_by_end result r P ended p = subst (λ (x : Result Ended SessionErr). IfServed x P) (sym ended) (if_served_by_implied_end r P P (λ q. q) p)
 
-opened_by : (r : Result Served Fault) → IfRefused (ended_by r) ⊥
-opened_by (Ok served.Quit) = tt
-opened_by (Ok served.InputEnd) = tt
-opened_by (Err fault.Read) = tt
-opened_by (Err fault.Write) = tt
-opened_by (Err fault.TooLong) = tt
+ended_by_is_not_refused : (r : Result Served Fault) → IfRefused (ended_by r) ⊥
+ended_by_is_not_refused (Ok served.Quit) = tt
+ended_by_is_not_refused (Ok served.InputEnd) = tt
+ended_by_is_not_refused (Err fault.Read) = tt
+ended_by_is_not_refused (Err fault.Write) = tt
+ended_by_is_not_refused (Err fault.TooLong) = tt
 
-pub serves_opened : (result : Result Ended SessionErr) (r : Result Served Fault) → result ≡ ended_by r → IfRefused result ⊥
-serves_opened result r ended = subst (λ (x : Result Ended SessionErr). IfRefused x ⊥) (sym ended) (opened_by r)
+pub served_result_is_not_refused : (result : Result Ended SessionErr) (r : Result Served Fault) → result ≡ ended_by r → IfRefused result ⊥
+served_result_is_not_refused result r ended = subst (λ (x : Result Ended SessionErr). IfRefused x ⊥) (sym ended) (ended_by_is_not_refused r)
 
-pub not_no_memory : (r : Result Served Fault) → ended_by r ≡ Err err.NoMem → ⊥
-not_no_memory (Ok served.Quit) e = absurd cc
-not_no_memory (Ok served.InputEnd) e = absurd cc
-not_no_memory (Err fault.Read) e = absurd cc
-not_no_memory (Err fault.Write) e = absurd cc
-not_no_memory (Err fault.TooLong) e = absurd cc
-
-pub was_read : (r : Result Served Fault) → ended_by r ≡ Err err.Read → r ≡ Err fault.Read
-was_read (Ok served.Quit) e = absurd cc
-was_read (Ok served.InputEnd) e = absurd cc
-was_read (Err fault.Read) e = refl
-was_read (Err fault.Write) e = absurd cc
-was_read (Err fault.TooLong) e = absurd cc
-
-pub was_write : (r : Result Served Fault) → ended_by r ≡ Err err.Write → r ≡ Err fault.Write
-was_write (Ok served.Quit) e = absurd cc
-was_write (Ok served.InputEnd) e = absurd cc
-was_write (Err fault.Read) e = absurd cc
-was_write (Err fault.Write) e = refl
-was_write (Err fault.TooLong) e = absurd cc
+pub ended_by_is_not_no_memory : (r : Result Served Fault) → ended_by r ≡ Err err.NoMem → ⊥
+ended_by_is_not_no_memory (Ok served.Quit) e = absurd cc
+ended_by_is_not_no_memory (Ok served.InputEnd) e = absurd cc
+ended_by_is_not_no_memory (Err fault.Read) e = absurd cc
+ended_by_is_not_no_memory (Err fault.Write) e = absurd cc
+ended_by_is_not_no_memory (Err fault.TooLong) e = absurd cc
 
 -- ---- what was opened
 
-pub opens_ready : (image trace : List ℕ) (o : Opened) (d : Debugging) → o ≡ opened.Ready d → Opens image trace (opening_of o)
-    → Opens image trace (opening.Ready d.desk)
-opens_ready image trace o d is = subst (λ (x : Opened). Opens image trace (opening_of x)) is
+if_served_of_implied : (result : Result Ended SessionErr) (P Q : Type 0) → (P → Q) → IfServed result P → IfServed result Q
+if_served_of_implied (Ok e) P Q go p = go p
+if_served_of_implied (Err err.NoMem) P Q go p = tt
+if_served_of_implied (Err err.Read) P Q go p = tt
+if_served_of_implied (Err err.Write) P Q go p = tt
+if_served_of_implied (Err err.TooLong) P Q go p = go p
 
-IfServed-map : (result : Result Ended SessionErr) (P Q : Type 0) → (P → Q) → IfServed result P → IfServed result Q
-IfServed-map (Ok e) P Q go p = go p
-IfServed-map (Err err.NoMem) P Q go p = tt
-IfServed-map (Err err.Read) P Q go p = tt
-IfServed-map (Err err.Write) P Q go p = tt
-IfServed-map (Err err.TooLong) P Q go p = go p
+pub connected_by_read_input_if_ready : (image trace : List ℕ) (d : Desk) (result : Result Ended SessionErr) (a b w w' : Option (List ℕ))
+    → Opens image trace (opening.Ready d) → IfServed result (ReadsUpTo most_input a b (Serves d result w w'))
+    → IfServed result (ReadsUpTo most_input a b (Connected image trace result w w'))
+connected_by_read_input_if_ready image trace d result a b w w' opens p = if_served_of_implied result _ _ (reads_of_implied most_input a b _ _
+    (λ input serves_if_leads_to. record { opening = opening.Ready d; opens = opens; connects = serves_if_leads_to })) p
 
-pub ready_ended : (image trace : List ℕ) (d : Desk) (result : Result Ended SessionErr) (a b w w' : Option (List ℕ))
-    → Opens image trace (opening.Ready d) → IfServed result (Reads most_input a b (Serves d result w w'))
-    → IfServed result (Reads most_input a b (Connected image trace result w w'))
-ready_ended image trace d result a b w w' opens p = IfServed-map result _ _ (Reads-map most_input a b _ _
-    (λ input serves. record { opening = opening.Ready d; opens = opens; connects = serves })) p
-
-pub ready_known : (image trace : List ℕ) (d : Desk) (result : Result Ended SessionErr) (a w w' : Option (List ℕ))
+pub connected_by_known_input_if_ready : (image trace : List ℕ) (d : Desk) (result : Result Ended SessionErr) (a w w' : Option (List ℕ))
     → Opens image trace (opening.Ready d) → IfServed result (IfSome a (Serves d result w w'))
     → IfServed result (IfSome a (Connected image trace result w w'))
-ready_known image trace d result a w w' opens p = IfServed-map result _ _ (IfSome-map a _ _
-    (λ input serves. record { opening = opening.Ready d; opens = opens; connects = serves })) p
+connected_by_known_input_if_ready image trace d result a w w' opens p = if_served_of_implied result _ _ (if_some_of_implied a _ _
+    (λ input serves_if_leads_to. record { opening = opening.Ready d; opens = opens; connects = serves_if_leads_to })) p
 
-IfRefused-none : (result : Result Ended SessionErr) (P : Type 0) → IfRefused result ⊥ → IfRefused result P
-IfRefused-none (Ok ended.Quit) P p = tt
-IfRefused-none (Ok ended.InputEnd) P p = tt
-IfRefused-none (Ok ended.ImageRefused) P p = absurd p
-IfRefused-none (Ok ended.TraceRefused) P p = absurd p
-IfRefused-none (Ok ended.NotFit) P p = absurd p
-IfRefused-none (Err e) P p = tt
+if_refused_from_absurd : (result : Result Ended SessionErr) (P : Type 0) → IfRefused result ⊥ → IfRefused result P
+if_refused_from_absurd (Ok ended.Quit) P p = tt
+if_refused_from_absurd (Ok ended.InputEnd) P p = tt
+if_refused_from_absurd (Ok ended.ImageRefused) P p = absurd p
+if_refused_from_absurd (Ok ended.TraceRefused) P p = absurd p
+if_refused_from_absurd (Ok ended.NotFit) P p = absurd p
+if_refused_from_absurd (Err e) P p = tt
 
-pub ready_refuses : (result : Result Ended SessionErr) (P : Type 0) → IfRefused result ⊥ → IfRefused result P
-ready_refuses result P p = IfRefused-none result P p
+pub if_refused_holds_if_never : (result : Result Ended SessionErr) (P : Type 0) → IfRefused result ⊥ → IfRefused result P
+if_refused_holds_if_never result P p = if_refused_from_absurd result P p
 
 -- ---- nothing was opened
 
-refused_connects : (o : Opening) (e : Ended) (w : Option (List ℕ)) (input : List ℕ) → Refuses o e → Connects o (Ok e) w w input
-refused_connects (opening.ImageRefused x) e w input is = (e, is, refl, Appends-nil w)
-refused_connects (opening.TraceRefused x) e w input is = (e, is, refl, Appends-nil w)
-refused_connects (opening.Unfit v) e w input is = (e, is, refl, Appends-nil w)
-refused_connects (opening.Ready d) e w input is = absurd is
+connects_if_refused : (o : Opening) (e : Ended) (w : Option (List ℕ)) (input : List ℕ) → Refuses o e → Connects o (Ok e) w w input
+connects_if_refused (opening.ImageRefused x) e w input is = (e, is, refl, Appends-nil w)
+connects_if_refused (opening.TraceRefused x) e w input is = (e, is, refl, Appends-nil w)
+connects_if_refused (opening.Unfit v) e w input is = (e, is, refl, Appends-nil w)
+connects_if_refused (opening.Ready d) e w input is = absurd is
 
-connected : (image trace : List ℕ) (o : Opening) (e : Ended) (w : Option (List ℕ)) (input : List ℕ) → Opens image trace o → Refuses o e
+connected_if_refused : (image trace : List ℕ) (o : Opening) (e : Ended) (w : Option (List ℕ)) (input : List ℕ) → Opens image trace o → Refuses o e
     → Connected image trace (Ok e) w w input
-connected image trace o e w input opens is = record { opening = o; opens = opens; connects = refused_connects o e w input is }
+connected_if_refused image trace o e w input opens is = record { opening = o; opens = opens; connects = connects_if_refused o e w input is }
 
-pub refused_ended : (image trace : List ℕ) (o : Opening) (e : Ended) (a w : Option (List ℕ)) → Opens image trace o → Refuses o e
-    → Reads most_input a a (Connected image trace (Ok e) w w)
-refused_ended image trace o e a w opens is = record {
+pub connected_by_read_input_if_refused : (image trace : List ℕ) (o : Opening) (e : Ended) (a w : Option (List ℕ)) → Opens image trace o → Refuses o e
+    → ReadsUpTo most_input a a (Connected image trace (Ok e) w w)
+connected_by_read_input_if_refused image trace o e a w opens is = record {
   consumed = [];
   taken = Consumes-nil a;
   within = omega arith;
-  holds = connected image trace o e w [] opens is;
+  holds = connected_if_refused image trace o e w [] opens is;
 }
 
-pub refused_known : (image trace : List ℕ) (o : Opening) (e : Ended) (a w : Option (List ℕ)) → Opens image trace o → Refuses o e
+pub connected_by_known_input_if_refused : (image trace : List ℕ) (o : Opening) (e : Ended) (a w : Option (List ℕ)) → Opens image trace o → Refuses o e
     → IfSome a (Connected image trace (Ok e) w w)
-refused_known image trace o e None w opens is = tt
-refused_known image trace o e (Some xs) w opens is = connected image trace o e w xs opens is
+connected_by_known_input_if_refused image trace o e None w opens is = tt
+connected_by_known_input_if_refused image trace o e (Some xs) w opens is = connected_if_refused image trace o e w xs opens is
 
-pub refused_announced : (image trace : List ℕ) (o : Opening) (e : Ended) (P : List ℕ → Type 0) → Opens image trace o → Refuses o e
+pub announced_if_refused : (image trace : List ℕ) (o : Opening) (e : Ended) (P : List ℕ → Type 0) → Opens image trace o → Refuses o e
     → P (opening_text o) → IfRefused (Ok e) (Announced image trace (Ok e) P)
-refused_announced image trace o ended.Quit P opens is p = tt
-refused_announced image trace o ended.InputEnd P opens is p = tt
-refused_announced image trace o ended.ImageRefused P opens is p = record { opening = o; opens = opens; ended = ended.ImageRefused; refuses = is; ending = refl; text = p }
-refused_announced image trace o ended.TraceRefused P opens is p = record { opening = o; opens = opens; ended = ended.TraceRefused; refuses = is; ending = refl; text = p }
-refused_announced image trace o ended.NotFit P opens is p = record { opening = o; opens = opens; ended = ended.NotFit; refuses = is; ending = refl; text = p }
+announced_if_refused image trace o ended.Quit P opens is p = tt
+announced_if_refused image trace o ended.InputEnd P opens is p = tt
+announced_if_refused image trace o ended.ImageRefused P opens is p = record { opening = o; opens = opens; ended = ended.ImageRefused; refuses = is; ending = refl; text = p }
+announced_if_refused image trace o ended.TraceRefused P opens is p = record { opening = o; opens = opens; ended = ended.TraceRefused; refuses = is; ending = refl; text = p }
+announced_if_refused image trace o ended.NotFit P opens is p = record { opening = o; opens = opens; ended = ended.NotFit; refuses = is; ending = refl; text = p }
 
-pub refused_quiet : (o : Opening) (e : Ended) (P : Type 0) → Refuses o e → IfNotRefused (Ok e) P
-refused_quiet (opening.ImageRefused x) e P is = subst (λ (y : Ended). IfNotRefused (Ok y) P) (sym is) tt
-refused_quiet (opening.TraceRefused x) e P is = subst (λ (y : Ended). IfNotRefused (Ok y) P) (sym is) tt
-refused_quiet (opening.Unfit v) e P is = subst (λ (y : Ended). IfNotRefused (Ok y) P) (sym is) tt
-refused_quiet (opening.Ready d) e P is = absurd is
+pub if_not_refused_holds_if_refused : (o : Opening) (e : Ended) (P : Type 0) → Refuses o e → IfNotRefused (Ok e) P
+if_not_refused_holds_if_refused (opening.ImageRefused x) e P is = subst (λ (y : Ended). IfNotRefused (Ok y) P) (sym is) tt
+if_not_refused_holds_if_refused (opening.TraceRefused x) e P is = subst (λ (y : Ended). IfNotRefused (Ok y) P) (sym is) tt
+if_not_refused_holds_if_refused (opening.Unfit v) e P is = subst (λ (y : Ended). IfNotRefused (Ok y) P) (sym is) tt
+if_not_refused_holds_if_refused (opening.Ready d) e P is = absurd is
 
-pub ready_quiet : (result : Result Ended SessionErr) (P : Type 0) → P → IfNotRefused result P
-ready_quiet (Ok ended.Quit) P p = p
-ready_quiet (Ok ended.InputEnd) P p = p
-ready_quiet (Ok ended.ImageRefused) P p = tt
-ready_quiet (Ok ended.TraceRefused) P p = tt
-ready_quiet (Ok ended.NotFit) P p = tt
-ready_quiet (Err e) P p = p
+pub if_not_refused_from_fact : (result : Result Ended SessionErr) (P : Type 0) → P → IfNotRefused result P
+if_not_refused_from_fact (Ok ended.Quit) P p = p
+if_not_refused_from_fact (Ok ended.InputEnd) P p = p
+if_not_refused_from_fact (Ok ended.ImageRefused) P p = tt
+if_not_refused_from_fact (Ok ended.TraceRefused) P p = tt
+if_not_refused_from_fact (Ok ended.NotFit) P p = tt
+if_not_refused_from_fact (Err e) P p = p
 
 -- what a writer took of a text
-pub announced : {X E : Type 0} (r : Result X E) (w w' : Option (List ℕ)) (broken : Bool) (text : List ℕ) → OnOk r (Appends w w' text)
+pub text_is_appended_unless_broken : {X E : Type 0} (r : Result X E) (w w' : Option (List ℕ)) (broken : Bool) (text : List ℕ) → OnOk r (Appends w w' text)
     → OnErr r (AppendsPrefix w w' text) → OnErr r (broken ≡ true) → AppendsPrefix w w' text × (broken ≡ false → Appends w w' text)
-announced (Ok x) w w' broken text ok prefix err = (
+text_is_appended_unless_broken (Ok x) w w' broken text ok prefix err = (
   record { part = text; more = []; splits = sym (append-nil text); grown = ok },
   λ e. ok,
 )
-announced (Err x) w w' broken text ok prefix err = (prefix, λ e. absurd (both broken err e))
+text_is_appended_unless_broken (Err x) w w' broken text ok prefix err = (prefix, λ e. absurd (both broken err e))
   where
     both : (b : Bool) → b ≡ true → b ≡ false → ⊥
     both b is isnt = cc

@@ -3,6 +3,7 @@ use Rattle.std.proofs.Common.{◌≡◌, ◌≤◌, ◌<◌, ◌+◌, ℕ, suc, 
 use Rattle.std.specs.Prelude.{◌&&◌}
 use Rattle.std.specs.List.{filter, AllByRecursion}
 use Rattle.ir_mach.specs.Core.{memory_start, memory_size}
+use Rattle.ir_debug.proofs.CallerLemmas.{all_more, all_without, fewer}
 use Rattle.ir_gdb.specs.declared.point.Breakpoint.{Breakpoint}
 use Rattle.ir_gdb.specs.declared.point.Watched.{Watched}
 use Rattle.ir_gdb.specs.Stub.{Stub, IsStub, IsWatched, most_points, most_watched}
@@ -10,34 +11,30 @@ use Rattle.ir_gdb.specs.Setting.{can_watch, is_same_break, is_same_watch, breaks
 
 -- ---- a point more
 
-one_longer : {A : Type 0} (xs : List A) (x : A) → length (xs ++ x ∷ []) ≡ length xs + 1
-one_longer xs x = length-append xs (x ∷ [])
+length_of_append_item : {A : Type 0} (xs : List A) (x : A) → length (xs ++ x ∷ []) ≡ length xs + 1
+length_of_append_item xs x = length-append xs (x ∷ [])
 
-pub stub_with_break : (s : Stub) (b : Breakpoint) → IsStub s → length s.breaks + length s.watches < most_points
+pub stub_with_break_is_stub : (s : Stub) (b : Breakpoint) → IsStub s → length s.breaks + length s.watches < most_points
     → IsStub (record s { breaks = s.breaks ++ b ∷ [] })
-stub_with_break s b is room = record {
+stub_with_break_is_stub s b is room = record {
   general = is.general;
   chosen = is.chosen;
   current = is.current;
   told = is.told;
   watches = is.watches;
-  few = let more = one_longer s.breaks b in omega (arith, more, room);
+  few = let more = length_of_append_item s.breaks b in omega (arith, more, room);
 }
 
-all_pushed : (ws : List Watched) (w : Watched) → AllByRecursion IsWatched ws → IsWatched w → AllByRecursion IsWatched (ws ++ w ∷ [])
-all_pushed [] w all is = (is, tt)
-all_pushed (x ∷ ws) w all is = (all.0, all_pushed ws w all.1 is)
+parts_of_four_true : (a b c d : Bool) → (a && (b && (c && d))) ≡ true → (a ≡ true) × (b ≡ true) × (c ≡ true) × (d ≡ true)
+parts_of_four_true true true true true e = (refl, refl, refl, refl)
+parts_of_four_true true true true false e = absurd cc
+parts_of_four_true true true false d e = absurd cc
+parts_of_four_true true false c d e = absurd cc
+parts_of_four_true false b c d e = absurd cc
 
-both : (a b c d : Bool) → (a && (b && (c && d))) ≡ true → (a ≡ true) × (b ≡ true) × (c ≡ true) × (d ≡ true)
-both true true true true e = (refl, refl, refl, refl)
-both true true true false e = absurd cc
-both true true false d e = absurd cc
-both true false c d e = absurd cc
-both false b c d e = absurd cc
-
-pub is_watched : (w : Watched) → can_watch w ≡ true → IsWatched w
-is_watched w can =
-    let each = both (ltb 0 w.size) (leb w.size most_watched) (leb memory_start w.address) (leb (w.address + w.size) (memory_start + memory_size)) can in
+pub watched_if_can_watch : (w : Watched) → can_watch w ≡ true → IsWatched w
+watched_if_can_watch w can =
+    let each = parts_of_four_true (ltb 0 w.size) (leb w.size most_watched) (leb memory_start w.address) (leb (w.address + w.size) (memory_start + memory_size)) can in
     record {
       some = ltb-true 0 w.size each.0;
       few = leb-true w.size most_watched each.1;
@@ -45,29 +42,21 @@ is_watched w can =
       high = leb-true (w.address + w.size) (memory_start + memory_size) each.3;
     }
 
-pub stub_with_watch : (s : Stub) (w : Watched) → IsStub s → can_watch w ≡ true → length s.breaks + length s.watches < most_points
+pub stub_with_watch_is_stub : (s : Stub) (w : Watched) → IsStub s → can_watch w ≡ true → length s.breaks + length s.watches < most_points
     → IsStub (record s { watches = s.watches ++ w ∷ [] })
-stub_with_watch s w is can room = record {
+stub_with_watch_is_stub s w is can room = record {
   general = is.general;
   chosen = is.chosen;
   current = is.current;
   told = is.told;
-  watches = all_pushed s.watches w is.watches (is_watched w can);
-  few = let more = one_longer s.watches w in omega (arith, more, room);
+  watches = all_more IsWatched s.watches w is.watches (watched_if_can_watch w can);
+  few = let more = length_of_append_item s.watches w in omega (arith, more, room);
 }
 
 -- ---- a point fewer
 
-shorter : {A : Type 0} (x : A) (xs : List A) (keeps : Bool) (n : ℕ) → length xs ≤ n → length (cond keeps (x ∷ xs) xs) ≤ suc n
-shorter x xs true n h = omega (arith, h)
-shorter x xs false n h = omega (arith, h)
-
-fewer : {A : Type 0} (p : A → Bool) (xs : List A) → length (filter p xs) ≤ length xs
-fewer p [] = omega arith
-fewer p (x ∷ xs) = shorter x (filter p xs) (p x) (length xs) (fewer p xs)
-
-pub stub_without_break : (s : Stub) (b : Breakpoint) → IsStub s → IsStub (record s { breaks = breaks_without s.breaks b })
-stub_without_break s b is = record {
+pub stub_without_break_is_stub : (s : Stub) (b : Breakpoint) → IsStub s → IsStub (record s { breaks = breaks_without s.breaks b })
+stub_without_break_is_stub s b is = record {
   general = is.general;
   chosen = is.chosen;
   current = is.current;
@@ -76,21 +65,12 @@ stub_without_break s b is = record {
   few = let less = fewer (λ x. not (is_same_break x b)) s.breaks in let all = is.few in omega (arith, less, all);
 }
 
-by_kept : (w : Watched) (ws : List Watched) (keeps : Bool) → IsWatched w → AllByRecursion IsWatched ws
-    → AllByRecursion IsWatched (cond keeps (w ∷ ws) ws)
-by_kept w ws true is all = (is, all)
-by_kept w ws false is all = all
-
-all_filtered : (p : Watched → Bool) (ws : List Watched) → AllByRecursion IsWatched ws → AllByRecursion IsWatched (filter p ws)
-all_filtered p [] all = tt
-all_filtered p (w ∷ ws) all = by_kept w (filter p ws) (p w) all.0 (all_filtered p ws all.1)
-
-pub stub_without_watch : (s : Stub) (w : Watched) → IsStub s → IsStub (record s { watches = watches_without s.watches w })
-stub_without_watch s w is = record {
+pub stub_without_watch_is_stub : (s : Stub) (w : Watched) → IsStub s → IsStub (record s { watches = watches_without s.watches w })
+stub_without_watch_is_stub s w is = record {
   general = is.general;
   chosen = is.chosen;
   current = is.current;
   told = is.told;
-  watches = all_filtered (λ x. not (is_same_watch x w)) s.watches is.watches;
+  watches = all_without IsWatched (λ x. not (is_same_watch x w)) s.watches is.watches;
   few = let less = fewer (λ x. not (is_same_watch x w)) s.watches in let all = is.few in omega (arith, less, all);
 }

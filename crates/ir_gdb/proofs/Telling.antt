@@ -7,7 +7,7 @@ use Rattle.ir_gdb.specs.Stub.{Stub}
 use Rattle.ir_gdb.specs.Serving.{Serving, IsThere}
 use Rattle.ir_gdb.specs.Moves.{after_told}
 
-pub there_told : (a b : Serving) (told : Told) → b.stub ≡ after_told a.stub told → b.state ≡ a.state → IsThere a → IsThere b
-there_told a b told stub state there =
+pub is_there_after_told : (a b : Serving) (told : Told) → b.stub ≡ after_told a.stub told → b.state ≡ a.state → IsThere a → IsThere b
+is_there_after_told a b told stub state there =
     let first = subst (λ (x : Standing). StandsAt a.stub.desk.fitted (cut_of a.stub.desk.at) x) (sym state) there in
     subst (λ (x : Stub). StandsAt x.desk.fitted (cut_of x.desk.at) b.state) (sym stub) first

@@ -11,29 +11,29 @@ use Rattle.ir_debug.specs.Machine.Moves.{ToLeast, ToGreatest}
 use Rattle.ir_timeline.specs.Positions.{threads_of, last_of}
 use Rattle.ir_gdb.specs.Serving.{Serving}
 
-pub is_in_hand : (s : Serving) (cut : List ℕ) (t : ℕ) → StandsAt s.stub.desk.fitted (cut_of cut) s.state → t < threads_of s.stub.desk.fitted
+pub thread_is_in_hand : (s : Serving) (cut : List ℕ) (t : ℕ) → StandsAt s.stub.desk.fitted (cut_of cut) s.state → t < threads_of s.stub.desk.fitted
     → t < length s.state.threads
-is_in_hand s cut t there below = subst (λ (n : ℕ). t < n) (sym there.at.threads) below
+thread_is_in_hand s cut t there below = subst (λ (n : ℕ). t < n) (sym there.at.threads) below
 
-pub is_visited : (s : Serving) (cut : List ℕ) (t : ℕ) → StandsAt s.stub.desk.fitted (cut_of cut) s.state
+pub thread_in_hand_is_at_cut : (s : Serving) (cut : List ℕ) (t : ℕ) → StandsAt s.stub.desk.fitted (cut_of cut) s.state
     → EachRun s.stub.desk.fitted (λ run. slice_index_or s.state.threads t idle ≡ thread_at s.stub.desk.fitted run t (cut_of cut t))
-is_visited s cut t there run is = (there.at.each run is).threads t
+thread_in_hand_is_at_cut s cut t there run is = (there.at.each run is).threads t
 
 -- the least cut with thread t at a position that isn't below its own has it there
-pub exact_at : LeastExact → (f : FittedTrace) (at cut : List ℕ) (t k : ℕ) → IsConsistentCut f at → cut_of at t ≤ k → k ≤ last_of f t
+pub least_cut_is_exact : LeastExact → (f : FittedTrace) (at cut : List ℕ) (t k : ℕ) → IsConsistentCut f at → cut_of at t ≤ k → k ≤ last_of f t
     → t < threads_of f → EachRun f (λ run. ToLeast run f at t k cut) → EachRun f (λ run. cut_of cut t ≡ k)
-exact_at law f at cut t k held low high l least run whole =
+least_cut_is_exact law f at cut t k held low high l least run whole =
     law f.guest f.recorded.budget f.recorded.profile run whole.1.runs (cut_of at) (cut_of cut) t k (held run whole).0 (held run whole).1 low
     (subst (λ (n : ℕ). k ≤ n) (sym (whole.1.steps t l)) high) (least run whole).1
 
 -- the greatest cut with thread t at a position that isn't above its own has it there
-pub exact_below : GreatestExact → (f : FittedTrace) (at cut : List ℕ) (t k : ℕ) → HasRun f → IsConsistentCut f at → k ≤ cut_of at t
+pub greatest_cut_is_exact : GreatestExact → (f : FittedTrace) (at cut : List ℕ) (t k : ℕ) → HasRun f → IsConsistentCut f at → k ≤ cut_of at t
     → EachRun f (λ run. ToGreatest run f at t k cut) → cut_of cut t ≡ k
-exact_below law f at cut t k has held low greatest =
+greatest_cut_is_exact law f at cut t k has held low greatest =
     law f.guest f.recorded.budget f.recorded.profile has.run has.whole.1.runs (cut_of at) (cut_of cut) t k (held has.run has.whole).0
     (held has.run has.whole).1 low (greatest has.run has.whole).1
 
 -- both facts of a result
-pub both_ok : {T E : Type 0} (r : Result T E) (P Q : T → Type 0) → IfOk r P → IfOk r Q → IfOk r (λ x. P x × Q x)
-both_ok (Ok x) P Q p q = (p, q)
-both_ok (Err e) P Q p q = tt
+pub if_ok_of_both_facts : {T E : Type 0} (r : Result T E) (P Q : T → Type 0) → IfOk r P → IfOk r Q → IfOk r (λ x. P x × Q x)
+if_ok_of_both_facts (Ok x) P Q p q = (p, q)
+if_ok_of_both_facts (Err e) P Q p q = tt

@@ -7,34 +7,34 @@ use Rattle.ir_timeline.specs.Positions.{last_of}
 use Rattle.ir_gdb.specs.Stops.{position_of}
 use Rattle.ir_gdb.specs.Texts.{place_text, thread_text, first_threads_text}
 
-first_threads_text-next : (s : Stub) (n : ℕ) → first_threads_text s (n + 1) ≡ first_threads_text s n ++ thread_text s n
+first_threads_text_step : (s : Stub) (n : ℕ) → first_threads_text s (n + 1) ≡ first_threads_text s n ++ thread_text s n
 unfolding first_threads_text
-first_threads_text-next s n = let more : n + 1 ≡ suc n = omega arith in ap (λ (k : ℕ). first_threads_text s k) more
+first_threads_text_step s n = let more : n + 1 ≡ suc n = omega arith in ap (λ (k : ℕ). first_threads_text s k) more
 
-pub no_thread_put : (s : Stub) (old new head : List ℕ) → old ≡ [] → new ≡ old ++ head → new ≡ head ++ first_threads_text s 0
+pub first_threads_text_put_of_none : (s : Stub) (old new head : List ℕ) → old ≡ [] → new ≡ old ++ head → new ≡ head ++ first_threads_text s 0
 unfolding first_threads_text
-no_thread_put s old new head none put = put ∙ ap (λ (xs : List ℕ). xs ++ head) none ∙ sym (append-nil head)
+first_threads_text_put_of_none s old new head none put = put ∙ ap (λ (xs : List ℕ). xs ++ head) none ∙ sym (append-nil head)
 
-pub thread_put : (s : Stub) (n : ℕ) (old new head : List ℕ) → old ≡ head ++ first_threads_text s n → new ≡ old ++ thread_text s n
+pub first_threads_text_put_step : (s : Stub) (n : ℕ) (old new head : List ℕ) → old ≡ head ++ first_threads_text s n → new ≡ old ++ thread_text s n
     → new ≡ head ++ first_threads_text s (n + 1)
-thread_put s n old new head is put = put ∙ ap (λ (xs : List ℕ). xs ++ thread_text s n) is ∙ append_assoc head (first_threads_text s n) (thread_text s n)
-    ∙ ap (λ (xs : List ℕ). head ++ xs) (sym (first_threads_text-next s n))
+first_threads_text_put_step s n old new head is put = put ∙ ap (λ (xs : List ℕ). xs ++ thread_text s n) is ∙ append_assoc head (first_threads_text s n) (thread_text s n)
+    ∙ ap (λ (xs : List ℕ). head ++ xs) (sym (first_threads_text_step s n))
 
-pub all_put : (old new head threads tail : List ℕ) → old ≡ head ++ threads → new ≡ old ++ tail → new ≡ head ++ (threads ++ tail)
-all_put old new head threads tail is put = put ∙ ap (λ (xs : List ℕ). xs ++ tail) is ∙ append_assoc head threads tail
+pub text_put_after_threads : (old new head threads tail : List ℕ) → old ≡ head ++ threads → new ≡ old ++ tail → new ≡ head ++ (threads ++ tail)
+text_put_after_threads old new head threads tail is put = put ∙ ap (λ (xs : List ℕ). xs ++ tail) is ∙ append_assoc head threads tail
 
 -- ---- a thread's element
 
-at_end : (b : Bool) (p last : ℕ) → eqb p last ≡ b → p ≡ last → (if b then codes " done" else []) ≡ codes " done"
-at_end true p last test e = refl
-at_end false p last test e = absurd (eqb-false p last test e)
+done_at_last_position : (b : Bool) (p last : ℕ) → eqb p last ≡ b → p ≡ last → (if b then codes " done" else []) ≡ codes " done"
+done_at_last_position true p last test e = refl
+done_at_last_position false p last test e = absurd (eqb-false p last test e)
 
-before_end : (b : Bool) (p last : ℕ) → eqb p last ≡ b → (p ≡ last → ⊥) → (if b then codes " done" else []) ≡ []
-before_end true p last test going = absurd (going (eqb-true p last test))
-before_end false p last test going = refl
+not_done_before_last_position : (b : Bool) (p last : ℕ) → eqb p last ≡ b → (p ≡ last → ⊥) → (if b then codes " done" else []) ≡ []
+not_done_before_last_position true p last test going = absurd (going (eqb-true p last test))
+not_done_before_last_position false p last test going = refl
 
-six_joined : (a b c d e f more : List ℕ) → (((a ++ b) ++ (c ++ d)) ++ (e ++ f)) ++ more ≡ a ++ b ++ c ++ d ++ e ++ f ++ more
-six_joined a b c d e f more = simp append_assoc
+append_of_seven_texts : (a b c d e f more : List ℕ) → (((a ++ b) ++ (c ++ d)) ++ (e ++ f)) ++ more ≡ a ++ b ++ c ++ d ++ e ++ f ++ more
+append_of_seven_texts a b c d e f more = simp append_assoc
 
 -- the text with the name and the positions, and then whether the thread is done
 module _ (s : Stub) (t p last : ℕ) (at : p ≡ position_of s t) (end : last ≡ last_of s.desk.fitted t) (t0 t1 t2 t3 : List ℕ) (none : t0 ≡ [])
@@ -47,30 +47,30 @@ module _ (s : Stub) (t p last : ℕ) (at : p ≡ position_of s t) (end : last �
       (name ∙ ap (λ (xs : List ℕ). xs ++ (codes "\" name=\"thread " ++ decimal t)) none)))
       ∙ ap (λ (n : ℕ). (((codes "\" name=\"thread " ++ decimal t) ++ (codes "\">at " ++ decimal n)) ++ (codes " of " ++ decimal last)) ++ more) at
       ∙ ap (λ (n : ℕ). (((codes "\" name=\"thread " ++ decimal t) ++ (codes "\">at " ++ decimal (position_of s t))) ++ (codes " of " ++ decimal n)) ++ more) end
-      ∙ six_joined (codes "\" name=\"thread ") (decimal t) (codes "\">at ") (decimal (position_of s t)) (codes " of ")
+      ∙ append_of_seven_texts (codes "\" name=\"thread ") (decimal t) (codes "\">at ") (decimal (position_of s t)) (codes " of ")
       (decimal (last_of s.desk.fitted t)) more
 
   pub place_done : (text out new : List ℕ) → p ≡ last → text ≡ t3 ++ codes " done" → new ≡ out ++ text → new ≡ out ++ place_text s t
   place_done text out new e done put = put ∙ ap (λ (xs : List ℕ). out ++ xs) (done
-      ∙ ap (λ (xs : List ℕ). t3 ++ xs) (sym (at_end (eqb p last) p last refl e))
+      ∙ ap (λ (xs : List ℕ). t3 ++ xs) (sym (done_at_last_position (eqb p last) p last refl e))
       ∙ ap (λ (n : ℕ). t3 ++ (if eqb n last then codes " done" else [])) at
       ∙ ap (λ (n : ℕ). t3 ++ (if eqb (position_of s t) n then codes " done" else [])) end
       ∙ before_done (if eqb (position_of s t) (last_of s.desk.fitted t) then codes " done" else []))
 
   pub place_going : (text out new : List ℕ) → (p ≡ last → ⊥) → text ≡ t3 → new ≡ out ++ text → new ≡ out ++ place_text s t
   place_going text out new going same put = put ∙ ap (λ (xs : List ℕ). out ++ xs) (same ∙ sym (append-nil t3)
-      ∙ ap (λ (xs : List ℕ). t3 ++ xs) (sym (before_end (eqb p last) p last refl going))
+      ∙ ap (λ (xs : List ℕ). t3 ++ xs) (sym (not_done_before_last_position (eqb p last) p last refl going))
       ∙ ap (λ (n : ℕ). t3 ++ (if eqb n last then codes " done" else [])) at
       ∙ ap (λ (n : ℕ). t3 ++ (if eqb (position_of s t) n then codes " done" else [])) end
       ∙ before_done (if eqb (position_of s t) (last_of s.desk.fitted t) then codes " done" else []))
 
-four_joined : (o a b c d : List ℕ) → (((o ++ a) ++ b) ++ c) ++ d ≡ o ++ (a ++ b ++ c ++ d)
-four_joined o a b c d = simp append_assoc
+append_of_five_texts : (o a b c d : List ℕ) → (((o ++ a) ++ b) ++ c) ++ d ≡ o ++ (a ++ b ++ c ++ d)
+append_of_five_texts o a b c d = simp append_assoc
 
-pub element_put : (s : Stub) (t n : ℕ) (o0 o1 o2 o3 o4 : List ℕ) → n ≡ t + 1 → o1 ≡ o0 ++ codes "<thread id=\"" → o2 ≡ o1 ++ number_text n
+pub thread_text_put_by_parts : (s : Stub) (t n : ℕ) (o0 o1 o2 o3 o4 : List ℕ) → n ≡ t + 1 → o1 ≡ o0 ++ codes "<thread id=\"" → o2 ≡ o1 ++ number_text n
     → o3 ≡ o2 ++ place_text s t → o4 ≡ o3 ++ codes "</thread>" → o4 ≡ o0 ++ thread_text s t
-element_put s t n o0 o1 o2 o3 o4 id e1 e2 e3 e4 = e4
+thread_text_put_by_parts s t n o0 o1 o2 o3 o4 id e1 e2 e3 e4 = e4
     ∙ ap (λ (xs : List ℕ). xs ++ codes "</thread>") (e3 ∙ ap (λ (xs : List ℕ). xs ++ place_text s t) (e2
     ∙ ap (λ (xs : List ℕ). xs ++ number_text n) e1))
-    ∙ four_joined o0 (codes "<thread id=\"") (number_text n) (place_text s t) (codes "</thread>")
+    ∙ append_of_five_texts o0 (codes "<thread id=\"") (number_text n) (place_text s t) (codes "</thread>")
     ∙ ap (λ (k : ℕ). o0 ++ (codes "<thread id=\"" ++ number_text k ++ place_text s t ++ codes "</thread>")) id

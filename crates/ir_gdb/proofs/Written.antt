@@ -6,26 +6,26 @@ use Rattle.ir_packet.specs.declared.reply.Reply.{Reply}
 use Rattle.ir_packet.specs.declared.reply.Reply.TheVariants as reply
 use Rattle.ir_gdb.specs.Connection.{most_piece, answer_packets, answer_text}
 
-pub answer_text-none : (bytes : List ℕ) → length bytes ≡ 0 → answer_text bytes ≡ []
+pub answer_text_of_no_bytes : (bytes : List ℕ) → length bytes ≡ 0 → answer_text bytes ≡ []
 unfolding answer_packets
-answer_text-none bytes e =
+answer_text_of_no_bytes bytes e =
     let none : (length bytes + 499) / most_piece ≡ 0 = omega (arith, e) in ap (λ (n : ℕ). answer_packets n bytes) none
 
-answer_text-more : (bytes : List ℕ) → 0 < length bytes
+answer_text_of_first_piece : (bytes : List ℕ) → 0 < length bytes
     → answer_text bytes ≡ packet_of (output_text (take most_piece bytes)) ++ answer_text (drop most_piece bytes)
 unfolding answer_packets
-answer_text-more bytes some =
+answer_text_of_first_piece bytes some =
     let more : (length bytes + 499) / most_piece ≡ suc ((length (drop most_piece bytes) + 499) / most_piece) =
     omega (arith, some, length-drop most_piece bytes) in
     ap (λ (n : ℕ). answer_packets n bytes) more
 
-short_piece : (bytes : List ℕ) (t : Bool) → leb most_piece (length bytes) ≡ t
+take_and_drop_of_short_piece : (bytes : List ℕ) (t : Bool) → leb most_piece (length bytes) ≡ t
     → (take (min most_piece (length bytes)) bytes ≡ take most_piece bytes) × (drop (min most_piece (length bytes)) bytes ≡ drop most_piece bytes)
-short_piece bytes true long =
+take_and_drop_of_short_piece bytes true long =
     let h : most_piece ≤ length bytes = leb-true most_piece (length bytes) long in
     let e : min most_piece (length bytes) ≡ most_piece = omega (arith, h) in
     (ap (λ (n : ℕ). take n bytes) e, ap (λ (n : ℕ). drop n bytes) e)
-short_piece bytes false short =
+take_and_drop_of_short_piece bytes false short =
     let h : length bytes < most_piece = leb-false most_piece (length bytes) short in
     let most : length bytes ≤ most_piece = omega (arith, h) in
     let e : min most_piece (length bytes) ≡ length bytes = omega (arith, h) in
@@ -35,26 +35,26 @@ short_piece bytes false short =
     )
 
 -- by a piece that is no longer than the rest
-pub answer_text-piece : (bytes piece more : List ℕ) (n : ℕ) → 0 < length bytes → n ≡ min most_piece (length bytes) → piece ≡ take n bytes
+pub answer_text_of_piece : (bytes piece more : List ℕ) (n : ℕ) → 0 < length bytes → n ≡ min most_piece (length bytes) → piece ≡ take n bytes
     → more ≡ drop n bytes → answer_text bytes ≡ packet_of (output_text piece) ++ answer_text more
-answer_text-piece bytes piece more n some least is-n rest-n =
+answer_text_of_piece bytes piece more n some least is-n rest-n =
     let is : piece ≡ take (min most_piece (length bytes)) bytes = is-n ∙ ap (λ (k : ℕ). take k bytes) least in
     let rest : more ≡ drop (min most_piece (length bytes)) bytes = rest-n ∙ ap (λ (k : ℕ). drop k bytes) least in
-    let e = short_piece bytes (leb most_piece (length bytes)) refl in
-    answer_text-more bytes some
+    let e = take_and_drop_of_short_piece bytes (leb most_piece (length bytes)) refl in
+    answer_text_of_first_piece bytes some
     ∙ ap (λ (x : List ℕ). packet_of (output_text x) ++ answer_text (drop most_piece bytes)) (sym e.0 ∙ sym is)
     ∙ ap (λ (x : List ℕ). packet_of (output_text piece) ++ answer_text x) (sym e.1 ∙ sym rest)
 
 -- replies that are always the same are short
-pub short_reply : (r : Reply) → length (reply_text r) ≤ 19
+pub reply_text_is_short : (r : Reply) → length (reply_text r) ≤ 19
 unfolding reply_text
-short_reply reply.Done = omega arith
-short_reply reply.Nothing = omega arith
-short_reply reply.NotPermitted = omega arith
-short_reply reply.NoMemory = omega arith
-short_reply reply.BadAddress = omega arith
-short_reply reply.NoSpace = omega arith
-short_reply reply.ReadOnly = omega arith
-short_reply reply.Attached = omega arith
-short_reply reply.Offsets = omega arith
-short_reply reply.Motions = omega arith
+reply_text_is_short reply.Done = omega arith
+reply_text_is_short reply.Nothing = omega arith
+reply_text_is_short reply.NotPermitted = omega arith
+reply_text_is_short reply.NoMemory = omega arith
+reply_text_is_short reply.BadAddress = omega arith
+reply_text_is_short reply.NoSpace = omega arith
+reply_text_is_short reply.ReadOnly = omega arith
+reply_text_is_short reply.Attached = omega arith
+reply_text_is_short reply.Offsets = omega arith
+reply_text_is_short reply.Motions = omega arith

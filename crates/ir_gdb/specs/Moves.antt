@@ -2,7 +2,7 @@
 use Rattle.std.specs.Prelude.{◌≡◌, ℕ, ◌+◌, Bool, true, false, List, Option, Some, None, option_map, if◌then◌else◌}
 use Rattle.ir_mach.specs.Core.{Core, register}
 use Rattle.ir_runs.specs.Run.{Step}
-use Rattle.ir_debug.specs.Machine.Desk.{moved}
+use Rattle.ir_debug.specs.Machine.Desk.{moved_to}
 use Rattle.ir_packet.specs.Replies.{stop_text}
 use Rattle.ir_packet.specs.declared.reply.Reason.TheVariants as reason
 use Rattle.ir_packet.specs.declared.reply.Stop.{Stop}
@@ -41,7 +41,7 @@ told_of h = record { interrupted = false; thread = h.thread; reason = h.reason }
 
 -- all threads have gone to the cut of a stop
 abbrev pub settled : Stub → Halt → Stub
-settled s h = after_told (record s { desk = moved s.desk h.cut }) (told_of h)
+settled s h = after_told (record s { desk = moved_to s.desk h.cut }) (told_of h)
 
 -- a thread is interrupted where it is
 abbrev pub interrupted_at : ℕ → Told

@@ -62,7 +62,7 @@ after_chosen s who.Any = record s { chosen = None }
 after_chosen s (who.Thread id) = with_chosen s (thread_of_id s.desk.fitted id)
 
 -- a thread of the run at its position
-abbrev pub current_of : List Step → Stub → ℕ → thread.State
+abbrev pub current_of : List Step → Stub → ℕ → thread.ThreadState
 current_of run s t = thread_at s.desk.fitted run t (cut_of s.desk.at t)
 
 -- x0 to x31, and pc

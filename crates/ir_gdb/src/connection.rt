@@ -1,7 +1,7 @@
 //! A connection of gdb: bytes are read, and the replies to the packets in them are written.
 
 ghost use Rattle.std.specs.Prelude.{◌≡◌, true, false, Err, IfOk, IfSome};
-ghost use Rattle.ir_stream.specs.Answers.{Reads};
+ghost use Rattle.ir_stream.specs.Answers.{ReadsUpTo};
 ghost use Rattle.ir_stream.specs.Endings.{IfEnded};
 ghost use Rattle.ir_packet.specs.Stream.{Between, items};
 ghost use Rattle.ir_gdb.specs.Connection.{link_of, Wrote, WroteInPart, LeadsTo};
@@ -87,7 +87,7 @@ impl Connection {
         requires reads { R.broken reader.old ≡ false }
         requires writes { W.broken writer.old ≡ false }
         // Where no device fails, the bytes that were read lead to the result, and neither device has failed.
-        ensures ended { IfEnded result (Reads limit (R.left reader.old) (R.left reader.new)
+        ensures ended { IfEnded result (ReadsUpTo limit (R.left reader.old) (R.left reader.new)
             (LeadsTo self.old.link limit result (W.written writer.old) (W.written writer.new))) }
         ensures works { IfEnded result ((R.broken reader.new ≡ false) × (W.broken writer.new ≡ false)) }
         // If the reader makes its bytes known, all of them together lead to it.
@@ -95,12 +95,12 @@ impl Connection {
             (LeadsTo self.old.link limit result (W.written writer.old) (W.written writer.new))) }
         // After a failed read, the replies to all that was read, none of which ends the connection.
         ensures read { result ≡ Err Fault.Read → (R.broken reader.new ≡ true) × (W.broken writer.new ≡ false)
-            × Reads limit (R.left reader.old) (R.left reader.new) (λ consumed.
+            × ReadsUpTo limit (R.left reader.old) (R.left reader.new) (λ consumed.
             Wrote self.old.link (items consumed) false (W.written writer.old) (W.written writer.new)) }
         // After a failed write, the replies to all but the last item, and a prefix of that one's: a reply is written before a byte
         // after its packet is read.
         ensures write { result ≡ Err Fault.Write → (R.broken reader.new ≡ false) × (W.broken writer.new ≡ true)
-            × Reads limit (R.left reader.old) (R.left reader.new) (λ consumed.
+            × ReadsUpTo limit (R.left reader.old) (R.left reader.new) (λ consumed.
             WroteInPart self.old.link (items consumed) (W.written writer.old) (W.written writer.new)) }
     {
         for taken in 0..limit {

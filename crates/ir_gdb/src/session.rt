@@ -2,7 +2,7 @@
 
 ghost use Rattle.std.specs.Prelude.{◌≡◌, false, true, Err, IfSome};
 ghost use Rattle.std.specs.Io.KnownBytes.{Appends};
-ghost use Rattle.ir_stream.specs.Answers.{AppendsPrefix, Reads};
+ghost use Rattle.ir_stream.specs.Answers.{AppendsPrefix, ReadsUpTo};
 ghost use Rattle.ir_packet.specs.Stream.{items};
 ghost use Rattle.ir_debug.specs.Session.{most_input, IfServed, IfRefused, ended_by};
 ghost use Rattle.ir_debug.specs.Openings.{opening_of};
@@ -54,7 +54,7 @@ fn serve<H: Hands, R: Source, W: Sink>(
 ) -> Result<Ended, SessionErr>
     requires reads { R.broken reader.old ≡ false }
     requires writes { W.broken writer.old ≡ false }
-    ensures ended { IfServed result (Reads most_input (R.left reader.old) (R.left reader.new)
+    ensures ended { IfServed result (ReadsUpTo most_input (R.left reader.old) (R.left reader.new)
         (Serves debugger.desk result (W.written writer.old) (W.written writer.new))) }
     ensures works { IfServed result ((R.broken reader.new ≡ false) × (W.broken writer.new ≡ false)) }
     ensures known { IfServed result (IfSome (R.left reader.old)
@@ -62,10 +62,10 @@ fn serve<H: Hands, R: Source, W: Sink>(
     ensures opened { IfRefused result ⊥ }
     ensures no_memory { result ≡ Err SessionErr.NoMem → (reader.new ≡ reader.old) × (writer.new ≡ writer.old) }
     ensures read { result ≡ Err SessionErr.Read → (R.broken reader.new ≡ true) × (W.broken writer.new ≡ false)
-        × Reads most_input (R.left reader.old) (R.left reader.new) (λ consumed.
+        × ReadsUpTo most_input (R.left reader.old) (R.left reader.new) (λ consumed.
         Wrote (first_link debugger.desk) (items consumed) false (W.written writer.old) (W.written writer.new)) }
     ensures write { result ≡ Err SessionErr.Write → (R.broken reader.new ≡ false) × (W.broken writer.new ≡ true)
-        × Reads most_input (R.left reader.old) (R.left reader.new) (λ consumed.
+        × ReadsUpTo most_input (R.left reader.old) (R.left reader.new) (λ consumed.
         WroteInPart (first_link debugger.desk) (items consumed) (W.written writer.old) (W.written writer.new)) }
 {
     let alloc = hands.alloc();
@@ -96,7 +96,7 @@ pub fn connect<H: Hands, R: Source, W: Sink, E: Sink>(
     requires writes { W.broken writer.old ≡ false }
     // Where no device fails and memory doesn't run out, the bytes that were read lead to the result and to what was written, and neither
     // device has failed.
-    ensures ended { IfServed result (Reads most_input (R.left reader.old) (R.left reader.new)
+    ensures ended { IfServed result (ReadsUpTo most_input (R.left reader.old) (R.left reader.new)
         (Connected image.now trace.now result (W.written writer.old) (W.written writer.new))) }
     ensures works { IfServed result ((R.broken reader.new ≡ false) × (W.broken writer.new ≡ false)) }
     // If the reader makes its bytes known, all of them together lead to it.
@@ -112,12 +112,12 @@ pub fn connect<H: Hands, R: Source, W: Sink, E: Sink>(
     ensures no_memory { result ≡ Err SessionErr.NoMem → (reader.new ≡ reader.old) × (writer.new ≡ writer.old) }
     // After a failed read, the answers to all that was read, none of which ends the connection.
     ensures read { result ≡ Err SessionErr.Read → (R.broken reader.new ≡ true) × (W.broken writer.new ≡ false)
-        × Reads most_input (R.left reader.old) (R.left reader.new)
+        × ReadsUpTo most_input (R.left reader.old) (R.left reader.new)
         (AnsweredWhole image.now trace.now (W.written writer.old) (W.written writer.new)) }
     // After a failed write, the answers to all but the last item, and a prefix of that one's: a reply is written before a byte after its
     // packet is read.
     ensures write { result ≡ Err SessionErr.Write → (R.broken reader.new ≡ false) × (W.broken writer.new ≡ true)
-        × Reads most_input (R.left reader.old) (R.left reader.new)
+        × ReadsUpTo most_input (R.left reader.old) (R.left reader.new)
         (AnsweredInPart image.now trace.now (W.written writer.old) (W.written writer.new)) }
 {
     let Ok(opened) = open(hands, image, trace) else {

@@ -4,40 +4,40 @@ use Rattle.std.specs.Prelude.{slice_get, IfSome, IfOk, IfErr, Result, Ok, Err}
 use Rattle.std.specs.List.{slice_index_or}
 use Rattle.ir_image.specs.Guest.{Guest}
 use Rattle.ir_object.specs.Cell.{Cell}
-use Rattle.ir_thread.specs.State.{State}
+use Rattle.ir_thread.specs.State.{ThreadState}
 use Rattle.ir_flat.specs.Flat.{Flat, IsFlat, idle, thread_of, cell_of}
 use Rattle.ir_store.specs.Table.{Keeps}
 use Rattle.ir_freeze.specs.Frozen.{is_over}
 use Rattle.ir_store.specs.Nodes.{Shared, cell_in, Grows, AreSameLooks}
-use Rattle.ir_store.proofs.CallerLemmas.{all_weaker, all_found, all_push, at_kept, within_kept}
+use Rattle.ir_store.proofs.CallerLemmas.{all_by_recursion_weaker, found_element_of_all_by_recursion, all_by_recursion_after_push, kept_element_is_equal, place_below_length_kept}
 use Rattle.ir_graph.specs.declared.known.Turn.{Turn}
 use Rattle.ir_graph.specs.Ahead.{IsTurn, AreTurns, IsTurnOf}
 use Rattle.ir_graph.specs.Lone.{TakesTurn}
 use Rattle.ir_graph.specs.Nodes.{LookAlike, AllRest, AreNodes, Stay, LeadsFrom}
 use Rattle.ir_graph.specs.Plain.{IsLike}
 use Rattle.ir_graph.specs.Reached.{IsReached}
-use Rattle.ir_graph.proofs.Alike.{look_alike}
+use Rattle.ir_graph.proofs.Alike.{look_alike_by_threads_and_words}
 use Rattle.ir_graph.proofs.Found.{reached_like, reached_rests, reached_leads}
-use Rattle.ir_graph.proofs.Leads.{done_stays}
-use Rattle.ir_graph.proofs.LoneSteps.{with_both, TurnsBoth, turn_goes}
-use Rattle.ir_graph.proofs.Over.{over_done}
-use Rattle.ir_graph.proofs.Reached.{step_reached}
+use Rattle.ir_graph.proofs.Leads.{no_seen_step_if_done}
+use Rattle.ir_graph.proofs.LoneSteps.{with_thread_and_object, IsLoneTurn, lone_turn_in_flat}
+use Rattle.ir_graph.proofs.Over.{ask_of_over_thread_is_done}
+use Rattle.ir_graph.proofs.Reached.{step_of_reached_is_reached}
 
-pub same_alike : (f g : Flat) → IsLike f g → AreSameLooks f g → LookAlike f g
-same_alike f g like same = look_alike f g like (λ t l. same.threads t l (like.twins t) f.code) same.words
+pub look_alike_if_same_looks : (f g : Flat) → IsLike f g → AreSameLooks f g → LookAlike f g
+look_alike_if_same_looks f g like same = look_alike_by_threads_and_words f g like (λ t l. same.threads t l (like.twins t) f.code) same.words
 
 -- a thread that is over has no step
-pub over_nowhere : (flats : List Flat) (t v : ℕ) → ((f : Flat) → slice_get flats v ≡ Some f → is_over (thread_of f t) ≡ true)
+pub over_thread_leads_nowhere : (flats : List Flat) (t v : ℕ) → ((f : Flat) → slice_get flats v ≡ Some f → is_over (thread_of f t) ≡ true)
     → LeadsFrom flats t v None
-over_nowhere flats t v over f at answers e same can = done_stays f answers t (over_done f.code (thread_of f t) (over f at)) e same can
+over_thread_leads_nowhere flats t v over f at answers e same can = no_seen_step_if_done f answers t (ask_of_over_thread_is_done f.code (thread_of f t) (over f at)) e same can
 
 module _ (flats : List Flat) (shared : Shared) (f : Flat) (t v : ℕ) (turn : Turn) (nodes : AreNodes flats) (at : slice_get flats v ≡ Some f)
     (less : t < length f.threads) (flat : IsFlat f) (is : IsTurnOf f.code shared f t turn) where
   abbrev pub after_turn : Flat
-  after_turn = with_both f t (slice_index_or shared.threads turn.to idle) turn.object (cell_in shared.words turn.after)
+  after_turn = with_thread_and_object f t (slice_index_or shared.threads turn.to idle) turn.object (cell_in shared.words turn.after)
 
-  goes : (g : Flat) × TurnsBoth f t g after_turn
-  goes = turn_goes f t turn.object (slice_index_or shared.threads turn.from idle) (slice_index_or shared.threads turn.to idle)
+  goes : (g : Flat) × IsLoneTurn f t g after_turn
+  goes = lone_turn_in_flat f t turn.object (slice_index_or shared.threads turn.from idle) (slice_index_or shared.threads turn.to idle)
       (cell_in shared.words turn.spot) (cell_in shared.words turn.after) flat less is.object (sym is.here) (sym is.there) is.is.takes
 
   pub both_flat : IsFlat after_turn
@@ -54,7 +54,7 @@ module _ (flats : List Flat) (shared : Shared) (f : Flat) (t v : ℕ) (turn : Tu
 
   pub both_reached : (guest : Guest) → IsReached guest f → IsReached guest after_turn
   both_reached guest reached = let e = goes.1.enters in
-      step_reached guest f goes.0 after_turn t reached (nodes.rest v f at t less) e.can e.is e.code e.threads e.objects goes.1.goes.goes
+      step_of_reached_is_reached guest f goes.0 after_turn t reached (nodes.rest v f at t less) e.can e.is e.code e.threads e.objects goes.1.goes.goes
 
   pub both_leads : (new : List Flat) (w : ℕ) → Stay flats new → ((k : Flat) → slice_get new w ≡ Some k → LookAlike after_turn k)
       → LeadsFrom new t v (Some w)
@@ -65,17 +65,17 @@ module _ (flats : List Flat) (shared : Shared) (f : Flat) (t v : ℕ) (turn : Tu
 module _ (code : List ℕ) (old new : Shared) (grows : Grows old new) where
   pub turn_grown : (turn : Turn) → IsTurn code old turn → IsTurn code new turn
   turn_grown turn is =
-      let from = at_kept old.threads new.threads idle grows.threads turn.from is.from in
-      let to = at_kept old.threads new.threads idle grows.threads turn.to is.to in
+      let from = kept_element_is_equal old.threads new.threads idle grows.threads turn.from is.from in
+      let to = kept_element_is_equal old.threads new.threads idle grows.threads turn.to is.to in
       let spot : cell_in new.words turn.spot ≡ cell_in old.words turn.spot =
-      λ i. record { fields = (cell_in old.words turn.spot).fields; words = at_kept old.words new.words [] grows.words turn.spot.words is.spot i } in
+      λ i. record { fields = (cell_in old.words turn.spot).fields; words = kept_element_is_equal old.words new.words [] grows.words turn.spot.words is.spot i } in
       let after : cell_in new.words turn.after ≡ cell_in old.words turn.after =
-      λ i. record { fields = (cell_in old.words turn.after).fields; words = at_kept old.words new.words [] grows.words turn.after.words is.after i } in
+      λ i. record { fields = (cell_in old.words turn.after).fields; words = kept_element_is_equal old.words new.words [] grows.words turn.after.words is.after i } in
       record {
-        from = within_kept old.threads new.threads idle grows.threads turn.from is.from;
-        to = within_kept old.threads new.threads idle grows.threads turn.to is.to;
-        spot = within_kept old.words new.words [] grows.words turn.spot.words is.spot;
-        after = within_kept old.words new.words [] grows.words turn.after.words is.after;
+        from = place_below_length_kept old.threads new.threads idle grows.threads turn.from is.from;
+        to = place_below_length_kept old.threads new.threads idle grows.threads turn.to is.to;
+        spot = place_below_length_kept old.words new.words [] grows.words turn.spot.words is.spot;
+        after = place_below_length_kept old.words new.words [] grows.words turn.after.words is.after;
         takes =
             subst (λ z. TakesTurn code turn.object z (cell_in new.words turn.spot) (slice_index_or new.threads turn.to idle)
             (cell_in new.words turn.after)) (sym from)
@@ -88,17 +88,17 @@ module _ (code : List ℕ) (old new : Shared) (grows : Grows old new) where
       }
 
   pub turns_grown : (turns : List Turn) → AreTurns code old turns → AreTurns code new turns
-  turns_grown turns all = all_weaker (IsTurn code old) (IsTurn code new) turns turn_grown all
+  turns_grown turns all = all_by_recursion_weaker (IsTurn code old) (IsTurn code new) turns turn_grown all
 
-pub known_one : (code : List ℕ) (shared : Shared) (turns : List Turn) (i : ℕ) (turn : Turn) → AreTurns code shared turns
+pub listed_turn_is_turn : (code : List ℕ) (shared : Shared) (turns : List Turn) (i : ℕ) (turn : Turn) → AreTurns code shared turns
     → slice_get turns i ≡ Some turn → IsTurn code shared turn
-known_one code shared turns i turn all at = all_found (IsTurn code shared) turns i turn all at
+listed_turn_is_turn code shared turns i turn all at = found_element_of_all_by_recursion (IsTurn code shared) turns i turn all at
 
-pub turns_noted : (code : List ℕ) (shared : Shared) (turns new : List Turn) (turn : Turn) → AreTurns code shared turns
+pub are_turns_after_turn_added : (code : List ℕ) (shared : Shared) (turns new : List Turn) (turn : Turn) → AreTurns code shared turns
     → IsTurn code shared turn → (new ≡ turns) ⊎ (new ≡ turns ++ turn ∷ []) → AreTurns code shared new
-turns_noted code shared turns new turn all is either = elim either [
+are_turns_after_turn_added code shared turns new turn all is either = elim either [
   | inl e ↦ subst (AreTurns code shared) (sym e) all
-  | inr e ↦ subst (AreTurns code shared) (sym e) (all_push (IsTurn code shared) turns turn all is)
+  | inr e ↦ subst (AreTurns code shared) (sym e) (all_by_recursion_after_push (IsTurn code shared) turns turn all is)
 ]
 
 pub if_some_weaker : {A : Type 0} (P Q : A → Type 0) (result : Option A) → ((x : A) → P x → Q x) → IfSome result P → IfSome result Q
@@ -118,23 +118,23 @@ if_err_weaker P Q (Ok x) each h = tt
 if_err_weaker P Q (Err e) each h = each e h
 
 -- a turn that is found, once its end has numbers
-pub turn_found : (code : List ℕ) (old mid new : Shared) → Grows old mid → Grows mid new → (f : Flat) (t : ℕ) (turn : Turn) (x y : State) (c d : Cell)
+pub found_turn_is_turn_of_thread : (code : List ℕ) (old mid new : Shared) → Grows old mid → Grows mid new → (f : Flat) (t : ℕ) (turn : Turn) (x y : ThreadState) (c d : Cell)
     → turn.from < length old.threads → x ≡ slice_index_or old.threads turn.from idle → slice_index_or old.threads turn.from idle ≡ thread_of f t
     → turn.spot.words < length old.words → c ≡ cell_in old.words turn.spot → turn.object < length f.objects
     → cell_in old.words turn.spot ≡ cell_of f turn.object → turn.to < length mid.threads → slice_index_or mid.threads turn.to idle ≡ y
     → turn.after.words < length new.words → cell_in new.words turn.after ≡ d → TakesTurn code turn.object x c y d → IsTurnOf code new f t turn
-turn_found code old mid new first more f t turn x y c d from x_is here spot c_is object there to y_is after d_is takes =
+found_turn_is_turn_of_thread code old mid new first more f t turn x y c d from x_is here spot c_is object there to y_is after d_is takes =
     let threads : Keeps old.threads new.threads = λ n s e. more.threads n s (first.threads n s e) in
     let words : Keeps old.words new.words = λ n s e. more.words n s (first.words n s e) in
-    let from_is = at_kept old.threads new.threads idle threads turn.from from in
-    let to_is = at_kept mid.threads new.threads idle more.threads turn.to to in
+    let from_is = kept_element_is_equal old.threads new.threads idle threads turn.from from in
+    let to_is = kept_element_is_equal mid.threads new.threads idle more.threads turn.to to in
     let spot_is : cell_in new.words turn.spot ≡ cell_in old.words turn.spot =
-    λ i. record { fields = (cell_in old.words turn.spot).fields; words = at_kept old.words new.words [] words turn.spot.words spot i } in
+    λ i. record { fields = (cell_in old.words turn.spot).fields; words = kept_element_is_equal old.words new.words [] words turn.spot.words spot i } in
     record {
       is = record {
-        from = within_kept old.threads new.threads idle threads turn.from from;
-        to = within_kept mid.threads new.threads idle more.threads turn.to to;
-        spot = within_kept old.words new.words [] words turn.spot.words spot;
+        from = place_below_length_kept old.threads new.threads idle threads turn.from from;
+        to = place_below_length_kept mid.threads new.threads idle more.threads turn.to to;
+        spot = place_below_length_kept old.words new.words [] words turn.spot.words spot;
         after = after;
         takes =
             subst (λ z. TakesTurn code turn.object z (cell_in new.words turn.spot) (slice_index_or new.threads turn.to idle)

@@ -1,11 +1,11 @@
 -- What callers may cite of a guest's graph.
 -- runs of steps that concern no other thread
-pub use Rattle.ir_graph.proofs.Plain.{plain_ahead, no_plain, plain_more, one_plain, went_plain, rests_live, like_same, like_more, like_back, plain_like, step_like}
+pub use Rattle.ir_graph.proofs.Plain.{plain_ahead, goes_plain_reflexive, goes_plain_transitive, goes_plain_by_fair_step, goes_plain_by_private_steps, resting_thread_is_live, like_reflexive, like_transitive, like_symmetric, like_after_plain_steps, like_after_step}
 -- where threads lead
-pub use Rattle.ir_graph.proofs.Leads.{seen_at_rest, seen_stays, done_stays, step_leads, plain_begins}
+pub use Rattle.ir_graph.proofs.Leads.{seen_at_rest, no_seen_step_if_no_step, no_seen_step_if_done, step_leads_to_alike_node, begins_by_plain_steps}
 -- a thread that goes on alone
-pub use Rattle.ir_graph.proofs.Turn.{alone_none, alone_more, entry_alone, alone_like}
+pub use Rattle.ir_graph.proofs.Turn.{goes_alone_no_steps, goes_alone_append, goes_alone_by_entry, like_after_going_alone}
 -- runs of a guest from its start
-pub use Rattle.ir_graph.proofs.Reached.{quiet_append, quiet_runs, quiet_counted}
+pub use Rattle.ir_graph.proofs.Reached.{quiet_run_append, quiet_run_is_run, done_quiet_run_is_counted}
 -- hangs
-pub use Rattle.ir_graph.proofs.Hangs.{quiet_counting, hang_never, quiet_can_end}
+pub use Rattle.ir_graph.proofs.Hangs.{quiet_run_is_counting, hang_never_completes, can_end_if_quiet_run_can}

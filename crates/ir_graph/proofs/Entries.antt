@@ -10,55 +10,55 @@ use Rattle.ir_graph.specs.Notes.{noted_in}
 abbrev pub Entry : Type 0
 Entry = Option (Option ℕ)
 
-none_at : (n v : ℕ) → slice_index_or {A = Entry} (replicate n None) v None ≡ None
-none_at zero v = refl
-none_at (suc n) zero = refl
-none_at (suc n) (suc v) = none_at n v
+entry_of_replicated_none : (n v : ℕ) → slice_index_or {A = Entry} (replicate n None) v None ≡ None
+entry_of_replicated_none zero v = refl
+entry_of_replicated_none (suc n) zero = refl
+entry_of_replicated_none (suc n) (suc v) = entry_of_replicated_none n v
 
-pub wide_at : (xs : List Entry) (n v : ℕ) → slice_index_or (xs ++ replicate n None) v None ≡ slice_index_or xs v None
-wide_at [] n v = none_at n v
-wide_at (x ∷ xs) n zero = refl
-wide_at (x ∷ xs) n (suc v) = wide_at xs n v
+pub entry_with_nones_appended : (xs : List Entry) (n v : ℕ) → slice_index_or (xs ++ replicate n None) v None ≡ slice_index_or xs v None
+entry_with_nones_appended [] n v = entry_of_replicated_none n v
+entry_with_nones_appended (x ∷ xs) n zero = refl
+entry_with_nones_appended (x ∷ xs) n (suc v) = entry_with_nones_appended xs n v
 
-pub set_here : (xs : List Entry) (i : ℕ) (x : Entry) → i < length xs → slice_index_or (slice_set xs i x) i None ≡ x
-set_here [] i x l = absurd (omega (arith, l))
-set_here (y ∷ xs) zero x l = refl
-set_here (y ∷ xs) (suc i) x l = set_here xs i x (omega (arith, l))
+pub entry_set_at_own_place : (xs : List Entry) (i : ℕ) (x : Entry) → i < length xs → slice_index_or (slice_set xs i x) i None ≡ x
+entry_set_at_own_place [] i x l = absurd (omega (arith, l))
+entry_set_at_own_place (y ∷ xs) zero x l = refl
+entry_set_at_own_place (y ∷ xs) (suc i) x l = entry_set_at_own_place xs i x (omega (arith, l))
 
-pub set_there : (xs : List Entry) (i v : ℕ) (x : Entry) → (v ≡ i → ⊥) → slice_index_or (slice_set xs i x) v None ≡ slice_index_or xs v None
-set_there [] i v x other = refl
-set_there (y ∷ xs) zero zero x other = absurd (other refl)
-set_there (y ∷ xs) zero (suc v) x other = refl
-set_there (y ∷ xs) (suc i) zero x other = refl
-set_there (y ∷ xs) (suc i) (suc v) x other = set_there xs i v x (λ e. other (ap suc e))
+pub entry_set_at_other_place : (xs : List Entry) (i v : ℕ) (x : Entry) → (v ≡ i → ⊥) → slice_index_or (slice_set xs i x) v None ≡ slice_index_or xs v None
+entry_set_at_other_place [] i v x other = refl
+entry_set_at_other_place (y ∷ xs) zero zero x other = absurd (other refl)
+entry_set_at_other_place (y ∷ xs) zero (suc v) x other = refl
+entry_set_at_other_place (y ∷ xs) (suc i) zero x other = refl
+entry_set_at_other_place (y ∷ xs) (suc i) (suc v) x other = entry_set_at_other_place xs i v x (λ e. other (ap suc e))
 
-pub noted_at : (rows : List (Vec Entry)) (t v : ℕ) (d : Vec Entry) → t < length rows
+pub noted_in_is_row_entry : (rows : List (Vec Entry)) (t v : ℕ) (d : Vec Entry) → t < length rows
     → noted_in rows t v ≡ slice_index_or (slice_index_or rows t d).items v None
-noted_at [] t v d l = absurd (omega (arith, l))
-noted_at (row ∷ rows) zero v d l = refl
-noted_at (row ∷ rows) (suc t) v d l = noted_at rows t v d (omega (arith, l))
+noted_in_is_row_entry [] t v d l = absurd (omega (arith, l))
+noted_in_is_row_entry (row ∷ rows) zero v d l = refl
+noted_in_is_row_entry (row ∷ rows) (suc t) v d l = noted_in_is_row_entry rows t v d (omega (arith, l))
 
-pub noted_set : (rows : List (Vec Entry)) (i : ℕ) (w : Vec Entry) → i < length rows → (t v : ℕ)
+pub noted_in_after_row_set : (rows : List (Vec Entry)) (i : ℕ) (w : Vec Entry) → i < length rows → (t v : ℕ)
     → ((t ≡ i) × (noted_in (slice_set rows i w) t v ≡ slice_index_or w.items v None))
     ⊎ ((t ≡ i → ⊥) × (noted_in (slice_set rows i w) t v ≡ noted_in rows t v))
-noted_set [] i w l t v = absurd (omega (arith, l))
-noted_set (row ∷ rows) zero w l zero v = inl (refl, refl)
-noted_set (row ∷ rows) zero w l (suc t) v = inr ((λ e. let n : suc t ≡ zero = e in omega (arith, n)), refl)
-noted_set (row ∷ rows) (suc i) w l zero v = inr ((λ e. let n : zero ≡ suc i = e in omega (arith, n)), refl)
-noted_set (row ∷ rows) (suc i) w l (suc t) v = elim (noted_set rows i w (omega (arith, l)) t v) [
+noted_in_after_row_set [] i w l t v = absurd (omega (arith, l))
+noted_in_after_row_set (row ∷ rows) zero w l zero v = inl (refl, refl)
+noted_in_after_row_set (row ∷ rows) zero w l (suc t) v = inr ((λ e. let n : suc t ≡ zero = e in omega (arith, n)), refl)
+noted_in_after_row_set (row ∷ rows) (suc i) w l zero v = inr ((λ e. let n : zero ≡ suc i = e in omega (arith, n)), refl)
+noted_in_after_row_set (row ∷ rows) (suc i) w l (suc t) v = elim (noted_in_after_row_set rows i w (omega (arith, l)) t v) [
   | inl p ↦ inl (ap suc p.0, p.1)
   | inr n ↦ inr ((λ e. n.0 (let q : suc t ≡ suc i = e in omega (arith, q))), n.1)
 ]
 
 -- a row in which one node's place was written, at most
-pub noted_only : (rows : List (Vec Entry)) (i : ℕ) (w d : Vec Entry) (node : ℕ) (next : Option ℕ) → i < length rows
+pub noted_in_after_place_written : (rows : List (Vec Entry)) (i : ℕ) (w d : Vec Entry) (node : ℕ) (next : Option ℕ) → i < length rows
     → ((v : ℕ) → (v ≡ node → ⊥) → slice_index_or w.items v None ≡ slice_index_or (slice_index_or rows i d).items v None)
     → (slice_index_or w.items node None ≡ Some next) ⊎ (w.items ≡ (slice_index_or rows i d).items) → (t v : ℕ)
     → (noted_in (slice_set rows i w) t v ≡ noted_in rows t v) ⊎ ((t ≡ i) × (v ≡ node) × (noted_in (slice_set rows i w) t v ≡ Some next))
-noted_only rows i w d node next l others here t v = elim (noted_set rows i w l t v) [
+noted_in_after_place_written rows i w d node next l others here t v = elim (noted_in_after_row_set rows i w l t v) [
   | inl p ↦
       let was : noted_in rows t v ≡ slice_index_or (slice_index_or rows i d).items v None =
-      ap (λ z. noted_in rows z v) p.0 ∙ noted_at rows i v d l in
+      ap (λ z. noted_in rows z v) p.0 ∙ noted_in_is_row_entry rows i v d l in
       elim (cases_eq v node) [
         | inl same ↦ elim here [
           | inl is ↦ inr (p.0, same, p.1 ∙ ap (λ z. slice_index_or w.items z None) same ∙ is)
@@ -70,38 +70,38 @@ noted_only rows i w d node next l others here t v = elim (noted_set rows i w l t
 ]
 
 -- what was noted stays, if the place was free
-pub noted_keeps : (old new : ℕ → ℕ → Entry) (i node : ℕ) (next : Option ℕ) → old i node ≡ None
+pub notes_kept_if_place_free : (old new : ℕ → ℕ → Entry) (i node : ℕ) (next : Option ℕ) → old i node ≡ None
     → ((t v : ℕ) → (new t v ≡ old t v) ⊎ ((t ≡ i) × (v ≡ node) × (new t v ≡ Some next))) → (t : ℕ) → Keeps (old t) (new t)
-noted_keeps old new i node next fresh only t v to is = elim (only t v) [
+notes_kept_if_place_free old new i node next fresh only t v to is = elim (only t v) [
   | inl same ↦ same ∙ is
   | inr p ↦ absurd (cc (sym (subst (λ z. old z node ≡ None) (sym p.0) fresh) ∙ ap (old t) (sym p.1) ∙ is))
 ]
 
 -- an element within does not hang on what stands for one that isn't
-pub within_at : (xs : List Entry) (i : ℕ) (d d' : Entry) → i < length xs → slice_index_or xs i d ≡ slice_index_or xs i d'
-within_at [] i d d' l = absurd (omega (arith, l))
-within_at (x ∷ xs) zero d d' l = refl
-within_at (x ∷ xs) (suc i) d d' l = within_at xs i d d' (omega (arith, l))
+pub index_within_ignores_default : (xs : List Entry) (i : ℕ) (d d' : Entry) → i < length xs → slice_index_or xs i d ≡ slice_index_or xs i d'
+index_within_ignores_default [] i d d' l = absurd (omega (arith, l))
+index_within_ignores_default (x ∷ xs) zero d d' l = refl
+index_within_ignores_default (x ∷ xs) (suc i) d d' l = index_within_ignores_default xs i d d' (omega (arith, l))
 
-pub noted_here : (rows : List (Vec Entry)) (i : ℕ) (w : Vec Entry) (node : ℕ) (x : Entry) → i < length rows
+pub noted_in_written_row : (rows : List (Vec Entry)) (i : ℕ) (w : Vec Entry) (node : ℕ) (x : Entry) → i < length rows
     → slice_index_or w.items node None ≡ x → noted_in (slice_set rows i w) i node ≡ x
-noted_here rows i w node x l is = elim (noted_set rows i w l i node) [ inl p ↦ p.1 ∙ is | inr n ↦ absurd (n.0 refl) ]
+noted_in_written_row rows i w node x l is = elim (noted_in_after_row_set rows i w l i node) [ inl p ↦ p.1 ∙ is | inr n ↦ absurd (n.0 refl) ]
 
-noted_before : (rows : List (Vec Entry)) (w : Vec Entry) (t v : ℕ) → t < length rows → noted_in (rows ++ w ∷ []) t v ≡ noted_in rows t v
-noted_before [] w t v l = absurd (omega (arith, l))
-noted_before (row ∷ rows) w zero v l = refl
-noted_before (row ∷ rows) w (suc t) v l = noted_before rows w t v (omega (arith, l))
+noted_in_earlier_row : (rows : List (Vec Entry)) (w : Vec Entry) (t v : ℕ) → t < length rows → noted_in (rows ++ w ∷ []) t v ≡ noted_in rows t v
+noted_in_earlier_row [] w t v l = absurd (omega (arith, l))
+noted_in_earlier_row (row ∷ rows) w zero v l = refl
+noted_in_earlier_row (row ∷ rows) w (suc t) v l = noted_in_earlier_row rows w t v (omega (arith, l))
 
-noted_last : (rows : List (Vec Entry)) (w : Vec Entry) (v : ℕ) → noted_in (rows ++ w ∷ []) (length rows) v ≡ slice_index_or w.items v None
-noted_last [] w v = refl
-noted_last (row ∷ rows) w v = noted_last rows w v
+noted_in_appended_row : (rows : List (Vec Entry)) (w : Vec Entry) (v : ℕ) → noted_in (rows ++ w ∷ []) (length rows) v ≡ slice_index_or w.items v None
+noted_in_appended_row [] w v = refl
+noted_in_appended_row (row ∷ rows) w v = noted_in_appended_row rows w v
 
 -- a row more, which is empty
-pub free_more : (rows : List (Vec Entry)) (w : Vec Entry) (n : ℕ) → length rows ≡ n → w.items ≡ []
+pub none_noted_after_empty_row : (rows : List (Vec Entry)) (w : Vec Entry) (n : ℕ) → length rows ≡ n → w.items ≡ []
     → ((t v : ℕ) → t < n → noted_in rows t v ≡ None) → (t v : ℕ) → t < n + 1 → noted_in (rows ++ w ∷ []) t v ≡ None
-free_more rows w n many none free t v less = elim (cases_lt t n) [
-  | inl l ↦ noted_before rows w t v (omega (arith, l, many)) ∙ free t v l
+none_noted_after_empty_row rows w n many none free t v less = elim (cases_lt t n) [
+  | inl l ↦ noted_in_earlier_row rows w t v (omega (arith, l, many)) ∙ free t v l
   | inr l ↦
       let here : length rows ≡ t = omega (arith, less, l, many) in
-      subst (λ z. noted_in (rows ++ w ∷ []) z v ≡ None) here (noted_last rows w v ∙ ap (λ z. slice_index_or z v None) none)
+      subst (λ z. noted_in (rows ++ w ∷ []) z v ≡ None) here (noted_in_appended_row rows w v ∙ ap (λ z. slice_index_or z v None) none)
 ]

@@ -3,27 +3,27 @@ use Rattle.std.proofs.Common.{◌≡◌, ◌<◌, ℕ, zero, suc, List, [], ◌�
 use Rattle.std.specs.List.{AllByRecursion}
 use Rattle.ir_image.specs.Guest.{Guest}
 use Rattle.ir_image.specs.declared.form.ImageForm.{ImageForm}
-use Rattle.ir_thread.specs.State.{State}
+use Rattle.ir_thread.specs.State.{ThreadState}
 use Rattle.ir_thread.specs.declared.profile.Profile.{Profile}
 use Rattle.ir_flat.specs.Flat.{Flat, idle, start_threads}
 use Rattle.ir_store.specs.Table.{HaveForm}
 use Rattle.ir_graph.specs.Plain.{IsLike}
 
-all_at : {X : Type 0} (P : X → Type 0) (xs : List X) (n : ℕ) (d : X) → AllByRecursion P xs → n < length xs → P (get_or xs n d)
-all_at P [] n d all lt = absurd (omega (arith, lt))
-all_at P (x ∷ xs) zero d all lt = all.0
-all_at P (x ∷ xs) (suc n) d all lt = all_at P xs n d all.1 (omega (arith, lt))
+element_of_all_by_recursion : {X : Type 0} (P : X → Type 0) (xs : List X) (n : ℕ) (d : X) → AllByRecursion P xs → n < length xs → P (get_or xs n d)
+element_of_all_by_recursion P [] n d all lt = absurd (omega (arith, lt))
+element_of_all_by_recursion P (x ∷ xs) zero d all lt = all.0
+element_of_all_by_recursion P (x ∷ xs) (suc n) d all lt = element_of_all_by_recursion P xs n d all.1 (omega (arith, lt))
 
-all_from : {X : Type 0} (P : X → Type 0) (xs : List X) (d : X) → ((n : ℕ) → n < length xs → P (get_or xs n d)) → AllByRecursion P xs
-all_from P [] d each = tt
-all_from P (x ∷ xs) d each = (each zero (omega arith), all_from P xs d (λ n lt. each (suc n) (omega (arith, lt))))
+all_by_recursion_of_elements : {X : Type 0} (P : X → Type 0) (xs : List X) (d : X) → ((n : ℕ) → n < length xs → P (get_or xs n d)) → AllByRecursion P xs
+all_by_recursion_of_elements P [] d each = tt
+all_by_recursion_of_elements P (x ∷ xs) d each = (each zero (omega arith), all_by_recursion_of_elements P xs d (λ n lt. each (suc n) (omega (arith, lt))))
 
 -- two moments of a guest have the form of one image
-pub forms_like : (form : ImageForm) (f g : Flat) → IsLike f g → HaveForm form f.threads → HaveForm form g.threads
-forms_like form f g like all = all_from (λ (s : State). s.form ≡ form) g.threads idle (λ n lt.
+pub have_form_of_like_moment : (form : ImageForm) (f g : Flat) → IsLike f g → HaveForm form f.threads → HaveForm form g.threads
+have_form_of_like_moment form f g like all = all_by_recursion_of_elements (λ (s : ThreadState). s.form ≡ form) g.threads idle (λ n lt.
     sym (like.twins n).form
-    ∙ all_at (λ (s : State). s.form ≡ form) f.threads n idle all (subst (λ k. n < k) like.threads lt))
+    ∙ element_of_all_by_recursion (λ (s : ThreadState). s.form ≡ form) f.threads n idle all (subst (λ k. n < k) like.threads lt))
 
-pub start_forms : (guest : Guest) (budget : ℕ) (profile : Profile) (from n : ℕ) → HaveForm guest.form (start_threads guest budget profile from n)
-start_forms guest budget profile from zero = tt
-start_forms guest budget profile from (suc n) = (refl, start_forms guest budget profile (suc from) n)
+pub start_threads_have_form : (guest : Guest) (budget : ℕ) (profile : Profile) (from n : ℕ) → HaveForm guest.form (start_threads guest budget profile from n)
+start_threads_have_form guest budget profile from zero = tt
+start_threads_have_form guest budget profile from (suc n) = (refl, start_threads_have_form guest budget profile (suc from) n)

@@ -9,124 +9,124 @@ use Rattle.ir_states.specs.Nodes.{LeadsTo}
 use Rattle.ir_states.specs.Outcomes.{Begins}
 use Rattle.ir_states.specs.Sources.{answer_of, left_of}
 use Rattle.ir_states.specs.Views.{viewed, beside}
-use Rattle.ir_states.proofs.CallerLemmas.{leads_by_act}
+use Rattle.ir_states.proofs.CallerLemmas.{leads_to_by_equal_act}
 use Rattle.ir_thread.specs.Calls.{ask_of}
 use Rattle.ir_thread.specs.Instance.{shared_ask}
 use Rattle.ir_thread.specs.State as thread
 use Rattle.ir_thread.specs.declared.ask.Ask.{Ask}
 use Rattle.ir_thread.specs.declared.ask.Ask.TheVariants as ask
 use Rattle.ir_seen.specs.Seen.{view}
-use Rattle.ir_seen.proofs.CallerLemmas.{seen_view}
+use Rattle.ir_seen.proofs.CallerLemmas.{seen_machine_is_view}
 use Rattle.ir_flat.specs.Flat.{Flat, tables, machine, thread_of, idle}
 use Rattle.ir_graph.specs.Nodes.{told, seen_by, told_by, Alike, seen_of, LookAlike, AllRest}
 use Rattle.ir_graph.specs.Plain.{GoesPlain, Rests}
-use Rattle.ir_graph.proofs.Alike.{past}
-use Rattle.ir_graph.proofs.Plain.{rests_live, plain_ahead, seen_after, seen_takes, seen_can}
+use Rattle.ir_graph.proofs.Alike.{index_past_length_is_default}
+use Rattle.ir_graph.proofs.Plain.{resting_thread_is_live, plain_ahead, seen_after, seen_takes, seen_can}
 
 -- what a thread that rests asks of others
-pub rests_own : (q : Ask) → Rests q → is_own (shared_ask q) ≡ false
-rests_own ask.Private h = absurd h
-rests_own (ask.Env k) h = absurd h
-rests_own (ask.Enter o a) h = refl
-rests_own (ask.Try o) h = absurd h
-rests_own (ask.Leave o a) h = absurd h
-rests_own (ask.Get o i) h = absurd h
-rests_own (ask.Put o i v) h = absurd h
-rests_own ask.Print h = absurd h
-rests_own (ask.End e) h = absurd h
-rests_own ask.Done h = refl
+pub rest_ask_is_not_own : (q : Ask) → Rests q → is_own (shared_ask q) ≡ false
+rest_ask_is_not_own ask.Private h = absurd h
+rest_ask_is_not_own (ask.Env k) h = absurd h
+rest_ask_is_not_own (ask.Enter o a) h = refl
+rest_ask_is_not_own (ask.Try o) h = absurd h
+rest_ask_is_not_own (ask.Leave o a) h = absurd h
+rest_ask_is_not_own (ask.Get o i) h = absurd h
+rest_ask_is_not_own (ask.Put o i v) h = absurd h
+rest_ask_is_not_own ask.Print h = absurd h
+rest_ask_is_not_own (ask.End e) h = absurd h
+rest_ask_is_not_own ask.Done h = refl
 
-rests_left : (q : Ask) (source : List ℕ) → Rests q → left_of told (shared_ask q) source ≡ source
-rests_left ask.Private source h = absurd h
-rests_left (ask.Env k) source h = absurd h
-rests_left (ask.Enter o a) source h = refl
-rests_left (ask.Try o) source h = absurd h
-rests_left (ask.Leave o a) source h = absurd h
-rests_left (ask.Get o i) source h = absurd h
-rests_left (ask.Put o i v) source h = absurd h
-rests_left ask.Print source h = absurd h
-rests_left (ask.End e) source h = absurd h
-rests_left ask.Done source h = refl
+source_left_by_rest_ask : (q : Ask) (source : List ℕ) → Rests q → left_of told (shared_ask q) source ≡ source
+source_left_by_rest_ask ask.Private source h = absurd h
+source_left_by_rest_ask (ask.Env k) source h = absurd h
+source_left_by_rest_ask (ask.Enter o a) source h = refl
+source_left_by_rest_ask (ask.Try o) source h = absurd h
+source_left_by_rest_ask (ask.Leave o a) source h = absurd h
+source_left_by_rest_ask (ask.Get o i) source h = absurd h
+source_left_by_rest_ask (ask.Put o i v) source h = absurd h
+source_left_by_rest_ask ask.Print source h = absurd h
+source_left_by_rest_ask (ask.End e) source h = absurd h
+source_left_by_rest_ask ask.Done source h = refl
 
-rests_answered : (q : Ask) (answer r : ℕ) → Rests q → IsAnswered (shared_ask q) answer r
-rests_answered ask.Private answer r h = absurd h
-rests_answered (ask.Env k) answer r h = absurd h
-rests_answered (ask.Enter o a) answer r h = tt
-rests_answered (ask.Try o) answer r h = absurd h
-rests_answered (ask.Leave o a) answer r h = absurd h
-rests_answered (ask.Get o i) answer r h = absurd h
-rests_answered (ask.Put o i v) answer r h = absurd h
-rests_answered ask.Print answer r h = absurd h
-rests_answered (ask.End e) answer r h = absurd h
-rests_answered ask.Done answer r h = tt
+rest_ask_is_answered : (q : Ask) (answer r : ℕ) → Rests q → IsAnswered (shared_ask q) answer r
+rest_ask_is_answered ask.Private answer r h = absurd h
+rest_ask_is_answered (ask.Env k) answer r h = absurd h
+rest_ask_is_answered (ask.Enter o a) answer r h = tt
+rest_ask_is_answered (ask.Try o) answer r h = absurd h
+rest_ask_is_answered (ask.Leave o a) answer r h = absurd h
+rest_ask_is_answered (ask.Get o i) answer r h = absurd h
+rest_ask_is_answered (ask.Put o i v) answer r h = absurd h
+rest_ask_is_answered ask.Print answer r h = absurd h
+rest_ask_is_answered (ask.End e) answer r h = absurd h
+rest_ask_is_answered ask.Done answer r h = tt
 
 -- a thread that rests does one thing, whatever the result
-rests_act : (q : Ask) (r r' : ℕ) → Rests q → act_of (shared_ask q) r ≡ act_of (shared_ask q) r'
-rests_act ask.Private r r' h = absurd h
-rests_act (ask.Env k) r r' h = absurd h
-rests_act (ask.Enter o a) r r' h = refl
-rests_act (ask.Try o) r r' h = absurd h
-rests_act (ask.Leave o a) r r' h = absurd h
-rests_act (ask.Get o i) r r' h = absurd h
-rests_act (ask.Put o i v) r r' h = absurd h
-rests_act ask.Print r r' h = absurd h
-rests_act (ask.End e) r r' h = absurd h
-rests_act ask.Done r r' h = refl
+act_at_rest_ignores_result : (q : Ask) (r r' : ℕ) → Rests q → act_of (shared_ask q) r ≡ act_of (shared_ask q) r'
+act_at_rest_ignores_result ask.Private r r' h = absurd h
+act_at_rest_ignores_result (ask.Env k) r r' h = absurd h
+act_at_rest_ignores_result (ask.Enter o a) r r' h = refl
+act_at_rest_ignores_result (ask.Try o) r r' h = absurd h
+act_at_rest_ignores_result (ask.Leave o a) r r' h = absurd h
+act_at_rest_ignores_result (ask.Get o i) r r' h = absurd h
+act_at_rest_ignores_result (ask.Put o i v) r r' h = absurd h
+act_at_rest_ignores_result ask.Print r r' h = absurd h
+act_at_rest_ignores_result (ask.End e) r r' h = absurd h
+act_at_rest_ignores_result ask.Done r r' h = refl
 
 -- a number that is no thread's asks nothing
-pub idle_done : (f : Flat) (t : ℕ) → length f.threads ≤ t → ask_of f.code (thread_of f t) ≡ ask.Done
-idle_done f t l = ap (ask_of f.code) (past f.threads t idle l)
+pub ask_past_threads_is_done : (f : Flat) (t : ℕ) → length f.threads ≤ t → ask_of f.code (thread_of f t) ≡ ask.Done
+ask_past_threads_is_done f t l = ap (ask_of f.code) (index_past_length_is_default f.threads t idle l)
 
-pub rests_all : (f : Flat) → AllRest f → (t : ℕ) → Rests (ask_of f.code (thread_of f t))
-rests_all f all t = elim (cases_lt t (length f.threads)) [
+pub every_number_rests_if_all_rest : (f : Flat) → AllRest f → (t : ℕ) → Rests (ask_of f.code (thread_of f t))
+every_number_rests_if_all_rest f all t = elim (cases_lt t (length f.threads)) [
   | inl l ↦ all t l
-  | inr l ↦ subst Rests (sym (idle_done f t l)) tt
+  | inr l ↦ subst Rests (sym (ask_past_threads_is_done f t l)) tt
 ]
 
 pub seen_at_rest : (f : Flat) (answers : ℕ → List ℕ) → AllRest f → IsAtRest (seen_by f.code) (seen_of f answers)
 seen_at_rest f answers all t =
-    let rests = rests_all f all t in
-    ap is_own ((seen_view f.code).asks (thread_of f t) (rests_live f.code (thread_of f t) rests))
-    ∙ rests_own (ask_of f.code (thread_of f t)) rests
+    let rests = every_number_rests_if_all_rest f all t in
+    ap is_own ((seen_machine_is_view f.code).asks (thread_of f t) (resting_thread_is_live f.code (thread_of f t) rests))
+    ∙ rest_ask_is_not_own (ask_of f.code (thread_of f t)) rests
 
 -- where there is no such step there is none seen
-pub seen_stays : (f : Flat) (answers : ℕ → List ℕ) (t : ℕ) → Rests (ask_of f.code (thread_of f t))
+pub no_seen_step_if_no_step : (f : Flat) (answers : ℕ → List ℕ) (t : ℕ) → Rests (ask_of f.code (thread_of f t))
     → (Can (machine f) (tables f) (t, 0) → ⊥) → (e : Step) → e.0 ≡ t → Can (seen_by f.code) (seen_of f answers) e → ⊥
-seen_stays f answers t rests never (u, r) same can =
+no_seen_step_if_no_step f answers t rests never (u, r) same can =
     let here : Can (seen_by f.code) (seen_of f answers) (t, r) = subst (λ z. Can (seen_by f.code) (seen_of f answers) (z, r)) same can in
-    let live = rests_live f.code (thread_of f t) rests in
+    let live = resting_thread_is_live f.code (thread_of f t) rests in
     let real : Can (machine f) (tables f) (t, r) =
     seen_can f.code told answers (tables f) (t, r) live here
-    (rests_answered (ask_of f.code (thread_of f t)) (answer_of told (shared_ask (ask_of f.code (thread_of f t))) (answers t)) r rests) in
-    never (subst (λ q. Admits (machine f) q ((tables f).objects (target q))) (rests_act (ask_of f.code (thread_of f t)) r 0 rests) real)
+    (rest_ask_is_answered (ask_of f.code (thread_of f t)) (answer_of told (shared_ask (ask_of f.code (thread_of f t))) (answers t)) r rests) in
+    never (subst (λ q. Admits (machine f) q ((tables f).objects (target q))) (act_at_rest_ignores_result (ask_of f.code (thread_of f t)) r 0 rests) real)
 
 -- who is done has no step
-pub done_stays : (f : Flat) (answers : ℕ → List ℕ) (t : ℕ) → ask_of f.code (thread_of f t) ≡ ask.Done → (e : Step) → e.0 ≡ t
+pub no_seen_step_if_done : (f : Flat) (answers : ℕ → List ℕ) (t : ℕ) → ask_of f.code (thread_of f t) ≡ ask.Done → (e : Step) → e.0 ≡ t
     → Can (seen_by f.code) (seen_of f answers) e → ⊥
-done_stays f answers t done =
-    seen_stays f answers t (subst Rests (sym done) tt)
+no_seen_step_if_done f answers t done =
+    no_seen_step_if_no_step f answers t (subst Rests (sym done) tt)
     (λ can. subst (λ q. Admits (machine f) (act_of (shared_ask q) 0) ((tables f).objects (target (act_of (shared_ask q) 0)))) done can)
 
-abbrev pub seen_table : run.State thread.State → (ℕ → List ℕ) → run.State (thread.State × List ℕ)
+abbrev pub seen_table : run.State thread.ThreadState → (ℕ → List ℕ) → run.State (thread.ThreadState × List ℕ)
 seen_table s answers = beside (viewed view s) answers
 
-seen_act : (f : Flat) (answers : ℕ → List ℕ) (t r r' : ℕ) → Rests (ask_of f.code (thread_of f t))
+seen_act_ignores_result : (f : Flat) (answers : ℕ → List ℕ) (t r r' : ℕ) → Rests (ask_of f.code (thread_of f t))
     → act (seen_by f.code) (seen_of f answers) (t, r) ≡ act (seen_by f.code) (seen_of f answers) (t, r')
-seen_act f answers t r r' rests =
-    let same = (seen_view f.code).asks (thread_of f t) (rests_live f.code (thread_of f t) rests) in
-    ap (λ q. act_of q r) same ∙ rests_act (ask_of f.code (thread_of f t)) r r' rests ∙ ap (λ q. act_of q r') (sym same)
+seen_act_ignores_result f answers t r r' rests =
+    let same = (seen_machine_is_view f.code).asks (thread_of f t) (resting_thread_is_live f.code (thread_of f t) rests) in
+    ap (λ q. act_of q r) same ∙ act_at_rest_ignores_result (ask_of f.code (thread_of f t)) r r' rests ∙ ap (λ q. act_of q r') (sym same)
 
 -- A thread that rests takes its step, and runs on to what looks the same as h.
-pub step_leads : (f g h k : Flat) (t : ℕ) → Rests (ask_of f.code (thread_of f t)) → Can (machine f) (tables f) (t, 0)
+pub step_leads_to_alike_node : (f g h k : Flat) (t : ℕ) → Rests (ask_of f.code (thread_of f t)) → Can (machine f) (tables f) (t, 0)
     → tables g ≡ after (machine f) (tables f) (t, 0) → g.code ≡ f.code → GoesPlain g h → LookAlike h k → (answers : ℕ → List ℕ)
     → (e : Step) → e.0 ≡ t → LeadsTo (seen_by f.code) (told_by f.code) (Alike f.code) (seen_of f answers) e (seen_of k answers)
-step_leads f g h k t rests can is code goes alike answers (u, r) same =
-    let live = rests_live f.code (thread_of f t) rests in
+step_leads_to_alike_node f g h k t rests can is code goes alike answers (u, r) same =
+    let live = resting_thread_is_live f.code (thread_of f t) rests in
     let q : Ask = ask_of f.code (thread_of f t) in
     let takes = seen_takes f.code told answers (tables f) (t, 0) live can
-    (rests_answered q (answer_of told (shared_ask q) (answers t)) 0 rests) in
+    (rest_ask_is_answered q (answer_of told (shared_ask q) (answers t)) 0 rests) in
     let step : after (seen_by f.code) (seen_of f answers) (t, 0) ≡ seen_of g answers =
-    seen_after f.code told answers (tables f) (t, 0) live (rests_left q (answers t) rests)
+    seen_after f.code told answers (tables f) (t, 0) live (source_left_by_rest_ask q (answers t) rests)
     ∙ ap (λ z. seen_table z answers) (sym is) in
     let ahead = plain_ahead g.code told answers (tables g) goes.ahead goes.plain in
     let ends : end (seen_by g.code) (seen_of g answers) goes.ahead ≡ seen_of h answers =
@@ -145,13 +145,13 @@ step_leads f g h k t rests can is code goes alike answers (u, r) same =
           (sym (ap (λ z. end (seen_by f.code) z goes.ahead) step ∙ there)) looks;
     } in
     subst (λ z. LeadsTo (seen_by f.code) (told_by f.code) (Alike f.code) (seen_of f answers) (z, r) (seen_of k answers)) (sym same)
-    (leads_by_act (seen_by f.code) (told_by f.code) (Alike f.code) (seen_of f answers) t 0 r (seen_of k answers)
-    (seen_act f answers t 0 r rests) base)
+    (leads_to_by_equal_act (seen_by f.code) (told_by f.code) (Alike f.code) (seen_of f answers) t 0 r (seen_of k answers)
+    (seen_act_ignores_result f answers t 0 r rests) base)
 
 -- from the start the threads go on alone to what is at rest
-pub plain_begins : (f g : Flat) → GoesPlain f g → (answers : ℕ → List ℕ)
+pub begins_by_plain_steps : (f g : Flat) → GoesPlain f g → (answers : ℕ → List ℕ)
     → Begins (seen_by f.code) (told_by f.code) (Alike f.code) (seen_of f answers) (seen_of g answers)
-plain_begins f g goes answers =
+begins_by_plain_steps f g goes answers =
     let ahead = plain_ahead f.code told answers (tables f) goes.ahead goes.plain in record {
       ahead = goes.ahead;
       goes = ahead.0;

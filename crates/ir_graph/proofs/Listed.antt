@@ -8,7 +8,7 @@ use Rattle.ir_explore.specs.declared.origin.Origin.{Origin}
 use Rattle.ir_explore.specs.Levels.{AreAsked, Covered}
 use Rattle.ir_explore.specs.Meaning.{Means, Steps}
 use Rattle.ir_explore.specs.Origins.{first_origin, AreReached}
-use Rattle.ir_explore.proofs.CallerLemmas.{asked_finished, covered_covers, slice_less}
+use Rattle.ir_explore.proofs.CallerLemmas.{asked_finished, covered_covers, place_of_element_is_below_length}
 use Rattle.ir_runs.specs.Machine as machines
 use Rattle.ir_runs.specs.Run as run
 use Rattle.ir_runs.specs.Run.{Step, Can}
@@ -17,25 +17,25 @@ use Rattle.ir_states.specs.Nodes.{LeadsTo}
 use Rattle.ir_states.specs.Outcomes.{IsFinished, Covers}
 use Rattle.ir_states.specs.Sources.{plain}
 use Rattle.ir_thread.specs.Instance.{thread_machine}
-use Rattle.ir_thread.specs.State.{State}
+use Rattle.ir_thread.specs.State.{ThreadState}
 use Rattle.ir_thread.specs.declared.profile.Profile.TheVariants.{One}
 use Rattle.ir_seen.specs.Seen.{seen_start}
-use Rattle.ir_seen.proofs.CallerLemmas.{seen_view, guest_all, guest_within}
+use Rattle.ir_seen.proofs.CallerLemmas.{seen_machine_is_view, guest_all, guest_outcome_within_is_done_node}
 use Rattle.ir_flat.specs.Flat.{Flat, machine, tables, thread_of}
 use Rattle.ir_graph.specs.Graph.{IsGraph}
 use Rattle.ir_graph.specs.Nodes.{told, seen_by, told_by, Alike, seen_of}
 use Rattle.ir_graph.specs.Outcomes.{outcome_of, AllListed, WithinListed, AllShown}
-use Rattle.ir_graph.proofs.Grown.{threads_at}
+use Rattle.ir_graph.proofs.Grown.{thread_count_of_node}
 use Rattle.ir_graph.specs.Reached.{beginning}
-use Rattle.ir_graph.proofs.Reached.{quiet_counted}
-use Rattle.ir_graph.proofs.Leads.{idle_done, seen_at_rest, done_stays}
+use Rattle.ir_graph.proofs.Reached.{done_quiet_run_is_counted}
+use Rattle.ir_graph.proofs.Leads.{ask_past_threads_is_done, seen_at_rest, no_seen_step_if_done}
 
-abbrev pub nothing : Flat
-nothing = record { code = []; threads = []; objects = [] }
+abbrev pub empty_flat : Flat
+empty_flat = record { code = []; threads = []; objects = [] }
 
 -- states that look the same have one outcome
-same_outcome : (code : List ℕ) (u v : run.State (State × List ℕ)) → Alike code u v → outcome_of (plain u) ≡ outcome_of (plain v)
-same_outcome code u v alike = λ i. record {
+outcome_of_alike_states : (code : List ℕ) (u v : run.State (ThreadState × List ℕ)) → Alike code u v → outcome_of (plain u) ≡ outcome_of (plain v)
+outcome_of_alike_states code u v alike = λ i. record {
   ends = λ t. end_at t i;
   outputs = λ t. output_at t i;
   words = λ o. alike.words o i;
@@ -50,13 +50,13 @@ same_outcome code u v alike = λ i. record {
 module _ (guest : Guest) (flats : List Flat) (noted : ℕ → ℕ → Option (Option ℕ)) (threads : ℕ) (g : IsGraph guest flats noted threads)
     (past : (t v : ℕ) → threads ≤ t → noted t v ≡ Some None) (answers : ℕ → List ℕ) where
   abbrev pub flat_of : ℕ → Flat
-  flat_of v = get_or flats v nothing
+  flat_of v = get_or flats v empty_flat
 
-  abbrev pub state_of : ℕ → run.State (State × List ℕ)
+  abbrev pub state_of : ℕ → run.State (ThreadState × List ℕ)
   state_of v = seen_of (flat_of v) answers
 
   pub at : (v : ℕ) → v < length flats → slice_get flats v ≡ Some (flat_of v)
-  at v l = slice_get-get_or flats v nothing l
+  at v l = slice_get-get_or flats v empty_flat l
 
   pub code_at : (v : ℕ) → v < length flats → (flat_of v).code ≡ guest.code
   code_at v l = (g.nodes.like 0 v (flat_of 0) (flat_of v) (at 0 g.some) (at v l)).code ∙ g.code (flat_of 0) (at 0 g.some)
@@ -65,8 +65,8 @@ module _ (guest : Guest) (flats : List Flat) (noted : ℕ → ℕ → Option (Op
   never : (v t : ℕ) → v < length flats → threads ≤ t → (e : Step) → e.0 ≡ t → Can (seen_by guest.code) (state_of v) e → ⊥
   never v t l many e same =
       subst (λ z. Can (seen_by z) (state_of v) e → ⊥) (code_at v l)
-      (done_stays (flat_of v) answers t
-      (idle_done (flat_of v) t (let a = threads_at guest flats noted threads v (flat_of v) g (at v l) in omega (arith, a, many))) e same)
+      (no_seen_step_if_done (flat_of v) answers t
+      (ask_past_threads_is_done (flat_of v) t (let a = thread_count_of_node guest flats noted threads v (flat_of v) g (at v l) in omega (arith, a, many))) e same)
 
   leads_at : (t v w : ℕ) → v < length flats → t < threads → noted t v ≡ Some (Some w) → (e : Step) → e.0 ≡ t
       → LeadsTo (seen_by guest.code) (told_by guest.code) (Alike guest.code) (state_of v) e (state_of w)
@@ -100,18 +100,18 @@ module _ (guest : Guest) (flats : List Flat) (noted : ℕ → ℕ → Option (Op
   pub really_done : (v : ℕ) → v < length flats → run.IsDone (seen_by guest.code) (state_of v) → run.IsDone (machine (flat_of v)) (tables (flat_of v))
   really_done v l done t =
       subst (λ z. run.asked (seen_by z) (state_of v) t ≡ machines.Done → run.asked (machine (flat_of v)) (tables (flat_of v)) t ≡ machines.Done)
-      (code_at v l) ((seen_view (flat_of v).code).done (thread_of (flat_of v) t)).1 (done t)
+      (code_at v l) ((seen_machine_is_view (flat_of v).code).done (thread_of (flat_of v) t)).1 (done t)
 
   -- and the other way round
   pub seen_done : (v : ℕ) → v < length flats → run.IsDone (machine (flat_of v)) (tables (flat_of v)) → run.IsDone (seen_by guest.code) (state_of v)
   seen_done v l done t =
       subst (λ z. run.asked (machine (flat_of v)) (tables (flat_of v)) t ≡ machines.Done → run.asked (seen_by z) (state_of v) t ≡ machines.Done)
-      (code_at v l) ((seen_view (flat_of v).code).done (thread_of (flat_of v) t)).0 (done t)
+      (code_at v l) ((seen_machine_is_view (flat_of v).code).done (thread_of (flat_of v) t)).0 (done t)
 
-pub all_listed : (guest : Guest) (flats : List Flat) (noted : ℕ → ℕ → Option (Option ℕ)) (threads : ℕ) → IsGraph guest flats noted threads
+pub all_listed_if_all_asked : (guest : Guest) (flats : List Flat) (noted : ℕ → ℕ → Option (Option ℕ)) (threads : ℕ) → IsGraph guest flats noted threads
     → ((t v : ℕ) → threads ≤ t → noted t v ≡ Some None) → (origins : List Origin) → AreReached noted origins
     → length origins ≡ length flats → AreAsked noted threads (length flats) → AllListed guest flats
-all_listed guest flats noted threads g past origins reached all asked answers budget steps counted =
+all_listed_if_all_asked guest flats noted threads g past origins reached all asked answers budget steps counted =
     let means = graph_means guest flats noted threads g past answers in
     let f : IsFinished (seen_by guest.code) (told_by guest.code) (Alike guest.code) (seen_start guest One answers)
     (state_of guest flats noted threads g past answers) (λ v. v < length flats)
@@ -120,7 +120,7 @@ all_listed guest flats noted threads g past origins reached all asked answers bu
     (state_of guest flats noted threads g past answers) noted threads (length flats) means origins reached all g.some asked in
     let r = guest_all guest One told answers (state_of guest flats noted threads g past answers) (λ v. v < length flats)
     (Steps (seen_by guest.code) (state_of guest flats noted threads g past answers) noted (length flats)) 0 f outcome_of
-    (same_outcome guest.code) budget steps counted in (
+    (outcome_of_alike_states guest.code) budget steps counted in (
       r.0,
       flat_of guest flats noted threads g past answers r.0,
       (
@@ -130,20 +130,20 @@ all_listed guest flats noted threads g past origins reached all asked answers bu
       ),
     )
 
-pub within_listed : (guest : Guest) (flats : List Flat) (noted : ℕ → ℕ → Option (Option ℕ)) (threads : ℕ) → IsGraph guest flats noted threads
+pub within_listed_if_covered : (guest : Guest) (flats : List Flat) (noted : ℕ → ℕ → Option (Option ℕ)) (threads : ℕ) → IsGraph guest flats noted threads
     → ((t v : ℕ) → threads ≤ t → noted t v ≡ Some None) → (origins : List Origin) → slice_get origins 0 ≡ Some first_origin
     → length origins ≤ length flats → (c : ℕ) → Covered noted threads origins c → WithinListed guest flats origins c
-within_listed guest flats noted threads g past origins first few c covered answers budget steps counted less =
+within_listed_if_covered guest flats noted threads g past origins first few c covered answers budget steps counted less =
     let means = graph_means guest flats noted threads g past answers in
     let covers : Covers (seen_by guest.code) (told_by guest.code) (Alike guest.code) (seen_start guest One answers)
     (state_of guest flats noted threads g past answers) _ 0 c =
     covered_covers (seen_by guest.code) (told_by guest.code) (Alike guest.code) (seen_start guest One answers)
     (state_of guest flats noted threads g past answers) noted threads (length flats) means origins c covered first few in
-    let r = guest_within guest One told answers (state_of guest flats noted threads g past answers) _ 0 c covers outcome_of
-    (same_outcome guest.code) budget steps counted less in
+    let r = guest_outcome_within_is_done_node guest One told answers (state_of guest flats noted threads g past answers) _ 0 c covers outcome_of
+    (outcome_of_alike_states guest.code) budget steps counted less in
     let v = r.2 in
     let n = r.4.1 in
-    let l : v < length flats = (let a = slice_less origins v n.0 n.1 in omega (arith, a, few)) in (
+    let l : v < length flats = (let a = place_of_element_is_below_length origins v n.0 n.1 in omega (arith, a, few)) in (
       v,
       flat_of guest flats noted threads g past answers v,
       n.0,
@@ -157,10 +157,10 @@ within_listed guest flats noted threads g past origins first few c covered answe
     )
 
 -- a listed state where all are done is where a complete run ends
-pub all_shown : (guest : Guest) (flats : List Flat) (noted : ℕ → ℕ → Option (Option ℕ)) (threads : ℕ) → IsGraph guest flats noted threads
+pub all_shown_by_graph : (guest : Guest) (flats : List Flat) (noted : ℕ → ℕ → Option (Option ℕ)) (threads : ℕ) → IsGraph guest flats noted threads
     → AllShown guest flats
-all_shown guest flats noted threads g v f at done answers =
+all_shown_by_graph guest flats noted threads g v f at done answers =
     let r = g.reached v f at in
     let really : run.IsDone (thread_machine guest.code) (run.end (thread_machine guest.code) (beginning guest) r.steps) =
     subst (run.IsDone (thread_machine guest.code)) r.ends (subst (λ z. run.IsDone (thread_machine z) (tables f)) r.like.code done) in
-    (r.steps, quiet_counted guest r.steps answers r.quiet really, (at, done, ap outcome_of r.ends))
+    (r.steps, done_quiet_run_is_counted guest r.steps answers r.quiet really, (at, done, ap outcome_of r.ends))

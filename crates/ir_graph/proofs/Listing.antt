@@ -4,22 +4,22 @@ use Rattle.std.specs.Prelude.{slice_get}
 use Rattle.std.proofs.lemmas.Bool.{cases_lt}
 use Rattle.std.specs.List.{slice_index_or}
 use Rattle.std.proofs.lemmas.Option.{same_Some, slice_get-get_or}
-use Rattle.ir_explore.proofs.CallerLemmas.{pushed_cases, pushed_stays, slice_less}
+use Rattle.ir_explore.proofs.CallerLemmas.{slice_get_after_push_cases, slice_get_kept_by_append, place_of_element_is_below_length}
 use Rattle.ir_runs.specs.Run.{IsDone}
 use Rattle.ir_flat.specs.Flat.{Flat, machine, tables}
 use Rattle.ir_graph.specs.Listing.{HasOutcome, AreOutcomes}
 use Rattle.ir_graph.specs.Outcomes.{outcome_of}
 
-pub none_listed : (flats : List Flat) → AreOutcomes flats 0 []
-none_listed flats = record {
+pub are_outcomes_below_zero : (flats : List Flat) → AreOutcomes flats 0 []
+are_outcomes_below_zero flats = record {
   done = λ i v is. absurd (cc is);
   all = λ v f less at done. absurd (omega (arith, less));
   different = λ i j v w f g is. absurd (cc is);
   rising = λ i j v w is. absurd (cc is);
 }
 
-below : (v until : ℕ) → v < suc until → (v < until) ⊎ (until ≡ v)
-below v until l = elim (cases_lt v until) [ inl less ↦ inl less | inr most ↦ inr (omega (arith, l, most)) ]
+below_successor_is_below_or_equal : (v until : ℕ) → v < suc until → (v < until) ⊎ (until ≡ v)
+below_successor_is_below_or_equal v until l = elim (cases_lt v until) [ inl less ↦ inl less | inr most ↦ inr (omega (arith, l, most)) ]
 
 module _ (flats : List Flat) (until : ℕ) (listed : List ℕ) (f : Flat) (o : AreOutcomes flats until listed)
     (at : slice_get flats until ≡ Some f) where
@@ -27,7 +27,7 @@ module _ (flats : List Flat) (until : ℕ) (listed : List ℕ) (f : Flat) (o : A
   pub going_skipped : (IsDone (machine f) (tables f) → ⊥) → AreOutcomes flats (suc until) listed
   going_skipped never = record {
     done = λ i v is. let d = o.done i v is in (let a = d.0 in omega (arith, a), d.1);
-    all = λ v g less here done. elim (below v until less) [
+    all = λ v g less here done. elim (below_successor_is_below_or_equal v until less) [
       | inl old ↦ o.all v g old here done
       | inr same ↦
           let one : f ≡ g = same_Some f g (sym at ∙ subst (λ z. slice_get flats z ≡ Some g) (sym same) here) in
@@ -41,7 +41,7 @@ module _ (flats : List Flat) (until : ℕ) (listed : List ℕ) (f : Flat) (o : A
   pub same_skipped : HasOutcome flats listed f → AreOutcomes flats (suc until) listed
   same_skipped h = record {
     done = λ i v is. let d = o.done i v is in (let a = d.0 in omega (arith, a), d.1);
-    all = λ v g less here done. elim (below v until less) [
+    all = λ v g less here done. elim (below_successor_is_below_or_equal v until less) [
       | inl old ↦ o.all v g old here done
       | inr same ↦
           let one : f ≡ g = same_Some f g (sym at ∙ subst (λ z. slice_get flats z ≡ Some g) (sym same) here) in (
@@ -66,7 +66,7 @@ module _ (flats : List Flat) (until : ℕ) (listed : List ℕ) (f : Flat) (o : A
   -- a node with an outcome that isn't listed yet
   pub new_listed : IsDone (machine f) (tables f) → (HasOutcome flats listed f → ⊥) → AreOutcomes flats (suc until) (listed ++ until ∷ [])
   new_listed done fresh = record {
-    done = λ i v is. elim (pushed_cases listed until i v is) [
+    done = λ i v is. elim (slice_get_after_push_cases listed until i v is) [
       | inl old ↦ let d = o.done i v old in (let a = d.0 in omega (arith, a), d.1)
       | inr p ↦ (
         let e = p.1 in omega (arith, e),
@@ -74,7 +74,7 @@ module _ (flats : List Flat) (until : ℕ) (listed : List ℕ) (f : Flat) (o : A
             subst (λ z. IsDone (machine z) (tables z)) (same_Some f g (sym at ∙ subst (λ z. slice_get flats z ≡ Some g) (sym p.1) here)) done,
       )
     ];
-    all = λ v g less here ends. elim (below v until less) [
+    all = λ v g less here ends. elim (below_successor_is_below_or_equal v until less) [
       | inl old ↦ let h = o.all v g old here ends in (longer g h.0, h.1)
       | inr same ↦
           let one : f ≡ g = same_Some f g (sym at ∙ subst (λ z. slice_get flats z ≡ Some g) (sym same) here) in (
@@ -82,22 +82,22 @@ module _ (flats : List Flat) (until : ℕ) (listed : List ℕ) (f : Flat) (o : A
             omega (arith, same),
           )
     ];
-    different = λ i j v w g h is too here there same. elim (pushed_cases listed until i v is) [
-      | inl old ↦ elim (pushed_cases listed until j w too) [
+    different = λ i j v w g h is too here there same. elim (slice_get_after_push_cases listed until i v is) [
+      | inl old ↦ elim (slice_get_after_push_cases listed until j w too) [
         | inl old_too ↦ o.different i j v w g h old old_too here there same
         | inr q ↦ absurd (fresh (meets i v g h old here (new_at w h q.1 there) same))
       ]
-      | inr p ↦ elim (pushed_cases listed until j w too) [
+      | inr p ↦ elim (slice_get_after_push_cases listed until j w too) [
         | inl old_too ↦ absurd (fresh (meets j w h g old_too there (new_at v g p.1 here) (sym same)))
         | inr q ↦ p.0 ∙ sym q.0
       ]
     ];
-    rising = λ i j v w is too before. elim (pushed_cases listed until j w too) [
-      | inl old_too ↦ elim (pushed_cases listed until i v is) [
+    rising = λ i j v w is too before. elim (slice_get_after_push_cases listed until j w too) [
+      | inl old_too ↦ elim (slice_get_after_push_cases listed until i v is) [
         | inl old ↦ o.rising i j v w old old_too before
-        | inr p ↦ absurd (let a = slice_less listed j w old_too in let b = p.0 in omega (arith, a, b, before))
+        | inr p ↦ absurd (let a = place_of_element_is_below_length listed j w old_too in let b = p.0 in omega (arith, a, b, before))
       ]
-      | inr q ↦ elim (pushed_cases listed until i v is) [
+      | inr q ↦ elim (slice_get_after_push_cases listed until i v is) [
         | inl old ↦ let a = (o.done i v old).0 in let b = q.1 in omega (arith, a, b)
         | inr p ↦ absurd (let a = p.0 in let b = q.0 in omega (arith, a, b, before))
       ]
@@ -123,7 +123,7 @@ module _ (flats : List Flat) (until : ℕ) (listed : List ℕ) (f : Flat) (o : A
         place = h.place;
         node = h.node;
         state = h.state;
-        stands = pushed_stays listed (until ∷ []) h.place h.node h.stands;
+        stands = slice_get_kept_by_append listed (until ∷ []) h.place h.node h.stands;
         at = h.at;
         same = h.same;
       }
@@ -143,11 +143,11 @@ module _ (flats : List Flat) (until : ℕ) (listed : List ℕ) (f : Flat) (o : A
       }
 
 -- the state of a listed node, as it is read
-pub listed_here : (flats : List Flat) (listed : List ℕ) (i d : ℕ) (e : Flat)
+pub state_of_listed_node : (flats : List Flat) (listed : List ℕ) (i d : ℕ) (e : Flat)
     → ((i v : ℕ) → slice_get listed i ≡ Some v → v < length flats) → i < length listed
     → e ≡ slice_index_or flats (slice_index_or listed i d) e
     → (v : ℕ) × (slice_get listed i ≡ Some v) × (slice_get flats v ≡ Some e)
-listed_here flats listed i d e within less is =
+state_of_listed_node flats listed i d e within less is =
     let at : slice_get listed i ≡ Some (slice_index_or listed i d) = slice_get-get_or listed i d less in (
       slice_index_or listed i d,
       at,

@@ -9,72 +9,72 @@ use Rattle.ir_runs.specs.Run.{Can, after}
 use Rattle.ir_thread.specs.Calls.{ask_of, after_reply, after_ask}
 use Rattle.ir_thread.specs.Permitted.{run_of, step_of, Permits}
 use Rattle.ir_thread.specs.Private.{PrivateSteps}
-use Rattle.ir_thread.specs.State.{State, held_at}
+use Rattle.ir_thread.specs.State.{ThreadState, held_at}
 use Rattle.ir_thread.specs.declared.ask.Ask.{Ask}
 use Rattle.ir_thread.specs.declared.ask.Ask.TheVariants as ask
 use Rattle.ir_thread.specs.declared.ask.Reply.TheVariants.{Go}
 use Rattle.ir_flat.specs.Flat.{Flat, IsFlat, thread_of, cell_of, tables, machine, idle, empty}
 use Rattle.ir_flat.specs.Next.{with_thread, with_object, next, MayStep}
-use Rattle.ir_flat.proofs.CallerLemmas.{next_flat, taken_by, can_by_may, thread_count, object_count, enter_fits, leave_fits, leave_allowed}
-use Rattle.ir_thread.proofs.CallerLemmas.{ask_permits}
+use Rattle.ir_flat.proofs.CallerLemmas.{next_is_flat, tables_of_next_are_after, may_step_is_can_for_ask, next_keeps_thread_count, next_keeps_object_count, entered_fields_fit, left_fields_fit, flat_inside_thread_can_leave}
+use Rattle.ir_thread.proofs.CallerLemmas.{ask_of_permitted}
 use Rattle.ir_runs.specs.declared.access.Access.{Access}
 use Rattle.ir_graph.specs.Lone.{IsAbout, answer_from, cell_after, lone_thread, lone_cell, GoesLone, TakesTurn, AreBeside, MayTake}
 use Rattle.ir_graph.specs.Plain.{IsFair, GoesPlain, OthersStay, Rests}
-use Rattle.ir_graph.proofs.Plain.{no_plain, plain_more, one_plain, step_others, others_more, twin_ask}
+use Rattle.ir_graph.proofs.Plain.{goes_plain_reflexive, goes_plain_transitive, goes_plain_by_fair_step, others_stay_after_step, others_stay_transitive, twins_after_ask}
 
 -- the flat with another thread and another object
-abbrev pub with_both : Flat → ℕ → State → ℕ → Cell → Flat
-with_both f t y o d = with_object (with_thread f t y) o d
+abbrev pub with_thread_and_object : Flat → ℕ → ThreadState → ℕ → Cell → Flat
+with_thread_and_object f t y o d = with_object (with_thread f t y) o d
 
-stays : (f : Flat) (t o : ℕ) (y : State) → with_thread f t y ≡ with_both f t y o (cell_of f o)
-stays f t o y i = record { code = f.code; threads = set f.threads t y; objects = sym (set-get_or f.objects o empty) i }
+with_thread_keeps_object : (f : Flat) (t o : ℕ) (y : ThreadState) → with_thread f t y ≡ with_thread_and_object f t y o (cell_of f o)
+with_thread_keeps_object f t o y i = record { code = f.code; threads = set f.threads t y; objects = sym (set-get_or f.objects o empty) i }
 
 -- a step that is about one object changes the thread and that object alone
-pub next_both : (f : Flat) (t o : ℕ) (q : Ask) → IsAbout o q
-    → next f t 0 q ≡ with_both f t (after_ask f.code (thread_of f t) q (answer_from (cell_of f o) q)) o (cell_after (cell_of f o) q)
-next_both f t o ask.Private h = stays f t o (after_ask f.code (thread_of f t) ask.Private Go)
-next_both f t o (ask.Env kind) h = absurd h
-next_both f t o (ask.Enter p access) h =
-    ap (λ z. with_both f t (after_ask f.code (thread_of f t) (ask.Enter p access) Go) z
+pub next_changes_thread_and_object : (f : Flat) (t o : ℕ) (q : Ask) → IsAbout o q
+    → next f t 0 q ≡ with_thread_and_object f t (after_ask f.code (thread_of f t) q (answer_from (cell_of f o) q)) o (cell_after (cell_of f o) q)
+next_changes_thread_and_object f t o ask.Private h = with_thread_keeps_object f t o (after_ask f.code (thread_of f t) ask.Private Go)
+next_changes_thread_and_object f t o (ask.Env kind) h = absurd h
+next_changes_thread_and_object f t o (ask.Enter p access) h =
+    ap (λ z. with_thread_and_object f t (after_ask f.code (thread_of f t) (ask.Enter p access) Go) z
     (record (cell_of f z) { fields = entered access (cell_of f z).fields })) h
-next_both f t o (ask.Try p) h = absurd h
-next_both f t o (ask.Leave p access) h =
-    ap (λ z. with_both f t (after_ask f.code (thread_of f t) (ask.Leave p access) Go) z
+next_changes_thread_and_object f t o (ask.Try p) h = absurd h
+next_changes_thread_and_object f t o (ask.Leave p access) h =
+    ap (λ z. with_thread_and_object f t (after_ask f.code (thread_of f t) (ask.Leave p access) Go) z
     (record (cell_of f z) { fields = left_by access (cell_of f z).fields })) h
-next_both f t o (ask.Get p index) h =
+next_changes_thread_and_object f t o (ask.Get p index) h =
     ap (λ z. with_thread f t (after_ask f.code (thread_of f t) (ask.Get p index) (answer_from (cell_of f z) (ask.Get p index)))) h
-    ∙ stays f t o (after_ask f.code (thread_of f t) (ask.Get p index) (answer_from (cell_of f o) (ask.Get p index)))
-next_both f t o (ask.Put p index value) h =
-    ap (λ z. with_both f t (after_ask f.code (thread_of f t) (ask.Put p index value) Go) z
+    ∙ with_thread_keeps_object f t o (after_ask f.code (thread_of f t) (ask.Get p index) (answer_from (cell_of f o) (ask.Get p index)))
+next_changes_thread_and_object f t o (ask.Put p index value) h =
+    ap (λ z. with_thread_and_object f t (after_ask f.code (thread_of f t) (ask.Put p index value) Go) z
     (record (cell_of f z) { words = slice_set (cell_of f z).words index value })) h
-next_both f t o ask.Print h = stays f t o (after_ask f.code (thread_of f t) ask.Print Go)
-next_both f t o (ask.End e) h = stays f t o (after_ask f.code (thread_of f t) (ask.End e) Go)
-next_both f t o ask.Done h = absurd h
+next_changes_thread_and_object f t o ask.Print h = with_thread_keeps_object f t o (after_ask f.code (thread_of f t) ask.Print Go)
+next_changes_thread_and_object f t o (ask.End e) h = with_thread_keeps_object f t o (after_ask f.code (thread_of f t) (ask.End e) Go)
+next_changes_thread_and_object f t o ask.Done h = absurd h
 
-both_same : (f : Flat) (t o : ℕ) → with_both f t (thread_of f t) o (cell_of f o) ≡ f
-both_same f t o i = record { code = f.code; threads = set-get_or f.threads t idle i; objects = set-get_or f.objects o empty i }
+with_own_thread_and_object : (f : Flat) (t o : ℕ) → with_thread_and_object f t (thread_of f t) o (cell_of f o) ≡ f
+with_own_thread_and_object f t o i = record { code = f.code; threads = set-get_or f.threads t idle i; objects = set-get_or f.objects o empty i }
 
-both_twice : (f : Flat) (t : ℕ) (x y : State) (o : ℕ) (c d : Cell) → with_both (with_both f t x o c) t y o d ≡ with_both f t y o d
-both_twice f t x y o c d i = record {
+with_thread_and_object_twice : (f : Flat) (t : ℕ) (x y : ThreadState) (o : ℕ) (c d : Cell) → with_thread_and_object (with_thread_and_object f t x o c) t y o d ≡ with_thread_and_object f t y o d
+with_thread_and_object_twice f t x y o c d i = record {
   code = f.code;
   threads = set-set f.threads t x y i;
   objects = set-set f.objects o c d i;
 }
 
-fair_may : (f : Flat) (q : Ask) → IsFair q → MayStep f 0 q
-fair_may f ask.Private h = tt
-fair_may f (ask.Env k) h = absurd h
-fair_may f (ask.Enter o a) h = absurd h
-fair_may f (ask.Try o) h = absurd h
-fair_may f (ask.Leave o a) h = tt
-fair_may f (ask.Get o i) h = tt
-fair_may f (ask.Put o i v) h = tt
-fair_may f ask.Print h = tt
-fair_may f (ask.End e) h = tt
-fair_may f ask.Done h = absurd h
+fair_ask_may_step : (f : Flat) (q : Ask) → IsFair q → MayStep f 0 q
+fair_ask_may_step f ask.Private h = tt
+fair_ask_may_step f (ask.Env k) h = absurd h
+fair_ask_may_step f (ask.Enter o a) h = absurd h
+fair_ask_may_step f (ask.Try o) h = absurd h
+fair_ask_may_step f (ask.Leave o a) h = tt
+fair_ask_may_step f (ask.Get o i) h = tt
+fair_ask_may_step f (ask.Put o i v) h = tt
+fair_ask_may_step f ask.Print h = tt
+fair_ask_may_step f (ask.End e) h = tt
+fair_ask_may_step f ask.Done h = absurd h
 
 -- what a step that is about one object makes of a state
-pub record StepsBoth (f : Flat) (t : ℕ) (g : Flat) : Type 0 where
+pub record IsLoneStep (f : Flat) (t : ℕ) (g : Flat) : Type 0 where
   pub flat : IsFlat g
   pub can : Can (machine f) (tables f) (t, 0)
   pub is : tables g ≡ after (machine f) (tables f) (t, 0)
@@ -84,16 +84,16 @@ pub record StepsBoth (f : Flat) (t : ℕ) (g : Flat) : Type 0 where
 
 module _ (f : Flat) (t o : ℕ) (flat : IsFlat f) (less : t < length f.threads) where
   pub step_both : IsAbout o (ask_of f.code (thread_of f t)) → MayStep f 0 (ask_of f.code (thread_of f t))
-      → StepsBoth f t (with_both f t (lone_thread f.code (thread_of f t) (cell_of f o)) o (lone_cell f.code (thread_of f t) (cell_of f o)))
+      → IsLoneStep f t (with_thread_and_object f t (lone_thread f.code (thread_of f t) (cell_of f o)) o (lone_cell f.code (thread_of f t) (cell_of f o)))
   step_both about may =
       let q = ask_of f.code (thread_of f t) in
-      subst (StepsBoth f t) (next_both f t o q about) (record {
-        flat = next_flat f t 0 q refl flat less may;
-        can = (can_by_may f t 0 q flat less refl).0 may;
-        is = taken_by f t 0 q flat less refl may;
+      subst (IsLoneStep f t) (next_changes_thread_and_object f t o q about) (record {
+        flat = next_is_flat f t 0 q refl flat less may;
+        can = (may_step_is_can_for_ask f t 0 q flat less refl).0 may;
+        is = tables_of_next_are_after f t 0 q flat less refl may;
         code = code_next q;
-        threads = thread_count f t 0 q;
-        objects = object_count f t 0 q;
+        threads = next_keeps_thread_count f t 0 q;
+        objects = next_keeps_object_count f t 0 q;
       })
     where
       code_next : (q : Ask) → (next f t 0 q).code ≡ f.code
@@ -109,89 +109,89 @@ module _ (f : Flat) (t o : ℕ) (flat : IsFlat f) (less : t < length f.threads) 
       code_next ask.Done = refl
 
 -- what more of such steps make of it
-pub record GoesBoth (f : Flat) (t : ℕ) (h : Flat) : Type 0 where
+pub record IsLoneRun (f : Flat) (t : ℕ) (h : Flat) : Type 0 where
   pub flat : IsFlat h
   pub goes : GoesPlain f h
   pub others : OthersStay f h t
 
-pub lone_goes : (k : ℕ) (f : Flat) (t o : ℕ) (x y : State) (c d : Cell) → IsFlat f → t < length f.threads → o < length f.objects
-    → thread_of f t ≡ x → cell_of f o ≡ c → GoesLone f.code o k x c y d → GoesBoth f t (with_both f t y o d)
-lone_goes zero f t o x y c d flat less few here there (same, too) =
-    subst (GoesBoth f t) (sym (both_same f t o) ∙ (λ i. with_both f t ((here ∙ same) i) o ((there ∙ too) i)))
-    (record { flat = flat; goes = no_plain f; others = λ u ne. refl })
-lone_goes (suc k) f t o x y c d flat less few here there (fair, about, more) =
+pub lone_run_in_flat : (k : ℕ) (f : Flat) (t o : ℕ) (x y : ThreadState) (c d : Cell) → IsFlat f → t < length f.threads → o < length f.objects
+    → thread_of f t ≡ x → cell_of f o ≡ c → GoesLone f.code o k x c y d → IsLoneRun f t (with_thread_and_object f t y o d)
+lone_run_in_flat zero f t o x y c d flat less few here there (same, too) =
+    subst (IsLoneRun f t) (sym (with_own_thread_and_object f t o) ∙ (λ i. with_thread_and_object f t ((here ∙ same) i) o ((there ∙ too) i)))
+    (record { flat = flat; goes = goes_plain_reflexive f; others = λ u ne. refl })
+lone_run_in_flat (suc k) f t o x y c d flat less few here there (fair, about, more) =
     let q = ask_of f.code x in
-    let g = with_both f t (lone_thread f.code x c) o (lone_cell f.code x c) in
+    let g = with_thread_and_object f t (lone_thread f.code x c) o (lone_cell f.code x c) in
     let fair_f : IsFair (ask_of f.code (thread_of f t)) = subst (λ z. IsFair (ask_of f.code z)) (sym here) fair in
-    let one : StepsBoth f t g =
-    subst (λ z. StepsBoth f t (with_both f t (lone_thread f.code z c) o (lone_cell f.code z c))) here
-    (subst (λ z. StepsBoth f t (with_both f t (lone_thread f.code (thread_of f t) z) o (lone_cell f.code (thread_of f t) z))) there
+    let one : IsLoneStep f t g =
+    subst (λ z. IsLoneStep f t (with_thread_and_object f t (lone_thread f.code z c) o (lone_cell f.code z c))) here
+    (subst (λ z. IsLoneStep f t (with_thread_and_object f t (lone_thread f.code (thread_of f t) z) o (lone_cell f.code (thread_of f t) z))) there
     (step_both f t o flat less (subst (λ z. IsAbout o (ask_of f.code z)) (sym here) about)
-    (fair_may f (ask_of f.code (thread_of f t)) fair_f))) in
+    (fair_ask_may_step f (ask_of f.code (thread_of f t)) fair_f))) in
     let less_g : t < length g.threads = (let a = one.threads in omega (arith, a, less)) in
     let few_g : o < length g.objects = (let a = one.objects in omega (arith, a, few)) in
-    let rest : GoesBoth g t (with_both g t y o d) =
-    lone_goes k g t o (lone_thread f.code x c) y (lone_cell f.code x c) d one.flat less_g few_g
+    let rest : IsLoneRun g t (with_thread_and_object g t y o d) =
+    lone_run_in_flat k g t o (lone_thread f.code x c) y (lone_cell f.code x c) d one.flat less_g few_g
     (get_or-set_same f.threads t (lone_thread f.code x c) idle less) (get_or-set_same f.objects o (lone_cell f.code x c) empty few) more in
-    let plain : GoesPlain f g = one_plain f g t 0 fair_f one.can one.is one.code one.threads one.objects in
-    subst (GoesBoth f t) (both_twice f t (lone_thread f.code x c) y o (lone_cell f.code x c) d) (record {
+    let plain : GoesPlain f g = goes_plain_by_fair_step f g t 0 fair_f one.can one.is one.code one.threads one.objects in
+    subst (IsLoneRun f t) (with_thread_and_object_twice f t (lone_thread f.code x c) y o (lone_cell f.code x c) d) (record {
       flat = rest.flat;
-      goes = plain_more f g (with_both g t y o d) plain rest.goes;
-      others = others_more f g (with_both g t y o d) t (step_others f g t 0 one.is) rest.others;
+      goes = goes_plain_transitive f g (with_thread_and_object g t y o d) plain rest.goes;
+      others = others_stay_transitive f g (with_thread_and_object g t y o d) t (others_stay_after_step f g t 0 one.is) rest.others;
     })
 
 -- a turn: the entry, and where the thread rests then
-pub record TurnsBoth (f : Flat) (t : ℕ) (g h : Flat) : Type 0 where
-  pub enters : StepsBoth f t g
-  pub goes : GoesBoth g t h
+pub record IsLoneTurn (f : Flat) (t : ℕ) (g h : Flat) : Type 0 where
+  pub enters : IsLoneStep f t g
+  pub goes : IsLoneRun g t h
   pub rests : Rests (ask_of h.code (thread_of h t))
 
-pub turn_goes : (f : Flat) (t o : ℕ) (x y : State) (c d : Cell) → IsFlat f → t < length f.threads → o < length f.objects
+pub lone_turn_in_flat : (f : Flat) (t o : ℕ) (x y : ThreadState) (c d : Cell) → IsFlat f → t < length f.threads → o < length f.objects
     → thread_of f t ≡ x → cell_of f o ≡ c → TakesTurn f.code o x c y d
-    → (g : Flat) × TurnsBoth f t g (with_both f t y o d)
-turn_goes f t o x y c d flat less few here there turn =
+    → (g : Flat) × IsLoneTurn f t g (with_thread_and_object f t y o d)
+lone_turn_in_flat f t o x y c d flat less few here there turn =
     let asks : ask_of f.code (thread_of f t) ≡ ask.Enter o turn.access = ap (ask_of f.code) here ∙ turn.asks in
-    let g = with_both f t (lone_thread f.code x c) o (lone_cell f.code x c) in
-    let one : StepsBoth f t g =
-    subst (λ z. StepsBoth f t (with_both f t (lone_thread f.code z c) o (lone_cell f.code z c))) here
-    (subst (λ z. StepsBoth f t (with_both f t (lone_thread f.code (thread_of f t) z) o (lone_cell f.code (thread_of f t) z))) there
+    let g = with_thread_and_object f t (lone_thread f.code x c) o (lone_cell f.code x c) in
+    let one : IsLoneStep f t g =
+    subst (λ z. IsLoneStep f t (with_thread_and_object f t (lone_thread f.code z c) o (lone_cell f.code z c))) here
+    (subst (λ z. IsLoneStep f t (with_thread_and_object f t (lone_thread f.code (thread_of f t) z) o (lone_cell f.code (thread_of f t) z))) there
     (step_both f t o flat less (subst (IsAbout o) (sym asks) refl)
     (subst (MayStep f 0) (sym asks) (subst (λ (z : Cell). Admitted turn.access z.fields) (sym there) turn.admitted)))) in
     let less_g : t < length g.threads = (let a = one.threads in omega (arith, a, less)) in
     let few_g : o < length g.objects = (let a = one.objects in omega (arith, a, few)) in
-    let rest : GoesBoth g t (with_both g t y o d) =
-    lone_goes turn.steps g t o (lone_thread f.code x c) y (lone_cell f.code x c) d one.flat less_g few_g
+    let rest : IsLoneRun g t (with_thread_and_object g t y o d) =
+    lone_run_in_flat turn.steps g t o (lone_thread f.code x c) y (lone_cell f.code x c) d one.flat less_g few_g
     (get_or-set_same f.threads t (lone_thread f.code x c) idle less) (get_or-set_same f.objects o (lone_cell f.code x c) empty few) turn.goes in (
       g,
       record {
         enters = one;
-        goes = subst (GoesBoth g t) (both_twice f t (lone_thread f.code x c) y o (lone_cell f.code x c) d) rest;
+        goes = subst (IsLoneRun g t) (with_thread_and_object_twice f t (lone_thread f.code x c) y o (lone_cell f.code x c) d) rest;
         rests = subst (λ z. Rests (ask_of f.code z)) (sym (get_or-set_same f.threads t y idle less)) turn.rests;
       },
     )
 
 -- steps one after the other
-pub lone_more : (code : List ℕ) (o k j : ℕ) (x y z : State) (c d e : Cell) → GoesLone code o k x c y d → GoesLone code o j y d z e
+pub goes_lone_append : (code : List ℕ) (o k j : ℕ) (x y z : ThreadState) (c d e : Cell) → GoesLone code o k x c y d → GoesLone code o j y d z e
     → GoesLone code o (k + j) x c z e
-lone_more code o zero j x y z c d e (same, too) more =
+goes_lone_append code o zero j x y z c d e (same, too) more =
     let n : zero + j ≡ j = omega arith in
     subst (λ m. GoesLone code o m x c z e) (sym n)
     (subst (λ s. GoesLone code o j s c z e) (sym same) (subst (λ s. GoesLone code o j y s z e) (sym too) more))
-lone_more code o (suc k) j x y z c d e (fair, about, first) more =
+goes_lone_append code o (suc k) j x y z c d e (fair, about, first) more =
     let n : suc k + j ≡ suc (k + j) = omega arith in
     subst (λ m. GoesLone code o m x c z e) (sym n)
-    (fair, about, lone_more code o k j (lone_thread code x c) y z (lone_cell code x c) d e first more)
+    (fair, about, goes_lone_append code o k j (lone_thread code x c) y z (lone_cell code x c) d e first more)
 
-pub lone_one : (code : List ℕ) (o : ℕ) (x : State) (c : Cell) → IsFair (ask_of code x) → IsAbout o (ask_of code x)
+pub goes_lone_by_fair_ask : (code : List ℕ) (o : ℕ) (x : ThreadState) (c : Cell) → IsFair (ask_of code x) → IsAbout o (ask_of code x)
     → GoesLone code o 1 x c (lone_thread code x c) (lone_cell code x c)
-lone_one code o x c fair about = (fair, about, (refl, refl))
+goes_lone_by_fair_ask code o x c fair about = (fair, about, (refl, refl))
 
 -- private steps
-pub lone_private : (code : List ℕ) (o n : ℕ) (x : State) (c : Cell) → ((k : ℕ) → k < n → ask_of code (run_of code k x) ≡ ask.Private)
+pub goes_lone_through_private_asks : (code : List ℕ) (o n : ℕ) (x : ThreadState) (c : Cell) → ((k : ℕ) → k < n → ask_of code (run_of code k x) ≡ ask.Private)
     → GoesLone code o n x c (run_of code n x) c
 unfolding run_of step_of after_reply
-lone_private code o zero x c each = (refl, refl)
-lone_private code o (suc n) x c each =
+goes_lone_through_private_asks code o zero x c each = (refl, refl)
+goes_lone_through_private_asks code o (suc n) x c each =
     let y = run_of code n x in
     let last : ask_of code y ≡ ask.Private = each n (omega arith) in
     let one : GoesLone code o 1 y c (after_ask code y (ask_of code y) Go) c = (
@@ -204,18 +204,18 @@ lone_private code o (suc n) x c each =
     ) in
     let e : n + 1 ≡ suc n = omega arith in
     subst (λ z. GoesLone code o z x c (after_ask code y (ask_of code y) Go) c) e
-    (lone_more code o n 1 x y (after_ask code y (ask_of code y) Go) c c c (lone_private code o n x c (λ k l. each k (omega (arith, l)))) one)
+    (goes_lone_append code o n 1 x y (after_ask code y (ask_of code y) Go) c c c (goes_lone_through_private_asks code o n x c (λ k l. each k (omega (arith, l)))) one)
 
 -- what is beside an object stays so
-pub beside_goes : (code : List ℕ) (o k : ℕ) (x y : State) (c d : Cell) → AreBeside code o x c → GoesLone code o k x c y d
+pub are_beside_after_lone_run : (code : List ℕ) (o k : ℕ) (x y : ThreadState) (c d : Cell) → AreBeside code o x c → GoesLone code o k x c y d
     → AreBeside code o y d
-beside_goes code o k x y c d b goes =
+are_beside_after_lone_run code o k x y c d b goes =
     let f = b.flat in
     let t = b.thread in
-    let g : GoesBoth f t (with_both f t y o d) =
-    lone_goes k f t o x y c d b.is b.has_thread b.has_object b.here b.there (subst (λ z. GoesLone z o k x c y d) (sym b.runs) goes) in
+    let g : IsLoneRun f t (with_thread_and_object f t y o d) =
+    lone_run_in_flat k f t o x y c d b.is b.has_thread b.has_object b.here b.there (subst (λ z. GoesLone z o k x c y d) (sym b.runs) goes) in
     record {
-      flat = with_both f t y o d;
+      flat = with_thread_and_object f t y o d;
       thread = t;
       is = g.flat;
       runs = b.runs;
@@ -225,16 +225,16 @@ beside_goes code o k x y c d b goes =
       there = get_or-set_same f.objects o d empty b.has_object;
     }
 
-pub beside_enters : (code : List ℕ) (o : ℕ) (x : State) (c : Cell) (asks : Ask) → AreBeside code o x c → ask_of code x ≡ asks
+pub are_beside_after_ask : (code : List ℕ) (o : ℕ) (x : ThreadState) (c : Cell) (asks : Ask) → AreBeside code o x c → ask_of code x ≡ asks
     → IsAbout o asks → ((f : Flat) → cell_of f o ≡ c → MayStep f 0 asks)
     → AreBeside code o (after_ask code x asks (answer_from c asks)) (cell_after c asks)
-beside_enters code o x c asks b is about may =
+are_beside_after_ask code o x c asks b is about may =
     let f = b.flat in
     let t = b.thread in
     let q = ask_of f.code (thread_of f t) in
     let same : q ≡ asks = (λ i. ask_of (b.runs i) (b.here i)) ∙ is in
     let one = step_both f t o b.is b.has_thread (subst (IsAbout o) (sym same) about) (subst (MayStep f 0) (sym same) (may f b.there)) in
-    let g = with_both f t (lone_thread f.code (thread_of f t) (cell_of f o)) o (lone_cell f.code (thread_of f t) (cell_of f o)) in
+    let g = with_thread_and_object f t (lone_thread f.code (thread_of f t) (cell_of f o)) o (lone_cell f.code (thread_of f t) (cell_of f o)) in
     record {
       flat = g;
       thread = t;
@@ -249,9 +249,9 @@ beside_enters code o x c asks b is about may =
     }
 
 -- the object may be asked what a thread beside it asks
-pub may_take : (code : List ℕ) (o : ℕ) (x : State) (c : Cell) (q : Ask) → AreBeside code o x c → ask_of code x ≡ q → IsFair q → IsAbout o q
+pub may_take_fair_ask : (code : List ℕ) (o : ℕ) (x : ThreadState) (c : Cell) (q : Ask) → AreBeside code o x c → ask_of code x ≡ q → IsFair q → IsAbout o q
     → MayTake c q
-may_take code o x c q b is fair about = by q (subst (Permits x) is (ask_permits code x)) fair about
+may_take_fair_ask code o x c q b is fair about = by q (subst (Permits x) is (ask_of_permitted code x)) fair about
   where
     by : (q : Ask) → Permits x q → IsFair q → IsAbout o q → MayTake c q
     by ask.Private p fair about = tt
@@ -260,8 +260,8 @@ may_take code o x c q b is fair about = by q (subst (Permits x) is (ask_permits 
     by (ask.Try r) p fair about = absurd fair
     by (ask.Leave r a) p fair about = (
       subst (λ (z : Cell). CanLeave a z.fields) b.there
-          (leave_allowed b.flat b.thread o a b.is b.has_thread b.has_object ((λ i. held_at (b.here i).held (sym about i)) ∙ p.2)),
-      subst (λ (z : Cell). IsFields (left_by a z.fields)) b.there (leave_fits b.flat o a b.is b.has_object),
+          (flat_inside_thread_can_leave b.flat b.thread o a b.is b.has_thread b.has_object ((λ i. held_at (b.here i).held (sym about i)) ∙ p.2)),
+      subst (λ (z : Cell). IsFields (left_by a z.fields)) b.there (left_fields_fit b.flat o a b.is b.has_object),
     )
     by (ask.Get r i) p fair about = p.2
     by (ask.Put r i v) p fair about = p.2
@@ -269,17 +269,17 @@ may_take code o x c q b is fair about = by q (subst (Permits x) is (ask_permits 
     by (ask.End e) p fair about = tt
     by ask.Done p fair about = absurd fair
 
-pub may_enter : (code : List ℕ) (o : ℕ) (x : State) (c : Cell) (a : Access) → AreBeside code o x c → Admitted a c.fields
+pub may_take_admitted_entry : (code : List ℕ) (o : ℕ) (x : ThreadState) (c : Cell) (a : Access) → AreBeside code o x c → Admitted a c.fields
     → MayTake c (ask.Enter o a)
-may_enter code o x c a b admitted = (admitted, subst (λ (z : Cell). IsFields (entered a z.fields)) b.there (enter_fits b.flat o a b.is b.has_object))
+may_take_admitted_entry code o x c a b admitted = (admitted, subst (λ (z : Cell). IsFields (entered a z.fields)) b.there (entered_fields_fit b.flat o a b.is b.has_object))
 
-pub lone_ran : (code : List ℕ) (o n : ℕ) (x y : State) (c : Cell) → PrivateSteps code n x y → GoesLone code o n x c y c
-lone_ran code o n x y c went = subst (λ z. GoesLone code o n x c z c) (sym went.steps) (lone_private code o n x c went.each)
+pub goes_lone_by_private_steps : (code : List ℕ) (o n : ℕ) (x y : ThreadState) (c : Cell) → PrivateSteps code n x y → GoesLone code o n x c y c
+goes_lone_by_private_steps code o n x y c went = subst (λ z. GoesLone code o n x c z c) (sym went.steps) (goes_lone_through_private_asks code o n x c went.each)
 
 -- private steps, and then one that is asked so
-pub lone_next : (code : List ℕ) (o n : ℕ) (x y z : State) (c e : Cell) (q : Ask) → PrivateSteps code n x y → q ≡ ask_of code y → IsFair q
+pub goes_lone_by_next_ask : (code : List ℕ) (o n : ℕ) (x y z : ThreadState) (c e : Cell) (q : Ask) → PrivateSteps code n x y → q ≡ ask_of code y → IsFair q
     → IsAbout o q → z ≡ after_ask code y q (answer_from c q) → e ≡ cell_after c q → GoesLone code o (n + 1) x c z e
-lone_next code o n x y z c e q went asked fair about is too =
+goes_lone_by_next_ask code o n x y z c e q went asked fair about is too =
     let one : GoesLone code o 1 y c z e = (
       subst IsFair asked fair,
       subst (IsAbout o) asked about,
@@ -288,12 +288,12 @@ lone_next code o n x y z c e q went asked fair about is too =
         sym (too ∙ (λ i. cell_after c (asked i))),
       ),
     ) in
-    lone_more code o n 1 x y z c c e (lone_ran code o n x y c went) one
+    goes_lone_append code o n 1 x y z c c e (goes_lone_by_private_steps code o n x y c went) one
 
-pub takes_turn : (code : List ℕ) (o : ℕ) (x z y : State) (c e d : Cell) (a : Access) → ask_of code x ≡ ask.Enter o a → Admitted a c.fields
+pub takes_turn_by_entry_and_run : (code : List ℕ) (o : ℕ) (x z y : ThreadState) (c e d : Cell) (a : Access) → ask_of code x ≡ ask.Enter o a → Admitted a c.fields
     → z ≡ after_ask code x (ask.Enter o a) (answer_from c (ask.Enter o a)) → e ≡ cell_after c (ask.Enter o a)
     → (k : ℕ) × GoesLone code o k z e y d → Rests (ask_of code y) → TakesTurn code o x c y d
-takes_turn code o x z y c e d a asks admitted is too goes rests = record {
+takes_turn_by_entry_and_run code o x z y c e d a asks admitted is too goes rests = record {
   access = a;
   asks = asks;
   admitted = admitted;
@@ -305,22 +305,22 @@ takes_turn code o x z y c e d a asks admitted is too goes rests = record {
 }
 
 -- beside the object the thread is after its entry too
-pub beside_entered : (code : List ℕ) (o : ℕ) (x z : State) (c e : Cell) (a : Access) → AreBeside code o x c → ask_of code x ≡ ask.Enter o a
+pub are_beside_after_entry : (code : List ℕ) (o : ℕ) (x z : ThreadState) (c e : Cell) (a : Access) → AreBeside code o x c → ask_of code x ≡ ask.Enter o a
     → Admitted a c.fields → z ≡ after_ask code x (ask.Enter o a) (answer_from c (ask.Enter o a)) → e ≡ cell_after c (ask.Enter o a)
     → AreBeside code o z e
-beside_entered code o x z c e a b asks admitted is too =
+are_beside_after_entry code o x z c e a b asks admitted is too =
     subst (λ s. AreBeside code o s e) (sym is)
     (subst (AreBeside code o (after_ask code x (ask.Enter o a) (answer_from c (ask.Enter o a)))) (sym too)
-    (beside_enters code o x c (ask.Enter o a) b asks refl (λ f there. subst (λ (s : Cell). Admitted a s.fields) (sym there) admitted)))
+    (are_beside_after_ask code o x c (ask.Enter o a) b asks refl (λ f there. subst (λ (s : Cell). Admitted a s.fields) (sym there) admitted)))
 
 -- the form of the image stays
-lone_form : (code : List ℕ) (o k : ℕ) (x y : State) (c d : Cell) → GoesLone code o k x c y d → x.form ≡ y.form
-lone_form code o zero x y c d (same, too) = ap (λ (s : State). s.form) same
-lone_form code o (suc k) x y c d (fair, about, more) =
-    (twin_ask code x (ask_of code x) (answer_from c (ask_of code x))).form
-    ∙ lone_form code o k (lone_thread code x c) y (lone_cell code x c) d more
+form_kept_by_lone_run : (code : List ℕ) (o k : ℕ) (x y : ThreadState) (c d : Cell) → GoesLone code o k x c y d → x.form ≡ y.form
+form_kept_by_lone_run code o zero x y c d (same, too) = ap (λ (s : ThreadState). s.form) same
+form_kept_by_lone_run code o (suc k) x y c d (fair, about, more) =
+    (twins_after_ask code x (ask_of code x) (answer_from c (ask_of code x))).form
+    ∙ form_kept_by_lone_run code o k (lone_thread code x c) y (lone_cell code x c) d more
 
-pub turn_form : (code : List ℕ) (o : ℕ) (x y : State) (c d : Cell) → TakesTurn code o x c y d → x.form ≡ y.form
-turn_form code o x y c d turn =
-    (twin_ask code x (ask_of code x) (answer_from c (ask_of code x))).form
-    ∙ lone_form code o turn.steps (lone_thread code x c) y (lone_cell code x c) d turn.goes
+pub form_kept_by_turn : (code : List ℕ) (o : ℕ) (x y : ThreadState) (c d : Cell) → TakesTurn code o x c y d → x.form ≡ y.form
+form_kept_by_turn code o x y c d turn =
+    (twins_after_ask code x (ask_of code x) (answer_from c (ask_of code x))).form
+    ∙ form_kept_by_lone_run code o turn.steps (lone_thread code x c) y (lone_cell code x c) d turn.goes

@@ -5,35 +5,35 @@ use Rattle.std.proofs.lemmas.Bool.{cases_lt}
 use Rattle.ir_flat.specs.Flat.{Flat, IsFlat, tables, thread_of, cell_of, empty}
 use Rattle.ir_graph.specs.Outcomes.{EndAlike, outcome_of}
 use Rattle.ir_graph.specs.Plain.{IsLike}
-use Rattle.ir_graph.proofs.Alike.{past}
+use Rattle.ir_graph.proofs.Alike.{index_past_length_is_default}
 
-same_lists : (xs ys : List ℕ) → length xs ≡ length ys → ((k : ℕ) → slice_index xs k ≡ slice_index ys k) → xs ≡ ys
-same_lists [] [] e h = refl
-same_lists [] (y ∷ ys) e h = absurd (omega (arith, e))
-same_lists (x ∷ xs) [] e h = absurd (omega (arith, e))
-same_lists (x ∷ xs) (y ∷ ys) e h = λ i. h 0 i ∷ same_lists xs ys (omega (arith, e)) (λ k. h (suc k)) i
+lists_equal_if_elements_equal : (xs ys : List ℕ) → length xs ≡ length ys → ((k : ℕ) → slice_index xs k ≡ slice_index ys k) → xs ≡ ys
+lists_equal_if_elements_equal [] [] e h = refl
+lists_equal_if_elements_equal [] (y ∷ ys) e h = absurd (omega (arith, e))
+lists_equal_if_elements_equal (x ∷ xs) [] e h = absurd (omega (arith, e))
+lists_equal_if_elements_equal (x ∷ xs) (y ∷ ys) e h = λ i. h 0 i ∷ lists_equal_if_elements_equal xs ys (omega (arith, e)) (λ k. h (suc k)) i
 
 -- states with one outcome have threads that ended alike
-pub ends_of : (f g : Flat) → outcome_of (tables f) ≡ outcome_of (tables g) → (t : ℕ) → EndAlike (thread_of f t) (thread_of g t)
-ends_of f g same t = (ap (λ o. o.ends t) same, ap (λ o. o.outputs t) same)
+pub ends_alike_of_same_outcome : (f g : Flat) → outcome_of (tables f) ≡ outcome_of (tables g) → (t : ℕ) → EndAlike (thread_of f t) (thread_of g t)
+ends_alike_of_same_outcome f g same t = (ap (λ o. o.ends t) same, ap (λ o. o.outputs t) same)
 
 -- and the same words in each object
-pub words_of : (f g : Flat) → IsLike f g → IsFlat f → IsFlat g → outcome_of (tables f) ≡ outcome_of (tables g) → (o : ℕ)
+pub words_equal_of_same_outcome : (f g : Flat) → IsLike f g → IsFlat f → IsFlat g → outcome_of (tables f) ≡ outcome_of (tables g) → (o : ℕ)
     → (cell_of f o).words ≡ (cell_of g o).words
-words_of f g like kept kept' same o = elim (cases_lt o (length f.objects)) [
+words_equal_of_same_outcome f g like kept kept' same o = elim (cases_lt o (length f.objects)) [
   | inl less ↦
       let few : o < length g.objects = (let a = like.objects in omega (arith, a, less)) in
-      same_lists (cell_of f o).words (cell_of g o).words ((kept.objects o less).words ∙ sym (kept'.objects o few).words)
+      lists_equal_if_elements_equal (cell_of f o).words (cell_of g o).words ((kept.objects o less).words ∙ sym (kept'.objects o few).words)
       (λ k. ap (λ z. z.words o k) same)
   | inr many ↦
-      ap (λ c. c.words) (past f.objects o empty many)
-      ∙ sym (ap (λ c. c.words) (past g.objects o empty (let a = like.objects in omega (arith, a, many))))
+      ap (λ c. c.words) (index_past_length_is_default f.objects o empty many)
+      ∙ sym (ap (λ c. c.words) (index_past_length_is_default g.objects o empty (let a = like.objects in omega (arith, a, many))))
 ]
 
 -- threads that ended alike, and the same words, are one outcome
-pub one_outcome : (f g : Flat) → ((t : ℕ) → EndAlike (thread_of f t) (thread_of g t))
+pub outcome_equal_by_ends_and_words : (f g : Flat) → ((t : ℕ) → EndAlike (thread_of f t) (thread_of g t))
     → ((o : ℕ) → (cell_of f o).words ≡ (cell_of g o).words) → outcome_of (tables f) ≡ outcome_of (tables g)
-one_outcome f g ends words = λ i. record {
+outcome_equal_by_ends_and_words f g ends words = λ i. record {
   ends = λ t. (ends t).0 i;
   outputs = λ t. (ends t).1 i;
   words = λ o. slice_index (words o i);

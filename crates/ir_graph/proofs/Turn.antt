@@ -17,24 +17,24 @@ use Rattle.ir_flat.specs.Flat.{Flat, tables, machine, thread_of}
 use Rattle.ir_graph.specs.Plain.{IsPlainRun, IsFair, Rests, IsLike}
 use Rattle.ir_graph.specs.Reached.{IsQuietRun}
 use Rattle.ir_graph.specs.Turn.{GoesAlone}
-use Rattle.ir_graph.proofs.Leads.{rests_own}
-use Rattle.ir_graph.proofs.Plain.{rests_live, plain_own, fair_live, fair_plain, private_run, twin_end}
-use Rattle.ir_graph.proofs.Reached.{plain_run_quiet, rests_quiet, quiet_append}
+use Rattle.ir_graph.proofs.Leads.{rest_ask_is_not_own}
+use Rattle.ir_graph.proofs.Plain.{resting_thread_is_live, plain_ask_is_own, fair_thread_is_live, fair_ask_is_plain, private_steps_are_plain_run, twins_after_run}
+use Rattle.ir_graph.proofs.Reached.{plain_run_is_quiet, rest_ask_is_sure, quiet_run_append}
 
-pub one_after : {A : Type 0} (x : A) (n k : ℕ) → replicate (n + k) x ≡ replicate n x ++ replicate k x
-one_after x zero k = let e : zero + k ≡ k = omega arith in ap (λ z. replicate z x) e
-one_after x (suc n) k =
+pub replicate_of_sum : {A : Type 0} (x : A) (n k : ℕ) → replicate (n + k) x ≡ replicate n x ++ replicate k x
+replicate_of_sum x zero k = let e : zero + k ≡ k = omega arith in ap (λ z. replicate z x) e
+replicate_of_sum x (suc n) k =
     let e : suc n + k ≡ suc (n + k) = omega arith in
-    ap (λ z. replicate z x) e ∙ (λ i. x ∷ one_after x n k i)
+    ap (λ z. replicate z x) e ∙ (λ i. x ∷ replicate_of_sum x n k i)
 
-pub alone_none : (f : Flat) (t : ℕ) → GoesAlone f f t 0 0
-alone_none f t = record { quiet = tt; ends = refl; enters = refl; code = refl; threads = refl; objects = refl }
+pub goes_alone_no_steps : (f : Flat) (t : ℕ) → GoesAlone f f t 0 0
+goes_alone_no_steps f t = record { quiet = tt; ends = refl; enters = refl; code = refl; threads = refl; objects = refl }
 
-pub alone_more : (f g h : Flat) (t n k e d : ℕ) → GoesAlone f g t n e → GoesAlone g h t k d → GoesAlone f h t (n + k) (e + d)
-alone_more f g h t n k e d a b =
+pub goes_alone_append : (f g h : Flat) (t n k e d : ℕ) → GoesAlone f g t n e → GoesAlone g h t k d → GoesAlone f h t (n + k) (e + d)
+goes_alone_append f g h t n k e d a b =
     let first : List Step = replicate n (t, 0) in
     let more : List Step = replicate k (t, 0) in
-    let run : replicate (n + k) (t, 0) ≡ replicate n (t, 0) ++ replicate k (t, 0) = one_after (t, 0) n k in
+    let run : replicate (n + k) (t, 0) ≡ replicate n (t, 0) ++ replicate k (t, 0) = replicate_of_sum (t, 0) n k in
     let quiet : IsQuietRun f.code (end (machine f) (tables f) first) more =
     subst (λ z. IsQuietRun f.code z more) a.ends (subst (λ z. IsQuietRun z (tables g) more) a.code b.quiet) in
     let ends : tables h ≡ end (machine f) (tables f) (replicate n (t, 0) ++ replicate k (t, 0)) =
@@ -44,64 +44,64 @@ alone_more f g h t n k e d a b =
     entering_append (machine f) (tables f) first more
     ∙ (λ i. a.enters i ++ (ap (λ z. entering (machine f) z more) (sym a.ends)
     ∙ ap (λ z. entering (thread_machine z) (tables g) more) (sym a.code) ∙ b.enters) i) in record {
-      quiet = subst (IsQuietRun f.code (tables f)) (sym run) (quiet_append f.code (tables f) first more a.quiet quiet);
+      quiet = subst (IsQuietRun f.code (tables f)) (sym run) (quiet_run_append f.code (tables f) first more a.quiet quiet);
       ends = ends ∙ ap (end (machine f) (tables f)) (sym run);
-      enters = ap (entering (machine f) (tables f)) run ∙ enters ∙ sym (one_after t e d);
+      enters = ap (entering (machine f) (tables f)) run ∙ enters ∙ sym (replicate_of_sum t e d);
       code = b.code ∙ a.code;
       threads = b.threads ∙ a.threads;
       objects = b.objects ∙ a.objects;
     }
 
-plain_enters : (code : List ℕ) (s : State thread.State) (run : List Step) → IsPlainRun code s run → entering (thread_machine code) s run ≡ []
-plain_enters code s [] plain = refl
-plain_enters code s (e ∷ run) (can, live, is, rest) =
+plain_run_enters_nothing : (code : List ℕ) (s : State thread.ThreadState) (run : List Step) → IsPlainRun code s run → entering (thread_machine code) s run ≡ []
+plain_run_enters_nothing code s [] plain = refl
+plain_run_enters_nothing code s (e ∷ run) (can, live, is, rest) =
     ap (λ b. cond b (entering (thread_machine code) (after (thread_machine code) s e) run)
-    (e.0 ∷ entering (thread_machine code) (after (thread_machine code) s e) run)) (plain_own (asked (thread_machine code) s e.0) is)
-    ∙ plain_enters code (after (thread_machine code) s e) run rest
+    (e.0 ∷ entering (thread_machine code) (after (thread_machine code) s e) run)) (plain_ask_is_own (asked (thread_machine code) s e.0) is)
+    ∙ plain_run_enters_nothing code (after (thread_machine code) s e) run rest
 
 -- private steps
-pub went_alone : (f g : Flat) (t n : ℕ) → WentAlone f g t n → GoesAlone f g t n 0
-went_alone f g t n w =
-    let p = private_run f.code (tables f) t n w.runs w.each in record {
-      quiet = plain_run_quiet f.code (tables f) (replicate n (t, 0)) p;
+pub goes_alone_by_private_steps : (f g : Flat) (t n : ℕ) → WentAlone f g t n → GoesAlone f g t n 0
+goes_alone_by_private_steps f g t n w =
+    let p = private_steps_are_plain_run f.code (tables f) t n w.runs w.each in record {
+      quiet = plain_run_is_quiet f.code (tables f) (replicate n (t, 0)) p;
       ends = w.ends;
-      enters = plain_enters f.code (tables f) (replicate n (t, 0)) p;
+      enters = plain_run_enters_nothing f.code (tables f) (replicate n (t, 0)) p;
       code = w.code;
       threads = w.threads;
       objects = w.objects;
     }
 
 -- one step of a thread that may go on
-pub fair_alone : (f g : Flat) (t : ℕ) → IsFair (ask_of f.code (thread_of f t)) → Can (machine f) (tables f) (t, 0)
+pub goes_alone_by_fair_step : (f g : Flat) (t : ℕ) → IsFair (ask_of f.code (thread_of f t)) → Can (machine f) (tables f) (t, 0)
     → tables g ≡ after (machine f) (tables f) (t, 0) → g.code ≡ f.code → length g.threads ≡ length f.threads
     → length g.objects ≡ length f.objects → GoesAlone f g t 1 0
-fair_alone f g t fair can is code threads objects =
+goes_alone_by_fair_step f g t fair can is code threads objects =
     let p : IsPlainRun f.code (tables f) ((t, 0) ∷ []) =
-    (can, fair_live f.code (thread_of f t) fair, fair_plain (ask_of f.code (thread_of f t)) fair, tt) in record {
-      quiet = plain_run_quiet f.code (tables f) ((t, 0) ∷ []) p;
+    (can, fair_thread_is_live f.code (thread_of f t) fair, fair_ask_is_plain (ask_of f.code (thread_of f t)) fair, tt) in record {
+      quiet = plain_run_is_quiet f.code (tables f) ((t, 0) ∷ []) p;
       ends = is;
-      enters = plain_enters f.code (tables f) ((t, 0) ∷ []) p;
+      enters = plain_run_enters_nothing f.code (tables f) ((t, 0) ∷ []) p;
       code = code;
       threads = threads;
       objects = objects;
     }
 
 -- one step of a thread that rests
-pub entry_alone : (f g : Flat) (t : ℕ) → Rests (ask_of f.code (thread_of f t)) → Can (machine f) (tables f) (t, 0)
+pub goes_alone_by_entry : (f g : Flat) (t : ℕ) → Rests (ask_of f.code (thread_of f t)) → Can (machine f) (tables f) (t, 0)
     → tables g ≡ after (machine f) (tables f) (t, 0) → g.code ≡ f.code → length g.threads ≡ length f.threads
     → length g.objects ≡ length f.objects → GoesAlone f g t 1 1
-entry_alone f g t rests can is code threads objects = record {
-  quiet = (can, rests_live f.code (thread_of f t) rests, rests_quiet (ask_of f.code (thread_of f t)) rests, tt);
+goes_alone_by_entry f g t rests can is code threads objects = record {
+  quiet = (can, resting_thread_is_live f.code (thread_of f t) rests, rest_ask_is_sure (ask_of f.code (thread_of f t)) rests, tt);
   ends = is;
-  enters = ap (λ b. cond b [] (t ∷ [])) (rests_own (ask_of f.code (thread_of f t)) rests);
+  enters = ap (λ b. cond b [] (t ∷ [])) (rest_ask_is_not_own (ask_of f.code (thread_of f t)) rests);
   code = code;
   threads = threads;
   objects = objects;
 }
 
 -- there is each step of a thread that may go on
-pub fair_can : (f : Flat) (t : ℕ) → IsFair (ask_of f.code (thread_of f t)) → Can (machine f) (tables f) (t, 0)
-fair_can f t fair = by (ask_of f.code (thread_of f t)) fair
+pub can_step_if_fair : (f : Flat) (t : ℕ) → IsFair (ask_of f.code (thread_of f t)) → Can (machine f) (tables f) (t, 0)
+can_step_if_fair f t fair = by (ask_of f.code (thread_of f t)) fair
   where
     by : (q : Ask) → IsFair q → Admits (machine f) (act_of (shared_ask q) 0) ((tables f).objects (target (act_of (shared_ask q) 0)))
     by ask.Private h = tt
@@ -116,10 +116,10 @@ fair_can f t fair = by (ask_of f.code (thread_of f t)) fair
     by ask.Done h = absurd h
 
 -- the guest stays the same
-pub alone_like : (f g : Flat) (t n e : ℕ) → GoesAlone f g t n e → IsLike f g
-alone_like f g t n e a = record {
+pub like_after_going_alone : (f g : Flat) (t n e : ℕ) → GoesAlone f g t n e → IsLike f g
+like_after_going_alone f g t n e a = record {
   code = a.code;
   threads = a.threads;
   objects = a.objects;
-  twins = λ u. subst (AreTwins (thread_of f u)) (ap (λ z. z.now u) (sym a.ends)) (twin_end f.code (tables f) (replicate n (t, 0)) u);
+  twins = λ u. subst (AreTwins (thread_of f u)) (ap (λ z. z.now u) (sym a.ends)) (twins_after_run f.code (tables f) (replicate n (t, 0)) u);
 }

@@ -6,7 +6,7 @@ use Rattle.ir_object.specs.Standing.{Admitted, CanLeave}
 use Rattle.ir_object.specs.Word.{IsFields, entered, left_by}
 use Rattle.ir_runs.specs.declared.access.Access.{Access}
 use Rattle.ir_thread.specs.Calls.{ask_of, after_ask}
-use Rattle.ir_thread.specs.State.{State}
+use Rattle.ir_thread.specs.State.{ThreadState}
 use Rattle.ir_thread.specs.declared.ask.Ask.{Ask}
 use Rattle.ir_thread.specs.declared.ask.Ask.TheVariants as ask
 use Rattle.ir_thread.specs.declared.ask.Reply.{Reply}
@@ -54,20 +54,20 @@ cell_after c (ask.End e) = c
 cell_after c ask.Done = c
 
 -- the thread and the object after the thread's next step
-abbrev pub lone_thread : List ℕ → State → Cell → State
+abbrev pub lone_thread : List ℕ → ThreadState → Cell → ThreadState
 lone_thread code x c = after_ask code x (ask_of code x) (answer_from c (ask_of code x))
 
-abbrev pub lone_cell : List ℕ → State → Cell → Cell
+abbrev pub lone_cell : List ℕ → ThreadState → Cell → Cell
 lone_cell code x c = cell_after c (ask_of code x)
 
 -- y and d are x and c after so many steps of the thread, none of which can be refused and all of which are about this object alone
-abbrev pub GoesLone : List ℕ → ℕ → ℕ → State → Cell → State → Cell → Type 0
+abbrev pub GoesLone : List ℕ → ℕ → ℕ → ThreadState → Cell → ThreadState → Cell → Type 0
 GoesLone code o zero x c y d = (x ≡ y) × (c ≡ d)
 GoesLone code o (suc k) x c y d = IsFair (ask_of code x) × IsAbout o (ask_of code x)
     × GoesLone code o k (lone_thread code x c) (lone_cell code x c) y d
 
 -- a thread that rests enters this object and goes on, by steps about it alone, to where it rests again: x and c become y and d
-pub record TakesTurn (code : List ℕ) (o : ℕ) (x : State) (c : Cell) (y : State) (d : Cell) : Type 0 where
+pub record TakesTurn (code : List ℕ) (o : ℕ) (x : ThreadState) (c : Cell) (y : ThreadState) (d : Cell) : Type 0 where
   pub access : Access
   pub asks : ask_of code x ≡ ask.Enter o access
   pub admitted : Admitted access c.fields
@@ -76,7 +76,7 @@ pub record TakesTurn (code : List ℕ) (o : ℕ) (x : State) (c : Cell) (y : Sta
   pub rests : Rests (ask_of code y)
 
 -- a thread and an object of some state of a guest
-pub record AreBeside (code : List ℕ) (o : ℕ) (x : State) (c : Cell) : Type 0 where
+pub record AreBeside (code : List ℕ) (o : ℕ) (x : ThreadState) (c : Cell) : Type 0 where
   pub flat : Flat
   pub thread : ℕ
   pub is : IsFlat flat

@@ -8,7 +8,7 @@ use Rattle.ir_states.specs.Nodes.{LeadsTo}
 use Rattle.ir_states.specs.Sources.{Giving, sourced, by_source}
 use Rattle.ir_states.specs.Views.{viewed, beside}
 use Rattle.ir_thread.specs.Calls.{ask_of}
-use Rattle.ir_thread.specs.State.{State}
+use Rattle.ir_thread.specs.State.{ThreadState}
 use Rattle.ir_flat.specs.Flat.{Flat, tables, thread_of}
 use Rattle.ir_seen.specs.Seen.{view, seen_machine, Same}
 use Rattle.ir_graph.specs.Plain.{Rests, IsLike}
@@ -19,18 +19,18 @@ told kind [] = (0, [])
 told kind (answer ∷ answers) = (answer, answers)
 
 -- the threads that run this code, as a search sees them
-abbrev pub seen_by : List ℕ → Machine (State × List ℕ)
+abbrev pub seen_by : List ℕ → Machine (ThreadState × List ℕ)
 seen_by code = sourced (seen_machine code) told
 
-abbrev pub told_by : List ℕ → Answers (State × List ℕ)
+abbrev pub told_by : List ℕ → Answers (ThreadState × List ℕ)
 told_by code = by_source (seen_machine code) told
 
 -- states that look the same
-abbrev pub Alike : List ℕ → run.State (State × List ℕ) → run.State (State × List ℕ) → Type 0
+abbrev pub Alike : List ℕ → run.State (ThreadState × List ℕ) → run.State (ThreadState × List ℕ) → Type 0
 Alike code = Looks (Same code)
 
 -- what is seen of a guest beside what its threads will be told
-abbrev pub seen_of : Flat → (ℕ → List ℕ) → run.State (State × List ℕ)
+abbrev pub seen_of : Flat → (ℕ → List ℕ) → run.State (ThreadState × List ℕ)
 seen_of f told = beside (viewed view (tables f)) told
 
 -- two moments of a guest look the same to every thread

@@ -7,7 +7,7 @@ use Rattle.ir_states.specs.Counting.{entering}
 use Rattle.ir_states.specs.Outcomes.{switches}
 use Rattle.ir_thread.specs.Calls.{most_budget}
 use Rattle.ir_thread.specs.Instance.{thread_machine}
-use Rattle.ir_thread.specs.State.{State}
+use Rattle.ir_thread.specs.State.{ThreadState}
 use Rattle.ir_thread.specs.declared.end.End.{End}
 use Rattle.ir_thread.specs.declared.profile.Profile.TheVariants.{One}
 use Rattle.ir_flat.specs.Flat.{Flat, machine, tables, start_flat}
@@ -20,11 +20,11 @@ pub record Outcome : Type 0 where
   pub outputs : ℕ → List ℕ
   pub words : ℕ → ℕ → ℕ
 
-abbrev pub outcome_of : run.State State → Outcome
+abbrev pub outcome_of : run.State ThreadState → Outcome
 outcome_of s = record { ends = λ t. (s.now t).ended; outputs = λ t. (s.now t).output; words = λ o. (s.objects o).words }
 
 -- two threads have one end, and printed the same
-abbrev pub EndAlike : State → State → Type 0
+abbrev pub EndAlike : ThreadState → ThreadState → Type 0
 EndAlike x y = (x.ended ≡ y.ended) × (x.output ≡ y.output)
 
 -- A state of the list where all threads are done has the outcome of this complete run.

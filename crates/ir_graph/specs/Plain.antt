@@ -23,7 +23,7 @@ is_plain (machine.Put object index value) = true
 is_plain machine.Done = false
 
 -- a run of such steps, whose threads are live
-abbrev pub IsPlainRun : List ℕ → State thread.State → List Step → Type 0
+abbrev pub IsPlainRun : List ℕ → State thread.ThreadState → List Step → Type 0
 IsPlainRun code s [] = Unit {0}
 IsPlainRun code s (e ∷ run) = Can (thread_machine code) s e × IsLive code (s.now e.0) × (is_plain (asked (thread_machine code) s e.0) ≡ true)
     × IsPlainRun code (after (thread_machine code) s e) run

@@ -23,13 +23,13 @@ is_sure (machine.Put object index value) = true
 is_sure machine.Done = true
 
 -- a run of live threads, none of which calls the environment or tries to enter
-abbrev pub IsQuietRun : List ℕ → State thread.State → List Step → Type 0
+abbrev pub IsQuietRun : List ℕ → State thread.ThreadState → List Step → Type 0
 IsQuietRun code s [] = Unit {0}
 IsQuietRun code s (e ∷ run) = Can (thread_machine code) s e × IsLive code (s.now e.0) × (is_sure (asked (thread_machine code) s e.0) ≡ true)
     × IsQuietRun code (after (thread_machine code) s e) run
 
 -- where a guest's runs begin, each thread with the highest budget
-abbrev pub beginning : Guest → State thread.State
+abbrev pub beginning : Guest → State thread.ThreadState
 beginning guest = tables (start_flat guest most_budget One)
 
 -- such a run of this guest from its start ends in this state

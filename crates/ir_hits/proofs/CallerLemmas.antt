@@ -7,7 +7,7 @@ use Rattle.ir_fit.specs.Fit.{FittedTrace, IsRunOf}
 use Rattle.ir_hits.specs.Hits.{Numbered, HitByNumber, NoneWithin, IsFirstHit, IsLastHit, steps_of}
 use Rattle.ir_hits.specs.Searching.{IsNextHit, IsLastFrom, window_start}
 use Rattle.ir_command.specs.declared.hit.Hit.{Hit}
-use Rattle.ir_hits.proofs.Hitting.{hit_within}
+use Rattle.ir_hits.proofs.Hitting.{hit_step_below_steps}
 
 -- none hits in either of two
 pub none_both : (f : FittedTrace) (run : List Step) (points : List Numbered) (t from middle to : ℕ) → NoneWithin f run points t from middle
@@ -56,7 +56,7 @@ first_next f run points t p to all None next = λ j n above h. elim (cases_lt j 
   where
     behind : (j n : ℕ) → suc to ≤ j → HitByNumber f run points t j n → ⊥
     behind zero n past h = omega (arith, past)
-    behind (suc j) n past h = let within = hit_within f run t j h.1.point h.4 in omega (arith, past, within, all)
+    behind (suc j) n past h = let within = hit_step_below_steps f run t j h.1.point h.4 in omega (arith, past, within, all)
 
 pub first_of_all : (f : FittedTrace) (run : List Step) (points : List Numbered) (t p to : ℕ) → IsRunOf f.guest f.recorded run
     → t < length f.guest.entries → (recorded_thread f.recorded t).steps ≤ to → (found : Option Hit)

@@ -15,62 +15,62 @@ use Rattle.ir_hits.specs.Passing.{is_store, stores, KeepsMarks, IsBreakMarked, A
 
 -- ---- stores
 
-by_store : (j : Inst) → IsStore j → is_store (Some j) ≡ true
-by_store (inst.Store op rs1 rs2 imm) s = refl
-by_store (inst.Lui rd imm) s = absurd s
-by_store (inst.Auipc rd imm) s = absurd s
-by_store (inst.Jal rd offset) s = absurd s
-by_store (inst.Jalr rd rs1 imm) s = absurd s
-by_store (inst.Branch op rs1 rs2 offset) s = absurd s
-by_store (inst.Load op rd rs1 imm) s = absurd s
-by_store (inst.OpImm op rd rs1 imm) s = absurd s
-by_store (inst.Shift op rd rs1 amount) s = absurd s
-by_store (inst.Op op rd rs1 rs2) s = absurd s
-by_store (inst.Fence rd rs1 imm) s = absurd s
-by_store inst.Ecall s = absurd s
-by_store inst.Ebreak s = absurd s
+is_store_if_store : (j : Inst) → IsStore j → is_store (Some j) ≡ true
+is_store_if_store (inst.Store op rs1 rs2 imm) s = refl
+is_store_if_store (inst.Lui rd imm) s = absurd s
+is_store_if_store (inst.Auipc rd imm) s = absurd s
+is_store_if_store (inst.Jal rd offset) s = absurd s
+is_store_if_store (inst.Jalr rd rs1 imm) s = absurd s
+is_store_if_store (inst.Branch op rs1 rs2 offset) s = absurd s
+is_store_if_store (inst.Load op rd rs1 imm) s = absurd s
+is_store_if_store (inst.OpImm op rd rs1 imm) s = absurd s
+is_store_if_store (inst.Shift op rd rs1 amount) s = absurd s
+is_store_if_store (inst.Op op rd rs1 rs2) s = absurd s
+is_store_if_store (inst.Fence rd rs1 imm) s = absurd s
+is_store_if_store inst.Ecall s = absurd s
+is_store_if_store inst.Ebreak s = absurd s
 
-store_found : (o : Option Inst) (i : Inst) → decoded o ≡ Found i → IsStore i → is_store o ≡ true
-store_found (Some j) i is store = let same : j ≡ i = cc in by_store j (subst IsStore (sym same) store)
-store_found None i is store = absurd cc
+is_store_if_store_found : (o : Option Inst) (i : Inst) → decoded o ≡ Found i → IsStore i → is_store o ≡ true
+is_store_if_store_found (Some j) i is store = let same : j ≡ i = cc in is_store_if_store j (subst IsStore (sym same) store)
+is_store_if_store_found None i is store = absurd cc
 
-store_there : (code : List ℕ) (place : ℕ) (i : Inst) → fetched_word (slice_get code place) ≡ Found i → IsStore i
+store_at_place_is_marked : (code : List ℕ) (place : ℕ) (i : Inst) → fetched_word (slice_get code place) ≡ Found i → IsStore i
     → mark_of (map stores code) place ≡ true
-store_there [] place i is store = refl
-store_there (w ∷ ws) zero i is store = store_found (instruction_of w) i is store
-store_there (w ∷ ws) (suc place) i is store = store_there ws place i is store
+store_at_place_is_marked [] place i is store = refl
+store_at_place_is_marked (w ∷ ws) zero i is store = is_store_if_store_found (instruction_of w) i is store
+store_at_place_is_marked (w ∷ ws) (suc place) i is store = store_at_place_is_marked ws place i is store
 
-store_at : (b : Bool) (code : List ℕ) (place : ℕ) (i : Inst) → fetched_word (if b then slice_get code place else None) ≡ Found i → IsStore i
+store_at_conditional_place_is_marked : (b : Bool) (code : List ℕ) (place : ℕ) (i : Inst) → fetched_word (if b then slice_get code place else None) ≡ Found i → IsStore i
     → (if b then mark_of (map stores code) place else true) ≡ true
-store_at true code place i is store = store_there code place i is store
-store_at false code place i is store = refl
+store_at_conditional_place_is_marked true code place i is store = store_at_place_is_marked code place i is store
+store_at_conditional_place_is_marked false code place i is store = refl
 
-pub all_stores : (code : List ℕ) → AreStoresMarked code (map stores code)
-all_stores code pc i is store = store_at (nat_le code_start pc) code ((pc - code_start) / 4) i is store
+pub all_stores_marked : (code : List ℕ) → AreStoresMarked code (map stores code)
+all_stores_marked code pc i is store = store_at_conditional_place_is_marked (nat_le code_start pc) code ((pc - code_start) / 4) i is store
 
 -- ---- the points
 
-watched : (t : ℕ) (points : List Numbered) (is_watched : Bool) (i : ℕ) (p : Numbered)
+is_watched_if_point_watches : (t : ℕ) (points : List Numbered) (is_watched : Bool) (i : ℕ) (p : Numbered)
     → (is_watched ≡ false → NoneWatches t points (length points)) → slice_get points i ≡ Some p → Watches t p.point → is_watched ≡ true
-watched t points true i p none is w = refl
-watched t points false i p none is w = absurd (none refl i p (slice_get_within points i p is) is w)
+is_watched_if_point_watches t points true i p none is w = refl
+is_watched_if_point_watches t points false i p none is w = absurd (none refl i p (slice_get_within points i p is) is w)
 
-pub covered : (code : List ℕ) (first marks : List Bool) (t : ℕ) (points : List Numbered) (is_watched : Bool)
+pub points_covered_by_marks : (code : List ℕ) (first marks : List Bool) (t : ℕ) (points : List Numbered) (is_watched : Bool)
     → (is_watched ≡ false → NoneWatches t points (length points)) → (is_watched ≡ true → AreStoresMarked code first)
     → KeepsMarks first marks → AreBreaksMarked marks t points (length points)
     → AreCovered (record { words = code; marks = marks }) t points
-covered code first marks t points is_watched none stored kept breaks i p is = by p.point refl
+points_covered_by_marks code first marks t points is_watched none stored kept breaks i p is = by p.point refl
   where
     by : (q : Point) → p.point ≡ q → IsCovered (record { words = code; marks = marks }) t q
     by (Break u address) e = subst (IsBreakMarked marks t) e (breaks i p (slice_get_within points i p is) is)
     by (Watch u address) e = λ same pc j found store.
-        kept pc (stored (watched t points is_watched i p none is (subst (Watches t) (sym e) same)) pc j found store)
+        kept pc (stored (is_watched_if_point_watches t points is_watched i p none is (subst (Watches t) (sym e) same)) pc j found store)
     by (WatchObject object) e = tt
 
 -- what is written back to a vector is all of it
-back_all : (xs ys : List Bool) → take (length xs) (xs ++ ys) ≡ xs
-back_all [] ys = refl
-back_all (x ∷ xs) ys = ap (λ (zs : List Bool). x ∷ zs) (back_all xs ys)
+take_length_of_append : (xs ys : List Bool) → take (length xs) (xs ++ ys) ≡ xs
+take_length_of_append [] ys = refl
+take_length_of_append (x ∷ xs) ys = ap (λ (zs : List Bool). x ∷ zs) (take_length_of_append xs ys)
 
-pub written_back : (n : ℕ) (xs ys : List Bool) → length xs ≡ n → take n (xs ++ ys) ≡ xs
-written_back n xs ys size = subst (λ m. take m (xs ++ ys) ≡ xs) size (back_all xs ys)
+pub take_of_append_by_length : (n : ℕ) (xs ys : List Bool) → length xs ≡ n → take n (xs ++ ys) ≡ xs
+take_of_append_by_length n xs ys size = subst (λ m. take m (xs ++ ys) ≡ xs) size (take_length_of_append xs ys)

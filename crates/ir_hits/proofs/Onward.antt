@@ -1,7 +1,7 @@
 -- What a thread that advances shows of the points.
 use Rattle.std.proofs.Common.{◌≡◌, ◌∙◌, ap, ℕ, zero, suc, ◌+◌, ◌-◌, ◌<◌, ◌≤◌, List, length, Option, Some, None, refl, sym, subst, inl, inr, arith}
 use Rattle.std.specs.List.{slice_index_or}
-use Rattle.ir_thread.specs.State.{State}
+use Rattle.ir_thread.specs.State.{ThreadState}
 use Rattle.ir_thread.specs.Private.{UnmarkedSteps}
 use Rattle.ir_mach.specs.Marks.{Marked}
 use Rattle.ir_flat.specs.Flat.{idle, thread_of}
@@ -15,10 +15,10 @@ use Rattle.ir_hits.specs.Passing.{AreCovered, HasPassed}
 use Rattle.ir_hits.specs.Seeing.{AllNoted, IsLowestOf}
 use Rattle.ir_hits.specs.declared.before.Before.{Before}
 use Rattle.ir_command.specs.declared.hit.Hit.{Hit}
-use Rattle.ir_hits.proofs.Hitting.{IsSeen, AllNothing, seen_after, seen_first, lowest_hit, none_hits}
-use Rattle.ir_hits.proofs.Standing.{thread_here, end_steps}
-use Rattle.ir_hits.proofs.Passing.{IsStretch, stretch_noted, stretch_none}
-use Rattle.ir_hits.proofs.Windows.{none_yet, none_more, last_first, last_none}
+use Rattle.ir_hits.proofs.Hitting.{AreHitsSeen, AreNothingNoted, hits_seen_after_step, hits_seen_at_start, lowest_seen_number_is_lowest_hit, no_hit_if_none_seen}
+use Rattle.ir_hits.proofs.Standing.{thread_of_standing_is_run_thread, last_position_is_steps_of_thread}
+use Rattle.ir_hits.proofs.Passing.{IsStretch, notes_within_stretch, no_hit_within_stretch}
+use Rattle.ir_hits.proofs.Windows.{no_hit_in_empty_window, no_hit_in_longer_window, start_hit_is_last_at_start, no_last_hit_at_start}
 use Rattle.ir_hits.proofs.CallerLemmas.{none_both}
 
 -- thread t has passed on, at least by a step; before that the points noted so much, and what they may hit at is marked
@@ -32,12 +32,12 @@ pub record IsPassage (f : FittedTrace) (last : List ℕ) (code : Marked) (points
   pub passed : HasPassed code t to (flat_in f old) (flat_in f new)
   pub all : AllNoted t (slice_index_or old.threads t idle) points notes
 
-pub is_passage : (f : FittedTrace) (last : List ℕ) (code : Marked) (points : List Numbered) (notes : List Before) (t to : ℕ)
-    (old new : Standing) (x : State) → x ≡ slice_index_or old.threads t idle → AreLast f last → code.words ≡ f.guest.code
+pub passage_of_thread : (f : FittedTrace) (last : List ℕ) (code : Marked) (points : List Numbered) (notes : List Before) (t to : ℕ)
+    (old new : Standing) (x : ThreadState) → x ≡ slice_index_or old.threads t idle → AreLast f last → code.words ≡ f.guest.code
     → AreCovered code t points → StandsAt f (positions (flat_in f old)) old → StandsAt f (positions (flat_in f new)) new
     → HasPassed code t to (flat_in f old) (flat_in f new) → AllNoted t x points notes
     → IsPassage f last code points notes t to old new
-is_passage f last code points notes t to old new x is ends words covered before after passed all = record {
+passage_of_thread f last code points notes t to old new x is ends words covered before after passed all = record {
   ends = ends;
   words = words;
   covered = covered;
@@ -53,25 +53,25 @@ record ComesTo (f : FittedTrace) (run : List Step) (points : List Numbered) (not
   pub none : NoneWithin f run points t (suc j) (suc k)
 
 -- by one step
-comes_one : (f : FittedTrace) (last : List ℕ) (code : Marked) (points : List Numbered) (notes : List Before) (t to : ℕ) (old new : Standing)
+comes_to_position_by_step : (f : FittedTrace) (last : List ℕ) (code : Marked) (points : List Numbered) (notes : List Before) (t to : ℕ) (old new : Standing)
     → IsPassage f last code points notes t to old new → (run : List Step) → IsRunOf f.guest f.recorded run → (k : ℕ)
     → positions (flat_in f old) t ≡ k → ComesTo f run points notes t (positions (flat_in f old) t) k
-comes_one f last code points notes t to old new s run whole k at = record {
-  all = subst (λ z. AllNoted t z points notes) (thread_here f old s.before run whole t k at) s.all;
-  none = none_yet f run points t (suc (positions (flat_in f old) t)) (suc k) (omega (arith, at));
+comes_to_position_by_step f last code points notes t to old new s run whole k at = record {
+  all = subst (λ z. AllNoted t z points notes) (thread_of_standing_is_run_thread f old s.before run whole t k at) s.all;
+  none = no_hit_in_empty_window f run points t (suc (positions (flat_in f old) t)) (suc k) (omega (arith, at));
 }
 
 -- by several
-comes_more : (f : FittedTrace) (last : List ℕ) (code : Marked) (points : List Numbered) (notes : List Before) (t to : ℕ) (old new : Standing)
+comes_to_position_by_stretch : (f : FittedTrace) (last : List ℕ) (code : Marked) (points : List Numbered) (notes : List Before) (t to : ℕ) (old new : Standing)
     (s : IsPassage f last code points notes t to old new) → (run : List Step) → IsRunOf f.guest f.recorded run → (k : ℕ)
     → positions (flat_in f new) t ≡ suc k
     → UnmarkedSteps code s.passed.count (thread_of (flat_in f old) t) (thread_of (flat_in f new) t)
     → ComesTo f run points notes t (positions (flat_in f old) t) k
-comes_more f last code points notes t to old new s run whole k next steps =
+comes_to_position_by_stretch f last code points notes t to old new s run whole k next steps =
     let j : ℕ = positions (flat_in f old) t in
     let n : ℕ = s.passed.count in
-    let x : State = slice_index_or old.threads t idle in
-    let y : State = slice_index_or new.threads t idle in
+    let x : ThreadState = slice_index_or old.threads t idle in
+    let y : ThreadState = slice_index_or new.threads t idle in
     let sum : suc k ≡ j + n = omega (arith, next, s.passed.taken) in
     let on : j + (k - j) ≡ k = omega (arith, sum, s.passed.some) in
     let within = (s.after.at.each run whole).cut t in
@@ -79,141 +79,141 @@ comes_more f last code points notes t to old new s run whole k next steps =
       whole = whole;
       words = s.words;
       covered = s.covered;
-      at = sym (thread_here f old s.before run whole t j refl);
+      at = sym (thread_of_standing_is_run_thread f old s.before run whole t j refl);
       within = omega (arith, within, next, sum);
       steps = steps;
     } in
     record {
       all = subst (λ i. AllNoted t (thread_at f run t i) points notes) on
-          (stretch_noted f run code points notes t j n (k - j) x y stretch (omega (arith, sum)) s.all);
-      none = subst (NoneWithin f run points t (suc j)) (sym sum) (stretch_none f run code points t j n x y stretch);
+          (notes_within_stretch f run code points notes t j n (k - j) x y stretch (omega (arith, sum)) s.all);
+      none = subst (NoneWithin f run points t (suc j)) (sym sum) (no_hit_within_stretch f run code points t j n x y stretch);
     }
 
-comes_to : (f : FittedTrace) (last : List ℕ) (code : Marked) (points : List Numbered) (notes : List Before) (t to : ℕ) (old new : Standing)
+passage_comes_to_position : (f : FittedTrace) (last : List ℕ) (code : Marked) (points : List Numbered) (notes : List Before) (t to : ℕ) (old new : Standing)
     → IsPassage f last code points notes t to old new → (run : List Step) → IsRunOf f.guest f.recorded run → (k : ℕ)
     → positions (flat_in f new) t ≡ suc k → ComesTo f run points notes t (positions (flat_in f old) t) k
-comes_to f last code points notes t to old new s run whole k next = elim s.passed.how [
-  | inl one ↦ comes_one f last code points notes t to old new s run whole k
+passage_comes_to_position f last code points notes t to old new s run whole k next = elim s.passed.how [
+  | inl one ↦ comes_to_position_by_step f last code points notes t to old new s run whole k
       (let e : positions (flat_in f old) t ≡ k = omega (arith, one, next, s.passed.taken) in e)
-  | inr steps ↦ comes_more f last code points notes t to old new s run whole k next steps
+  | inr steps ↦ comes_to_position_by_stretch f last code points notes t to old new s run whole k next steps
 ]
 
 -- what is seen of the thread after it
-pub record IsBehind (f : FittedTrace) (run : List Step) (points : List Numbered) (notes : List Before) (t end : ℕ) (old new : Standing)
+pub record IsAfterPassage (f : FittedTrace) (run : List Step) (points : List Numbered) (notes : List Before) (t end : ℕ) (old new : Standing)
     : Type 0 where
-  pub seen : IsSeen f run points notes t (positions (flat_in f new) t) end (slice_index_or new.threads t idle)
+  pub seen : AreHitsSeen f run points notes t (positions (flat_in f new) t) end (slice_index_or new.threads t idle)
   pub none : NoneWithin f run points t (suc (positions (flat_in f old) t)) (positions (flat_in f new) t)
 
-behind_at : (f : FittedTrace) (last : List ℕ) (code : Marked) (points : List Numbered) (notes : List Before) (t to : ℕ) (old new : Standing)
+standing_after_passage_to_position : (f : FittedTrace) (last : List ℕ) (code : Marked) (points : List Numbered) (notes : List Before) (t to : ℕ) (old new : Standing)
     (end k : ℕ) → IsPassage f last code points notes t to old new → end ≡ cut_of last t → (run : List Step)
-    → IsRunOf f.guest f.recorded run → positions (flat_in f new) t ≡ suc k → IsBehind f run points notes t end old new
-behind_at f last code points notes t to old new end k s is run whole next =
-    let comes = comes_to f last code points notes t to old new s run whole k next in
+    → IsRunOf f.guest f.recorded run → positions (flat_in f new) t ≡ suc k → IsAfterPassage f run points notes t end old new
+standing_after_passage_to_position f last code points notes t to old new end k s is run whole next =
+    let comes = passage_comes_to_position f last code points notes t to old new s run whole k next in
     let within = (s.after.at.each run whole).cut t in
     record {
-      seen = subst (λ i. IsSeen f run points notes t i end (slice_index_or new.threads t idle)) (sym next)
-          (seen_after f run whole points notes t k end (thread_at f run t k) (slice_index_or new.threads t idle) refl
-          (thread_here f new s.after run whole t (suc k) next) next (end_steps f last s.ends run whole t end is)
+      seen = subst (λ i. AreHitsSeen f run points notes t i end (slice_index_or new.threads t idle)) (sym next)
+          (hits_seen_after_step f run whole points notes t k end (thread_at f run t k) (slice_index_or new.threads t idle) refl
+          (thread_of_standing_is_run_thread f new s.after run whole t (suc k) next) next (last_position_is_steps_of_thread f last s.ends run whole t end is)
           (omega (arith, within, next)) comes.all);
       none = subst (NoneWithin f run points t (suc (positions (flat_in f old) t))) (sym next) comes.none;
     }
 
-behind : (f : FittedTrace) (last : List ℕ) (code : Marked) (points : List Numbered) (notes : List Before) (t to : ℕ) (old new : Standing)
+standing_after_passage : (f : FittedTrace) (last : List ℕ) (code : Marked) (points : List Numbered) (notes : List Before) (t to : ℕ) (old new : Standing)
     (end : ℕ) → IsPassage f last code points notes t to old new → end ≡ cut_of last t → (run : List Step)
-    → IsRunOf f.guest f.recorded run → IsBehind f run points notes t end old new
-behind f last code points notes t to old new end s is run whole =
-    behind_at f last code points notes t to old new end (positions (flat_in f new) t - 1) s is run whole
+    → IsRunOf f.guest f.recorded run → IsAfterPassage f run points notes t end old new
+standing_after_passage f last code points notes t to old new end s is run whole =
+    standing_after_passage_to_position f last code points notes t to old new end (positions (flat_in f new) t - 1) s is run whole
     (omega (arith, s.passed.taken, s.passed.some))
 
 -- a point hits there
-pub next_found : (f : FittedTrace) (last : List ℕ) (code : Marked) (points : List Numbered) (notes : List Before) (t to : ℕ)
-    (old new : Standing) (end p : ℕ) (y : State) (h : Hit) → y ≡ slice_index_or new.threads t idle
+pub next_hit_after_passage : (f : FittedTrace) (last : List ℕ) (code : Marked) (points : List Numbered) (notes : List Before) (t to : ℕ)
+    (old new : Standing) (end p : ℕ) (y : ThreadState) (h : Hit) → y ≡ slice_index_or new.threads t idle
     → IsPassage f last code points notes t to old new
     → end ≡ cut_of last t → p ≤ positions (flat_in f old) t
     → EachRun f (λ run. NoneWithin f run points t (suc p) (suc (positions (flat_in f old) t)))
     → (found : Option ℕ) → found ≡ Some h.number → IsLowestOf t end y notes points (length points) found
     → h.position ≡ positions (flat_in f new) t → EachRun f (λ run. IsNextHit f run points t p to (Some h))
-next_found f last code points notes t to old new end p y h y_is s is low none found some all at run whole =
-    let seen = behind f last code points notes t to old new end s is run whole in
+next_hit_after_passage f last code points notes t to old new end p y h y_is s is low none found some all at run whole =
+    let seen = standing_after_passage f last code points notes t to old new end s is run whole in
     let lowest : IsLowestOf t end (slice_index_or new.threads t idle) notes points (length points) (Some h.number) =
-    subst (λ (z : State × Option ℕ). IsLowestOf t end z.0 notes points (length points) z.1) (λ i. (y_is i, some i)) all in (
+    subst (λ (z : ThreadState × Option ℕ). IsLowestOf t end z.0 notes points (length points) z.1) (λ i. (y_is i, some i)) all in (
       omega (arith, at, low, s.passed.taken, s.passed.some),
       omega (arith, at, s.passed.within),
       subst (NoneWithin f run points t (suc p)) (sym at) (none_both f run points t (suc p) (suc (positions (flat_in f old) t))
           (positions (flat_in f new) t) (none run whole) seen.none),
-      subst (λ k. IsLowest f run points t k h.number) (sym at) (lowest_hit f run points notes t (positions (flat_in f new) t) end
+      subst (λ k. IsLowest f run points t k h.number) (sym at) (lowest_seen_number_is_lowest_hit f run points notes t (positions (flat_in f new) t) end
           (slice_index_or new.threads t idle) h.number seen.seen lowest),
     )
 
 -- or none does
-pub next_none : (f : FittedTrace) (last : List ℕ) (code : Marked) (points : List Numbered) (notes : List Before) (t to : ℕ)
-    (old new : Standing) (end p : ℕ) (y : State) → y ≡ slice_index_or new.threads t idle
+pub no_hit_after_passage : (f : FittedTrace) (last : List ℕ) (code : Marked) (points : List Numbered) (notes : List Before) (t to : ℕ)
+    (old new : Standing) (end p : ℕ) (y : ThreadState) → y ≡ slice_index_or new.threads t idle
     → IsPassage f last code points notes t to old new → end ≡ cut_of last t
     → EachRun f (λ run. NoneWithin f run points t (suc p) (suc (positions (flat_in f old) t)))
     → (found : Option ℕ) → found ≡ None → IsLowestOf t end y notes points (length points) found
     → EachRun f (λ run. NoneWithin f run points t (suc p) (suc (positions (flat_in f new) t)))
-next_none f last code points notes t to old new end p y y_is s is none found none_is all run whole =
-    let seen = behind f last code points notes t to old new end s is run whole in
-    none_more f run points t (suc p) (positions (flat_in f new) t)
+no_hit_after_passage f last code points notes t to old new end p y y_is s is none found none_is all run whole =
+    let seen = standing_after_passage f last code points notes t to old new end s is run whole in
+    no_hit_in_longer_window f run points t (suc p) (positions (flat_in f new) t)
     (none_both f run points t (suc p) (suc (positions (flat_in f old) t)) (positions (flat_in f new) t) (none run whole) seen.none)
-    (none_hits f run points notes t (positions (flat_in f new) t) end (slice_index_or new.threads t idle) seen.seen
-    (subst (λ (z : State × Option ℕ). IsLowestOf t end z.0 notes points (length points) z.1) (λ i. (y_is i, none_is i)) all))
+    (no_hit_if_none_seen f run points notes t (positions (flat_in f new) t) end (slice_index_or new.threads t idle) seen.seen
+    (subst (λ (z : ThreadState × Option ℕ). IsLowestOf t end z.0 notes points (length points) z.1) (λ i. (y_is i, none_is i)) all))
 
 -- ---- the start
 
-abbrev pub AtStart : FittedTrace → Standing → ℕ → Type 0
-AtStart f s t = StandsAt f (positions (flat_in f s)) s × (positions (flat_in f s) t ≡ 0)
+abbrev pub StandsAtThreadStart : FittedTrace → Standing → ℕ → Type 0
+StandsAtThreadStart f s t = StandsAt f (positions (flat_in f s)) s × (positions (flat_in f s) t ≡ 0)
 
-seen_start : (f : FittedTrace) (last : List ℕ) (points : List Numbered) (notes : List Before) (t : ℕ) (s : Standing) (end : ℕ)
-    → AreLast f last → AtStart f s t → end ≡ cut_of last t → length notes ≡ length points → AllNothing notes → (run : List Step)
-    → IsRunOf f.guest f.recorded run → IsSeen f run points notes t 0 end (slice_index_or s.threads t idle)
-seen_start f last points notes t s end are start is size none run whole =
-    seen_first f run points notes t end (slice_index_or s.threads t idle) (thread_here f s start.0 run whole t 0 start.1) start.1
-    (end_steps f last are run whole t end is) size none
+hits_seen_at_thread_start : (f : FittedTrace) (last : List ℕ) (points : List Numbered) (notes : List Before) (t : ℕ) (s : Standing) (end : ℕ)
+    → AreLast f last → StandsAtThreadStart f s t → end ≡ cut_of last t → length notes ≡ length points → AreNothingNoted notes → (run : List Step)
+    → IsRunOf f.guest f.recorded run → AreHitsSeen f run points notes t 0 end (slice_index_or s.threads t idle)
+hits_seen_at_thread_start f last points notes t s end are start is size none run whole =
+    hits_seen_at_start f run points notes t end (slice_index_or s.threads t idle) (thread_of_standing_is_run_thread f s start.0 run whole t 0 start.1) start.1
+    (last_position_is_steps_of_thread f last are run whole t end is) size none
 
 -- the hit at the start, if there is one, is the last so far
-start_last : (f : FittedTrace) (last : List ℕ) (points : List Numbered) (notes : List Before) (t : ℕ) (s : Standing) (end : ℕ)
-    (y : State) → y ≡ slice_index_or s.threads t idle → AreLast f last → AtStart f s t → end ≡ cut_of last t → length notes ≡ length points
-    → AllNothing notes → (found : Option Hit) → IsStartHit t end y notes points found
+start_hit_is_last_hit : (f : FittedTrace) (last : List ℕ) (points : List Numbered) (notes : List Before) (t : ℕ) (s : Standing) (end : ℕ)
+    (y : ThreadState) → y ≡ slice_index_or s.threads t idle → AreLast f last → StandsAtThreadStart f s t → end ≡ cut_of last t → length notes ≡ length points
+    → AreNothingNoted notes → (found : Option Hit) → IsStartHit t end y notes points found
     → EachRun f (λ run. IsLastHit f run points t (positions (flat_in f s) t + 1) found)
-start_last f last points notes t s end y y_is are start is size none None found run whole =
-    last_none f run points t (positions (flat_in f s) t) start.1
-    (none_hits f run points notes t 0 end (slice_index_or s.threads t idle)
-    (seen_start f last points notes t s end are start is size none run whole)
+start_hit_is_last_hit f last points notes t s end y y_is are start is size none None found run whole =
+    no_last_hit_at_start f run points t (positions (flat_in f s) t) start.1
+    (no_hit_if_none_seen f run points notes t 0 end (slice_index_or s.threads t idle)
+    (hits_seen_at_thread_start f last points notes t s end are start is size none run whole)
     (subst (λ z. IsLowestOf t end z notes points (length points) None) y_is found))
-start_last f last points notes t s end y y_is are start is size none (Some h) found run whole =
-    last_first f run points t (positions (flat_in f s) t) h start.1 found.0
-    (lowest_hit f run points notes t 0 end (slice_index_or s.threads t idle) h.number
-    (seen_start f last points notes t s end are start is size none run whole)
+start_hit_is_last_hit f last points notes t s end y y_is are start is size none (Some h) found run whole =
+    start_hit_is_last_at_start f run points t (positions (flat_in f s) t) h start.1 found.0
+    (lowest_seen_number_is_lowest_hit f run points notes t 0 end (slice_index_or s.threads t idle) h.number
+    (hits_seen_at_thread_start f last points notes t s end are start is size none run whole)
     (subst (λ z. IsLowestOf t end z notes points (length points) (Some h.number)) y_is found.1))
 
-last_from_start : (f : FittedTrace) (run : List Step) (points : List Numbered) (t p : ℕ) (found : Option Hit)
+last_hit_is_last_from_start : (f : FittedTrace) (run : List Step) (points : List Numbered) (t p : ℕ) (found : Option Hit)
     → IsLastHit f run points t p found → IsLastFrom f run points t 0 p found
-last_from_start f run points t p (Some h) last = (omega arith, last.0, last.1, last.2)
-last_from_start f run points t p None last = last
+last_hit_is_last_from_start f run points t p (Some h) last = (omega arith, last.0, last.1, last.2)
+last_hit_is_last_from_start f run points t p None last = last
 
 -- ---- where a window begins
 
-begun_at : (f : FittedTrace) (last : List ℕ) (points : List Numbered) (notes : List Before) (t : ℕ) (s : Standing) (end : ℕ)
-    (y : State) → y ≡ slice_index_or s.threads t idle → AreLast f last → StandsAt f (positions (flat_in f s)) s → end ≡ cut_of last t
-    → length notes ≡ length points → AllNothing notes → (found : Option Hit) → (y.steps ≡ 0 → IsStartHit t end y notes points found)
+last_window_hit_at_position : (f : FittedTrace) (last : List ℕ) (points : List Numbered) (notes : List Before) (t : ℕ) (s : Standing) (end : ℕ)
+    (y : ThreadState) → y ≡ slice_index_or s.threads t idle → AreLast f last → StandsAt f (positions (flat_in f s)) s → end ≡ cut_of last t
+    → length notes ≡ length points → AreNothingNoted notes → (found : Option Hit) → (y.steps ≡ 0 → IsStartHit t end y notes points found)
     → (0 < y.steps → found ≡ None) → (p : ℕ) → positions (flat_in f s) t ≡ p
     → EachRun f (λ run. IsLastFrom f run points t (window_start p) (p + 1) found)
-begun_at f last points notes t s end y y_is are stands is size none found start later zero at run whole =
-    let first : y.steps ≡ 0 = ap (λ (z : State). z.steps) y_is ∙ at in
-    last_from_start f run points t 1 found
+last_window_hit_at_position f last points notes t s end y y_is are stands is size none found start later zero at run whole =
+    let first : y.steps ≡ 0 = ap (λ (z : ThreadState). z.steps) y_is ∙ at in
+    last_hit_is_last_from_start f run points t 1 found
     (subst (λ k. IsLastHit f run points t (k + 1) found) at
-    (start_last f last points notes t s end y y_is are (stands, at) is size none found (start first) run whole))
-begun_at f last points notes t s end y y_is are stands is size none found start later (suc p) at run whole =
-    let above : y.steps ≡ suc p = ap (λ (z : State). z.steps) y_is ∙ at in
+    (start_hit_is_last_hit f last points notes t s end y y_is are (stands, at) is size none found (start first) run whole))
+last_window_hit_at_position f last points notes t s end y y_is are stands is size none found start later (suc p) at run whole =
+    let above : y.steps ≡ suc p = ap (λ (z : ThreadState). z.steps) y_is ∙ at in
     subst (IsLastFrom f run points t (suc (suc p)) (suc p + 1)) (sym (later (omega (arith, above))))
-    (none_yet f run points t (suc (suc p)) (suc p + 1) (omega arith))
+    (no_hit_in_empty_window f run points t (suc (suc p)) (suc p + 1) (omega arith))
 
 -- the hit at the start, if the thread is there and there is one, is the last so far
-pub begun : (f : FittedTrace) (last : List ℕ) (points : List Numbered) (notes : List Before) (t : ℕ) (s : Standing) (end : ℕ)
-    (y : State) → y ≡ slice_index_or s.threads t idle → AreLast f last → StandsAt f (positions (flat_in f s)) s → end ≡ cut_of last t
-    → length notes ≡ length points → AllNothing notes → (found : Option Hit) → (y.steps ≡ 0 → IsStartHit t end y notes points found)
+pub last_window_hit : (f : FittedTrace) (last : List ℕ) (points : List Numbered) (notes : List Before) (t : ℕ) (s : Standing) (end : ℕ)
+    (y : ThreadState) → y ≡ slice_index_or s.threads t idle → AreLast f last → StandsAt f (positions (flat_in f s)) s → end ≡ cut_of last t
+    → length notes ≡ length points → AreNothingNoted notes → (found : Option Hit) → (y.steps ≡ 0 → IsStartHit t end y notes points found)
     → (0 < y.steps → found ≡ None)
     → EachRun f (λ run. IsLastFrom f run points t (window_start (positions (flat_in f s) t)) (positions (flat_in f s) t + 1) found)
-begun f last points notes t s end y y_is are stands is size none found start later =
-    begun_at f last points notes t s end y y_is are stands is size none found start later (positions (flat_in f s) t) refl
+last_window_hit f last points notes t s end y y_is are stands is size none found start later =
+    last_window_hit_at_position f last points notes t s end y y_is are stands is size none found start later (positions (flat_in f s) t) refl

@@ -4,17 +4,17 @@ use Rattle.ir_mach.specs.Marks.{Marked, is_marked}
 use Rattle.ir_mach.specs.Memory.{memory_word}
 use Rattle.ir_runs.specs.Machine.{act_of, reply}
 use Rattle.ir_runs.specs.Run.{Step}
-use Rattle.ir_thread.specs.State.{State, held_at}
+use Rattle.ir_thread.specs.State.{ThreadState, held_at}
 use Rattle.ir_thread.specs.Calls.{ask_of, after_reply}
 use Rattle.ir_thread.specs.Permitted.{step_of, run_of}
 use Rattle.ir_thread.specs.Instance.{reply_of}
 use Rattle.ir_thread.specs.Private.{UnmarkedSteps}
 use Rattle.ir_thread.specs.declared.ask.Ask.TheVariants as ask
-use Rattle.ir_thread.proofs.CallerLemmas.{private_first, private_held, unmarked_first, unmarked_pc, unmarked_memory}
+use Rattle.ir_thread.proofs.CallerLemmas.{private_steps_prefix, held_after_private_steps, unmarked_steps_prefix, thread_unmarked_step_begins_unmarked, thread_memory_after_unmarked_steps}
 use Rattle.ir_flat.specs.Flat.{Flat, thread_of}
 use Rattle.ir_fit.specs.Fit.{FittedTrace, IsRunOf}
 use Rattle.ir_cut.specs.Positions.{machine_of, start_of}
-use Rattle.ir_weave.proofs.CallerLemmas.{StepOf, step_at, step_there}
+use Rattle.ir_weave.proofs.CallerLemmas.{StepOf, emitting_step_is_step_of, step_below_count_emits}
 use Rattle.ir_weave.specs.Standing.{positions}
 use Rattle.ir_weave.specs.Stepping.{HasGone}
 use Rattle.ir_command.specs.declared.command.Point.{Point}
@@ -24,34 +24,34 @@ use Rattle.ir_hits.specs.Passing.{Watches, IsCovered, AreCovered, HasPassed}
 use Rattle.ir_hits.specs.Seeing.{IsNoted, AllNoted}
 use Rattle.ir_hits.specs.declared.before.Before.{Before}
 use Rattle.ir_hits.specs.declared.before.Before.TheVariants.{Nothing, Word, Inside}
-use Rattle.ir_hits.proofs.Leaves.{was_inside}
+use Rattle.ir_hits.proofs.Leaves.{held_for_writing_before_leave}
 
 -- ---- private steps of a run
 
-quiet_step : (f : FittedTrace) (run : List Step) → IsRunOf f.guest f.recorded run → (t k : ℕ) (x : State) → k < steps_of f run t
+thread_after_private_step : (f : FittedTrace) (run : List Step) → IsRunOf f.guest f.recorded run → (t k : ℕ) (x : ThreadState) → k < steps_of f run t
     → thread_at f run t k ≡ x → ask_of f.guest.code x ≡ ask.Private → thread_at f run t (suc k) ≡ step_of f.guest.code x
 unfolding step_of
-quiet_step f run whole t k x less at private =
-    let some = step_there f run t k less in
+thread_after_private_step f run whole t k x less at private =
+    let some = step_below_count_emits f run t k less in
     let z : StepOf (machine_of f) (thread_at f run t k) (thread_at f run t (suc k)) some.0 =
-    step_at (machine_of f) (start_of f) run whole.1.runs t k some.0 some.1 in
+    emitting_step_is_step_of (machine_of f) (start_of f) run whole.1.runs t k some.0 some.1 in
     let n : ℕ = reply (act_of ((machine_of f).ask (thread_at f run t k)) z.result) z.object in
-    z.next ∙ ap (λ (y : State). after_reply f.guest.code y (reply_of (ask_of f.guest.code y) n)) at
+    z.next ∙ ap (λ (y : ThreadState). after_reply f.guest.code y (reply_of (ask_of f.guest.code y) n)) at
     ∙ ap (λ q. after_reply f.guest.code x (reply_of q n)) private
 
-pub passed_at : (f : FittedTrace) (run : List Step) → IsRunOf f.guest f.recorded run → (t j n k : ℕ) (x : State) → thread_at f run t j ≡ x
+pub thread_after_private_steps_of_run : (f : FittedTrace) (run : List Step) → IsRunOf f.guest f.recorded run → (t j n k : ℕ) (x : ThreadState) → thread_at f run t j ≡ x
     → j + n ≤ steps_of f run t → ((i : ℕ) → i < n → ask_of f.guest.code (run_of f.guest.code i x) ≡ ask.Private) → k ≤ n
     → thread_at f run t (j + k) ≡ run_of f.guest.code k x
 unfolding run_of
-passed_at f run whole t j n zero x at within each le = ap (thread_at f run t) (add-zero j) ∙ at
-passed_at f run whole t j n (suc k) x at within each le =
-    ap (thread_at f run t) (add-suc j k) ∙ quiet_step f run whole t (j + k) (run_of f.guest.code k x) (omega (arith, within, le))
-    (passed_at f run whole t j n k x at within each (omega (arith, le))) (each k (omega (arith, le)))
+thread_after_private_steps_of_run f run whole t j n zero x at within each le = ap (thread_at f run t) (add-zero j) ∙ at
+thread_after_private_steps_of_run f run whole t j n (suc k) x at within each le =
+    ap (thread_at f run t) (add-suc j k) ∙ thread_after_private_step f run whole t (j + k) (run_of f.guest.code k x) (omega (arith, within, le))
+    (thread_after_private_steps_of_run f run whole t j n k x at within each (omega (arith, le))) (each k (omega (arith, le)))
 
 -- ---- steps at instructions that aren't marked, where what the points may hit at is
 
 -- thread t of the run has taken n such steps from position j on
-pub record IsStretch (f : FittedTrace) (run : List Step) (code : Marked) (points : List Numbered) (t j n : ℕ) (x y : State) : Type 0 where
+pub record IsStretch (f : FittedTrace) (run : List Step) (code : Marked) (points : List Numbered) (t j n : ℕ) (x y : ThreadState) : Type 0 where
   pub whole : IsRunOf f.guest f.recorded run
   pub words : code.words ≡ f.guest.code
   pub covered : AreCovered code t points
@@ -59,87 +59,87 @@ pub record IsStretch (f : FittedTrace) (run : List Step) (code : Marked) (points
   pub within : j + n ≤ steps_of f run t
   pub steps : UnmarkedSteps code n x y
 
-pub stretch_at : (f : FittedTrace) (run : List Step) (code : Marked) (points : List Numbered) (t j n k : ℕ) (x y : State)
+pub thread_within_stretch : (f : FittedTrace) (run : List Step) (code : Marked) (points : List Numbered) (t j n k : ℕ) (x y : ThreadState)
     → IsStretch f run code points t j n x y → k ≤ n → thread_at f run t (j + k) ≡ run_of code.words k x
-stretch_at f run code points t j n k x y s le =
-    subst (λ c. thread_at f run t (j + k) ≡ run_of c k x) (sym s.words) (passed_at f run s.whole t j n k x s.at s.within
+thread_within_stretch f run code points t j n k x y s le =
+    subst (λ c. thread_at f run t (j + k) ≡ run_of c k x) (sym s.words) (thread_after_private_steps_of_run f run s.whole t j n k x s.at s.within
     (subst (λ (c : List ℕ). (i : ℕ) → i < n → ask_of c (run_of c i x) ≡ ask.Private) s.words s.steps.steps.each) le)
 
-stretch_held : (f : FittedTrace) (run : List Step) (code : Marked) (points : List Numbered) (t j n k : ℕ) (x y : State)
+held_within_stretch : (f : FittedTrace) (run : List Step) (code : Marked) (points : List Numbered) (t j n k : ℕ) (x y : ThreadState)
     → IsStretch f run code points t j n x y → k ≤ n → (thread_at f run t (j + k)).held ≡ x.held
-stretch_held f run code points t j n k x y s le =
-    ap (λ (z : State). z.held) (stretch_at f run code points t j n k x y s le)
-    ∙ private_held code.words k x (run_of code.words k x) (private_first code.words k n x y le s.steps.steps)
+held_within_stretch f run code points t j n k x y s le =
+    ap (λ (z : ThreadState). z.held) (thread_within_stretch f run code points t j n k x y s le)
+    ∙ held_after_private_steps code.words k x (run_of code.words k x) (private_steps_prefix code.words k n x y le s.steps.steps)
 
-stretch_memory : (f : FittedTrace) (run : List Step) (code : Marked) (points : List Numbered) (t j n k : ℕ) (x y : State) (p : Point)
+memory_within_stretch : (f : FittedTrace) (run : List Step) (code : Marked) (points : List Numbered) (t j n k : ℕ) (x y : ThreadState) (p : Point)
     → IsStretch f run code points t j n x y → k ≤ n → IsCovered code t p → Watches t p
     → (thread_at f run t (j + k)).core.memory ≡ x.core.memory
-stretch_memory f run code points t j n k x y (Break u address) s le c w = absurd w
-stretch_memory f run code points t j n k x y (Watch u address) s le c w =
-    ap (λ (z : State). z.core.memory) (stretch_at f run code points t j n k x y s le)
-    ∙ unmarked_memory code k x (run_of code.words k x) (c w) (unmarked_first code k n x y le s.steps)
-stretch_memory f run code points t j n k x y (WatchObject object) s le c w = absurd w
+memory_within_stretch f run code points t j n k x y (Break u address) s le c w = absurd w
+memory_within_stretch f run code points t j n k x y (Watch u address) s le c w =
+    ap (λ (z : ThreadState). z.core.memory) (thread_within_stretch f run code points t j n k x y s le)
+    ∙ thread_memory_after_unmarked_steps code k x (run_of code.words k x) (c w) (unmarked_steps_prefix code k n x y le s.steps)
+memory_within_stretch f run code points t j n k x y (WatchObject object) s le c w = absurd w
 
 -- ---- no point hits between
 
-clash : (b : Bool) → b ≡ true → b ≡ false → ⊥
-clash b is isnt = cc (is, isnt)
+true_is_not_false : (b : Bool) → b ≡ true → b ≡ false → ⊥
+true_is_not_false b is isnt = cc (is, isnt)
 
-none_hit : (f : FittedTrace) (run : List Step) (code : Marked) (points : List Numbered) (t j n k : ℕ) (x y : State) (p : Point)
+covered_point_not_hit_within_stretch : (f : FittedTrace) (run : List Step) (code : Marked) (points : List Numbered) (t j n k : ℕ) (x y : ThreadState) (p : Point)
     → IsStretch f run code points t j n x y → suc k < n → IsCovered code t p → HitBy f run t (suc (j + k)) p → ⊥
-none_hit f run code points t j n k x y (Break u address) s less c h =
+covered_point_not_hit_within_stretch f run code points t j n k x y (Break u address) s less c h =
     let here : thread_at f run t (suc (j + k)) ≡ run_of code.words (suc k) x = ap (thread_at f run t) (sym (add-suc j k))
-    ∙ stretch_at f run code points t j n (suc k) x y s (omega (arith, less)) in
-    let pc : (run_of code.words (suc k) x).core.pc ≡ address = ap (λ (z : State). z.core.pc) (sym here) ∙ h.1 in
-    clash (is_marked code.marks address) (c h.0)
-    (ap (λ a. is_marked code.marks a) (sym pc) ∙ unmarked_pc code (suc k) n x y less s.steps)
-none_hit f run code points t j n k x y (Watch u address) s less c h =
+    ∙ thread_within_stretch f run code points t j n (suc k) x y s (omega (arith, less)) in
+    let pc : (run_of code.words (suc k) x).core.pc ≡ address = ap (λ (z : ThreadState). z.core.pc) (sym here) ∙ h.1 in
+    true_is_not_false (is_marked code.marks address) (c h.0)
+    (ap (λ a. is_marked code.marks a) (sym pc) ∙ thread_unmarked_step_begins_unmarked code (suc k) n x y less s.steps)
+covered_point_not_hit_within_stretch f run code points t j n k x y (Watch u address) s less c h =
     let e : h.1.0 ≡ j + k = omega (arith, h.1.1) in
-    let before = stretch_memory f run code points t j n k x y (Watch u address) s (omega (arith, less)) c h.0 in
+    let before = memory_within_stretch f run code points t j n k x y (Watch u address) s (omega (arith, less)) c h.0 in
     let after = ap (λ i. (thread_at f run t i).core.memory) (sym (add-suc j k))
-    ∙ stretch_memory f run code points t j n (suc k) x y (Watch u address) s (omega (arith, less)) c h.0 in
+    ∙ memory_within_stretch f run code points t j n (suc k) x y (Watch u address) s (omega (arith, less)) c h.0 in
     subst (Changes f run t address) e h.1.2 (ap (λ m. memory_word m address) (before ∙ sym after))
-none_hit f run code points t j n k x y (WatchObject object) s less c h =
+covered_point_not_hit_within_stretch f run code points t j n k x y (WatchObject object) s less c h =
     let e : h.0 ≡ j + k = omega (arith, h.1) in
-    let inside = was_inside f run s.whole t (j + k) object (subst (LeavesWritten f run t object) e h.2) in
-    let before = stretch_held f run code points t j n k x y s (omega (arith, less)) in
+    let inside = held_for_writing_before_leave f run s.whole t (j + k) object (subst (LeavesWritten f run t object) e h.2) in
+    let before = held_within_stretch f run code points t j n k x y s (omega (arith, less)) in
     let after = ap (λ i. (thread_at f run t i).held) (sym (add-suc j k))
-    ∙ stretch_held f run code points t j n (suc k) x y s (omega (arith, less)) in
+    ∙ held_within_stretch f run code points t j n (suc k) x y s (omega (arith, less)) in
     inside.1 (ap (λ held. held_at held object) (after ∙ sym before) ∙ inside.0)
 
-pub stretch_none : (f : FittedTrace) (run : List Step) (code : Marked) (points : List Numbered) (t j n : ℕ) (x y : State)
+pub no_hit_within_stretch : (f : FittedTrace) (run : List Step) (code : Marked) (points : List Numbered) (t j n : ℕ) (x y : ThreadState)
     → IsStretch f run code points t j n x y → NoneWithin f run points t (suc j) (j + n)
-stretch_none f run code points t j n x y s i m low high h =
+no_hit_within_stretch f run code points t j n x y s i m low high h =
     let e : i ≡ suc (j + (i - suc j)) = omega (arith, low) in
-    none_hit f run code points t j n (i - suc j) x y h.1.point s (omega (arith, low, high)) (s.covered h.0 h.1 h.2)
+    covered_point_not_hit_within_stretch f run code points t j n (i - suc j) x y h.1.point s (omega (arith, low, high)) (s.covered h.0 h.1 h.2)
     (subst (λ q. HitBy f run t q h.1.point) e h.4)
 
 -- ---- what the points noted is what they would note before the last step
 
-noted_same : (t : ℕ) (x z : State) (p : Point) (b : Before) → z.held ≡ x.held → (Watches t p → z.core.memory ≡ x.core.memory)
+note_same_in_like_thread : (t : ℕ) (x z : ThreadState) (p : Point) (b : Before) → z.held ≡ x.held → (Watches t p → z.core.memory ≡ x.core.memory)
     → IsNoted t x p b → IsNoted t z p b
-noted_same t x z (Break u address) b held memory k = tt
-noted_same t x z (Watch u address) Nothing held memory k = k
-noted_same t x z (Watch u address) (Word word) held memory k = (k.0, k.1 ∙ ap (λ m. memory_word m address) (sym (memory k.0)))
-noted_same t x z (Watch u address) Inside held memory k = k
-noted_same t x z (WatchObject object) Nothing held memory k = λ e. k (ap (λ h. held_at h object) (sym held) ∙ e)
-noted_same t x z (WatchObject object) (Word word) held memory k = k
-noted_same t x z (WatchObject object) Inside held memory k = ap (λ h. held_at h object) held ∙ k
+note_same_in_like_thread t x z (Break u address) b held memory k = tt
+note_same_in_like_thread t x z (Watch u address) Nothing held memory k = k
+note_same_in_like_thread t x z (Watch u address) (Word word) held memory k = (k.0, k.1 ∙ ap (λ m. memory_word m address) (sym (memory k.0)))
+note_same_in_like_thread t x z (Watch u address) Inside held memory k = k
+note_same_in_like_thread t x z (WatchObject object) Nothing held memory k = λ e. k (ap (λ h. held_at h object) (sym held) ∙ e)
+note_same_in_like_thread t x z (WatchObject object) (Word word) held memory k = k
+note_same_in_like_thread t x z (WatchObject object) Inside held memory k = ap (λ h. held_at h object) held ∙ k
 
-pub stretch_noted : (f : FittedTrace) (run : List Step) (code : Marked) (points : List Numbered) (notes : List Before) (t j n k : ℕ)
-    (x y : State) → IsStretch f run code points t j n x y → k ≤ n → AllNoted t x points notes
+pub notes_within_stretch : (f : FittedTrace) (run : List Step) (code : Marked) (points : List Numbered) (notes : List Before) (t j n k : ℕ)
+    (x y : ThreadState) → IsStretch f run code points t j n x y → k ≤ n → AllNoted t x points notes
     → AllNoted t (thread_at f run t (j + k)) points notes
-stretch_noted f run code points notes t j n k x y s le all = record {
+notes_within_stretch f run code points notes t j n k x y s le all = record {
   size = all.size;
-  each = λ i p b here there. noted_same t x (thread_at f run t (j + k)) p.point b (stretch_held f run code points t j n k x y s le)
-      (stretch_memory f run code points t j n k x y p.point s le (s.covered i p here)) (all.each i p b here there);
+  each = λ i p b here there. note_same_in_like_thread t x (thread_at f run t (j + k)) p.point b (held_within_stretch f run code points t j n k x y s le)
+      (memory_within_stretch f run code points t j n k x y p.point s le (s.covered i p here)) (all.each i p b here there);
 }
 
 -- ---- how far the thread came
 
-pub passed_more : (code : Marked) (t to here n : ℕ) (old new : Flat) → here ≡ positions old t → here < to → 0 < n → n ≤ to - here
+pub has_passed_by_stretch : (code : Marked) (t to here n : ℕ) (old new : Flat) → here ≡ positions old t → here < to → 0 < n → n ≤ to - here
     → HasGone old new t n → UnmarkedSteps code n (thread_of old t) (thread_of new t) → HasPassed code t to old new
-passed_more code t to here n old new at less some within gone steps = record {
+has_passed_by_stretch code t to here n old new at less some within gone steps = record {
   count = n;
   some = omega (arith, some);
   taken = gone.own;
@@ -147,8 +147,8 @@ passed_more code t to here n old new at less some within gone steps = record {
   how = inr steps;
 }
 
-pub passed_one : (code : Marked) (t to n : ℕ) (old middle new : Flat) → positions old t < to → n ≤ 0 → HasGone old middle t n
+pub has_passed_by_step : (code : Marked) (t to n : ℕ) (old middle new : Flat) → positions old t < to → n ≤ 0 → HasGone old middle t n
     → positions new t ≡ positions middle t + 1 → HasPassed code t to old new
-passed_one code t to n old middle new less none gone one =
+has_passed_by_step code t to n old middle new less none gone one =
     let next : positions new t ≡ positions old t + 1 = let own = gone.own in omega (arith, own, none, one) in
     record { count = 1; some = omega arith; taken = next; within = omega (arith, next, less); how = inl refl }

@@ -6,11 +6,11 @@ use Rattle.std.proofs.lemmas.Bool.{cases_lt}
 use Rattle.std.proofs.lemmas.List.{get_or_past}
 use Rattle.ir_thread.specs.State as thread
 use Rattle.ir_flat.specs.Flat.{idle}
-use Rattle.ir_flat.proofs.CallerLemmas.{start_idle}
+use Rattle.ir_flat.proofs.CallerLemmas.{guest_start_is_idle}
 use Rattle.ir_runs.specs.Run.{Step, trail, count}
 use Rattle.ir_runs.specs.Cuts.{Cut, IsCut, Consistent}
 use Rattle.ir_fit.specs.Fit.{FittedTrace, IsRunOf}
-use Rattle.ir_fit.proofs.CallerLemmas.{idle_trail, get_at}
+use Rattle.ir_fit.proofs.CallerLemmas.{idle_thread_has_empty_trail, get_or_of_at}
 use Rattle.ir_cut.specs.Positions.{machine_of, start_of, cut_of, IsConsistentCut}
 use Rattle.ir_weave.specs.Standing.{Standing, StandsAt, flat_in, positions}
 use Rattle.ir_hits.specs.Hits.{thread_at, steps_of}
@@ -19,71 +19,71 @@ use Rattle.ir_hits.specs.Searching.{AreLast}
 -- ---- the last positions
 
 -- each is the number of the thread's steps
-last_steps : (f : FittedTrace) (last : List ℕ) → AreLast f last → (run : List Step) → IsRunOf f.guest f.recorded run → (t : ℕ)
+last_position_is_step_count : (f : FittedTrace) (last : List ℕ) → AreLast f last → (run : List Step) → IsRunOf f.guest f.recorded run → (t : ℕ)
     → cut_of last t ≡ count (machine_of f) (start_of f) run t
-last_steps f last are run whole t = elim (cases_lt t (length f.guest.entries)) [
+last_position_is_step_count f last are run whole t = elim (cases_lt t (length f.guest.entries)) [
   | inl l ↦ are.steps t l ∙ sym (whole.1.steps t l)
   | inr past ↦ get_or_past last t 0 (let n = are.size in omega (arith, n, past)) ∙
-      sym (ap length (idle_trail (machine_of f) (start_of f) (length f.guest.entries) (start_idle f.guest f.recorded.budget f.recorded.profile) run
+      sym (ap length (idle_thread_has_empty_trail (machine_of f) (start_of f) (length f.guest.entries) (guest_start_is_idle f.guest f.recorded.budget f.recorded.profile) run
       whole.1.runs t past))
 ]
 
-pub last_consistent : (f : FittedTrace) (last : List ℕ) → AreLast f last → IsConsistentCut f last
-last_consistent f last are run whole = (
-  λ t. let all = last_steps f last are run whole t in omega (arith, all),
-  λ t k u j a b emitted needed needs less. let all = last_steps f last are run whole u in
-      let within = (get_at (trail (machine_of f) (start_of f) run u) j (needed.0, b) needed.1).0 in
+pub last_positions_are_consistent : (f : FittedTrace) (last : List ℕ) → AreLast f last → IsConsistentCut f last
+last_positions_are_consistent f last are run whole = (
+  λ t. let all = last_position_is_step_count f last are run whole t in omega (arith, all),
+  λ t k u j a b emitted needed needs less. let all = last_position_is_step_count f last are run whole u in
+      let within = (get_or_of_at (trail (machine_of f) (start_of f) run u) j (needed.0, b) needed.1).0 in
       omega (arith, all, within),
 )
 
-pub end_steps : (f : FittedTrace) (last : List ℕ) → AreLast f last → (run : List Step) → IsRunOf f.guest f.recorded run → (t end : ℕ)
+pub last_position_is_steps_of_thread : (f : FittedTrace) (last : List ℕ) → AreLast f last → (run : List Step) → IsRunOf f.guest f.recorded run → (t end : ℕ)
     → end ≡ cut_of last t → end ≡ steps_of f run t
-end_steps f last are run whole t end is = is ∙ last_steps f last are run whole t
+last_position_is_steps_of_thread f last are run whole t end is = is ∙ last_position_is_step_count f last are run whole t
 
 -- ---- where threads are
 
 -- what is at a cut is at its own positions
-pub stands_own : (f : FittedTrace) (p : Cut) (s : Standing) → StandsAt f p s → StandsAt f (positions (flat_in f s)) s
-stands_own f p s h = subst (λ (q : Cut). StandsAt f q s) (fun_ext (λ t. sym (h.at.steps t))) h
+pub standing_at_own_positions : (f : FittedTrace) (p : Cut) (s : Standing) → StandsAt f p s → StandsAt f (positions (flat_in f s)) s
+standing_at_own_positions f p s h = subst (λ (q : Cut). StandsAt f q s) (fun_ext (λ t. sym (h.at.steps t))) h
 
 -- a thread of the state is the run's
-pub thread_here : (f : FittedTrace) (s : Standing) → StandsAt f (positions (flat_in f s)) s → (run : List Step)
+pub thread_of_standing_is_run_thread : (f : FittedTrace) (s : Standing) → StandsAt f (positions (flat_in f s)) s → (run : List Step)
     → IsRunOf f.guest f.recorded run → (t k : ℕ) → positions (flat_in f s) t ≡ k → slice_index_or s.threads t idle ≡ thread_at f run t k
-thread_here f s stands run whole t k at = (stands.at.each run whole).threads t ∙ ap (thread_at f run t) at
+thread_of_standing_is_run_thread f s stands run whole t k at = (stands.at.each run whole).threads t ∙ ap (thread_at f run t) at
 
 -- how many steps it has taken
-pub steps_here : (f : FittedTrace) (s : Standing) (t n : ℕ) (x : thread.State) → x ≡ slice_index_or s.threads t idle → n ≡ x.steps
+pub steps_of_thread_are_position : (f : FittedTrace) (s : Standing) (t n : ℕ) (x : thread.ThreadState) → x ≡ slice_index_or s.threads t idle → n ≡ x.steps
     → n ≡ positions (flat_in f s) t
-steps_here f s t n x is steps = steps ∙ ap (λ (y : thread.State). y.steps) is
+steps_of_thread_are_position f s t n x is steps = steps ∙ ap (λ (y : thread.ThreadState). y.steps) is
 
 -- a list of the threads' positions is the cut at which they are
-cut_same : (f : FittedTrace) (s : Standing) (at : List ℕ) → length at ≡ length s.threads
+positions_are_listed_positions : (f : FittedTrace) (s : Standing) (at : List ℕ) → length at ≡ length s.threads
     → ((t : ℕ) → t < length s.threads → cut_of at t ≡ (slice_index_or s.threads t idle).steps) → (t : ℕ)
     → positions (flat_in f s) t ≡ cut_of at t
-cut_same f s at size here t = elim (cases_lt t (length s.threads)) [
+positions_are_listed_positions f s at size here t = elim (cases_lt t (length s.threads)) [
   | inl l ↦ sym (here t l)
-  | inr past ↦ ap (λ (x : thread.State). x.steps) (get_or_past s.threads t idle past)
+  | inr past ↦ ap (λ (x : thread.ThreadState). x.steps) (get_or_past s.threads t idle past)
       ∙ sym (get_or_past at t 0 (omega (arith, size, past)))
 ]
 
-pub record IsHere (f : FittedTrace) (s : Standing) (at : List ℕ) : Type 0 where
+pub record IsCutOfStanding (f : FittedTrace) (s : Standing) (at : List ℕ) : Type 0 where
   pub size : length at ≡ length f.guest.entries
   pub consistent : IsConsistentCut f at
   pub here : (t : ℕ) → positions (flat_in f s) t ≡ cut_of at t
 
-here_by : (f : FittedTrace) (s : Standing) (at : List ℕ) → StandsAt f (positions (flat_in f s)) s → length at ≡ length s.threads
-    → ((t : ℕ) → t < length s.threads → cut_of at t ≡ (slice_index_or s.threads t idle).steps) → IsHere f s at
-here_by f s at stands size here = record {
+listed_steps_are_cut_of_standing : (f : FittedTrace) (s : Standing) (at : List ℕ) → StandsAt f (positions (flat_in f s)) s → length at ≡ length s.threads
+    → ((t : ℕ) → t < length s.threads → cut_of at t ≡ (slice_index_or s.threads t idle).steps) → IsCutOfStanding f s at
+listed_steps_are_cut_of_standing f s at stands size here = record {
   size = size ∙ stands.at.threads;
   consistent = λ run whole. subst (λ (p : Cut). IsCut (machine_of f) (start_of f) run p × Consistent (machine_of f) (start_of f) run p)
-      (fun_ext (cut_same f s at size here))
+      (fun_ext (positions_are_listed_positions f s at size here))
       ((stands.at.each run whole).cut, (stands.at.each run whole).consistent);
-  here = cut_same f s at size here;
+  here = positions_are_listed_positions f s at size here;
 }
 
 -- the cut that is read off these threads
-pub is_here : (f : FittedTrace) (s : Standing) (at : List ℕ) (threads : List thread.State) → threads ≡ s.threads
+pub read_steps_are_cut_of_standing : (f : FittedTrace) (s : Standing) (at : List ℕ) (threads : List thread.ThreadState) → threads ≡ s.threads
     → StandsAt f (positions (flat_in f s)) s → length at ≡ length threads
-    → ((t : ℕ) → t < length threads → cut_of at t ≡ (slice_index_or threads t idle).steps) → IsHere f s at
-is_here f s at threads same stands size here = here_by f s at stands (size ∙ ap length same)
-    (subst (λ (xs : List thread.State). (t : ℕ) → t < length xs → cut_of at t ≡ (slice_index_or xs t idle).steps) same here)
+    → ((t : ℕ) → t < length threads → cut_of at t ≡ (slice_index_or threads t idle).steps) → IsCutOfStanding f s at
+read_steps_are_cut_of_standing f s at threads same stands size here = listed_steps_are_cut_of_standing f s at stands (size ∙ ap length same)
+    (subst (λ (xs : List thread.ThreadState). (t : ℕ) → t < length xs → cut_of at t ≡ (slice_index_or xs t idle).steps) same here)

@@ -28,7 +28,7 @@ abbrev pub AreWatchable : List Numbered → Type 0
 AreWatchable points = AllByRecursion (λ p. IsWatchable p.point) points
 
 -- thread t of the run just after its k-th own step
-abbrev pub thread_at : FittedTrace → List Step → ℕ → ℕ → thread.State
+abbrev pub thread_at : FittedTrace → List Step → ℕ → ℕ → thread.ThreadState
 thread_at f run t k = th (machine_of f) (start_of f) run t k
 
 -- how many steps it takes

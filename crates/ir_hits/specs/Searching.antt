@@ -4,7 +4,7 @@ use Rattle.ir_trace.specs.Recorded.{recorded_thread}
 use Rattle.ir_runs.specs.Run.{Step}
 use Rattle.ir_fit.specs.Fit.{FittedTrace}
 use Rattle.ir_cut.specs.Positions.{cut_of}
-use Rattle.ir_thread.specs.State.{State}
+use Rattle.ir_thread.specs.State.{ThreadState}
 use Rattle.ir_hits.specs.declared.before.Before.{Before}
 use Rattle.ir_hits.specs.Seeing.{IsLowestOf}
 use Rattle.ir_mach.specs.Marks.{Marked}
@@ -54,6 +54,6 @@ reached to (Some h) = h.position
 reached to None = to
 
 -- the points hit thread t at its start, where it is y and they noted this; or none does
-abbrev pub IsStartHit : ℕ → ℕ → State → List Before → List Numbered → Option Hit → Type 0
+abbrev pub IsStartHit : ℕ → ℕ → ThreadState → List Before → List Numbered → Option Hit → Type 0
 IsStartHit t last y notes points (Some h) = (h.position ≡ 0) × IsLowestOf t last y notes points (length points) (Some h.number)
 IsStartHit t last y notes points None = IsLowestOf t last y notes points (length points) None

@@ -4,7 +4,7 @@ use Rattle.std.specs.Prelude.{◌≢◌, replicate}
 use Rattle.std.specs.List.{list_all, AllByRecursion}
 use Rattle.ir_image.specs.Guest.{Guest}
 use Rattle.ir_flat.specs.Flat.{tables, machine}
-use Rattle.ir_flat.proofs.CallerLemmas.{threads_length}
+use Rattle.ir_flat.proofs.CallerLemmas.{length_of_start_threads}
 use Rattle.ir_runs.specs.InOrder.{IsByOrder}
 use Rattle.ir_runs.specs.Run.{Step, log}
 use Rattle.ir_trace.specs.Recorded.{Recorded}
@@ -15,7 +15,7 @@ use Rattle.ir_record_run.specs.Plan.{Plan}
 use Rattle.ir_record_run.specs.Recording.{IsRecordedOf}
 use Rattle.ir_order.specs.Recording.{IsPlanned}
 use Rattle.ir_order.specs.Spelling.{Spells}
-use Rattle.ir_order.proofs.CallerLemmas.{complete_runs, recordings_of_run}
+use Rattle.ir_order.proofs.CallerLemmas.{complete_runs_have_steps, recordings_are_of_the_run}
 use Rattle.ir_chaos.proofs.CallerLemmas.{schedules_are_orders, schedules_are_of_threads}
 use Rattle.ir_chaos.specs.Conditions.{Condition, fulfils, outcome_of}
 use Rattle.ir_chaos.specs.Moments.{Moment}
@@ -28,32 +28,32 @@ use Rattle.ir_hunt.specs.Seeking.{RanBy}
 use Rattle.ir_hunt.specs.Stale.{IsWanted, FulfilsStale}
 
 -- no world had answered
-none_before : (n t : ℕ) → get_or {A = List Answered} (replicate n []) t [] ≡ []
-none_before zero t = refl
-none_before (suc n) zero = refl
-none_before (suc n) (suc t) = none_before n t
+answers_of_fresh_world_are_empty : (n t : ℕ) → get_or {A = List Answered} (replicate n []) t [] ≡ []
+answers_of_fresh_world_are_empty zero t = refl
+answers_of_fresh_world_are_empty (suc n) zero = refl
+answers_of_fresh_world_are_empty (suc n) (suc t) = answers_of_fresh_world_are_empty n t
 
 -- a run by a chooser to its end is the run by the order of its turns
-by_turns : (guest : Guest) (plan : Plan) (chooser : Chooser) (run : List Step)
+schedule_is_run_by_turns : (guest : Guest) (plan : Plan) (chooser : Chooser) (run : List Step)
     → IsSchedule (has_tries plan.profile) (machine (first guest plan)) (length (first guest plan).threads) (tables (first guest plan)) chooser run
     → IsByOrder (machine (first guest plan)) (tables (first guest plan)) (length guest.entries) (threads_of run) run
-by_turns guest plan chooser run h = schedules_are_orders (has_tries plan.profile) (machine (first guest plan)) (length guest.entries)
+schedule_is_run_by_turns guest plan chooser run h = schedules_are_orders (has_tries plan.profile) (machine (first guest plan)) (length guest.entries)
     (tables (first guest plan)) chooser run
     (subst (λ n. IsSchedule (has_tries plan.profile) (machine (first guest plan)) n (tables (first guest plan)) chooser run)
-    (threads_length guest plan.budget plan.profile 0 (length guest.entries)) h)
+    (length_of_start_threads guest plan.budget plan.profile 0 (length guest.entries)) h)
 
 -- what a seed's run came to, where it fulfils each condition
-pub found_run : (guest : Guest) (plan : Plan) (conditions : List Condition) (chooser : Chooser) (b : Moment) (h : RanBy guest plan chooser b)
+pub found_run_is_planned_and_fulfils : (guest : Guest) (plan : Plan) (conditions : List Condition) (chooser : Chooser) (b : Moment) (h : RanBy guest plan chooser b)
     → ((t : ℕ) → t < length guest.entries → IsAnswered (origin_of true plan.random plan.input t) (answers_at b.answers t))
     → list_all (λ c. fulfils c (outcome_of b.flat)) conditions ≡ true
     → IsPlanned guest plan (order_of_turns b.turns) h.run × FulfilsEach guest plan conditions h.run
-found_run guest plan conditions chooser b h answered holds = (
+found_run_is_planned_and_fulfils guest plan conditions chooser b h answered holds = (
   record {
     by_order = subst (λ o. IsByOrder (machine (first guest plan)) (tables (first guest plan)) (length guest.entries) o h.run)
-        (sym h.gained.order) (by_turns guest plan chooser h.run h.schedule);
+        (sym h.gained.order) (schedule_is_run_by_turns guest plan chooser h.run h.schedule);
     answered = λ t l. subst (IsAnswered (origin_of true plan.random plan.input t))
-        (h.gained.answers t (subst (λ n. t < n) (sym (threads_length guest plan.budget plan.profile 0 (length guest.entries))) l) ∙ ap (λ z. z ++ answers_in (log (machine (first guest plan)) (tables (first guest plan)) h.run t))
-        (none_before (length guest.entries) t)) (answered t l);
+        (h.gained.answers t (subst (λ n. t < n) (sym (length_of_start_threads guest plan.budget plan.profile 0 (length guest.entries))) l) ∙ ap (λ z. z ++ answers_in (log (machine (first guest plan)) (tables (first guest plan)) h.run t))
+        (answers_of_fresh_world_are_empty (length guest.entries) t)) (answered t l);
   },
   record {
     flat = b.flat;
@@ -63,53 +63,53 @@ found_run guest plan conditions chooser b h answered holds = (
 )
 
 -- the turns of a run to its end are of the guest's threads
-of_threads : (guest : Guest) (plan : Plan) (chooser : Chooser) (b : Moment) → RanBy guest plan chooser b
+turns_are_of_guest_threads : (guest : Guest) (plan : Plan) (chooser : Chooser) (b : Moment) → RanBy guest plan chooser b
     → AllByRecursion (λ t. t < length guest.entries) (order_of_turns b.turns)
-of_threads guest plan chooser b h = subst (AllByRecursion (λ t. t < length guest.entries)) (sym h.gained.order)
+turns_are_of_guest_threads guest plan chooser b h = subst (AllByRecursion (λ t. t < length guest.entries)) (sym h.gained.order)
     (schedules_are_of_threads (has_tries plan.profile) (machine (first guest plan)) (length guest.entries) (tables (first guest plan)) chooser
     h.run (subst (λ n. IsSchedule (has_tries plan.profile) (machine (first guest plan)) n (tables (first guest plan)) chooser h.run)
-    (threads_length guest plan.budget plan.profile 0 (length guest.entries)) h.schedule))
+    (length_of_start_threads guest plan.budget plan.profile 0 (length guest.entries)) h.schedule))
 
 -- and there are some
-pub some_turns : (guest : Guest) (plan : Plan) (chooser : Chooser) (b : Moment) → 1 ≤ length guest.entries → RanBy guest plan chooser b
+pub turns_are_not_empty : (guest : Guest) (plan : Plan) (chooser : Chooser) (b : Moment) → 1 ≤ length guest.entries → RanBy guest plan chooser b
     → order_of_turns b.turns ≢ []
-some_turns guest plan chooser b some h none = complete_runs guest plan.budget plan.profile h.run some h.schedule.done
+turns_are_not_empty guest plan chooser b some h none = complete_runs_have_steps guest plan.budget plan.profile h.run some h.schedule.done
     (sym h.gained.order ∙ none)
 
 -- a run by an order whose runs have what is wanted of them has it
-as_wanted : (guest : Guest) (plan : Plan) (order : List ℕ) (wanted : Option Bool) (run : List Step) → IsWanted guest plan order wanted true
+planned_run_fulfils_wanted_stale : (guest : Guest) (plan : Plan) (order : List ℕ) (wanted : Option Bool) (run : List Step) → IsWanted guest plan order wanted true
     → IsPlanned guest plan order run → FulfilsStale guest plan wanted run
-as_wanted guest plan order None run h planned = tt
-as_wanted guest plan order (Some has) run h planned = h run planned
+planned_run_fulfils_wanted_stale guest plan order None run h planned = tt
+planned_run_fulfils_wanted_stale guest plan order (Some has) run h planned = h run planned
 
 -- the list of a seed's turns, where what its run came to fulfils each condition, and the run has what is wanted of its stale writes
-pub found_by : (guest : Guest) (plan : Plan) (way : Way) (seed choices : ℕ) (conditions : List Condition) (wanted : Option Bool) (b : Moment) (list : List ℕ)
+pub is_found_if_seed_run_fulfils : (guest : Guest) (plan : Plan) (way : Way) (seed choices : ℕ) (conditions : List Condition) (wanted : Option Bool) (b : Moment) (list : List ℕ)
     → RanBy guest plan (chooser_of way seed (length guest.entries) choices) b
     → ((t : ℕ) → t < length guest.entries → IsAnswered (origin_of true plan.random plan.input t) (answers_at b.answers t))
     → list_all (λ c. fulfils c (outcome_of b.flat)) conditions ≡ true → IsWanted guest plan (order_of_turns b.turns) wanted true
     → Spells list (order_of_turns b.turns) → IsFound guest plan way seed conditions wanted list
-found_by guest plan way seed choices conditions wanted b list h answered holds stale spells =
+is_found_if_seed_run_fulfils guest plan way seed choices conditions wanted b list h answered holds stale spells =
     let chooser = chooser_of way seed (length guest.entries) choices in
-    let r = found_run guest plan conditions chooser b h answered holds in
+    let r = found_run_is_planned_and_fulfils guest plan conditions chooser b h answered holds in
     record {
       order = order_of_turns b.turns;
-      spelled = spells (length guest.entries) (of_threads guest plan chooser b h);
+      spelled = spells (length guest.entries) (turns_are_of_guest_threads guest plan chooser b h);
       run = h.run;
       choices = choices;
       of_seed = h.schedule;
       planned = r.0;
       fulfilled = r.1;
-      stale = as_wanted guest plan (order_of_turns b.turns) wanted h.run stale r.0;
+      stale = planned_run_fulfils_wanted_stale guest plan (order_of_turns b.turns) wanted h.run stale r.0;
     }
 
 -- a recording by the list is of the run that was found
-pub finding : (image : List ℕ) (plan : Plan) (way : Way) (seed : ℕ) (conditions : List Condition) (wanted : Option Bool) (list : List ℕ)
+pub recording_of_found_is_finding : (image : List ℕ) (plan : Plan) (way : Way) (seed : ℕ) (conditions : List Condition) (wanted : Option Bool) (list : List ℕ)
     (trace : Recorded) (outputs : List (List ℕ)) → IsFoundIn image plan way seed conditions wanted list → IsRecordedOf image (by_list plan list) trace outputs
     → IsFinding image plan way seed conditions wanted list trace outputs
-finding image plan way seed conditions wanted list trace outputs found r = record {
+recording_of_found_is_finding image plan way seed conditions wanted list trace outputs found r = record {
   guest = found.guest;
   is = found.is;
   found = found.found;
-  recorded = recordings_of_run image found.guest (by_list plan list) list found.found.order found.found.run trace outputs found.is refl
+  recorded = recordings_are_of_the_run image found.guest (by_list plan list) list found.found.order found.found.run trace outputs found.is refl
       found.found.spelled found.found.planned r;
 }

@@ -8,18 +8,18 @@ use Rattle.ir_runs.specs.Verdicts.{IsWhole}
 use Rattle.ir_trace.specs.Recorded.{Recorded, trace_of}
 use Rattle.ir_fit.specs.Fit.{IsRunOf, FittedTrace, HasRun}
 use Rattle.ir_thread.specs.declared.profile.Profile.{Profile}
-use Rattle.ir_record.specs.Recording.{IsTraceOf, IsRecording}
+use Rattle.ir_record.specs.Recording.{IsTraceOf, IsRecordingInOrder}
 use Rattle.ir_record.specs.Worlds.{Answered}
 use Rattle.ir_record_run.specs.Plan.{Plan}
 use Rattle.ir_sources.specs.Sources.{origin_of, IsAnswered}
-use Rattle.ir_order.proofs.CallerLemmas.{of_turns}
+use Rattle.ir_order.proofs.CallerLemmas.{recording_in_turns_is_of_run}
 use Rattle.ir_rests.specs.Stale.{HasRests}
 use Rattle.ir_hunt.specs.Stale.{HasStaleBy, IsTraceBy}
 
 -- the trace of a run has that run
-run_with : (guest : Guest) (budget : ℕ) (profile : Profile) (run : List Step) (trace : Recorded) → IsTraceOf guest budget profile run trace
+trace_of_run_has_run : (guest : Guest) (budget : ℕ) (profile : Profile) (run : List Step) (trace : Recorded) → IsTraceOf guest budget profile run trace
     → IsRunOf guest trace run
-run_with guest budget profile run trace h = (
+trace_of_run_has_run guest budget profile run trace h = (
   record { threads = h.threads; objects = h.objects },
   subst (λ (p : Profile). IsWhole (machine (start_flat guest trace.budget p)) (tables (start_flat guest trace.budget p)) (length guest.entries) (trace_of trace) run)
       (sym h.profile_is)
@@ -28,29 +28,29 @@ run_with guest budget profile run trace h = (
 )
 
 -- and so does what is recorded in turns
-pub recorded_run : (guest : Guest) (budget : ℕ) (profile : Profile) (order : List ℕ) (before : List (List Answered)) (trace : Recorded)
-    (outputs : List (List ℕ)) (answers : List (List Answered)) → IsRecording guest budget profile order before trace outputs answers
+pub recording_has_run : (guest : Guest) (budget : ℕ) (profile : Profile) (order : List ℕ) (before : List (List Answered)) (trace : Recorded)
+    (outputs : List (List ℕ)) (answers : List (List Answered)) → IsRecordingInOrder guest budget profile order before trace outputs answers
     → (run : List Step) × IsRunOf guest trace run
-recorded_run guest budget profile order before trace outputs answers r = (r.run, run_with guest budget profile r.run trace r.of.emitted)
+recording_has_run guest budget profile order before trace outputs answers r = (r.run, trace_of_run_has_run guest budget profile r.run trace r.of.emitted)
 
 -- what is recorded in turns, with fresh worlds, is the trace of each run by their order
-pub recorded_by : (guest : Guest) (plan : Plan) (entries order : List ℕ) (before : List (List Answered)) (trace : Recorded) (outputs : List (List ℕ))
+pub fresh_recording_is_trace_by_order : (guest : Guest) (plan : Plan) (entries order : List ℕ) (before : List (List Answered)) (trace : Recorded) (outputs : List (List ℕ))
     (answers : List (List Answered)) → entries ≡ guest.entries → before ≡ replicate (length entries) []
-    → IsRecording guest plan.budget plan.profile order before trace outputs answers
+    → IsRecordingInOrder guest plan.budget plan.profile order before trace outputs answers
     → ((t : ℕ) → t < length entries → IsAnswered (origin_of true plan.random plan.input t) (get_or answers t []))
     → IsTraceBy guest plan order trace
-recorded_by guest plan entries order before trace outputs answers same fresh r answered run planned =
+fresh_recording_is_trace_by_order guest plan entries order before trace outputs answers same fresh r answered run planned =
     let long : length entries ≡ length guest.entries = ap (λ (z : List ℕ). length z) same in (
       outputs,
-      of_turns guest plan order run trace outputs answers planned
-          (subst (λ (z : List (List Answered)). IsRecording guest plan.budget plan.profile order z trace outputs answers)
+      recording_in_turns_is_of_run guest plan order run trace outputs answers planned
+          (subst (λ (z : List (List Answered)). IsRecordingInOrder guest plan.budget plan.profile order z trace outputs answers)
           (fresh ∙ ap (λ (n : ℕ). replicate n []) long) r) (λ t l. answered t (subst (λ n. t < n) (sym long) l)),
     )
 
 -- whether a stale write of the trace rests is whether one of each run by the order does
-stale_by : (guest : Guest) (plan : Plan) (order : List ℕ) (trace : Recorded) (f : FittedTrace) (has : Bool) → IsTraceBy guest plan order trace
+stale_by_order_if_trace_rests : (guest : Guest) (plan : Plan) (order : List ℕ) (trace : Recorded) (f : FittedTrace) (has : Bool) → IsTraceBy guest plan order trace
     → f.guest ≡ guest → f.recorded ≡ trace → HasRun f → HasRests f has → HasStaleBy guest plan order has
-stale_by guest plan order trace f has by of_guest of_trace fits rests run planned = let r = by run planned in record {
+stale_by_order_if_trace_rests guest plan order trace f has by of_guest of_trace fits rests run planned = let r = by run planned in record {
   trace = trace;
   outputs = r.0;
   of_run = r.1;
@@ -62,7 +62,7 @@ stale_by guest plan order trace f has by of_guest of_trace fits rests run planne
 }
 
 -- the same, where that was found out
-pub found_by_trace : {E : Type 0} (guest : Guest) (plan : Plan) (order : List ℕ) (trace : Recorded) (f : FittedTrace) (r : Result Bool E)
+pub stale_result_by_trace : {E : Type 0} (guest : Guest) (plan : Plan) (order : List ℕ) (trace : Recorded) (f : FittedTrace) (r : Result Bool E)
     → IsTraceBy guest plan order trace → f.guest ≡ guest → f.recorded ≡ trace → HasRun f → IfOk r (HasRests f) → IfOk r (HasStaleBy guest plan order)
-found_by_trace guest plan order trace f (Ok has) by of_guest of_trace fits rests = stale_by guest plan order trace f has by of_guest of_trace fits rests
-found_by_trace guest plan order trace f (Err e) by of_guest of_trace fits rests = tt
+stale_result_by_trace guest plan order trace f (Ok has) by of_guest of_trace fits rests = stale_by_order_if_trace_rests guest plan order trace f has by of_guest of_trace fits rests
+stale_result_by_trace guest plan order trace f (Err e) by of_guest of_trace fits rests = tt

@@ -3,15 +3,15 @@ use Rattle.std.proofs.Common.{◌≡◌, ◌<◌, ◌+◌, ℕ, zero, suc, List,
 use Rattle.std.specs.Prelude.{replicate}
 use Rattle.std.proofs.lemmas.List.{map-set, length-map, take_more_set}
 
-replicate_more : {A : Type 0} (n : ℕ) (x : A) → replicate n x ++ x ∷ [] ≡ replicate (suc n) x
-replicate_more zero x = refl
-replicate_more (suc n) x = ap (λ z. x ∷ z) (replicate_more n x)
+replicate_append_one : {A : Type 0} (n : ℕ) (x : A) → replicate n x ++ x ∷ [] ≡ replicate (suc n) x
+replicate_append_one zero x = refl
+replicate_append_one (suc n) x = ap (λ z. x ∷ z) (replicate_append_one n x)
 
 -- one world more is as it was
-pub filled_more : {W A : Type 0} (f : W → A) (worlds : List W) (place : ℕ) (new : W) (x : A) → place < length worlds
+pub restarted_worlds_step : {W A : Type 0} (f : W → A) (worlds : List W) (place : ℕ) (new : W) (x : A) → place < length worlds
     → take place (map f worlds) ≡ replicate place x → f new ≡ x → take (place + 1) (map f (set worlds place new)) ≡ replicate (place + 1) x
-filled_more f worlds place new x l before here =
+restarted_worlds_step f worlds place new x l before here =
     ap (take (place + 1)) (map-set f worlds place new)
     ∙ take_more_set (map f worlds) place (f new) (let n = length-map worlds f in omega (arith, n, l))
     ∙ ap (λ z. z ++ f new ∷ []) before ∙ ap (λ z. replicate place x ++ z ∷ []) here
-    ∙ replicate_more place x ∙ ap (λ n. replicate n x) (sym (add-one place))
+    ∙ replicate_append_one place x ∙ ap (λ n. replicate n x) (sym (add-one place))

@@ -10,19 +10,19 @@ use Rattle.ir_hunt.specs.Finding.{IsFoundIn}
 use Rattle.ir_hunt.specs.Lines.{found_line, none_line}
 use Rattle.ir_hunt.specs.Stopping.{IsHuntLine}
 
-pub on_err : {A E : Type 0} (r : Result A E) (P : Type 0) → OnErr r P → is_err r ≡ true → P
-on_err (Ok x) P h e = absurd cc
-on_err (Err x) P h e = h
+pub holds_if_is_err : {A E : Type 0} (r : Result A E) (P : Type 0) → OnErr r P → is_err r ≡ true → P
+holds_if_is_err (Ok x) P h e = absurd cc
+holds_if_is_err (Err x) P h e = h
 
-pub on_ok : {A E : Type 0} (r : Result A E) (P : Type 0) → OnOk r P → is_err r ≡ false → P
-on_ok (Ok x) P h e = h
-on_ok (Err x) P h e = absurd cc
+pub holds_unless_is_err : {A E : Type 0} (r : Result A E) (P : Type 0) → OnOk r P → is_err r ≡ false → P
+holds_unless_is_err (Ok x) P h e = h
+holds_unless_is_err (Err x) P h e = absurd cc
 
 -- the line of what was found, or of nothing
-pub line_is : {F : Type 0} (seed_of : F → ℕ) (list_of : F → List ℕ) (image : List ℕ) (plan : Plan) (way : Way) (seeds : Seeds)
+pub line_is_hunt_line : {F : Type 0} (seed_of : F → ℕ) (list_of : F → List ℕ) (image : List ℕ) (plan : Plan) (way : Way) (seeds : Seeds)
     (conditions : List Condition) (wanted : Option Bool) (found : Option F) (line : List ℕ)
     → IfSome found (λ f. IsFoundIn image plan way (seed_of f) conditions wanted (list_of f))
     → MatchOption found (line ≡ none_line seeds.first seeds.last) (λ f. line ≡ found_line (seed_of f) (list_of f))
     → IsHuntLine image plan way seeds conditions wanted line
-line_is seed_of list_of image plan way seeds conditions wanted None line h e = inr e
-line_is seed_of list_of image plan way seeds conditions wanted (Some f) line h e = inl (seed_of f, list_of f, h, e)
+line_is_hunt_line seed_of list_of image plan way seeds conditions wanted None line h e = inr e
+line_is_hunt_line seed_of list_of image plan way seeds conditions wanted (Some f) line h e = inl (seed_of f, list_of f, h, e)

@@ -25,7 +25,7 @@ use ir_files::{ExitStatus, OutputSink, WholeSink, tell};
 use ir_image::Image;
 use ir_object::OpenGate;
 use ir_order::list_of;
-use ir_record_run::{ParsedImage, RecordFault, RecordPlan, record_run};
+use ir_record_run::{ParsedImage, RecordFault, RecordFiles, RecordPlan, Recording, record_run};
 use ir_stream::{Sink, write_all};
 use ir_trace::Trace;
 use std::alloc::{AllocError, Global};
@@ -208,8 +208,7 @@ pub fn hunt_run<R, W, P, O, E>(
     rt: &R,
     image: &ParsedImage<'_>,
     plan: &HuntPlan<'_>,
-    trace: &mut W,
-    outputs: &mut P,
+    files: &mut RecordFiles<W, P>,
     out: &mut O,
     faults: &mut E,
 ) -> Result<Option<Trace>, ExitStatus>
@@ -219,38 +218,38 @@ where
     P: OutputSink,
     O: Sink,
     E: Sink,
-    requires writes { W.broken trace.old ≡ false }
-    requires puts { P.broken outputs.old ≡ false }
+    requires writes { W.broken files.old.trace ≡ false }
+    requires puts { P.broken files.old.outputs ≡ false }
     requires prints { O.broken out.old ≡ false }
     requires reports { E.broken faults.old ≡ false }
     // Of the run that a list spells, which fulfils each condition: its trace was written, what its threads printed, and the lines with
     // the list. Or nothing was written but that none was found.
     ensures done { IfOk result (λ o. MatchOption o
-        ((trace.new ≡ trace.old) × (outputs.new ≡ outputs.old) × Appends (O.written out.old) (O.written out.new) (none_line plan.now.seeds.first plan.now.seeds.last))
+        ((files.new.trace ≡ files.old.trace) × (files.new.outputs ≡ files.old.outputs) × Appends (O.written out.old) (O.written out.new) (none_line plan.now.seeds.first plan.now.seeds.last))
         (λ recorded. (seed : ℕ) × (list : List ℕ) × (printed : List (List ℕ))
         × IsFinding image.now plan.now.record plan.now.way seed (map as_condition plan.now.conditions.now) plan.now.stale list recorded printed
-        × Appends (W.written trace.old) (W.written trace.new) (encoding recorded)
-        × TookEach (output_writer_of (P.taken outputs.old) (P.taken outputs.new) (P.broken outputs.new)) printed
+        × Appends (W.written files.old.trace) (W.written files.new.trace) (encoding recorded)
+        × TookEach (output_writer_of (P.taken files.old.outputs) (P.taken files.new.outputs) (P.broken files.new.outputs)) printed
         × Appends (O.written out.old) (O.written out.new) (found_line seed list ++ lines_of recorded))) }
-    ensures whole { IfOk result (λ o. IfSome o (λ _. W.whole trace.new ≡ true)) }
+    ensures whole { IfOk result (λ o. IfSome o (λ _. W.whole files.new.trace ≡ true)) }
     ensures quiet { IfOk result (λ o. IfSome o (λ _. faults.new ≡ faults.old)) }
     // Else nothing was written; or the line failed; or what was found is said, and its recording stopped.
     ensures stopped { IfErr result (λ status. (e : RecordFault) × (status ≡ fault_status e) × (
-        (RefusesHunt e image.now plan.now.record × (trace.new ≡ trace.old) × (outputs.new ≡ outputs.old) × (out.new ≡ out.old)
+        (RefusesHunt e image.now plan.now.record × (files.new.trace ≡ files.old.trace) × (files.new.outputs ≡ files.old.outputs) × (out.new ≡ out.old)
         × IsTold e (writer_of (E.written faults.old) (E.written faults.new) (E.broken faults.new)))
         ⊎ (((line : List ℕ) × (e ≡ Lines) × IsHuntLine image.now plan.now.record plan.now.way plan.now.seeds (map as_condition plan.now.conditions.now) plan.now.stale line
-        × Failed (writer_of (O.written out.old) (O.written out.new) (O.broken out.new)) line × (trace.new ≡ trace.old) × (outputs.new ≡ outputs.old)
+        × Failed (writer_of (O.written out.old) (O.written out.new) (O.broken out.new)) line × (files.new.trace ≡ files.old.trace) × (files.new.outputs ≡ files.old.outputs)
         × IsTold e (writer_of (E.written faults.old) (E.written faults.new) (E.broken faults.new)))
         ⊎ ((seed : ℕ) × (list : List ℕ) × (said : O)
         × IsFoundIn image.now plan.now.record plan.now.way seed (map as_condition plan.now.conditions.now) plan.now.stale list
         × Appends (O.written out.old) (O.written said) (found_line seed list)
-        × IsReported e image.now (by_list plan.now.record list) (unwritten_of (W.called trace.new) (W.cause trace.new)) (unwritten_of (P.called outputs.new) (P.cause outputs.new))
+        × IsReported e image.now (by_list plan.now.record list) (unwritten_of (W.called files.new.trace) (W.cause files.new.trace)) (unwritten_of (P.called files.new.outputs) (P.cause files.new.outputs))
         (writer_of (E.written faults.old) (E.written faults.new) (E.broken faults.new))
         × Stops e image.now (by_list plan.now.record list)
-        (writer_of (W.written trace.old) (W.written trace.new) (W.broken trace.new))
-        (output_writer_of (P.taken outputs.old) (P.taken outputs.new) (P.broken outputs.new))
+        (writer_of (W.written files.old.trace) (W.written files.new.trace) (W.broken files.new.trace))
+        (output_writer_of (P.taken files.old.outputs) (P.taken files.new.outputs) (P.broken files.new.outputs))
         (writer_of (O.written said) (O.written out.new) (O.broken out.new))
-        ((trace.new ≡ trace.old) × (outputs.new ≡ outputs.old) × (out.new ≡ said)) ((outputs.new ≡ outputs.old) × (out.new ≡ said)) (out.new ≡ said))))) }
+        ((files.new.trace ≡ files.old.trace) × (files.new.outputs ≡ files.old.outputs) × (out.new ≡ said)) ((files.new.outputs ≡ files.old.outputs) × (out.new ≡ said)) (out.new ≡ said))))) }
 {
     let alloc = rt.alloc();
     let sought = match hunted(rt, alloc, image, plan) {
@@ -264,7 +263,8 @@ where
         tell_left_out(alloc, faults, sought.left_out);
         return Ok(None);
     };
-    let plan = by_list(&plan.record, found.list.as_str());
-    let recorded = record_run(rt, &OpenGate, image, &plan, trace, outputs, out, faults)?;
+    let plan = &by_list(&plan.record, found.list.as_str());
+    let recording = Recording { image, plan };
+    let recorded = record_run(rt, &OpenGate, &recording, files, out, faults)?;
     Ok(Some(recorded))
 }

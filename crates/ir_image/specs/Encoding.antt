@@ -2,7 +2,7 @@
 use Rattle.std.specs.Prelude.{ℕ, List, [], ◌∷◌, ◌++◌, length}
 use Rattle.std.specs.List.{flat_map}
 use Rattle.byteorder.specs.Endian.{little_bytes}
-use Rattle.ir_image.specs.Guest.{magic, Guest, object_count}
+use Rattle.ir_image.specs.Guest.{image_magic, Guest, object_count}
 use Rattle.ir_image.specs.declared.counts.Counts.{Counts}
 
 -- the form of a guest, and how many it has of each
@@ -11,7 +11,7 @@ counts_of g = record { form = g.form; threads = length g.entries; objects = obje
 
 -- the magic of the form, the number of threads, of objects, of words of code, of bytes of data
 abbrev pub counts_encoding : Counts → List ℕ
-counts_encoding c = magic c.form ++ (c.threads ∷ c.objects ∷ [] ++ little_bytes 4 c.words ++ little_bytes 4 c.bytes)
+counts_encoding c = image_magic c.form ++ (c.threads ∷ c.objects ∷ [] ++ little_bytes 4 c.words ++ little_bytes 4 c.bytes)
 
 -- words, one after the other
 abbrev pub words_encoding : List ℕ → List ℕ

@@ -5,13 +5,13 @@ use Rattle.ir_bytes.specs.Format.{Format, finished, next, before, repeated, firs
 use Rattle.ir_image.specs.declared.image_err.ImageErr.{ImageErr}
 use Rattle.ir_image.specs.declared.image_err.ImageErr.TheVariants.{Short, Trailing}
 use Rattle.ir_image.specs.Guest.{limits_of, form_of}
-use Rattle.ir_image.specs.Reading.{magic_field, threads_field, objects_field, words_field, bytes_field, entry_field}
+use Rattle.ir_image.specs.Reading.{image_magic_field, image_threads_field, image_objects_field, words_field, bytes_field, entry_field}
 
 -- the magic, which names the form; how many threads, objects, words of code and bytes of data; the entries; the code; the data; the
 -- objects' first words
 abbrev pub image_fields : Format ImageErr
 image_fields =
-    next magic_field λ f. next (threads_field (form_of f)) λ n. next (objects_field (form_of f)) λ m. next words_field λ c. next bytes_field λ d.
+    next image_magic_field λ f. next (image_threads_field (form_of f)) λ n. next (image_objects_field (form_of f)) λ m. next words_field λ c. next bytes_field λ d.
     repeated n (before (entry_field c))
     (repeated c (before (plain 4)) (before (plain d) (repeated ((limits_of (form_of f)).words * m) (before (plain 4)) finished)))
 

@@ -1,4 +1,4 @@
--- A guest: what an image holds, apart from where it lies in memory.
+-- A guest: what an image holds, however the code keeps it.
 use Rattle.std.specs.Prelude.{ℕ, ◌+◌, ◌-◌, ◌*◌, ◌/◌, List, length, ◌++◌, take, drop, replicate, ◌==◌, [], ◌∷◌, if◌then◌else◌, slice_get, nat_le, Option, Some, None}
 pub use Rattle.ir_bytes.specs.Numbers.{IsWord, IsByte}
 use Rattle.ir_image.specs.declared.form.ImageForm.{ImageForm}
@@ -76,30 +76,32 @@ abbrev pub most_objects : ℕ
 most_objects = 64
 
 -- what an image of the form begins with: `IRI1` or `IRI2`
-abbrev pub magic : ImageForm → List ℕ
-magic Small = 0x49 ∷ 0x52 ∷ 0x49 ∷ 0x31 ∷ []
-magic Large = 0x49 ∷ 0x52 ∷ 0x49 ∷ 0x32 ∷ []
+abbrev pub image_magic : ImageForm → List ℕ
+image_magic Small = 0x49 ∷ 0x52 ∷ 0x49 ∷ 0x31 ∷ []
+image_magic Large = 0x49 ∷ 0x52 ∷ 0x49 ∷ 0x32 ∷ []
 
 -- the number of these bytes
 abbrev pub magic_number : ImageForm → ℕ
-magic_number form = little_number 4 (magic form)
+magic_number form = little_number 4 (image_magic form)
 
--- the form whose number this is, if it is a form's
+-- the form whose number this is; small for a number of none
 abbrev pub form_of : ℕ → ImageForm
 form_of number = if number == magic_number Large then Large else Small
 
--- the word at a pc, if it is a place in the code
-abbrev pub word_at : List ℕ → ℕ → Option ℕ
-word_at code pc = if nat_le code_start pc then slice_get code ((pc - code_start) / 4) else None
+-- the word of the code in which the address lies, if there is one
+abbrev pub word_at_pc : List ℕ → ℕ → Option ℕ
+word_at_pc code pc = if nat_le code_start pc then slice_get code ((pc - code_start) / 4) else None
 
+-- what is fetched where a word is this instruction, or none
 abbrev pub decoded : Option Inst → Fetched
 decoded (Some i) = Found i
 decoded None = Illegal
 
+-- what is fetched where this word is, or none
 abbrev pub fetched_word : Option ℕ → Fetched
 fetched_word (Some word) = decoded (instruction_of word)
 fetched_word None = Outside
 
 -- the instruction at a pc
 abbrev pub fetched : List ℕ → ℕ → Fetched
-fetched code pc = fetched_word (word_at code pc)
+fetched code pc = fetched_word (word_at_pc code pc)

@@ -8,14 +8,14 @@ use Rattle.ir_image.specs.declared.form.ImageForm.{ImageForm}
 use Rattle.ir_image.specs.Guest.{limits_of, magic_number, form_of, Guest, code_start, memory_size, most_code_words}
 
 -- a form's magic
-abbrev pub magic_field : Field ImageErr
-magic_field = tested 4 (λ n. n == magic_number (form_of n)) Magic
+abbrev pub image_magic_field : Field ImageErr
+image_magic_field = tested 4 (λ n. n == magic_number (form_of n)) Magic
 
-abbrev pub threads_field : ImageForm → Field ImageErr
-threads_field form = within 1 1 (limits_of form).threads Count
+abbrev pub image_threads_field : ImageForm → Field ImageErr
+image_threads_field form = within 1 1 (limits_of form).threads Count
 
-abbrev pub objects_field : ImageForm → Field ImageErr
-objects_field form = within 1 0 (limits_of form).objects Count
+abbrev pub image_objects_field : ImageForm → Field ImageErr
+image_objects_field form = within 1 0 (limits_of form).objects Count
 
 -- the number of words of code
 abbrev pub words_field : Field ImageErr
@@ -44,14 +44,14 @@ entry_at words = field_at Short (entry_field words)
 
 -- the form that the magic names, and the bytes after it
 unfoldable pub form_at : Reader ImageForm ImageErr
-form_at bytes = field_at Short magic_field bytes >>= λ n. Ok (form_of n.0, n.1)
+form_at bytes = field_at Short image_magic_field bytes >>= λ n. Ok (form_of n.0, n.1)
 
 -- the form, and how many there are of each
 unfoldable pub counts_at : Reader Counts ImageErr
 counts_at bytes = do
   form ← form_at bytes
-  threads ← field_at Short (threads_field form.0) form.1
-  objects ← field_at Short (objects_field form.0) threads.1
+  threads ← field_at Short (image_threads_field form.0) form.1
+  objects ← field_at Short (image_objects_field form.0) threads.1
   words ← field_at Short words_field objects.1
   bytes ← field_at Short bytes_field words.1
   Ok (record { form = form.0; threads = threads.0; objects = objects.0; words = words.0; bytes = bytes.0 }, bytes.1)
@@ -71,19 +71,19 @@ unfoldable pub guest_at : List ℕ → Result Guest ImageErr
 guest_at bytes = counts_at bytes >>= λ c. body_at c.0 c.1
 
 -- the number that a fault goes by; running out of memory is none of the bytes' and has 0
-abbrev pub refusal_number : ImageErr → ℕ
-refusal_number Short = 1
-refusal_number Magic = 2
-refusal_number Count = 3
-refusal_number Entry = 4
-refusal_number Trailing = 5
-refusal_number NoMem = 0
+abbrev pub image_refusal_number : ImageErr → ℕ
+image_refusal_number Short = 1
+image_refusal_number Magic = 2
+image_refusal_number Count = 3
+image_refusal_number Entry = 4
+image_refusal_number Trailing = 5
+image_refusal_number NoMem = 0
 
 -- the number of a fault of the bytes
-abbrev pub number_of : ImageErr → Option ℕ
-number_of NoMem = None
-number_of Short = Some (refusal_number Short)
-number_of Magic = Some (refusal_number Magic)
-number_of Count = Some (refusal_number Count)
-number_of Entry = Some (refusal_number Entry)
-number_of Trailing = Some (refusal_number Trailing)
+abbrev pub image_fault_number : ImageErr → Option ℕ
+image_fault_number NoMem = None
+image_fault_number Short = Some (image_refusal_number Short)
+image_fault_number Magic = Some (image_refusal_number Magic)
+image_fault_number Count = Some (image_refusal_number Count)
+image_fault_number Entry = Some (image_refusal_number Entry)
+image_fault_number Trailing = Some (image_refusal_number Trailing)

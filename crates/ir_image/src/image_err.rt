@@ -2,7 +2,7 @@
 
 ghost use Rattle.std.specs.Prelude.{◌≡◌};
 ghost use Rattle.ir_image.specs.declared.image_err.ImageErr.TheVariants.{NoMem};
-ghost use Rattle.ir_image.specs.Reading.{number_of};
+ghost use Rattle.ir_image.specs.Reading.{image_fault_number};
 
 use std::alloc::{AllocError, AllocFailed};
 use thiserror::Error;
@@ -29,7 +29,7 @@ pub enum ImageErr {
 impl ImageErr {
     /// The number of the fault, 1 to 5 in the order above, or `None` for out of memory.
     pub fn number(&self) -> Option<u8>
-        ensures { result ≡ number_of self.now }
+        ensures { result ≡ image_fault_number self.now }
     {
         match self {
             ImageErr::Short => Some(1),

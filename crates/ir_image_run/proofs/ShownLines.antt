@@ -11,60 +11,60 @@ use Rattle.ir_image_run.specs.Assembling.{line_at, shown, after_cause}
 -- ---- std's lines, and the assembler's
 
 -- a list, or what comes before its element n where that is a carriage return
-abbrev cut_at : List ℕ → ℕ → List ℕ
-cut_at l n = if get_or l n 0 == 13 then take n l else l
+abbrev cut_at_return : List ℕ → ℕ → List ℕ
+cut_at_return l n = if get_or l n 0 == 13 then take n l else l
 
-cut_behind : (x : ℕ) (l : List ℕ) (n : ℕ) → cut_at (x ∷ l) (suc n) ≡ x ∷ cut_at l n
-cut_behind x l n = by_test (get_or l n 0 == 13)
+cut_at_return_of_cons : (x : ℕ) (l : List ℕ) (n : ℕ) → cut_at_return (x ∷ l) (suc n) ≡ x ∷ cut_at_return l n
+cut_at_return_of_cons x l n = by_test (get_or l n 0 == 13)
   where
     by_test : (t : Bool) → (if t then x ∷ take n l else x ∷ l) ≡ x ∷ (if t then take n l else l)
     by_test true = refl
     by_test false = refl
 
 -- both drop one carriage return at the end
-same_return : (l : List ℕ) → strip_carriage_return l ≡ without_return l
-same_return [] = refl
-same_return (x ∷ []) = refl
-same_return (x ∷ y ∷ l) =
+strip_carriage_return_is_without_return : (l : List ℕ) → strip_carriage_return l ≡ without_return l
+strip_carriage_return_is_without_return [] = refl
+strip_carriage_return_is_without_return (x ∷ []) = refl
+strip_carriage_return_is_without_return (x ∷ y ∷ l) =
     let n : length (x ∷ y ∷ l) - 1 ≡ suc (length (y ∷ l) - 1) = omega arith in
-    ap (cut_at (x ∷ y ∷ l)) n ∙ cut_behind x (y ∷ l) (length (y ∷ l) - 1) ∙ ap (λ (r : List ℕ). x ∷ r) (same_return (y ∷ l))
+    ap (cut_at_return (x ∷ y ∷ l)) n ∙ cut_at_return_of_cons x (y ∷ l) (length (y ∷ l) - 1) ∙ ap (λ (r : List ℕ). x ∷ r) (strip_carriage_return_is_without_return (y ∷ l))
 
 -- an empty last part is no line of std's
-same_line : (parts : List (List ℕ)) (n : ℕ) → get_or (lines_of_parts parts) n [] ≡ get_or (without_returns parts) n []
-same_line [] n = refl
-same_line ([] ∷ []) zero = refl
-same_line ([] ∷ []) (suc n) = refl
-same_line ((b ∷ line) ∷ []) n =
+std_lines_equal_lines_without_returns : (parts : List (List ℕ)) (n : ℕ) → get_or (lines_of_parts parts) n [] ≡ get_or (without_returns parts) n []
+std_lines_equal_lines_without_returns [] n = refl
+std_lines_equal_lines_without_returns ([] ∷ []) zero = refl
+std_lines_equal_lines_without_returns ([] ∷ []) (suc n) = refl
+std_lines_equal_lines_without_returns ((b ∷ line) ∷ []) n =
     ap (λ (t : Bool). get_or (if t then [] else (b ∷ line) ∷ []) n []) (ne_eqb (length (b ∷ line)) 0 (λ e. omega (arith, e)))
-same_line (x ∷ y ∷ parts) zero = same_return x
-same_line (x ∷ y ∷ parts) (suc n) = same_line (y ∷ parts) n
+std_lines_equal_lines_without_returns (x ∷ y ∷ parts) zero = strip_carriage_return_is_without_return x
+std_lines_equal_lines_without_returns (x ∷ y ∷ parts) (suc n) = std_lines_equal_lines_without_returns (y ∷ parts) n
 
-element : (xs : List (List ℕ)) (n : ℕ) → unwrap_or (slice_get xs n) [] ≡ get_or xs n []
-element [] n = refl
-element (x ∷ xs) zero = refl
-element (x ∷ xs) (suc n) = element xs n
+unwrapped_slice_get_is_get_or : (xs : List (List ℕ)) (n : ℕ) → unwrap_or (slice_get xs n) [] ≡ get_or xs n []
+unwrapped_slice_get_is_get_or [] n = refl
+unwrapped_slice_get_is_get_or (x ∷ xs) zero = refl
+unwrapped_slice_get_is_get_or (x ∷ xs) (suc n) = unwrapped_slice_get_is_get_or xs n
 
-read_by : {A : Type 0} (read : A → List ℕ) (found : Option A) (other : A) → read other ≡ [] → read (unwrap_or found other) ≡ unwrap_or (option_map read found) []
-read_by read None other none = none
-read_by read (Some x) other none = refl
+read_of_found_or_empty : {A : Type 0} (read : A → List ℕ) (found : Option A) (other : A) → read other ≡ [] → read (unwrap_or found other) ≡ unwrap_or (option_map read found) []
+read_of_found_or_empty read None other none = none
+read_of_found_or_empty read (Some x) other none = refl
 
 -- the line that was found, or an empty one
-pub line_found : {A : Type 0} (read : A → List ℕ) (text : List ℕ) (number n : ℕ) (found : Option A) (other line : A)
+pub found_line_is_line_at_number : {A : Type 0} (read : A → List ℕ) (text : List ℕ) (number n : ℕ) (found : Option A) (other line : A)
     → option_map read found ≡ slice_get (lines text) n → n ≡ number - 1 → line ≡ unwrap_or found other → read other ≡ []
     → read line ≡ line_at text number
-line_found read text number n found other line is at taken none =
-    ap read taken ∙ read_by read found other none ∙ ap (λ (o : Option (List ℕ)). unwrap_or o []) is ∙ element (lines text) n
-    ∙ same_line (split 10 text) n ∙ ap (λ (k : ℕ). get_or (lines_of text) k []) at
+found_line_is_line_at_number read text number n found other line is at taken none =
+    ap read taken ∙ read_of_found_or_empty read found other none ∙ ap (λ (o : Option (List ℕ)). unwrap_or o []) is ∙ unwrapped_slice_get_is_get_or (lines text) n
+    ∙ std_lines_equal_lines_without_returns (split 10 text) n ∙ ap (λ (k : ℕ). get_or (lines_of text) k []) at
 
 -- ---- what is shown
 
 -- so much of a line, or all of a shorter one
-pub cut_at_most : (n : ℕ) (line : List ℕ) → take (min n (length line)) line ≡ take n line
-cut_at_most n line = take_min n line
+pub take_at_most_length : (n : ℕ) (line : List ℕ) → take (min n (length line)) line ≡ take n line
+take_at_most_length n line = take_min n line
 
-pub nothing_shown : (part : List ℕ) → (length part == 0) ≡ true → after_cause (map shown part) ≡ []
-nothing_shown part empty = ap (λ (l : List ℕ). after_cause (map shown l)) (nil_from_length part (eqb-true (length part) 0 empty))
+pub after_cause_of_empty_part : (part : List ℕ) → (length part == 0) ≡ true → after_cause (map shown part) ≡ []
+after_cause_of_empty_part part empty = ap (λ (l : List ℕ). after_cause (map shown l)) (nil_from_length part (eqb-true (length part) 0 empty))
 
-pub part_shown : (part : List ℕ) → (length part == 0) ≡ false → after_cause (map shown part) ≡ codes ": " ++ map shown part
-part_shown [] some = absurd (cc some)
-part_shown (b ∷ part) some = refl
+pub after_cause_of_part : (part : List ℕ) → (length part == 0) ≡ false → after_cause (map shown part) ≡ codes ": " ++ map shown part
+after_cause_of_part [] some = absurd (cc some)
+after_cause_of_part (b ∷ part) some = refl

@@ -40,7 +40,7 @@ fn text_of(alloc: Global, source: &[u8]) -> Result<String, AllocError>
 }
 
 // The bytes of the image of a text, and its labels.
-#[tactic(auto, using(crate::proofs::LabelNames::labels_named))]
+#[tactic(auto, using(crate::proofs::LabelNames::source_labels_are_named))]
 fn assembly_of(alloc: Global, text: &str) -> Result<(Vec<u8>, Labels), AsmErr>
     ensures image { Answers (λ a. a.0.items) result (spelled (assembled text.now)) }
     ensures labels { IfOk result (λ a. labels_of text.now ≡ Ok a.1) }

@@ -28,7 +28,7 @@ fn letter_of(section: Section) -> char
 }
 
 // The symbol of a label. There is one, since each name of a label is one of a symbol too.
-#[tactic(auto, using(crate::proofs::LabelNames::symbol_of_label))]
+#[tactic(auto, using(crate::proofs::LabelNames::symbol_of_named_label))]
 fn label_symbol(alloc: Global, name: &[u8], place: Place) -> Result<Symbol, AllocError>
     requires { IsNamed (name.now, place) }
     ensures { IfOk result (λ symbol. symbol ≡ label_symbol (name.now, place)) }
@@ -38,7 +38,7 @@ fn label_symbol(alloc: Global, name: &[u8], place: Place) -> Result<Symbol, Allo
 }
 
 // Adds the symbol of the label of an index.
-#[tactic(auto, using(crate::proofs::Labels::symbols_more, crate::proofs::Labels::named_at))]
+#[tactic(auto, using(crate::proofs::Labels::label_symbols_step, crate::proofs::Labels::label_at_index_is_named))]
 fn push_symbol(
     alloc: Global,
     labels: &Labels,

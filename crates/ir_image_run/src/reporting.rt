@@ -51,7 +51,7 @@ fn line_at(text: &str, number: usize) -> &str
 }
 
 // As many bytes of a line as are shown.
-#[tactic(auto, using(crate::proofs::ShownLines::cut_at_most))]
+#[tactic(auto, using(crate::proofs::ShownLines::take_at_most_length))]
 fn shown_part(line: &[u8]) -> &[u8]
     ensures { result.now ≡ take most_shown line.now }
 {
@@ -77,7 +77,7 @@ fn fault_line(alloc: Global, line: usize, cause: Cause) -> Result<String, AllocE
 }
 
 // The line that explains a fault of a text in the file of this name.
-#[tactic(auto, using(crate::proofs::ShownLines::part_shown))]
+#[tactic(auto, using(crate::proofs::ShownLines::after_cause_of_part))]
 fn explaining_line(
     alloc: Global,
     name: &str,

@@ -18,111 +18,111 @@ use Rattle.ir_isa.specs.declared.inst.ShiftOp.TheVariants.{Slli, Srli, Srai}
 use Rattle.ir_isa.specs.declared.inst.RegisterOp.{RegisterOp}
 use Rattle.ir_isa.specs.declared.inst.RegisterOp.TheVariants.{Add, Sub, Sll, Slt, Sltu, Xor, Srl, Sra, Or, And, Mul, Mulh, Mulhsu, Mulhu, Div, Divu, Rem, Remu}
 
-passes_here : {A : Type 0} (p : A → Bool) (y x : A) (rest : Option A) (b : Bool) → p y ≡ b → cond b (Some y) rest ≡ Some x
+found_element_passes_test_step : {A : Type 0} (p : A → Bool) (y x : A) (rest : Option A) (b : Bool) → p y ≡ b → cond b (Some y) rest ≡ Some x
     → (rest ≡ Some x → p x ≡ true) → p x ≡ true
-passes_here p y x rest true t h later = ap p (sym (same_Some y x h)) ∙ t
-passes_here p y x rest false t h later = later h
+found_element_passes_test_step p y x rest true t h later = ap p (sym (same_Some y x h)) ∙ t
+found_element_passes_test_step p y x rest false t h later = later h
 
 -- what a search finds passes its test
-pub passes : {A : Type 0} (p : A → Bool) (xs : List A) (x : A) → find p xs ≡ Some x → p x ≡ true
-passes p [] x e = absurd cc
-passes p (y ∷ ys) x e = passes_here p y x (find p ys) (p y) refl e (passes p ys x)
+pub found_element_passes_test : {A : Type 0} (p : A → Bool) (xs : List A) (x : A) → find p xs ≡ Some x → p x ≡ true
+found_element_passes_test p [] x e = absurd cc
+found_element_passes_test p (y ∷ ys) x e = found_element_passes_test_step p y x (find p ys) (p y) refl e (found_element_passes_test p ys x)
 
-pub branch_again : (op : BranchOp) → branch_op_of (branch_funct op) ≡ Some op
-branch_again Beq = refl
-branch_again Bne = refl
-branch_again Blt = refl
-branch_again Bge = refl
-branch_again Bltu = refl
-branch_again Bgeu = refl
+pub branch_op_of_own_funct : (op : BranchOp) → branch_op_of (branch_funct op) ≡ Some op
+branch_op_of_own_funct Beq = refl
+branch_op_of_own_funct Bne = refl
+branch_op_of_own_funct Blt = refl
+branch_op_of_own_funct Bge = refl
+branch_op_of_own_funct Bltu = refl
+branch_op_of_own_funct Bgeu = refl
 
-pub branch_found : (three : ℕ) (op : BranchOp) → branch_op_of three ≡ Some op → branch_funct op ≡ three
-branch_found three op e = eqb-true _ _ (passes (λ op. eqb (branch_funct op) three) (Beq ∷ Bne ∷ Blt ∷ Bge ∷ Bltu ∷ Bgeu ∷ []) op e)
+pub branch_funct_of_found_op : (three : ℕ) (op : BranchOp) → branch_op_of three ≡ Some op → branch_funct op ≡ three
+branch_funct_of_found_op three op e = eqb-true _ _ (found_element_passes_test (λ op. eqb (branch_funct op) three) (Beq ∷ Bne ∷ Blt ∷ Bge ∷ Bltu ∷ Bgeu ∷ []) op e)
 
-pub branch_one : (a b : BranchOp) → branch_funct a ≡ branch_funct b → a ≡ b
-branch_one a b e = same_Some a b (sym (branch_again a) ∙ ap branch_op_of e ∙ branch_again b)
+pub branch_funct_is_injective : (a b : BranchOp) → branch_funct a ≡ branch_funct b → a ≡ b
+branch_funct_is_injective a b e = same_Some a b (sym (branch_op_of_own_funct a) ∙ ap branch_op_of e ∙ branch_op_of_own_funct b)
 
-pub load_again : (op : LoadOp) → load_op_of (load_funct op) ≡ Some op
-load_again Lb = refl
-load_again Lh = refl
-load_again Lw = refl
-load_again Lbu = refl
-load_again Lhu = refl
+pub load_op_of_own_funct : (op : LoadOp) → load_op_of (load_funct op) ≡ Some op
+load_op_of_own_funct Lb = refl
+load_op_of_own_funct Lh = refl
+load_op_of_own_funct Lw = refl
+load_op_of_own_funct Lbu = refl
+load_op_of_own_funct Lhu = refl
 
-pub load_found : (three : ℕ) (op : LoadOp) → load_op_of three ≡ Some op → load_funct op ≡ three
-load_found three op e = eqb-true _ _ (passes (λ op. eqb (load_funct op) three) (Lb ∷ Lh ∷ Lw ∷ Lbu ∷ Lhu ∷ []) op e)
+pub load_funct_of_found_op : (three : ℕ) (op : LoadOp) → load_op_of three ≡ Some op → load_funct op ≡ three
+load_funct_of_found_op three op e = eqb-true _ _ (found_element_passes_test (λ op. eqb (load_funct op) three) (Lb ∷ Lh ∷ Lw ∷ Lbu ∷ Lhu ∷ []) op e)
 
-pub load_one : (a b : LoadOp) → load_funct a ≡ load_funct b → a ≡ b
-load_one a b e = same_Some a b (sym (load_again a) ∙ ap load_op_of e ∙ load_again b)
+pub load_funct_is_injective : (a b : LoadOp) → load_funct a ≡ load_funct b → a ≡ b
+load_funct_is_injective a b e = same_Some a b (sym (load_op_of_own_funct a) ∙ ap load_op_of e ∙ load_op_of_own_funct b)
 
-pub store_again : (op : StoreOp) → store_op_of (store_funct op) ≡ Some op
-store_again Sb = refl
-store_again Sh = refl
-store_again Sw = refl
+pub store_op_of_own_funct : (op : StoreOp) → store_op_of (store_funct op) ≡ Some op
+store_op_of_own_funct Sb = refl
+store_op_of_own_funct Sh = refl
+store_op_of_own_funct Sw = refl
 
-pub store_found : (three : ℕ) (op : StoreOp) → store_op_of three ≡ Some op → store_funct op ≡ three
-store_found three op e = eqb-true _ _ (passes (λ op. eqb (store_funct op) three) (Sb ∷ Sh ∷ Sw ∷ []) op e)
+pub store_funct_of_found_op : (three : ℕ) (op : StoreOp) → store_op_of three ≡ Some op → store_funct op ≡ three
+store_funct_of_found_op three op e = eqb-true _ _ (found_element_passes_test (λ op. eqb (store_funct op) three) (Sb ∷ Sh ∷ Sw ∷ []) op e)
 
-pub store_one : (a b : StoreOp) → store_funct a ≡ store_funct b → a ≡ b
-store_one a b e = same_Some a b (sym (store_again a) ∙ ap store_op_of e ∙ store_again b)
+pub store_funct_is_injective : (a b : StoreOp) → store_funct a ≡ store_funct b → a ≡ b
+store_funct_is_injective a b e = same_Some a b (sym (store_op_of_own_funct a) ∙ ap store_op_of e ∙ store_op_of_own_funct b)
 
-pub imm_again : (op : ImmediateOp) → imm_op_of (imm_funct op) ≡ Some op
-imm_again Addi = refl
-imm_again Slti = refl
-imm_again Sltiu = refl
-imm_again Xori = refl
-imm_again Ori = refl
-imm_again Andi = refl
+pub imm_op_of_own_funct : (op : ImmediateOp) → imm_op_of (imm_funct op) ≡ Some op
+imm_op_of_own_funct Addi = refl
+imm_op_of_own_funct Slti = refl
+imm_op_of_own_funct Sltiu = refl
+imm_op_of_own_funct Xori = refl
+imm_op_of_own_funct Ori = refl
+imm_op_of_own_funct Andi = refl
 
-pub imm_found : (three : ℕ) (op : ImmediateOp) → imm_op_of three ≡ Some op → imm_funct op ≡ three
-imm_found three op e = eqb-true _ _ (passes (λ op. eqb (imm_funct op) three) (Addi ∷ Slti ∷ Sltiu ∷ Xori ∷ Ori ∷ Andi ∷ []) op e)
+pub imm_funct_of_found_op : (three : ℕ) (op : ImmediateOp) → imm_op_of three ≡ Some op → imm_funct op ≡ three
+imm_funct_of_found_op three op e = eqb-true _ _ (found_element_passes_test (λ op. eqb (imm_funct op) three) (Addi ∷ Slti ∷ Sltiu ∷ Xori ∷ Ori ∷ Andi ∷ []) op e)
 
-pub imm_one : (a b : ImmediateOp) → imm_funct a ≡ imm_funct b → a ≡ b
-imm_one a b e = same_Some a b (sym (imm_again a) ∙ ap imm_op_of e ∙ imm_again b)
+pub imm_funct_is_injective : (a b : ImmediateOp) → imm_funct a ≡ imm_funct b → a ≡ b
+imm_funct_is_injective a b e = same_Some a b (sym (imm_op_of_own_funct a) ∙ ap imm_op_of e ∙ imm_op_of_own_funct b)
 
-pub shift_again : (op : ShiftOp) → shift_op_of (shift_functs op).seven (shift_functs op).three ≡ Some op
-shift_again Slli = refl
-shift_again Srli = refl
-shift_again Srai = refl
+pub shift_op_of_own_functs : (op : ShiftOp) → shift_op_of (shift_functs op).seven (shift_functs op).three ≡ Some op
+shift_op_of_own_functs Slli = refl
+shift_op_of_own_functs Srli = refl
+shift_op_of_own_functs Srai = refl
 
-pub shift_found : (seven three : ℕ) (op : ShiftOp) → shift_op_of seven three ≡ Some op → ((shift_functs op).seven ≡ seven)
+pub shift_functs_of_found_op : (seven three : ℕ) (op : ShiftOp) → shift_op_of seven three ≡ Some op → ((shift_functs op).seven ≡ seven)
     × ((shift_functs op).three ≡ three)
-shift_found seven three op e =
-    let both = and_parts _ _ (passes (λ op. (eqb (shift_functs op).seven seven) && (eqb (shift_functs op).three three))
+shift_functs_of_found_op seven three op e =
+    let both = and_parts _ _ (found_element_passes_test (λ op. (eqb (shift_functs op).seven seven) && (eqb (shift_functs op).three three))
     (Slli ∷ Srli ∷ Srai ∷ []) op e) in
     (eqb-true _ _ both.0, eqb-true _ _ both.1)
 
-pub shift_one : (a b : ShiftOp) → (shift_functs a).seven ≡ (shift_functs b).seven → (shift_functs a).three ≡ (shift_functs b).three → a ≡ b
-shift_one a b e f = same_Some a b (sym (shift_again a) ∙ ap (λ (n : ℕ). shift_op_of n (shift_functs a).three) e
-    ∙ ap (λ (n : ℕ). shift_op_of (shift_functs b).seven n) f ∙ shift_again b)
+pub shift_functs_are_injective : (a b : ShiftOp) → (shift_functs a).seven ≡ (shift_functs b).seven → (shift_functs a).three ≡ (shift_functs b).three → a ≡ b
+shift_functs_are_injective a b e f = same_Some a b (sym (shift_op_of_own_functs a) ∙ ap (λ (n : ℕ). shift_op_of n (shift_functs a).three) e
+    ∙ ap (λ (n : ℕ). shift_op_of (shift_functs b).seven n) f ∙ shift_op_of_own_functs b)
 
-pub reg_again : (op : RegisterOp) → reg_op_of (reg_functs op).seven (reg_functs op).three ≡ Some op
-reg_again Add = refl
-reg_again Sub = refl
-reg_again Sll = refl
-reg_again Slt = refl
-reg_again Sltu = refl
-reg_again Xor = refl
-reg_again Srl = refl
-reg_again Sra = refl
-reg_again Or = refl
-reg_again And = refl
-reg_again Mul = refl
-reg_again Mulh = refl
-reg_again Mulhsu = refl
-reg_again Mulhu = refl
-reg_again Div = refl
-reg_again Divu = refl
-reg_again Rem = refl
-reg_again Remu = refl
+pub reg_op_of_own_functs : (op : RegisterOp) → reg_op_of (reg_functs op).seven (reg_functs op).three ≡ Some op
+reg_op_of_own_functs Add = refl
+reg_op_of_own_functs Sub = refl
+reg_op_of_own_functs Sll = refl
+reg_op_of_own_functs Slt = refl
+reg_op_of_own_functs Sltu = refl
+reg_op_of_own_functs Xor = refl
+reg_op_of_own_functs Srl = refl
+reg_op_of_own_functs Sra = refl
+reg_op_of_own_functs Or = refl
+reg_op_of_own_functs And = refl
+reg_op_of_own_functs Mul = refl
+reg_op_of_own_functs Mulh = refl
+reg_op_of_own_functs Mulhsu = refl
+reg_op_of_own_functs Mulhu = refl
+reg_op_of_own_functs Div = refl
+reg_op_of_own_functs Divu = refl
+reg_op_of_own_functs Rem = refl
+reg_op_of_own_functs Remu = refl
 
-pub reg_found : (seven three : ℕ) (op : RegisterOp) → reg_op_of seven three ≡ Some op → ((reg_functs op).seven ≡ seven)
+pub reg_functs_of_found_op : (seven three : ℕ) (op : RegisterOp) → reg_op_of seven three ≡ Some op → ((reg_functs op).seven ≡ seven)
     × ((reg_functs op).three ≡ three)
-reg_found seven three op e =
-    let both = and_parts _ _ (passes (λ op. (eqb (reg_functs op).seven seven) && (eqb (reg_functs op).three three))
+reg_functs_of_found_op seven three op e =
+    let both = and_parts _ _ (found_element_passes_test (λ op. (eqb (reg_functs op).seven seven) && (eqb (reg_functs op).three three))
     (Add ∷ Sub ∷ Sll ∷ Slt ∷ Sltu ∷ Xor ∷ Srl ∷ Sra ∷ Or ∷ And ∷ Mul ∷ Mulh ∷ Mulhsu ∷ Mulhu ∷ Div ∷ Divu ∷ Rem ∷ Remu ∷ []) op e) in
     (eqb-true _ _ both.0, eqb-true _ _ both.1)
 
-pub reg_one : (a b : RegisterOp) → (reg_functs a).seven ≡ (reg_functs b).seven → (reg_functs a).three ≡ (reg_functs b).three → a ≡ b
-reg_one a b e f = same_Some a b (sym (reg_again a) ∙ ap (λ (n : ℕ). reg_op_of n (reg_functs a).three) e
-    ∙ ap (λ (n : ℕ). reg_op_of (reg_functs b).seven n) f ∙ reg_again b)
+pub reg_functs_are_injective : (a b : RegisterOp) → (reg_functs a).seven ≡ (reg_functs b).seven → (reg_functs a).three ≡ (reg_functs b).three → a ≡ b
+reg_functs_are_injective a b e f = same_Some a b (sym (reg_op_of_own_functs a) ∙ ap (λ (n : ℕ). reg_op_of n (reg_functs a).three) e
+    ∙ ap (λ (n : ℕ). reg_op_of (reg_functs b).seven n) f ∙ reg_op_of_own_functs b)

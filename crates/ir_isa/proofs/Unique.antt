@@ -10,9 +10,9 @@ use Rattle.ir_isa.specs.declared.inst.ImmediateOp.{ImmediateOp}
 use Rattle.ir_isa.specs.declared.inst.ImmediateOp.TheVariants.{Addi, Slti, Sltiu, Xori, Ori, Andi}
 use Rattle.ir_isa.specs.declared.inst.ShiftOp.{ShiftOp}
 use Rattle.ir_isa.specs.declared.inst.ShiftOp.TheVariants.{Slli, Srli, Srai}
-use Rattle.ir_isa.proofs.Split.{split}
-use Rattle.ir_isa.proofs.Same.{same_Register, same_Immediate, same_BranchOffset, same_JumpOffset, same_UpperImmediate, same_ShiftAmount}
-use Rattle.ir_isa.proofs.RowLaws.{branch_one, load_one, store_one, imm_one, shift_one, reg_one}
+use Rattle.ir_isa.proofs.Split.{word_is_sum_of_fields}
+use Rattle.ir_isa.proofs.Same.{registers_equal_by_number, immediates_equal_by_value, branch_offsets_equal_by_value, jump_offsets_equal_by_value, upper_immediates_equal_by_value, shift_amounts_equal_by_bits}
+use Rattle.ir_isa.proofs.RowLaws.{branch_funct_is_injective, load_funct_is_injective, store_funct_is_injective, imm_funct_is_injective, shift_functs_are_injective, reg_functs_are_injective}
 
 -- the opcode of an instruction
 opcode_of : Inst → ℕ
@@ -30,136 +30,136 @@ opcode_of (Fence rd rs1 imm) = 0b0001111
 opcode_of Ecall = 0b1110011
 opcode_of Ebreak = 0b1110011
 
-apart : (s : ShiftOp) (o : ImmediateOp) → (shift_functs s).three ≡ imm_funct o → ⊥
-apart Slli Addi e = absurd cc
-apart Slli Slti e = absurd cc
-apart Slli Sltiu e = absurd cc
-apart Slli Xori e = absurd cc
-apart Slli Ori e = absurd cc
-apart Slli Andi e = absurd cc
-apart Srli Addi e = absurd cc
-apart Srli Slti e = absurd cc
-apart Srli Sltiu e = absurd cc
-apart Srli Xori e = absurd cc
-apart Srli Ori e = absurd cc
-apart Srli Andi e = absurd cc
-apart Srai Addi e = absurd cc
-apart Srai Slti e = absurd cc
-apart Srai Sltiu e = absurd cc
-apart Srai Xori e = absurd cc
-apart Srai Ori e = absurd cc
-apart Srai Andi e = absurd cc
+shift_funct_not_immediate_funct : (s : ShiftOp) (o : ImmediateOp) → (shift_functs s).three ≡ imm_funct o → ⊥
+shift_funct_not_immediate_funct Slli Addi e = absurd cc
+shift_funct_not_immediate_funct Slli Slti e = absurd cc
+shift_funct_not_immediate_funct Slli Sltiu e = absurd cc
+shift_funct_not_immediate_funct Slli Xori e = absurd cc
+shift_funct_not_immediate_funct Slli Ori e = absurd cc
+shift_funct_not_immediate_funct Slli Andi e = absurd cc
+shift_funct_not_immediate_funct Srli Addi e = absurd cc
+shift_funct_not_immediate_funct Srli Slti e = absurd cc
+shift_funct_not_immediate_funct Srli Sltiu e = absurd cc
+shift_funct_not_immediate_funct Srli Xori e = absurd cc
+shift_funct_not_immediate_funct Srli Ori e = absurd cc
+shift_funct_not_immediate_funct Srli Andi e = absurd cc
+shift_funct_not_immediate_funct Srai Addi e = absurd cc
+shift_funct_not_immediate_funct Srai Slti e = absurd cc
+shift_funct_not_immediate_funct Srai Sltiu e = absurd cc
+shift_funct_not_immediate_funct Srai Xori e = absurd cc
+shift_funct_not_immediate_funct Srai Ori e = absurd cc
+shift_funct_not_immediate_funct Srai Andi e = absurd cc
 
-pub one_instruction : (word : ℕ) (i j : Inst) → IsCode word i → IsCode word j → i ≡ j
-one_instruction word (Lui rd imm) (Lui rd' imm') p q =
-    let a = same_Register rd rd' (sym p.rd_field ∙ q.rd_field) in
-    let b = same_UpperImmediate imm imm' (sym p.imm_field ∙ q.imm_field) in
+pub word_has_one_instruction : (word : ℕ) (i j : Inst) → IsCode word i → IsCode word j → i ≡ j
+word_has_one_instruction word (Lui rd imm) (Lui rd' imm') p q =
+    let a = registers_equal_by_number rd rd' (sym p.rd_field ∙ q.rd_field) in
+    let b = upper_immediates_equal_by_value imm imm' (sym p.imm_field ∙ q.imm_field) in
     cc
-one_instruction word (Auipc rd imm) (Auipc rd' imm') p q =
-    let a = same_Register rd rd' (sym p.rd_field ∙ q.rd_field) in
-    let b = same_UpperImmediate imm imm' (sym p.imm_field ∙ q.imm_field) in
+word_has_one_instruction word (Auipc rd imm) (Auipc rd' imm') p q =
+    let a = registers_equal_by_number rd rd' (sym p.rd_field ∙ q.rd_field) in
+    let b = upper_immediates_equal_by_value imm imm' (sym p.imm_field ∙ q.imm_field) in
     cc
-one_instruction word (Jal rd offset) (Jal rd' offset') p q =
-    let a = same_Register rd rd' (sym p.rd_field ∙ q.rd_field) in
-    let b = same_JumpOffset offset offset' (sym p.imm_field ∙ q.imm_field) in
+word_has_one_instruction word (Jal rd offset) (Jal rd' offset') p q =
+    let a = registers_equal_by_number rd rd' (sym p.rd_field ∙ q.rd_field) in
+    let b = jump_offsets_equal_by_value offset offset' (sym p.imm_field ∙ q.imm_field) in
     cc
-one_instruction word (Jalr rd rs1 imm) (Jalr rd' rs1' imm') p q =
-    let a = same_Register rd rd' (sym p.rd_field ∙ q.rd_field) in
-    let b = same_Register rs1 rs1' (sym p.rs1_field ∙ q.rs1_field) in
-    let c = same_Immediate imm imm' (sym p.imm_field ∙ q.imm_field) in
+word_has_one_instruction word (Jalr rd rs1 imm) (Jalr rd' rs1' imm') p q =
+    let a = registers_equal_by_number rd rd' (sym p.rd_field ∙ q.rd_field) in
+    let b = registers_equal_by_number rs1 rs1' (sym p.rs1_field ∙ q.rs1_field) in
+    let c = immediates_equal_by_value imm imm' (sym p.imm_field ∙ q.imm_field) in
     cc
-one_instruction word (Branch op rs1 rs2 offset) (Branch op' rs1' rs2' offset') p q =
-    let a = same_Register rs1 rs1' (sym p.rs1_field ∙ q.rs1_field) in
-    let b = same_Register rs2 rs2' (sym p.rs2_field ∙ q.rs2_field) in
-    let c = same_BranchOffset offset offset' (sym p.imm_field ∙ q.imm_field) in
-    let d = branch_one op op' (sym p.three_field ∙ q.three_field) in
+word_has_one_instruction word (Branch op rs1 rs2 offset) (Branch op' rs1' rs2' offset') p q =
+    let a = registers_equal_by_number rs1 rs1' (sym p.rs1_field ∙ q.rs1_field) in
+    let b = registers_equal_by_number rs2 rs2' (sym p.rs2_field ∙ q.rs2_field) in
+    let c = branch_offsets_equal_by_value offset offset' (sym p.imm_field ∙ q.imm_field) in
+    let d = branch_funct_is_injective op op' (sym p.three_field ∙ q.three_field) in
     cc
-one_instruction word (Load op rd rs1 imm) (Load op' rd' rs1' imm') p q =
-    let a = same_Register rd rd' (sym p.rd_field ∙ q.rd_field) in
-    let b = same_Register rs1 rs1' (sym p.rs1_field ∙ q.rs1_field) in
-    let c = same_Immediate imm imm' (sym p.imm_field ∙ q.imm_field) in
-    let d = load_one op op' (sym p.three_field ∙ q.three_field) in
+word_has_one_instruction word (Load op rd rs1 imm) (Load op' rd' rs1' imm') p q =
+    let a = registers_equal_by_number rd rd' (sym p.rd_field ∙ q.rd_field) in
+    let b = registers_equal_by_number rs1 rs1' (sym p.rs1_field ∙ q.rs1_field) in
+    let c = immediates_equal_by_value imm imm' (sym p.imm_field ∙ q.imm_field) in
+    let d = load_funct_is_injective op op' (sym p.three_field ∙ q.three_field) in
     cc
-one_instruction word (Store op rs1 rs2 imm) (Store op' rs1' rs2' imm') p q =
-    let a = same_Register rs1 rs1' (sym p.rs1_field ∙ q.rs1_field) in
-    let b = same_Register rs2 rs2' (sym p.rs2_field ∙ q.rs2_field) in
-    let c = same_Immediate imm imm' (sym p.imm_field ∙ q.imm_field) in
-    let d = store_one op op' (sym p.three_field ∙ q.three_field) in
+word_has_one_instruction word (Store op rs1 rs2 imm) (Store op' rs1' rs2' imm') p q =
+    let a = registers_equal_by_number rs1 rs1' (sym p.rs1_field ∙ q.rs1_field) in
+    let b = registers_equal_by_number rs2 rs2' (sym p.rs2_field ∙ q.rs2_field) in
+    let c = immediates_equal_by_value imm imm' (sym p.imm_field ∙ q.imm_field) in
+    let d = store_funct_is_injective op op' (sym p.three_field ∙ q.three_field) in
     cc
-one_instruction word (OpImm op rd rs1 imm) (OpImm op' rd' rs1' imm') p q =
-    let a = same_Register rd rd' (sym p.rd_field ∙ q.rd_field) in
-    let b = same_Register rs1 rs1' (sym p.rs1_field ∙ q.rs1_field) in
-    let c = same_Immediate imm imm' (sym p.imm_field ∙ q.imm_field) in
-    let d = imm_one op op' (sym p.three_field ∙ q.three_field) in
+word_has_one_instruction word (OpImm op rd rs1 imm) (OpImm op' rd' rs1' imm') p q =
+    let a = registers_equal_by_number rd rd' (sym p.rd_field ∙ q.rd_field) in
+    let b = registers_equal_by_number rs1 rs1' (sym p.rs1_field ∙ q.rs1_field) in
+    let c = immediates_equal_by_value imm imm' (sym p.imm_field ∙ q.imm_field) in
+    let d = imm_funct_is_injective op op' (sym p.three_field ∙ q.three_field) in
     cc
-one_instruction word (Shift op rd rs1 amount) (Shift op' rd' rs1' amount') p q =
-    let a = same_Register rd rd' (sym p.rd_field ∙ q.rd_field) in
-    let b = same_Register rs1 rs1' (sym p.rs1_field ∙ q.rs1_field) in
-    let c = same_ShiftAmount amount amount' (sym p.rs2_field ∙ q.rs2_field) in
-    let d = shift_one op op' (sym p.seven_field ∙ q.seven_field) (sym p.three_field ∙ q.three_field) in
+word_has_one_instruction word (Shift op rd rs1 amount) (Shift op' rd' rs1' amount') p q =
+    let a = registers_equal_by_number rd rd' (sym p.rd_field ∙ q.rd_field) in
+    let b = registers_equal_by_number rs1 rs1' (sym p.rs1_field ∙ q.rs1_field) in
+    let c = shift_amounts_equal_by_bits amount amount' (sym p.rs2_field ∙ q.rs2_field) in
+    let d = shift_functs_are_injective op op' (sym p.seven_field ∙ q.seven_field) (sym p.three_field ∙ q.three_field) in
     cc
-one_instruction word (Op op rd rs1 rs2) (Op op' rd' rs1' rs2') p q =
-    let a = same_Register rd rd' (sym p.rd_field ∙ q.rd_field) in
-    let b = same_Register rs1 rs1' (sym p.rs1_field ∙ q.rs1_field) in
-    let c = same_Register rs2 rs2' (sym p.rs2_field ∙ q.rs2_field) in
-    let d = reg_one op op' (sym p.seven_field ∙ q.seven_field) (sym p.three_field ∙ q.three_field) in
+word_has_one_instruction word (Op op rd rs1 rs2) (Op op' rd' rs1' rs2') p q =
+    let a = registers_equal_by_number rd rd' (sym p.rd_field ∙ q.rd_field) in
+    let b = registers_equal_by_number rs1 rs1' (sym p.rs1_field ∙ q.rs1_field) in
+    let c = registers_equal_by_number rs2 rs2' (sym p.rs2_field ∙ q.rs2_field) in
+    let d = reg_functs_are_injective op op' (sym p.seven_field ∙ q.seven_field) (sym p.three_field ∙ q.three_field) in
     cc
-one_instruction word (Fence rd rs1 imm) (Fence rd' rs1' imm') p q =
-    let a = same_Register rd rd' (sym p.rd_field ∙ q.rd_field) in
-    let b = same_Register rs1 rs1' (sym p.rs1_field ∙ q.rs1_field) in
-    let c = same_Immediate imm imm' (sym p.imm_field ∙ q.imm_field) in
+word_has_one_instruction word (Fence rd rs1 imm) (Fence rd' rs1' imm') p q =
+    let a = registers_equal_by_number rd rd' (sym p.rd_field ∙ q.rd_field) in
+    let b = registers_equal_by_number rs1 rs1' (sym p.rs1_field ∙ q.rs1_field) in
+    let c = immediates_equal_by_value imm imm' (sym p.imm_field ∙ q.imm_field) in
     cc
-one_instruction word Ecall Ecall p q = refl
-one_instruction word Ebreak Ebreak p q = refl
-one_instruction word (OpImm op rd rs1 imm) (Shift op' rd' rs1' amount) p q = absurd (apart op' op (sym q.three_field ∙ p.three_field))
-one_instruction word (Shift op rd rs1 amount) (OpImm op' rd' rs1' imm) p q = absurd (apart op op' (sym p.three_field ∙ q.three_field))
-one_instruction word i j p q = absurd (omega arith)
+word_has_one_instruction word Ecall Ecall p q = refl
+word_has_one_instruction word Ebreak Ebreak p q = refl
+word_has_one_instruction word (OpImm op rd rs1 imm) (Shift op' rd' rs1' amount) p q = absurd (shift_funct_not_immediate_funct op' op (sym q.three_field ∙ p.three_field))
+word_has_one_instruction word (Shift op rd rs1 amount) (OpImm op' rd' rs1' imm) p q = absurd (shift_funct_not_immediate_funct op op' (sym p.three_field ∙ q.three_field))
+word_has_one_instruction word i j p q = absurd (omega arith)
 
 -- a number of w bits is what it is sign-extended to
-pub unsigned_12 : (m n : ℕ) → m < 2 ^ 12 → n < 2 ^ 12 → sign_extended 12 m ≡ sign_extended 12 n → m ≡ n
-unsigned_12 m n a b e = grind (arith, ints)
+pub sign_extended_12_is_injective : (m n : ℕ) → m < 2 ^ 12 → n < 2 ^ 12 → sign_extended 12 m ≡ sign_extended 12 n → m ≡ n
+sign_extended_12_is_injective m n a b e = grind (arith, ints)
 
-pub unsigned_13 : (m n : ℕ) → m < 2 ^ 13 → n < 2 ^ 13 → sign_extended 13 m ≡ sign_extended 13 n → m ≡ n
-unsigned_13 m n a b e = grind (arith, ints)
+pub sign_extended_13_is_injective : (m n : ℕ) → m < 2 ^ 13 → n < 2 ^ 13 → sign_extended 13 m ≡ sign_extended 13 n → m ≡ n
+sign_extended_13_is_injective m n a b e = grind (arith, ints)
 
-pub unsigned_21 : (m n : ℕ) → m < 2 ^ 21 → n < 2 ^ 21 → sign_extended 21 m ≡ sign_extended 21 n → m ≡ n
-unsigned_21 m n a b e = grind (arith, ints)
+pub sign_extended_21_is_injective : (m n : ℕ) → m < 2 ^ 21 → n < 2 ^ 21 → sign_extended 21 m ≡ sign_extended 21 n → m ≡ n
+sign_extended_21_is_injective m n a b e = grind (arith, ints)
 
-abbrev b_bits : ℕ → ℕ
-b_bits word = 2 ^ 12 * bits 31 31 word + 2 ^ 11 * bits 7 7 word + 2 ^ 5 * bits 30 25 word + 2 * bits 11 8 word
+abbrev branch_offset_bits : ℕ → ℕ
+branch_offset_bits word = 2 ^ 12 * bits 31 31 word + 2 ^ 11 * bits 7 7 word + 2 ^ 5 * bits 30 25 word + 2 * bits 11 8 word
 
-b_high : (v w : ℕ) → b_bits v ≡ b_bits w → bits 31 25 v ≡ bits 31 25 w
-b_high v w e = omega arith
+branch_offset_bits_fix_high_field : (v w : ℕ) → branch_offset_bits v ≡ branch_offset_bits w → bits 31 25 v ≡ bits 31 25 w
+branch_offset_bits_fix_high_field v w e = omega arith
 
-b_low : (v w : ℕ) → b_bits v ≡ b_bits w → bits 11 7 v ≡ bits 11 7 w
-b_low v w e = omega arith
+branch_offset_bits_fix_low_field : (v w : ℕ) → branch_offset_bits v ≡ branch_offset_bits w → bits 11 7 v ≡ bits 11 7 w
+branch_offset_bits_fix_low_field v w e = omega arith
 
 -- words of 32 bits with one instruction are one word
-pub one_word_lem : (v w : ℕ) (i : Inst) → v < 2 ^ 32 → w < 2 ^ 32 → IsCode v i → IsCode w i → v ≡ w
-one_word_lem v w (Lui rd imm) a b p q = omega arith
-one_word_lem v w (Auipc rd imm) a b p q = omega arith
-one_word_lem v w (Jal rd offset) a b p q =
-    let e = unsigned_21 _ _ (omega arith) (omega arith) (p.imm_field ∙ sym q.imm_field) in omega arith
-one_word_lem v w (Jalr rd rs1 imm) a b p q =
-    let e = unsigned_12 _ _ (omega arith) (omega arith) (p.imm_field ∙ sym q.imm_field) in omega arith
-one_word_lem v w (Branch op rs1 rs2 offset) a b p q =
-    let e = unsigned_13 _ _ (omega arith) (omega arith) (p.imm_field ∙ sym q.imm_field) in
-    let high = b_high v w e in
-    let low = b_low v w e in
+pub instruction_has_one_word : (v w : ℕ) (i : Inst) → v < 2 ^ 32 → w < 2 ^ 32 → IsCode v i → IsCode w i → v ≡ w
+instruction_has_one_word v w (Lui rd imm) a b p q = omega arith
+instruction_has_one_word v w (Auipc rd imm) a b p q = omega arith
+instruction_has_one_word v w (Jal rd offset) a b p q =
+    let e = sign_extended_21_is_injective _ _ (omega arith) (omega arith) (p.imm_field ∙ sym q.imm_field) in omega arith
+instruction_has_one_word v w (Jalr rd rs1 imm) a b p q =
+    let e = sign_extended_12_is_injective _ _ (omega arith) (omega arith) (p.imm_field ∙ sym q.imm_field) in omega arith
+instruction_has_one_word v w (Branch op rs1 rs2 offset) a b p q =
+    let e = sign_extended_13_is_injective _ _ (omega arith) (omega arith) (p.imm_field ∙ sym q.imm_field) in
+    let high = branch_offset_bits_fix_high_field v w e in
+    let low = branch_offset_bits_fix_low_field v w e in
     let two : bits 24 20 v ≡ bits 24 20 w = p.rs2_field ∙ sym q.rs2_field in
     let one : bits 19 15 v ≡ bits 19 15 w = p.rs1_field ∙ sym q.rs1_field in
     let three : bits 14 12 v ≡ bits 14 12 w = p.three_field ∙ sym q.three_field in
     let code : bits 6 0 v ≡ bits 6 0 w = p.opcode_field ∙ sym q.opcode_field in
-    split v a ∙ rw (high, two, one, three, low, code) (sym (split w b))
-one_word_lem v w (Load op rd rs1 imm) a b p q =
-    let e = unsigned_12 _ _ (omega arith) (omega arith) (p.imm_field ∙ sym q.imm_field) in omega arith
-one_word_lem v w (Store op rs1 rs2 imm) a b p q =
-    let e = unsigned_12 _ _ (omega arith) (omega arith) (p.imm_field ∙ sym q.imm_field) in omega arith
-one_word_lem v w (OpImm op rd rs1 imm) a b p q =
-    let e = unsigned_12 _ _ (omega arith) (omega arith) (p.imm_field ∙ sym q.imm_field) in omega arith
-one_word_lem v w (Shift op rd rs1 amount) a b p q = omega arith
-one_word_lem v w (Op op rd rs1 rs2) a b p q = omega arith
-one_word_lem v w (Fence rd rs1 imm) a b p q =
-    let e = unsigned_12 _ _ (omega arith) (omega arith) (p.imm_field ∙ sym q.imm_field) in omega arith
-one_word_lem v w Ecall a b p q = p ∙ sym q
-one_word_lem v w Ebreak a b p q = p ∙ sym q
+    word_is_sum_of_fields v a ∙ rw (high, two, one, three, low, code) (sym (word_is_sum_of_fields w b))
+instruction_has_one_word v w (Load op rd rs1 imm) a b p q =
+    let e = sign_extended_12_is_injective _ _ (omega arith) (omega arith) (p.imm_field ∙ sym q.imm_field) in omega arith
+instruction_has_one_word v w (Store op rs1 rs2 imm) a b p q =
+    let e = sign_extended_12_is_injective _ _ (omega arith) (omega arith) (p.imm_field ∙ sym q.imm_field) in omega arith
+instruction_has_one_word v w (OpImm op rd rs1 imm) a b p q =
+    let e = sign_extended_12_is_injective _ _ (omega arith) (omega arith) (p.imm_field ∙ sym q.imm_field) in omega arith
+instruction_has_one_word v w (Shift op rd rs1 amount) a b p q = omega arith
+instruction_has_one_word v w (Op op rd rs1 rs2) a b p q = omega arith
+instruction_has_one_word v w (Fence rd rs1 imm) a b p q =
+    let e = sign_extended_12_is_injective _ _ (omega arith) (omega arith) (p.imm_field ∙ sym q.imm_field) in omega arith
+instruction_has_one_word v w Ecall a b p q = p ∙ sym q
+instruction_has_one_word v w Ebreak a b p q = p ∙ sym q

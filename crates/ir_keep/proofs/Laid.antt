@@ -7,118 +7,118 @@ use Rattle.ir_keep.specs.Store.{Page, Entry, blank, newer, laid, in_force, chang
 
 -- ---- an entry is dropped, and hands its pages on
 
-newer_first : (own given : Option Page) (old : Page) → newer (first_of own given) old ≡ newer own (newer given old)
-newer_first None given old = refl
-newer_first (Some page) given old = refl
+newer_of_first_of : (own given : Option Page) (old : Page) → newer (first_of own given) old ≡ newer own (newer given old)
+newer_of_first_of None given old = refl
+newer_of_first_of (Some page) given old = refl
 
 -- the newer entry's pages stay what they are
-pub laid_handed : (own given : List (Option Page)) (old : List Page) → length own ≡ length given → laid (handed own given) old ≡ laid own (laid given old)
-laid_handed [] given old same = refl
-laid_handed (x ∷ own) [] old same = absurd (omega (arith, same))
-laid_handed (x ∷ own) (y ∷ given) [] same = λ i. newer_first x y blank i ∷ laid_handed own given [] (omega (arith, same)) i
-laid_handed (x ∷ own) (y ∷ given) (q ∷ old) same = λ i. newer_first x y q i ∷ laid_handed own given old (omega (arith, same)) i
+pub laid_of_handed_pages : (own given : List (Option Page)) (old : List Page) → length own ≡ length given → laid (handed own given) old ≡ laid own (laid given old)
+laid_of_handed_pages [] given old same = refl
+laid_of_handed_pages (x ∷ own) [] old same = absurd (omega (arith, same))
+laid_of_handed_pages (x ∷ own) (y ∷ given) [] same = λ i. newer_of_first_of x y blank i ∷ laid_of_handed_pages own given [] (omega (arith, same)) i
+laid_of_handed_pages (x ∷ own) (y ∷ given) (q ∷ old) same = λ i. newer_of_first_of x y q i ∷ laid_of_handed_pages own given old (omega (arith, same)) i
 
-pub length-laid : (pages : List (Option Page)) (old : List Page) → length (laid pages old) ≡ length pages
-length-laid [] old = refl
-length-laid (x ∷ pages) [] = ap suc (length-laid pages [])
-length-laid (x ∷ pages) (q ∷ old) = ap suc (length-laid pages old)
+pub length_of_laid : (pages : List (Option Page)) (old : List Page) → length (laid pages old) ≡ length pages
+length_of_laid [] old = refl
+length_of_laid (x ∷ pages) [] = ap suc (length_of_laid pages [])
+length_of_laid (x ∷ pages) (q ∷ old) = ap suc (length_of_laid pages old)
 
-pub length-handed : (own given : List (Option Page)) → length (handed own given) ≡ length own
-length-handed [] given = refl
-length-handed (x ∷ own) [] = refl
-length-handed (x ∷ own) (y ∷ given) = ap suc (length-handed own given)
+pub length_of_handed : (own given : List (Option Page)) → length (handed own given) ≡ length own
+length_of_handed [] given = refl
+length_of_handed (x ∷ own) [] = refl
+length_of_handed (x ∷ own) (y ∷ given) = ap suc (length_of_handed own given)
 
 -- ---- an entry is made of what changed
 
-both_true : (a b : Bool) → (a && b) ≡ true → (a ≡ true) × (b ≡ true)
-both_true true b e = (refl, e)
-both_true false b e = cc e
+conjuncts_are_true : (a b : Bool) → (a && b) ≡ true → (a ≡ true) × (b ≡ true)
+conjuncts_are_true true b e = (refl, e)
+conjuncts_are_true false b e = cc e
 
-pub same_means : (a b : List ℕ) → same_bytes a b ≡ true → a ≡ b
-same_means [] [] e = refl
-same_means [] (y ∷ b) e = cc e
-same_means (x ∷ a) [] e = cc e
-same_means (x ∷ a) (y ∷ b) e =
-    let both : ((x == y) ≡ true) × (same_bytes a b ≡ true) = both_true (x == y) (same_bytes a b) e in
+pub same_bytes_are_equal : (a b : List ℕ) → same_bytes a b ≡ true → a ≡ b
+same_bytes_are_equal [] [] e = refl
+same_bytes_are_equal [] (y ∷ b) e = cc e
+same_bytes_are_equal (x ∷ a) [] e = cc e
+same_bytes_are_equal (x ∷ a) (y ∷ b) e =
+    let both : ((x == y) ≡ true) × (same_bytes a b ≡ true) = conjuncts_are_true (x == y) (same_bytes a b) e in
     let one : x ≡ y = grind (arith, nat_tests, both.0) in
-    λ i. one i ∷ same_means a b both.1 i
+    λ i. one i ∷ same_bytes_are_equal a b both.1 i
 
-changed_bytes : (n : ℕ) (bytes : List ℕ) (old : Page) (b : Bool) → same_bytes bytes old.bytes ≡ b → (newer (if b then None else Some (record { source = n; bytes = bytes })) old).bytes ≡ bytes
-changed_bytes n bytes old true e = sym (same_means bytes old.bytes e)
-changed_bytes n bytes old false e = refl
+bytes_of_newer_changed_page : (n : ℕ) (bytes : List ℕ) (old : Page) (b : Bool) → same_bytes bytes old.bytes ≡ b → (newer (if b then None else Some (record { source = n; bytes = bytes })) old).bytes ≡ bytes
+bytes_of_newer_changed_page n bytes old true e = sym (same_bytes_are_equal bytes old.bytes e)
+bytes_of_newer_changed_page n bytes old false e = refl
 
-changed_source : (n : ℕ) (bytes : List ℕ) (old : Page) (b : Bool) → (newer (if b then None else Some (record { source = n; bytes = bytes })) old).source ≡ (if b then old.source else n)
-changed_source n bytes old true = refl
-changed_source n bytes old false = refl
+source_of_newer_changed_page : (n : ℕ) (bytes : List ℕ) (old : Page) (b : Bool) → (newer (if b then None else Some (record { source = n; bytes = bytes })) old).source ≡ (if b then old.source else n)
+source_of_newer_changed_page n bytes old true = refl
+source_of_newer_changed_page n bytes old false = refl
 
 -- the pages of the new entry are those of the state
-pub changed_all : (n : ℕ) (news : List (List ℕ)) (old : List Page) → map (λ (p : Page). p.bytes) (laid (changed n news old) old) ≡ news
-changed_all n [] old = refl
-changed_all n (bytes ∷ news) [] = λ i. changed_bytes n bytes blank (same_bytes bytes []) refl i ∷ changed_all n news [] i
-changed_all n (bytes ∷ news) (q ∷ old) = λ i. changed_bytes n bytes q (same_bytes bytes q.bytes) refl i ∷ changed_all n news old i
+pub bytes_of_laid_changed_pages : (n : ℕ) (news : List (List ℕ)) (old : List Page) → map (λ (p : Page). p.bytes) (laid (changed n news old) old) ≡ news
+bytes_of_laid_changed_pages n [] old = refl
+bytes_of_laid_changed_pages n (bytes ∷ news) [] = λ i. bytes_of_newer_changed_page n bytes blank (same_bytes bytes []) refl i ∷ bytes_of_laid_changed_pages n news [] i
+bytes_of_laid_changed_pages n (bytes ∷ news) (q ∷ old) = λ i. bytes_of_newer_changed_page n bytes q (same_bytes bytes q.bytes) refl i ∷ bytes_of_laid_changed_pages n news old i
 
 -- and their sources are those of the rule
-pub changed_sources : (n : ℕ) (news : List (List ℕ)) (old : List Page) → length news ≡ length old
+pub sources_of_laid_changed_pages : (n : ℕ) (news : List (List ℕ)) (old : List Page) → length news ≡ length old
     → map (λ (p : Page). p.source) (laid (changed n news old) old) ≡ next_sources n news (map (λ (p : Page). p.bytes) old) (map (λ (p : Page). p.source) old)
-changed_sources n [] old same = refl
-changed_sources n (bytes ∷ news) [] same = absurd (omega (arith, same))
-changed_sources n (bytes ∷ news) (q ∷ old) same = λ i. changed_source n bytes q (same_bytes bytes q.bytes) i ∷ changed_sources n news old (omega (arith, same)) i
+sources_of_laid_changed_pages n [] old same = refl
+sources_of_laid_changed_pages n (bytes ∷ news) [] same = absurd (omega (arith, same))
+sources_of_laid_changed_pages n (bytes ∷ news) (q ∷ old) same = λ i. source_of_newer_changed_page n bytes q (same_bytes bytes q.bytes) i ∷ sources_of_laid_changed_pages n news old (omega (arith, same)) i
 
 -- ---- pages at a place
 
-pub laid_at : (pages : List (Option Page)) (old : List Page) (place : ℕ) → place < length pages → get_or (laid pages old) place blank ≡ newer (get_or pages place None) (get_or old place blank)
-laid_at [] old place lt = absurd (omega (arith, lt))
-laid_at (x ∷ pages) [] zero lt = refl
-laid_at (x ∷ pages) [] (suc place) lt = laid_at pages [] place (omega (arith, lt))
-laid_at (x ∷ pages) (q ∷ old) zero lt = refl
-laid_at (x ∷ pages) (q ∷ old) (suc place) lt = laid_at pages old place (omega (arith, lt))
+pub laid_page_at_place : (pages : List (Option Page)) (old : List Page) (place : ℕ) → place < length pages → get_or (laid pages old) place blank ≡ newer (get_or pages place None) (get_or old place blank)
+laid_page_at_place [] old place lt = absurd (omega (arith, lt))
+laid_page_at_place (x ∷ pages) [] zero lt = refl
+laid_page_at_place (x ∷ pages) [] (suc place) lt = laid_page_at_place pages [] place (omega (arith, lt))
+laid_page_at_place (x ∷ pages) (q ∷ old) zero lt = refl
+laid_page_at_place (x ∷ pages) (q ∷ old) (suc place) lt = laid_page_at_place pages old place (omega (arith, lt))
 
 -- the newest page at a place is the newest entry's own, or that of the older ones
-pub force_at : (entries : List Entry) (i place : ℕ) (d : Entry) → i < length entries → place < length (get_or entries i d).pages
+pub page_in_force_at_place : (entries : List Entry) (i place : ℕ) (d : Entry) → i < length entries → place < length (get_or entries i d).pages
     → get_or (in_force (drop i entries)) place blank ≡ newer (get_or (get_or entries i d).pages place None) (get_or (in_force (drop (i + 1) entries)) place blank)
-force_at entries i place d lt below =
-    ap (λ es. get_or (in_force es) place blank) (drop_more entries i d lt) ∙ laid_at (get_or entries i d).pages (in_force (drop (i + 1) entries)) place below
+page_in_force_at_place entries i place d lt below =
+    ap (λ es. get_or (in_force es) place blank) (drop_more entries i d lt) ∙ laid_page_at_place (get_or entries i d).pages (in_force (drop (i + 1) entries)) place below
 
 -- an own page is found
-pub found : (entries : List Entry) (i place : ℕ) (d : Entry) (page : Page) → i < length entries → place < length (get_or entries i d).pages → get_or (get_or entries i d).pages place None ≡ Some page
+pub page_in_force_with_own_page : (entries : List Entry) (i place : ℕ) (d : Entry) (page : Page) → i < length entries → place < length (get_or entries i d).pages → get_or (get_or entries i d).pages place None ≡ Some page
     → get_or (in_force (drop i entries)) place blank ≡ page
-found entries i place d page lt below e = force_at entries i place d lt below ∙ ap (λ o. newer o (get_or (in_force (drop (i + 1) entries)) place blank)) e
+page_in_force_with_own_page entries i place d page lt below e = page_in_force_at_place entries i place d lt below ∙ ap (λ o. newer o (get_or (in_force (drop (i + 1) entries)) place blank)) e
 
-pub passed : (entries : List Entry) (i place : ℕ) (d : Entry) → i < length entries → place < length (get_or entries i d).pages → get_or (get_or entries i d).pages place None ≡ None
+pub page_in_force_without_own_page : (entries : List Entry) (i place : ℕ) (d : Entry) → i < length entries → place < length (get_or entries i d).pages → get_or (get_or entries i d).pages place None ≡ None
     → get_or (in_force (drop i entries)) place blank ≡ get_or (in_force (drop (i + 1) entries)) place blank
-passed entries i place d lt below e = force_at entries i place d lt below ∙ ap (λ o. newer o (get_or (in_force (drop (i + 1) entries)) place blank)) e
+page_in_force_without_own_page entries i place d lt below e = page_in_force_at_place entries i place d lt below ∙ ap (λ o. newer o (get_or (in_force (drop (i + 1) entries)) place blank)) e
 
-pub entry_at : (n : ℕ) (entries : List Entry) (k : ℕ) (d : Entry) → AreEntries n entries → k < length entries → IsEntry n (get_or entries k d)
-entry_at n [] k d are lt = absurd (omega (arith, lt))
-entry_at n (e ∷ entries) zero d are lt = are.0
-entry_at n (e ∷ entries) (suc k) d are lt = entry_at n entries k d are.1 (omega (arith, lt))
+pub entry_at_place_is_entry : (n : ℕ) (entries : List Entry) (k : ℕ) (d : Entry) → AreEntries n entries → k < length entries → IsEntry n (get_or entries k d)
+entry_at_place_is_entry n [] k d are lt = absurd (omega (arith, lt))
+entry_at_place_is_entry n (e ∷ entries) zero d are lt = are.0
+entry_at_place_is_entry n (e ∷ entries) (suc k) d are lt = entry_at_place_is_entry n entries k d are.1 (omega (arith, lt))
 
-pub below_all : (n place : ℕ) (entries : List Entry) → AreEntries n entries → place < 16 * n → (k : ℕ) (d : Entry) → k < length entries → place < length (get_or entries k d).pages
-below_all n place entries are lt k d in_list = omega (arith, (entry_at n entries k d are in_list).pages, lt)
+pub place_within_pages_of_each_entry : (n place : ℕ) (entries : List Entry) → AreEntries n entries → place < 16 * n → (k : ℕ) (d : Entry) → k < length entries → place < length (get_or entries k d).pages
+place_within_pages_of_each_entry n place entries are lt k d in_list = omega (arith, (entry_at_place_is_entry n entries k d are in_list).pages, lt)
 
 -- ---- one place further
 
-drop_none : {X : Type 0} (i : ℕ) → drop {A = X} i [] ≡ []
-drop_none zero = refl
-drop_none (suc i) = refl
+drop_of_empty : {X : Type 0} (i : ℕ) → drop {A = X} i [] ≡ []
+drop_of_empty zero = refl
+drop_of_empty (suc i) = refl
 
-pub changed_more : (n : ℕ) (news : List (List ℕ)) (old : List Page) (i : ℕ) → i < length news
+pub changed_of_drop_step : (n : ℕ) (news : List (List ℕ)) (old : List Page) (i : ℕ) → i < length news
     → changed n (drop i news) (drop i old) ≡ changed_page n (get_or news i []) (get_or old i blank) ∷ changed n (drop (suc i) news) (drop (suc i) old)
-changed_more n [] old i lt = absurd (omega (arith, lt))
-changed_more n (b ∷ news) [] zero lt = refl
-changed_more n (b ∷ news) (q ∷ old) zero lt = refl
-changed_more n (b ∷ news) [] (suc i) lt = ap (changed n (drop i news)) (sym (drop_none i)) ∙ changed_more n news [] i (omega (arith, lt))
-changed_more n (b ∷ news) (q ∷ old) (suc i) lt = changed_more n news old i (omega (arith, lt))
+changed_of_drop_step n [] old i lt = absurd (omega (arith, lt))
+changed_of_drop_step n (b ∷ news) [] zero lt = refl
+changed_of_drop_step n (b ∷ news) (q ∷ old) zero lt = refl
+changed_of_drop_step n (b ∷ news) [] (suc i) lt = ap (changed n (drop i news)) (sym (drop_of_empty i)) ∙ changed_of_drop_step n news [] i (omega (arith, lt))
+changed_of_drop_step n (b ∷ news) (q ∷ old) (suc i) lt = changed_of_drop_step n news old i (omega (arith, lt))
 
-pub handed_more : (own given : List (Option Page)) (i : ℕ) (d e : Option Page) → i < length own → i < length given
+pub handed_pages_step : (own given : List (Option Page)) (i : ℕ) (d e : Option Page) → i < length own → i < length given
     → take (suc i) (set own i (first_of (get_or own i d) (get_or given i e))) ++ handed (drop (suc i) (set own i (first_of (get_or own i d) (get_or given i e)))) (drop (suc i) (set given i None)) ≡ take i own ++ handed (drop i own) (drop i given)
-handed_more [] given i d e lt below = absurd (omega (arith, lt))
-handed_more (x ∷ own) [] i d e lt below = absurd (omega (arith, below))
-handed_more (x ∷ own) (y ∷ given) zero d e lt below = refl
-handed_more (x ∷ own) (y ∷ given) (suc i) d e lt below = ap (λ l. x ∷ l) (handed_more own given i d e (omega (arith, lt)) (omega (arith, below)))
+handed_pages_step [] given i d e lt below = absurd (omega (arith, lt))
+handed_pages_step (x ∷ own) [] i d e lt below = absurd (omega (arith, below))
+handed_pages_step (x ∷ own) (y ∷ given) zero d e lt below = refl
+handed_pages_step (x ∷ own) (y ∷ given) (suc i) d e lt below = ap (λ l. x ∷ l) (handed_pages_step own given i d e (omega (arith, lt)) (omega (arith, below)))
 
-pub handed_next : (own given : List (Option Page)) (i : ℕ) (d e x y : Option Page) → i < length own → i < length given → x ≡ first_of (get_or own i d) (get_or given i e) → y ≡ None
+pub handed_pages_step_by_values : (own given : List (Option Page)) (i : ℕ) (d e x y : Option Page) → i < length own → i < length given → x ≡ first_of (get_or own i d) (get_or given i e) → y ≡ None
     → take (i + 1) (set own i x) ++ handed (drop (i + 1) (set own i x)) (drop (i + 1) (set given i y)) ≡ take i own ++ handed (drop i own) (drop i given)
-handed_next own given i d e x y lt below mine none =
+handed_pages_step_by_values own given i d e x y lt below mine none =
     let one : i + 1 ≡ suc i = omega arith in
-    (λ j. take (one j) (set own i (mine j)) ++ handed (drop (one j) (set own i (mine j))) (drop (one j) (set given i (none j)))) ∙ handed_more own given i d e lt below
+    (λ j. take (one j) (set own i (mine j)) ++ handed (drop (one j) (set own i (mine j))) (drop (one j) (set given i (none j)))) ∙ handed_pages_step own given i d e lt below

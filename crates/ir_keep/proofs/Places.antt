@@ -3,22 +3,22 @@ use Rattle.std.proofs.Common.{◌≡◌, ◌*◌, ◌+◌, ◌-◌, ◌/◌, ◌
 use Rattle.std.proofs.lemmas.Bool.{cases_lt}
 use Rattle.std.proofs.lemmas.List.{get_or-append-add, get_or_append_left, append_assoc, length-append}
 use Rattle.ir_mach.specs.Pages.{page_of, pages_of}
-use Rattle.ir_mach.proofs.CallerLemmas.{from_at}
+use Rattle.ir_mach.proofs.CallerLemmas.{page_at_place_of_pages_from}
 use Rattle.ir_thread.specs.State as thread
 use Rattle.ir_keep.specs.Pages.{all_pages}
 use Rattle.ir_keep.specs.Store.{Page, blank, changed_page, changed}
-use Rattle.ir_keep.proofs.Laid.{changed_more}
+use Rattle.ir_keep.proofs.Laid.{changed_of_drop_step}
 
 -- the page of a thread at a place
-pub at_place : (threads : List thread.State) (place : ℕ) (d : thread.State) → place < 16 * length threads
+pub all_pages_at_place : (threads : List thread.ThreadState) (place : ℕ) (d : thread.ThreadState) → place < 16 * length threads
     → get_or (all_pages threads) place [] ≡ page_of (get_or threads (place / 16) d).core.memory (place % 16)
-at_place [] place d lt = absurd (omega (arith, lt))
-at_place (t ∷ threads) place d lt = elim (cases_lt place 16) [
+all_pages_at_place [] place d lt = absurd (omega (arith, lt))
+all_pages_at_place (t ∷ threads) place d lt = elim (cases_lt place 16) [
   | inl low ↦
       let first : place / 16 ≡ 0 = omega (arith, low) in
       let own : place % 16 ≡ 0 + place = omega (arith, low) in
       get_or_append_left (pages_of t.core.memory) (all_pages threads) [] place (omega (arith, low))
-      ∙ from_at t.core.memory 0 16 place [] low
+      ∙ page_at_place_of_pages_from t.core.memory 0 16 place [] low
       ∙ λ i. page_of (get_or (t ∷ threads) (sym first i) d).core.memory (sym own i)
   | inr high ↦
       let next : place / 16 ≡ suc ((place - 16) / 16) = omega (arith, high) in
@@ -26,40 +26,40 @@ at_place (t ∷ threads) place d lt = elim (cases_lt place 16) [
       let past : place ≡ 16 + (place - 16) = omega (arith, high) in
       ap (λ z. get_or (all_pages (t ∷ threads)) z []) past
       ∙ get_or-append-add (pages_of t.core.memory) (all_pages threads) (place - 16) []
-      ∙ at_place threads (place - 16) d (omega (arith, lt, high))
+      ∙ all_pages_at_place threads (place - 16) d (omega (arith, lt, high))
       ∙ λ i. page_of (get_or (t ∷ threads) (sym next i) d).core.memory (sym own i)
 ]
 
-pub length-all : (threads : List thread.State) → length (all_pages threads) ≡ 16 * length threads
-length-all [] = refl
-length-all (t ∷ threads) = omega (arith, length-append (pages_of t.core.memory) (all_pages threads), length-all threads)
+pub length_of_all_pages : (threads : List thread.ThreadState) → length (all_pages threads) ≡ 16 * length threads
+length_of_all_pages [] = refl
+length_of_all_pages (t ∷ threads) = omega (arith, length-append (pages_of t.core.memory) (all_pages threads), length_of_all_pages threads)
 
 -- what is left after the end
-drop_past : {X : Type 0} (xs : List X) (i : ℕ) → length xs ≤ i → drop i xs ≡ []
-drop_past [] zero le = refl
-drop_past [] (suc i) le = refl
-drop_past (x ∷ xs) zero le = absurd (omega (arith, le))
-drop_past (x ∷ xs) (suc i) le = drop_past xs i (omega (arith, le))
+drop_past_length_is_empty : {X : Type 0} (xs : List X) (i : ℕ) → length xs ≤ i → drop i xs ≡ []
+drop_past_length_is_empty [] zero le = refl
+drop_past_length_is_empty [] (suc i) le = refl
+drop_past_length_is_empty (x ∷ xs) zero le = absurd (omega (arith, le))
+drop_past_length_is_empty (x ∷ xs) (suc i) le = drop_past_length_is_empty xs i (omega (arith, le))
 
 -- one page more is compared
-pub pushed : (n : ℕ) (threads : List thread.State) (force : List Page) (place : ℕ) (d : thread.State) (pages new whole : List (Option Page)) (page : Option Page) (bytes old : List ℕ)
+pub compared_pages_step : (n : ℕ) (threads : List thread.ThreadState) (force : List Page) (place : ℕ) (d : thread.ThreadState) (pages new whole : List (Option Page)) (page : Option Page) (bytes old : List ℕ)
     → place < 16 * length threads → new ≡ pages ++ page ∷ [] → page ≡ changed_page n bytes (record { source = 0; bytes = old })
     → bytes ≡ page_of (get_or threads (place / 16) d).core.memory (place % 16) → old ≡ (get_or force place blank).bytes
     → pages ++ changed n (drop place (all_pages threads)) (drop place force) ≡ whole
     → new ++ changed n (drop (place + 1) (all_pages threads)) (drop (place + 1) force) ≡ whole
-pushed n threads force place d pages new whole page bytes old lt grown made read was e =
+compared_pages_step n threads force place d pages new whole page bytes old lt grown made read was e =
     let all = all_pages threads in
     let one : place + 1 ≡ suc place = omega arith in
-    let b : bytes ≡ get_or all place [] = read ∙ sym (at_place threads place d lt) in
+    let b : bytes ≡ get_or all place [] = read ∙ sym (all_pages_at_place threads place d lt) in
     let mine : page ≡ changed_page n (get_or all place []) (get_or force place blank) = made ∙ λ i. changed_page n (b i) (record { source = 0; bytes = was i }) in
     let rest = changed n (drop (suc place) all) (drop (suc place) force) in
     (λ i. grown i ++ changed n (drop (one i) all) (drop (one i) force))
     ∙ append_assoc pages (page ∷ []) rest
-    ∙ ap (λ l. pages ++ l) ((λ i. mine i ∷ rest) ∙ sym (changed_more n all force place (omega (arith, length-all threads, lt))))
+    ∙ ap (λ l. pages ++ l) ((λ i. mine i ∷ rest) ∙ sym (changed_of_drop_step n all force place (omega (arith, length_of_all_pages threads, lt))))
     ∙ e
 
-pub compared : (n : ℕ) (threads : List thread.State) (force : List Page) (place : ℕ) (pages whole : List (Option Page)) → 16 * length threads ≤ place
+pub compared_pages_at_end : (n : ℕ) (threads : List thread.ThreadState) (force : List Page) (place : ℕ) (pages whole : List (Option Page)) → 16 * length threads ≤ place
     → pages ++ changed n (drop place (all_pages threads)) (drop place force) ≡ whole → pages ≡ whole
-compared n threads force place pages whole le e =
+compared_pages_at_end n threads force place pages whole le e =
     let none : pages ++ [] ≡ pages = search rules in
-    sym none ∙ ap (λ l. pages ++ changed n l (drop place force)) (sym (drop_past (all_pages threads) place (omega (arith, length-all threads, le)))) ∙ e
+    sym none ∙ ap (λ l. pages ++ changed n l (drop place force)) (sym (drop_past_length_is_empty (all_pages threads) place (omega (arith, length_of_all_pages threads, le)))) ∙ e

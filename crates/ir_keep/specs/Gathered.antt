@@ -3,5 +3,5 @@ use Rattle.std.specs.Prelude.{◌≡◌, length}
 use Rattle.ir_mach.specs.Core.{memory_size}
 use Rattle.ir_thread.specs.State as thread
 
-abbrev pub HasMemory : thread.State → Type 0
+abbrev pub HasMemory : thread.ThreadState → Type 0
 HasMemory t = length t.core.memory ≡ memory_size

@@ -4,7 +4,7 @@ use Rattle.ir_mach.specs.Pages.{pages_of}
 use Rattle.ir_thread.specs.State as thread
 
 -- the bytes of all pages of all threads, by their places: a page's place is 16 times the number of its thread, and its own number
-abbrev pub all_pages : List thread.State → List (List ℕ)
+abbrev pub all_pages : List thread.ThreadState → List (List ℕ)
 all_pages threads = flat_map (λ t. pages_of t.core.memory) threads
 
 -- whether two pages have the same bytes

@@ -43,7 +43,7 @@ in_force [] = []
 in_force (entry ∷ older) = laid entry.pages (in_force older)
 
 -- threads of frames and of their pages, 16 each
-abbrev pub threads_of : List ThreadFrame → List Page → List thread.State
+abbrev pub threads_of : List ThreadFrame → List Page → List thread.ThreadState
 threads_of [] pages = []
 threads_of (frame ∷ frames) pages = thread_of frame (map (λ p. p.bytes) (take 16 pages)) ∷ threads_of frames (drop 16 pages)
 

@@ -125,7 +125,7 @@ impl Keeper {
     ///
     /// # Errors
     /// `Full` where 64 are kept beside the start, and else `NoMem` where memory runs out; nothing changes then.
-    #[tactic(auto, using(crate::proofs::Calls::length_kept))]
+    #[tactic(auto, using(crate::proofs::Calls::length_of_all_kept))]
     pub fn keep(&mut self, state: &State) -> Result<u32, KeepErr>
         requires threads { IsLike state.now self.old }
         requires numbers { self.old.last < 4294967295 }

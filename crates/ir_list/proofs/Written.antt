@@ -5,7 +5,7 @@ use Rattle.std.proofs.lemmas.List.{at_drop_more, at_drop_all}
 use Rattle.std.specs.Io.KnownBytes.{Appends}
 use Rattle.std.proofs.KnownBytes.{Appends-nil, Appends-trans}
 use Rattle.ir_stream.specs.Answers.{AppendsPrefix}
-use Rattle.ir_stream.proofs.CallerLemmas.{prefix_after, prefix_longer}
+use Rattle.ir_stream.proofs.CallerLemmas.{prefix_after_whole_text, prefix_of_longer_text}
 use Rattle.ir_list.specs.Listing.{lines_from}
 
 -- a first part of the text was written, and the rest is left
@@ -21,53 +21,53 @@ nothing_written a text = record { part = []; grown = Appends-nil a; joined = ref
 abbrev pub lines_left : (ℕ → ℕ → List ℕ) → ℕ → List ℕ → List ℕ
 lines_left lines n xs = lines_from lines n (drop n xs)
 
-next_lines : (lines : ℕ → ℕ → List ℕ) (n : ℕ) (xs : List ℕ) → n < length xs
+lines_left_step : (lines : ℕ → ℕ → List ℕ) (n : ℕ) (xs : List ℕ) → n < length xs
     → lines_left lines n xs ≡ lines n (get_or xs n 0) ++ lines_left lines (n + 1) xs
 unfolding lines_from
-next_lines lines n xs some = at_drop_more (lines_from lines n) xs n 0 some
+lines_left_step lines n xs some = at_drop_more (lines_from lines n) xs n 0 some
 
 -- one element's lines more
-pub more_written : (lines : ℕ → ℕ → List ℕ) (a b c : Option (List ℕ)) (n : ℕ) (xs bytes text : List ℕ) → n < length xs
+pub written_after_lines : (lines : ℕ → ℕ → List ℕ) (a b c : Option (List ℕ)) (n : ℕ) (xs bytes text : List ℕ) → n < length xs
     → bytes ≡ lines n (get_or xs n 0) → Written a b (lines_left lines n xs) text → Appends b c bytes
     → Written a c (lines_left lines (n + 1) xs) text
-more_written lines a b c n xs bytes text some same w done =
+written_after_lines lines a b c n xs bytes text some same w done =
     let here : List ℕ = lines n (get_or xs n 0) in
     record {
       part = w.part ++ here;
       grown = Appends-trans a b c w.part here w.grown (subst (Appends b c) same done);
       joined = append_assoc w.part here (lines_left lines (n + 1) xs)
-          ∙ ap (λ (l : List ℕ). w.part ++ l) (sym (next_lines lines n xs some)) ∙ w.joined;
+          ∙ ap (λ (l : List ℕ). w.part ++ l) (sym (lines_left_step lines n xs some)) ∙ w.joined;
     }
 
 -- a prefix of one element's lines more
-pub less_written : (lines : ℕ → ℕ → List ℕ) (a b c : Option (List ℕ)) (n : ℕ) (xs bytes text : List ℕ) → n < length xs
+pub prefix_written_in_lines : (lines : ℕ → ℕ → List ℕ) (a b c : Option (List ℕ)) (n : ℕ) (xs bytes text : List ℕ) → n < length xs
     → bytes ≡ lines n (get_or xs n 0) → Written a b (lines_left lines n xs) text → AppendsPrefix b c bytes → AppendsPrefix a c text
-less_written lines a b c n xs bytes text some same w begun =
+prefix_written_in_lines lines a b c n xs bytes text some same w begun =
     let here : List ℕ = lines n (get_or xs n 0) in
     subst (AppendsPrefix a c) (append_assoc w.part here (lines_left lines (n + 1) xs)
-    ∙ ap (λ (l : List ℕ). w.part ++ l) (sym (next_lines lines n xs some)) ∙ w.joined)
-    (prefix_longer a c (w.part ++ here) (lines_left lines (n + 1) xs)
-    (prefix_after a b c w.part here w.grown (subst (AppendsPrefix b c) same begun)))
+    ∙ ap (λ (l : List ℕ). w.part ++ l) (sym (lines_left_step lines n xs some)) ∙ w.joined)
+    (prefix_of_longer_text a c (w.part ++ here) (lines_left lines (n + 1) xs)
+    (prefix_after_whole_text a b c w.part here w.grown (subst (AppendsPrefix b c) same begun)))
 
 -- nothing more
-pub part_written : (a b : Option (List ℕ)) (rest text : List ℕ) → Written a b rest text → AppendsPrefix a b text
-part_written a b rest text w = record { part = w.part; more = rest; splits = sym w.joined; grown = w.grown }
+pub written_part_is_prefix : (a b : Option (List ℕ)) (rest text : List ℕ) → Written a b rest text → AppendsPrefix a b text
+written_part_is_prefix a b rest text w = record { part = w.part; more = rest; splits = sym w.joined; grown = w.grown }
 
 -- all lines
-pub all_written : (lines : ℕ → ℕ → List ℕ) (a b : Option (List ℕ)) (n : ℕ) (xs text : List ℕ) → length xs ≤ n
+pub written_whole_at_end : (lines : ℕ → ℕ → List ℕ) (a b : Option (List ℕ)) (n : ℕ) (xs text : List ℕ) → length xs ≤ n
     → Written a b (lines_left lines n xs) text → Appends a b text
 unfolding lines_from
-all_written lines a b n xs text none w =
+written_whole_at_end lines a b n xs text none w =
     subst (Appends a b) (sym (append-nil w.part)
     ∙ ap (λ (l : List ℕ). w.part ++ l) (sym (at_drop_all (lines_from lines n) xs n none)) ∙ w.joined) w.grown
 
 -- what holds, holds at an error
-pub on_err : {A E P : Type 0} (result : Result A E) → P → OnErr result P
-on_err (Ok x) h = tt
-on_err (Err e) h = h
+pub on_err_if_holds : {A E P : Type 0} (result : Result A E) → P → OnErr result P
+on_err_if_holds (Ok x) h = tt
+on_err_if_holds (Err e) h = h
 
 -- the second text after the first, if there was an error in it
-pub after_first : {A E : Type 0} (result : Result A E) (a b c : Option (List ℕ)) (first rest : List ℕ) → Appends a b first
+pub appends_prefix_after_whole_text : {A E : Type 0} (result : Result A E) (a b c : Option (List ℕ)) (first rest : List ℕ) → Appends a b first
     → OnErr result (AppendsPrefix b c rest) → OnErr result (AppendsPrefix a c (first ++ rest))
-after_first (Ok x) a b c first rest done h = tt
-after_first (Err e) a b c first rest done h = prefix_after a b c first rest done h
+appends_prefix_after_whole_text (Ok x) a b c first rest done h = tt
+appends_prefix_after_whole_text (Err e) a b c first rest done h = prefix_after_whole_text a b c first rest done h

@@ -158,7 +158,7 @@ impl Mach {
     }
 
     /// The value of register x0 to x31.
-    #[tactic(auto, using(crate::proofs::Lists::read_below))]
+    #[tactic(auto, using(crate::proofs::Lists::read_of_first_elements))]
     pub fn reg(&self, n: u8) -> u32
         requires { n < 32 }
         ensures value { result ≡ register self.now n }
@@ -214,7 +214,7 @@ impl Mach {
 
     // Carries out operations, at most `limit`, as long as none is unusual, and says how many, and whether it stopped because
     // a system call comes next.
-    #[tactic(auto, using(crate::proofs::Runs::unmarked_none))]
+    #[tactic(auto, using(crate::proofs::Runs::unmarked_after_zero_steps))]
     #[inline(never)]
     pub(crate) fn run_usual(&mut self, operations: &[Operation], limit: u64) -> (u64, bool)
         ensures within { result.0 ≤ limit }
@@ -237,7 +237,7 @@ impl Mach {
     }
 
     /// Goes past a system call: pc to the next word, and the answer, if there is one, into a0.
-    #[tactic(auto, using(crate::proofs::Lists::set_below))]
+    #[tactic(auto, using(crate::proofs::Lists::set_of_first_elements))]
     pub fn pass_call(&mut self, answer: Option<u32>)
         ensures { self.new ≡ past_call self.old answer }
     {
@@ -247,7 +247,7 @@ impl Mach {
         self.pc = self.pc.wrapping_add(4);
     }
 
-    #[tactic(auto, using(crate::proofs::Lists::set_below))]
+    #[tactic(auto, using(crate::proofs::Lists::set_of_first_elements))]
     fn apply(&mut self, effect: Effect) -> Ran
         requires { IsPossible effect }
         ensures { IsStep (applied effect self.old) self.old result self.new }

@@ -3,9 +3,9 @@
 ghost use Rattle.std.specs.Prelude.{◌≡◌, ◌≤◌, ◌<◌, ◌+◌, ◌%◌, ◌^◌, length};
 ghost use Rattle.ir_isa.specs.Fields.{sign_extended};
 ghost use Rattle.ir_mach.specs.Arithmetic.{low_32};
-ghost use Rattle.ir_image.specs.Guest.{word_at};
+ghost use Rattle.ir_image.specs.Guest.{word_at_pc};
 ghost use Rattle.ir_mach.specs.Core.{memory_start, memory_size};
-ghost use Rattle.ir_mach.specs.Memory.{number_at, extended, loaded, overwritten, store_width};
+ghost use Rattle.ir_mach.specs.Memory.{memory_number, extended, loaded, overwritten, store_width};
 ghost use Rattle.ir_mach.specs.Effects.{offset_in_memory};
 
 use byteorder::{ByteOrder, LittleEndian};
@@ -25,7 +25,7 @@ pub fn memory_offset(width: u32, address: u32) -> Option<usize>
 
 // The word of the code in which an address lies.
 fn code_word(code: &Code, address: u32) -> Option<u32>
-    ensures { result ≡ word_at code.now address }
+    ensures { result ≡ word_at_pc code.now address }
 {
     if address < CODE_START {
         return None;
@@ -38,7 +38,7 @@ fn code_word(code: &Code, address: u32) -> Option<u32>
 // The number that one byte at an address encodes, or two or four of them in the functions below, from private memory or the code.
 fn byte(code: &Code, memory: &[u8], address: u32) -> Option<u32>
     requires { length memory.now ≡ memory_size }
-    ensures { result ≡ number_at code.now memory.now 1 address }
+    ensures { result ≡ memory_number code.now memory.now 1 address }
 {
     match memory_offset(1, address) {
         Some(offset) => Some(memory[offset] as u32),
@@ -49,7 +49,7 @@ fn byte(code: &Code, memory: &[u8], address: u32) -> Option<u32>
 fn half(code: &Code, memory: &[u8], address: u32) -> Option<u32>
     requires size { length memory.now ≡ memory_size }
     requires even { address % 2 ≡ 0 }
-    ensures { result ≡ number_at code.now memory.now 2 address }
+    ensures { result ≡ memory_number code.now memory.now 2 address }
 {
     match memory_offset(2, address) {
         Some(offset) => Some(LittleEndian::read_u16(&memory[offset..]) as u32),
@@ -61,7 +61,7 @@ fn half(code: &Code, memory: &[u8], address: u32) -> Option<u32>
 fn word(code: &Code, memory: &[u8], address: u32) -> Option<u32>
     requires size { length memory.now ≡ memory_size }
     requires aligned { address % 4 ≡ 0 }
-    ensures { result ≡ number_at code.now memory.now 4 address }
+    ensures { result ≡ memory_number code.now memory.now 4 address }
 {
     match memory_offset(4, address) {
         Some(offset) => Some(LittleEndian::read_u32(&memory[offset..])),

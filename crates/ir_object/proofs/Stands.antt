@@ -10,59 +10,59 @@ use Rattle.ir_object.specs.declared.fields.Fields.{Fields}
 use Rattle.ir_object.specs.Cell.{Cell, one_if_reading, is_writing, readers, has_writer, Counts}
 use Rattle.ir_object.specs.Standing.{Admitted, CanLeave, StandsFor, WordsStand}
 use Rattle.ir_object.specs.Word.{entered, left_by}
-use Rattle.ir_runs.proofs.CallerLemmas.{upd_same, upd_other, upd_elim}
+use Rattle.ir_runs.proofs.CallerLemmas.{upd_at_own_place, upd_at_other_place, upd_by_cases}
 
-or_false : (a b : Bool) → (a || b) ≡ false → (a ≡ false) × (b ≡ false)
-or_false false b e = (refl, e)
-or_false true b e = absurd (cc e)
+disjuncts_are_false : (a b : Bool) → (a || b) ≡ false → (a ≡ false) × (b ≡ false)
+disjuncts_are_false false b e = (refl, e)
+disjuncts_are_false true b e = absurd (cc e)
 
-or_right : (a b : Bool) → b ≡ true → (a || b) ≡ true
-or_right true b e = refl
-or_right false b e = e
+or_true_from_right : (a b : Bool) → b ≡ true → (a || b) ≡ true
+or_true_from_right true b e = refl
+or_true_from_right false b e = e
 
-or_left : (a b : Bool) → a ≡ true → (a || b) ≡ true
-or_left true b e = refl
-or_left false b e = absurd (cc e)
+or_true_from_left : (a b : Bool) → a ≡ true → (a || b) ≡ true
+or_true_from_left true b e = refl
+or_true_from_left false b e = absurd (cc e)
 
-both_false : (a b : Bool) → a ≡ false → b ≡ false → (a || b) ≡ false
-both_false false b e f = f
-both_false true b e f = absurd (cc e)
+disjunction_of_false : (a b : Bool) → a ≡ false → b ≡ false → (a || b) ≡ false
+disjunction_of_false false b e f = f
+disjunction_of_false true b e f = absurd (cc e)
 
 -- a change past the first n isn't counted
-readers_past : (n : ℕ) (f : ℕ → Option Access) (t : ℕ) (x : Option Access) → n ≤ t → readers n (upd f t x) ≡ readers n f
-readers_past zero f t x l = refl
-readers_past (suc n) f t x l =
-    let here : one_if_reading (upd f t x n) ≡ one_if_reading (f n) = ap one_if_reading (upd_other f t n x (λ e. omega (arith, e, l))) in
-    let rest = readers_past n f t x (omega arith) in
+readers_after_change_past_count : (n : ℕ) (f : ℕ → Option Access) (t : ℕ) (x : Option Access) → n ≤ t → readers n (upd f t x) ≡ readers n f
+readers_after_change_past_count zero f t x l = refl
+readers_after_change_past_count (suc n) f t x l =
+    let here : one_if_reading (upd f t x n) ≡ one_if_reading (f n) = ap one_if_reading (upd_at_other_place f t n x (λ e. omega (arith, e, l))) in
+    let rest = readers_after_change_past_count n f t x (omega arith) in
     omega (arith, here, rest)
 
 -- one thread changed
-pub readers_upd : (n : ℕ) (f : ℕ → Option Access) (t : ℕ) (x : Option Access) → t < n
+pub readers_after_change : (n : ℕ) (f : ℕ → Option Access) (t : ℕ) (x : Option Access) → t < n
     → readers n (upd f t x) + one_if_reading (f t) ≡ readers n f + one_if_reading x
-readers_upd zero f t x l = absurd (omega arith)
-readers_upd (suc n) f t x l = elim (cases_eq n t) [
+readers_after_change zero f t x l = absurd (omega arith)
+readers_after_change (suc n) f t x l = elim (cases_eq n t) [
   | inl e ↦
-      let here : one_if_reading (upd f t x n) ≡ one_if_reading x = ap one_if_reading (ap (upd f t x) e ∙ upd_same f t x) in
+      let here : one_if_reading (upd f t x n) ≡ one_if_reading x = ap one_if_reading (ap (upd f t x) e ∙ upd_at_own_place f t x) in
       let was : one_if_reading (f n) ≡ one_if_reading (f t) = ap (λ z. one_if_reading (f z)) e in
-      let rest = readers_past n f t x (omega (arith, e)) in
+      let rest = readers_after_change_past_count n f t x (omega (arith, e)) in
       omega (arith, here, was, rest)
   | inr ne ↦
-      let here : one_if_reading (upd f t x n) ≡ one_if_reading (f n) = ap one_if_reading (upd_other f t n x ne) in
-      let rest = readers_upd n f t x (omega (arith, ne, l)) in
+      let here : one_if_reading (upd f t x n) ≡ one_if_reading (f n) = ap one_if_reading (upd_at_other_place f t n x ne) in
+      let rest = readers_after_change n f t x (omega (arith, ne, l)) in
       omega (arith, here, rest)
 ]
 
-pub nobody_reads : (n : ℕ) (f : ℕ → Option Access) → readers n f ≡ 0 → (t : ℕ) → t < n → f t ≢ Some Reading
-nobody_reads zero f e t l = absurd (omega arith)
-nobody_reads (suc n) f e t l = elim (cases_eq t n) [
+pub nobody_reads_if_no_readers : (n : ℕ) (f : ℕ → Option Access) → readers n f ≡ 0 → (t : ℕ) → t < n → f t ≢ Some Reading
+nobody_reads_if_no_readers zero f e t l = absurd (omega arith)
+nobody_reads_if_no_readers (suc n) f e t l = elim (cases_eq t n) [
   | inl same ↦ λ h. let one : one_if_reading (f n) ≡ 1 = ap one_if_reading (ap f (sym same) ∙ h) in omega (arith, one, e)
-  | inr ne ↦ nobody_reads n f (omega arith) t (omega (arith, ne, l))
+  | inr ne ↦ nobody_reads_if_no_readers n f (omega arith) t (omega (arith, ne, l))
 ]
 
-pub none_read : (n : ℕ) (f : ℕ → Option Access) → ((t : ℕ) → t < n → f t ≢ Some Reading) → readers n f ≡ 0
-none_read zero f h = refl
-none_read (suc n) f h =
-    let rest = none_read n f (λ t l. h t (omega arith)) in
+pub no_readers_if_nobody_reads : (n : ℕ) (f : ℕ → Option Access) → ((t : ℕ) → t < n → f t ≢ Some Reading) → readers n f ≡ 0
+no_readers_if_nobody_reads zero f h = refl
+no_readers_if_nobody_reads (suc n) f h =
+    let rest = no_readers_if_nobody_reads n f (λ t l. h t (omega arith)) in
     let here : one_if_reading (f n) ≡ 0 = by (f n) (h n (omega arith)) in
     omega (arith, here, rest)
   where
@@ -71,129 +71,129 @@ none_read (suc n) f h =
     by (Some Reading) g = absurd (g refl)
     by (Some Writing) g = refl
 
-reads_one : (n : ℕ) (f : ℕ → Option Access) (t : ℕ) → t < n → f t ≡ Some Reading → 0 < readers n f
-reads_one n f t l e = elim (cases_eq (readers n f) 0) [ inl z ↦ absurd (nobody_reads n f z t l e) | inr ne ↦ omega arith ]
+readers_positive_if_reader : (n : ℕ) (f : ℕ → Option Access) (t : ℕ) → t < n → f t ≡ Some Reading → 0 < readers n f
+readers_positive_if_reader n f t l e = elim (cases_eq (readers n f) 0) [ inl z ↦ absurd (nobody_reads_if_no_readers n f z t l e) | inr ne ↦ omega arith ]
 
-pub nobody_writes : (n : ℕ) (f : ℕ → Option Access) → has_writer n f ≡ false → (t : ℕ) → t < n → f t ≢ Some Writing
-nobody_writes zero f e t l = absurd (omega arith)
-nobody_writes (suc n) f e t l = elim (cases_eq t n) [
+pub nobody_writes_if_no_writer : (n : ℕ) (f : ℕ → Option Access) → has_writer n f ≡ false → (t : ℕ) → t < n → f t ≢ Some Writing
+nobody_writes_if_no_writer zero f e t l = absurd (omega arith)
+nobody_writes_if_no_writer (suc n) f e t l = elim (cases_eq t n) [
   | inl same ↦ λ h. let one : is_writing (f n) ≡ true = ap is_writing (ap f (sym same) ∙ h) in
-      cc (one, (or_false (has_writer n f) (is_writing (f n)) e).1)
-  | inr ne ↦ nobody_writes n f (or_false _ _ e).0 t (omega (arith, ne, l))
+      cc (one, (disjuncts_are_false (has_writer n f) (is_writing (f n)) e).1)
+  | inr ne ↦ nobody_writes_if_no_writer n f (disjuncts_are_false _ _ e).0 t (omega (arith, ne, l))
 ]
 
-pub none_write : (n : ℕ) (f : ℕ → Option Access) → ((t : ℕ) → t < n → f t ≢ Some Writing) → has_writer n f ≡ false
-none_write zero f h = refl
-none_write (suc n) f h = both_false _ _ (none_write n f (λ t l. h t (omega arith))) (by (f n) (h n (omega arith)))
+pub no_writer_if_nobody_writes : (n : ℕ) (f : ℕ → Option Access) → ((t : ℕ) → t < n → f t ≢ Some Writing) → has_writer n f ≡ false
+no_writer_if_nobody_writes zero f h = refl
+no_writer_if_nobody_writes (suc n) f h = disjunction_of_false _ _ (no_writer_if_nobody_writes n f (λ t l. h t (omega arith))) (by (f n) (h n (omega arith)))
   where
     by : (x : Option Access) → x ≢ Some Writing → is_writing x ≡ false
     by None g = refl
     by (Some Reading) g = refl
     by (Some Writing) g = absurd (g refl)
 
-pub one_writes : (n : ℕ) (f : ℕ → Option Access) (t : ℕ) → t < n → f t ≡ Some Writing → has_writer n f ≡ true
-one_writes zero f t l e = absurd (omega arith)
-one_writes (suc n) f t l e = elim (cases_eq t n) [
-  | inl same ↦ or_right _ _ (ap is_writing (ap f (sym same) ∙ e))
-  | inr ne ↦ or_left _ _ (one_writes n f t (omega (arith, ne, l)) e)
+pub has_writer_if_writer : (n : ℕ) (f : ℕ → Option Access) (t : ℕ) → t < n → f t ≡ Some Writing → has_writer n f ≡ true
+has_writer_if_writer zero f t l e = absurd (omega arith)
+has_writer_if_writer (suc n) f t l e = elim (cases_eq t n) [
+  | inl same ↦ or_true_from_right _ _ (ap is_writing (ap f (sym same) ∙ e))
+  | inr ne ↦ or_true_from_left _ _ (has_writer_if_writer n f t (omega (arith, ne, l)) e)
 ]
 
 -- a change that puts no writer in and takes none out
-pub writer_upd : (n : ℕ) (f : ℕ → Option Access) (t : ℕ) (x : Option Access) → is_writing x ≡ is_writing (f t)
+pub has_writer_after_equal_change : (n : ℕ) (f : ℕ → Option Access) (t : ℕ) (x : Option Access) → is_writing x ≡ is_writing (f t)
     → has_writer n (upd f t x) ≡ has_writer n f
-writer_upd zero f t x e = refl
-writer_upd (suc n) f t x e =
-    ap (λ a. a || is_writing (upd f t x n)) (writer_upd n f t x e) ∙ ap (λ b. has_writer n f || b)
-    (upd_elim f t x n (λ y. is_writing y ≡ is_writing (f n)) (λ same. e ∙ ap (λ z. is_writing (f z)) (sym same)) (λ _. refl))
+has_writer_after_equal_change zero f t x e = refl
+has_writer_after_equal_change (suc n) f t x e =
+    ap (λ a. a || is_writing (upd f t x n)) (has_writer_after_equal_change n f t x e) ∙ ap (λ b. has_writer n f || b)
+    (upd_by_cases f t x n (λ y. is_writing y ≡ is_writing (f n)) (λ same. e ∙ ap (λ z. is_writing (f z)) (sym same)) (λ _. refl))
 
-others_upd : (n : ℕ) (f : ℕ → Option Access) (t : ℕ) (x : Option Access) → t < n → ((u : ℕ) → n ≤ u → f u ≡ None) → (u : ℕ) → n ≤ u
+others_outside_after_change : (n : ℕ) (f : ℕ → Option Access) (t : ℕ) (x : Option Access) → t < n → ((u : ℕ) → n ≤ u → f u ≡ None) → (u : ℕ) → n ≤ u
     → upd f t x u ≡ None
-others_upd n f t x l h u g = upd_other f t u x (λ e. omega (arith, e, l, g)) ∙ h u g
+others_outside_after_change n f t x l h u g = upd_at_other_place f t u x (λ e. omega (arith, e, l, g)) ∙ h u g
 
 -- a reader may enter where no writer is inside
-pub admits_reader : (n : ℕ) (f : Fields) (inside : ℕ → Option Access) → Counts n f inside → Admitted Reading f → (u : ℕ)
+pub no_writer_if_reader_admitted : (n : ℕ) (f : Fields) (inside : ℕ → Option Access) → Counts n f inside → Admitted Reading f → (u : ℕ)
     → inside u ≢ Some Writing
-admits_reader n f inside c e u = elim (cases_lt u n)
-    [ inl l ↦ nobody_writes n inside (sym c.writer ∙ e) u l | inr g ↦ λ h. cc (h, c.others u g) ]
+no_writer_if_reader_admitted n f inside c e u = elim (cases_lt u n)
+    [ inl l ↦ nobody_writes_if_no_writer n inside (sym c.writer ∙ e) u l | inr g ↦ λ h. cc (h, c.others u g) ]
 
-pub reader_admitted : (n : ℕ) (f : Fields) (inside : ℕ → Option Access) → Counts n f inside → ((u : ℕ) → inside u ≢ Some Writing)
+pub reader_admitted_if_no_writer : (n : ℕ) (f : Fields) (inside : ℕ → Option Access) → Counts n f inside → ((u : ℕ) → inside u ≢ Some Writing)
     → Admitted Reading f
-reader_admitted n f inside c h = c.writer ∙ none_write n inside (λ t l. h t)
+reader_admitted_if_no_writer n f inside c h = c.writer ∙ no_writer_if_nobody_writes n inside (λ t l. h t)
 
-neither : (x : Option Access) → x ≢ Some Reading → x ≢ Some Writing → x ≡ None
-neither None a b = refl
-neither (Some Reading) a b = absurd (a refl)
-neither (Some Writing) a b = absurd (b refl)
+none_if_neither_access : (x : Option Access) → x ≢ Some Reading → x ≢ Some Writing → x ≡ None
+none_if_neither_access None a b = refl
+none_if_neither_access (Some Reading) a b = absurd (a refl)
+none_if_neither_access (Some Writing) a b = absurd (b refl)
 
 -- a writer may enter if no thread is inside
-pub admits_writer : (n : ℕ) (f : Fields) (inside : ℕ → Option Access) → Counts n f inside → Admitted Writing f → (u : ℕ) → inside u ≡ None
-admits_writer n f inside c e u = elim (cases_lt u n) [
-  | inl l ↦ neither (inside u) (nobody_reads n inside (sym c.readers ∙ e.1) u l) (nobody_writes n inside (sym c.writer ∙ e.0) u l)
+pub nobody_inside_if_writer_admitted : (n : ℕ) (f : Fields) (inside : ℕ → Option Access) → Counts n f inside → Admitted Writing f → (u : ℕ) → inside u ≡ None
+nobody_inside_if_writer_admitted n f inside c e u = elim (cases_lt u n) [
+  | inl l ↦ none_if_neither_access (inside u) (nobody_reads_if_no_readers n inside (sym c.readers ∙ e.1) u l) (nobody_writes_if_no_writer n inside (sym c.writer ∙ e.0) u l)
   | inr g ↦ c.others u g
 ]
 
-pub writer_admitted : (n : ℕ) (f : Fields) (inside : ℕ → Option Access) → Counts n f inside → ((u : ℕ) → inside u ≡ None)
+pub writer_admitted_if_nobody_inside : (n : ℕ) (f : Fields) (inside : ℕ → Option Access) → Counts n f inside → ((u : ℕ) → inside u ≡ None)
     → Admitted Writing f
-writer_admitted n f inside c h = (
-  c.writer ∙ none_write n inside (λ t l e. cc (h t, e)),
+writer_admitted_if_nobody_inside n f inside c h = (
+  c.writer ∙ no_writer_if_nobody_writes n inside (λ t l e. cc (h t, e)),
   c.readers
-      ∙ none_read n inside (λ t l e. cc (h t, e)),
+      ∙ no_readers_if_nobody_reads n inside (λ t l e. cc (h t, e)),
 )
 
 -- a thread that isn't inside enters
-pub entry_counts : (n : ℕ) (f : Fields) (inside : ℕ → Option Access) (t : ℕ) (a : Access) → t < n → inside t ≡ None → Counts n f inside
+pub counts_after_entry : (n : ℕ) (f : Fields) (inside : ℕ → Option Access) (t : ℕ) (a : Access) → t < n → inside t ≡ None → Counts n f inside
     → Counts n (entered a f) (upd inside t (Some a))
-entry_counts n f inside t Reading l e c = record {
+counts_after_entry n f inside t Reading l e c = record {
   readers =
       let was : one_if_reading (inside t) ≡ 0 = ap one_if_reading e in
-      let sums = readers_upd n inside t (Some Reading) l in
+      let sums = readers_after_change n inside t (Some Reading) l in
       let counted = c.readers in
       omega (arith, was, sums, counted);
-  writer = c.writer ∙ sym (writer_upd n inside t (Some Reading) (sym (ap is_writing e)));
-  others = others_upd n inside t (Some Reading) l c.others;
+  writer = c.writer ∙ sym (has_writer_after_equal_change n inside t (Some Reading) (sym (ap is_writing e)));
+  others = others_outside_after_change n inside t (Some Reading) l c.others;
 }
-entry_counts n f inside t Writing l e c = record {
+counts_after_entry n f inside t Writing l e c = record {
   readers =
       let was : one_if_reading (inside t) ≡ 0 = ap one_if_reading e in
-      let sums = readers_upd n inside t (Some Writing) l in
+      let sums = readers_after_change n inside t (Some Writing) l in
       let counted = c.readers in
       omega (arith, was, sums, counted);
-  writer = sym (one_writes n (upd inside t (Some Writing)) t l (upd_same inside t (Some Writing)));
-  others = others_upd n inside t (Some Writing) l c.others;
+  writer = sym (has_writer_if_writer n (upd inside t (Some Writing)) t l (upd_at_own_place inside t (Some Writing)));
+  others = others_outside_after_change n inside t (Some Writing) l c.others;
 }
 
 -- whoever is inside may leave
-pub can_leave : (n : ℕ) (f : Fields) (inside : ℕ → Option Access) (t : ℕ) (a : Access) → t < n → inside t ≡ Some a → Counts n f inside
+pub inside_thread_can_leave : (n : ℕ) (f : Fields) (inside : ℕ → Option Access) (t : ℕ) (a : Access) → t < n → inside t ≡ Some a → Counts n f inside
     → CanLeave a f
-can_leave n f inside t Reading l e c = let some = reads_one n inside t l e in let counted = c.readers in omega (arith, some, counted)
-can_leave n f inside t Writing l e c = c.writer ∙ one_writes n inside t l e
+inside_thread_can_leave n f inside t Reading l e c = let some = readers_positive_if_reader n inside t l e in let counted = c.readers in omega (arith, some, counted)
+inside_thread_can_leave n f inside t Writing l e c = c.writer ∙ has_writer_if_writer n inside t l e
 
 -- a thread that is inside leaves; a writer is alone inside
-pub leave_counts : (n : ℕ) (f : Fields) (inside : ℕ → Option Access) (t : ℕ) (a : Access) → t < n → inside t ≡ Some a
+pub counts_after_leave : (n : ℕ) (f : Fields) (inside : ℕ → Option Access) (t : ℕ) (a : Access) → t < n → inside t ≡ Some a
     → (a ≡ Writing → (u : ℕ) → u ≢ t → inside u ≡ None) → Counts n f inside → Counts n (left_by a f) (upd inside t None)
-leave_counts n f inside t Reading l e alone c = record {
+counts_after_leave n f inside t Reading l e alone c = record {
   readers =
       let was : one_if_reading (inside t) ≡ 1 = ap one_if_reading e in
-      let sums = readers_upd n inside t None l in
+      let sums = readers_after_change n inside t None l in
       let counted = c.readers in
       omega (arith, was, sums, counted);
-  writer = c.writer ∙ sym (writer_upd n inside t None (sym (ap is_writing e)));
-  others = others_upd n inside t None l c.others;
+  writer = c.writer ∙ sym (has_writer_after_equal_change n inside t None (sym (ap is_writing e)));
+  others = others_outside_after_change n inside t None l c.others;
 }
-leave_counts n f inside t Writing l e alone c = record {
-  readers = sym (none_read n (upd inside t None) (λ u _ h. cc (nobody u, h)));
-  writer = sym (none_write n (upd inside t None) (λ u _ h. cc (nobody u, h)));
-  others = others_upd n inside t None l c.others;
+counts_after_leave n f inside t Writing l e alone c = record {
+  readers = sym (no_readers_if_nobody_reads n (upd inside t None) (λ u _ h. cc (nobody u, h)));
+  writer = sym (no_writer_if_nobody_writes n (upd inside t None) (λ u _ h. cc (nobody u, h)));
+  others = others_outside_after_change n inside t None l c.others;
 }
   where
     nobody : (u : ℕ) → upd inside t None u ≡ None
-    nobody u = upd_elim inside t None u (λ x. x ≡ None) (λ _. refl) (λ ne. alone refl u ne)
+    nobody u = upd_by_cases inside t None u (λ x. x ≡ None) (λ _. refl) (λ ne. alone refl u ne)
 
-pub stands : WordsStand
-stands = record {
-  reads = λ n f inside c. (admits_reader n f inside c, reader_admitted n f inside c);
-  writes = λ n f inside c. (admits_writer n f inside c, writer_admitted n f inside c);
-  leaves = λ n f inside t a l e c. can_leave n f inside t a l e c;
+pub words_stand : WordsStand
+words_stand = record {
+  reads = λ n f inside c. (no_writer_if_reader_admitted n f inside c, reader_admitted_if_no_writer n f inside c);
+  writes = λ n f inside c. (nobody_inside_if_writer_admitted n f inside c, writer_admitted_if_nobody_inside n f inside c);
+  leaves = λ n f inside t a l e c. inside_thread_can_leave n f inside t a l e c;
   entry = entries;
   exit = exits;
   store = stores;
@@ -205,14 +205,14 @@ stands = record {
       version = s.version;
       left = s.left;
       inside =
-          entry_counts n c.fields b.inside t Reading l e s.inside;
+          counts_after_entry n c.fields b.inside t Reading l e s.inside;
       words = s.words;
     }
     entries n c b t Writing v l e s = record {
       version = s.version;
       left = s.left;
       inside =
-          entry_counts n c.fields b.inside t Writing l e s.inside;
+          counts_after_entry n c.fields b.inside t Writing l e s.inside;
       words = s.words;
     }
 
@@ -223,14 +223,14 @@ stands = record {
       version = s.version;
       left = let was = s.left in omega (arith, was);
       inside =
-          leave_counts n c.fields b.inside t Reading l e alone s.inside;
+          counts_after_leave n c.fields b.inside t Reading l e alone s.inside;
       words = s.words;
     }
     exits n c b t Writing l e alone s = record {
       version = let was = s.version in omega (arith, was);
       left = refl;
       inside =
-          leave_counts n c.fields b.inside t Writing l e alone s.inside;
+          counts_after_leave n c.fields b.inside t Writing l e alone s.inside;
       words = s.words;
     }
 
@@ -242,7 +242,7 @@ stands = record {
       inside = s.inside;
       words = λ j k. elim (cases_eq j i) [
         | inl e ↦ subst (λ z. slice_index (slice_set c.words i v) z ≡ upd b.words i v z) (sym e)
-            (get_or-set_same c.words i v 0 (omega (arith, count, l)) ∙ sym (upd_same b.words i v))
-        | inr ne ↦ get_or-set_other c.words i j v 0 ne ∙ s.words j k ∙ sym (upd_other b.words i j v ne)
+            (get_or-set_same c.words i v 0 (omega (arith, count, l)) ∙ sym (upd_at_own_place b.words i v))
+        | inr ne ↦ get_or-set_other c.words i j v 0 ne ∙ s.words j k ∙ sym (upd_at_other_place b.words i j v ne)
       ];
     }

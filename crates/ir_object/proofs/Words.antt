@@ -7,14 +7,14 @@ use Rattle.ir_object.specs.Word.{reader_unit, left_unit, version_unit, inside_li
 use Rattle.ir_object.specs.declared.fields.Fields.{Fields}
 
 -- no writer is inside
-even : (w : ℕ) → (fields_of w).writer ≡ false → w % reader_unit ≡ 0
-even w off = elim (cases_eq (w % 2) 1) [ inl is ↦ absurd (cc (sym (eq-eqb (w % 2) 1 is) ∙ off)) | inr ne ↦ omega (arith, ne) ]
+word_without_writer_is_even : (w : ℕ) → (fields_of w).writer ≡ false → w % reader_unit ≡ 0
+word_without_writer_is_even w off = elim (cases_eq (w % 2) 1) [ inl is ↦ absurd (cc (sym (eq-eqb (w % 2) 1 is) ∙ off)) | inr ne ↦ omega (arith, ne) ]
 
 -- a reader enters, with room for one more
-pub read_entry_word : (w : ℕ) → Admitted Reading (fields_of w) → (fields_of w).inside + 1 < inside_limit
+pub fields_after_reader_entry : (w : ℕ) → Admitted Reading (fields_of w) → (fields_of w).inside + 1 < inside_limit
     → fields_of (w + reader_unit) ≡ entered Reading (fields_of w)
-read_entry_word w free room =
-    let e = even w free in
+fields_after_reader_entry w free room =
+    let e = word_without_writer_is_even w free in
     let version : (w + reader_unit) / version_unit ≡ w / version_unit = omega (arith, e, room) in
     let left : (w + reader_unit) / left_unit % left_limit ≡ w / left_unit % left_limit = omega (arith, e, room) in
     let inside : (w + reader_unit) / reader_unit % inside_limit ≡ w / reader_unit % inside_limit + 1 = omega (arith, e, room) in
@@ -22,9 +22,9 @@ read_entry_word w free room =
     λ i. record { version = version i; left = left i; inside = inside i; writer = writer i == 1 }
 
 -- a writer enters
-pub write_entry_word : (w : ℕ) → Admitted Writing (fields_of w) → fields_of (w + 1) ≡ entered Writing (fields_of w)
-write_entry_word w free =
-    let e = even w free.0 in
+pub fields_after_writer_entry : (w : ℕ) → Admitted Writing (fields_of w) → fields_of (w + 1) ≡ entered Writing (fields_of w)
+fields_after_writer_entry w free =
+    let e = word_without_writer_is_even w free.0 in
     let none = free.1 in
     let version : (w + 1) / version_unit ≡ w / version_unit = omega (arith, e, none) in
     let left : (w + 1) / left_unit % left_limit ≡ w / left_unit % left_limit = omega (arith, e, none) in
@@ -33,9 +33,9 @@ write_entry_word w free =
     λ i. record { version = version i; left = left i; inside = inside i; writer = writer i == 1 }
 
 -- a reader who is inside leaves, with room for one more that has left; the sum doesn't pass 64 bits
-pub read_leave_word : (w : ℕ) → 0 < (fields_of w).inside → (fields_of w).left + 1 < left_limit → (fields_of w).version < 2 ^ 31
+pub fields_after_reader_leave : (w : ℕ) → 0 < (fields_of w).inside → (fields_of w).left + 1 < left_limit → (fields_of w).version < 2 ^ 31
     → fields_of ((w + reader_leaves) % 2 ^ 64) ≡ left_by Reading (fields_of w)
-read_leave_word w inside_one room small =
+fields_after_reader_leave w inside_one room small =
     let version : (w + reader_leaves) % 2 ^ 64 / version_unit ≡ w / version_unit = omega (arith, small, room, inside_one) in
     let left : (w + reader_leaves) % 2 ^ 64 / left_unit % left_limit ≡ w / left_unit % left_limit + 1 = omega
     (arith, small, room, inside_one) in
@@ -45,9 +45,9 @@ read_leave_word w inside_one room small =
     λ i. record { version = version i; left = left i; inside = inside i; writer = writer i == 1 }
 
 -- the same of any word of 64 bits
-pub reader_left_word : (w : ℕ) → w < 2 ^ 64 → 0 < (fields_of w).inside → (fields_of w).left + 1 < left_limit
+pub fields_after_reader_leave_of_word : (w : ℕ) → w < 2 ^ 64 → 0 < (fields_of w).inside → (fields_of w).left + 1 < left_limit
     → (w + reader_leaves < 2 ^ 64) × (fields_of (w + reader_leaves) ≡ left_by Reading (fields_of w))
-reader_left_word w fits inside_one room =
+fields_after_reader_leave_of_word w fits inside_one room =
     let below : w + reader_leaves < 2 ^ 64 = omega (arith, fits, room, inside_one) in
     let version : (w + reader_leaves) / version_unit ≡ w / version_unit = omega (arith, room, inside_one) in
     let left : (w + reader_leaves) / left_unit % left_limit ≡ w / left_unit % left_limit + 1 = omega (arith, room, inside_one) in
@@ -56,8 +56,8 @@ reader_left_word w fits inside_one room =
     (below, λ i. record { version = version i; left = left i; inside = inside i; writer = writer i == 1 })
 
 -- the next version alone, which a writer leaves
-pub version_word : (v : ℕ) (f : Fields) → f.version ≡ v → fields_of ((v + 1) * version_unit) ≡ left_by Writing f
-version_word v f is =
+pub fields_after_writer_leave : (v : ℕ) (f : Fields) → f.version ≡ v → fields_of ((v + 1) * version_unit) ≡ left_by Writing f
+fields_after_writer_leave v f is =
     let version : (v + 1) * version_unit / version_unit ≡ f.version + 1 = omega (arith, is) in
     let left : (v + 1) * version_unit / left_unit % left_limit ≡ 0 = omega arith in
     let inside : (v + 1) * version_unit / reader_unit % inside_limit ≡ 0 = omega arith in

@@ -93,7 +93,7 @@ impl Object {
     }
 
     /// A thread enters.
-    #[tactic(auto, using(crate::proofs::Words::read_entry_word, crate::proofs::Words::write_entry_word))]
+    #[tactic(auto, using(crate::proofs::Words::fields_after_reader_entry, crate::proofs::Words::fields_after_writer_entry))]
     pub fn enter(&mut self, access: Access)
         requires admitted { Admitted access self.old.fields }
         requires fits { IsFields (entered access self.old.fields) }
@@ -106,7 +106,7 @@ impl Object {
     }
 
     /// A thread that is inside leaves.
-    #[tactic(auto, using(crate::proofs::Words::reader_left_word, crate::proofs::Words::version_word))]
+    #[tactic(auto, using(crate::proofs::Words::fields_after_reader_leave_of_word, crate::proofs::Words::fields_after_writer_leave))]
     pub fn leave(&mut self, access: Access)
         requires inside { CanLeave access self.old.fields }
         requires fits { IsFields (left_by access self.old.fields) }

@@ -2,7 +2,7 @@
 use Rattle.std.proofs.Common.{◌≡◌, ℕ, eqb, List, ◌∷◌, length, ap, ◌∙◌}
 use Rattle.std.proofs.Math.Path.{fun_ext}
 use Rattle.ir_runs.specs.Machine.{Act, Machine, target, emitted, Label, Trace}
-use Rattle.ir_runs.specs.Run.{State, Step, act, after, moved, end, join_if, trail, events}
+use Rattle.ir_runs.specs.Run.{State, Step, act, after, after_act, end, join_if, trail, events}
 use Rattle.ir_order.specs.OneRun.{acts, AreSame}
 
 -- what a run's first steps fix
@@ -13,10 +13,10 @@ pub record Alike {T : Type 0} (m : Machine T) (s : State T) (a b : List Step) : 
 
 -- the state after this act of thread t
 abbrev pub acted_by : {T : Type 0} → Machine T → State T → ℕ → Act → State T
-acted_by m s t q = moved m s t (s.now t) q
+acted_by m s t q = after_act m s t (s.now t) q
 
-pub alike_equal : {T : Type 0} (m : Machine T) (s : State T) (a b : List Step) → a ≡ b → Alike m s a b
-alike_equal m s a b e = record { steps = ap (acts m s) e; trails = λ t. ap (λ z. trail m s z t) e; ends = ap (end m s) e }
+pub alike_if_equal : {T : Type 0} (m : Machine T) (s : State T) (a b : List Step) → a ≡ b → Alike m s a b
+alike_if_equal m s a b e = record { steps = ap (acts m s) e; trails = λ t. ap (λ z. trail m s z t) e; ends = ap (end m s) e }
 
 -- a step with the same act before both
 pub alike_step : {T : Type 0} (m : Machine T) (s : State T) (t r w : ℕ) (a b : List Step) → act m s (t, r) ≡ act m s (t, w)
@@ -33,8 +33,8 @@ alike_step {T} m s t r w a b p h = record {
 abbrev pub trace_by : {T : Type 0} → Machine T → (ℕ → List (T × Label)) → State T → Trace
 trace_by m trails last = record { steps = λ t. length (trails t); logs = λ t. events (trails t); ends = λ t. m.ended (last.now t) }
 
-pub same_by : {T : Type 0} (m : Machine T) (s : State T) (a b : List Step) → Alike m s a b → AreSame m s a b
-same_by {T} m s a b h = record {
+pub same_runs_if_alike : {T : Type 0} (m : Machine T) (s : State T) (a b : List Step) → Alike m s a b → AreSame m s a b
+same_runs_if_alike {T} m s a b h = record {
   steps = h.steps;
   trails = h.trails;
   traces = ap (λ (z : ℕ → List (T × Label)). trace_by m z (end m s a)) (fun_ext h.trails) ∙ ap (trace_by m (trail m s b)) h.ends;

@@ -2,6 +2,6 @@
 -- the run by an order is one
 pub use Rattle.ir_order.proofs.OneRun.{one_run_by_order}
 -- a recording with a list is of the run by it, and one; a recording in turns is of the run by their order
-pub use Rattle.ir_order.proofs.Recorded.{recordings_of_run, one_recording, of_turns}
+pub use Rattle.ir_order.proofs.Recorded.{recordings_are_of_the_run, one_recording_by_list, recording_in_turns_is_of_run}
 -- a complete run has a step
-pub use Rattle.ir_order.proofs.Complete.{complete_runs}
+pub use Rattle.ir_order.proofs.Complete.{complete_runs_have_steps}

@@ -3,7 +3,7 @@ use Rattle.std.proofs.Common.{◌≡◌, ◌<◌, ℕ, zero, suc, List, ◌∷�
 use Rattle.ir_runs.specs.Machine.{Ask, Private, Env, Enter, Try, Leave, Get, Put, Done, Act, act_of, Silent, Result, Entry, Refusal, Exit, Load, Store, Never, Machine, upd, Object, target, Admits, emitted, Label, logged}
 use Rattle.ir_runs.specs.declared.access.Access.TheVariants.{Reading, Writing}
 use Rattle.ir_runs.specs.Run.{State, Step, act, after, events, log}
-use Rattle.ir_runs.proofs.CallerLemmas.{upd_elim, trail_same, trail_other}
+use Rattle.ir_runs.proofs.CallerLemmas.{upd_by_cases, trail_of_cons_own_thread, trail_of_cons_other_thread}
 use Rattle.ir_record.specs.Worlds.{answers_in}
 use Rattle.ir_sources.specs.Sources.{Source, given, Gave}
 
@@ -33,63 +33,63 @@ left_by Never s = s
 abbrev pub HasGiven : Source → List Label → Type 0
 HasGiven s es = (left : Source) × Gave s (answers_in es) left
 
-pub given_next : (q : Act) (b : Object) (es : List Label) (s : Source) → HasGiven s (logged (emitted q b) es)
+pub has_given_step : (q : Act) (b : Object) (es : List Label) (s : Source) → HasGiven s (logged (emitted q b) es)
     → Takes q s × HasGiven (left_by q s) es
-given_next Silent b es s h = (tt, h)
-given_next (Result k v) b es s h = (h.1.0, (h.0, h.1.1))
-given_next (Entry o Reading v) b es s h = (tt, h)
-given_next (Entry o Writing v) b es s h = (tt, h)
-given_next (Refusal o) b es s h = (tt, h)
-given_next (Exit o a) b es s h = (tt, h)
-given_next (Load o i) b es s h = (tt, h)
-given_next (Store o i w) b es s h = (tt, h)
-given_next Never b es s h = (tt, h)
+has_given_step Silent b es s h = (tt, h)
+has_given_step (Result k v) b es s h = (h.1.0, (h.0, h.1.1))
+has_given_step (Entry o Reading v) b es s h = (tt, h)
+has_given_step (Entry o Writing v) b es s h = (tt, h)
+has_given_step (Refusal o) b es s h = (tt, h)
+has_given_step (Exit o a) b es s h = (tt, h)
+has_given_step (Load o i) b es s h = (tt, h)
+has_given_step (Store o i w) b es s h = (tt, h)
+has_given_step Never b es s h = (tt, h)
 
 -- each of n threads was answered from what is left to it
 abbrev pub AreGiven : {T : Type 0} → Machine T → State T → ℕ → (ℕ → Source) → List Step → Type 0
 AreGiven m s n sources run = (t : ℕ) → t < n → HasGiven (sources t) (log m s run t)
 
-own_next : {T : Type 0} (m : Machine T) (s : State T) (e : Step) (run : List Step) (source : Source) → HasGiven source (log m s (e ∷ run) e.0)
+own_log_has_given_step : {T : Type 0} (m : Machine T) (s : State T) (e : Step) (run : List Step) (source : Source) → HasGiven source (log m s (e ∷ run) e.0)
     → Takes (act m s e) source × HasGiven (left_by (act m s e) source) (log m (after m s e) run e.0)
-own_next m s e run source h =
-    given_next (act m s e) (s.objects (target (act m s e))) (log m (after m s e) run e.0) source
-    (subst (HasGiven source) (ap events (trail_same m s e run)) h)
+own_log_has_given_step m s e run source h =
+    has_given_step (act m s e) (s.objects (target (act m s e))) (log m (after m s e) run e.0) source
+    (subst (HasGiven source) (ap events (trail_of_cons_own_thread m s e run)) h)
 
 -- a step's act has the answer that comes next
-pub step_takes : {T : Type 0} (m : Machine T) (s : State T) (n : ℕ) (sources : ℕ → Source) (e : Step) (run : List Step)
+pub step_takes_next_answer : {T : Type 0} (m : Machine T) (s : State T) (n : ℕ) (sources : ℕ → Source) (e : Step) (run : List Step)
     → AreGiven m s n sources (e ∷ run) → e.0 < n → Takes (act m s e) (sources e.0)
-step_takes m s n sources e run h l = (own_next m s e run (sources e.0) (h e.0 l)).0
+step_takes_next_answer m s n sources e run h l = (own_log_has_given_step m s e run (sources e.0) (h e.0 l)).0
 
 -- and what is left after it answers the others
-pub step_leaves : {T : Type 0} (m : Machine T) (s : State T) (n : ℕ) (sources : ℕ → Source) (e : Step) (run : List Step)
+pub given_after_step : {T : Type 0} (m : Machine T) (s : State T) (n : ℕ) (sources : ℕ → Source) (e : Step) (run : List Step)
     → AreGiven m s n sources (e ∷ run) → AreGiven m (after m s e) n (upd sources e.0 (left_by (act m s e) (sources e.0))) run
-step_leaves m s n sources e run h t l =
-    upd_elim sources e.0 (left_by (act m s e) (sources e.0)) t (λ source. HasGiven source (log m (after m s e) run t))
+given_after_step m s n sources e run h t l =
+    upd_by_cases sources e.0 (left_by (act m s e) (sources e.0)) t (λ source. HasGiven source (log m (after m s e) run t))
     (λ same. subst (λ u. HasGiven (left_by (act m s e) (sources e.0)) (log m (after m s e) run u)) (sym same)
-    (own_next m s e run (sources e.0) (h e.0 (subst (λ u. u < n) same l))).1)
-    (λ other. subst (HasGiven (sources t)) (ap events (trail_other m s e run t other)) (h t l))
+    (own_log_has_given_step m s e run (sources e.0) (h e.0 (subst (λ u. u < n) same l))).1)
+    (λ other. subst (HasGiven (sources t)) (ap events (trail_of_cons_other_thread m s e run t other)) (h t l))
 
 -- ---- there is one act of a thread
 
 -- a try enters if it can
-abbrev pub Enters : {T : Type 0} → Machine T → (ℕ → Object) → Ask → ℕ → Type 0
-Enters m objects q r = (o : ℕ) → q ≡ Try o → Admits m (act_of q 1) (objects (target (act_of q 1))) → r ≡ 1
+abbrev pub EntersIfItCan : {T : Type 0} → Machine T → (ℕ → Object) → Ask → ℕ → Type 0
+EntersIfItCan m objects q r = (o : ℕ) → q ≡ Try o → Admits m (act_of q 1) (objects (target (act_of q 1))) → r ≡ 1
 
-pub one_act : {T : Type 0} (m : Machine T) (objects : ℕ → Object) (source : Source) (q : Ask) (r w : ℕ)
+pub act_taken_from_source_is_unique : {T : Type 0} (m : Machine T) (objects : ℕ → Object) (source : Source) (q : Ask) (r w : ℕ)
     → Admits m (act_of q r) (objects (target (act_of q r))) → Admits m (act_of q w) (objects (target (act_of q w)))
-    → Enters m objects q r → Enters m objects q w → Takes (act_of q r) source → Takes (act_of q w) source
+    → EntersIfItCan m objects q r → EntersIfItCan m objects q w → Takes (act_of q r) source → Takes (act_of q w) source
     → act_of q r ≡ act_of q w
-one_act m objects source Private r w can can' enters enters' takes takes' = refl
-one_act m objects source (Env k) r w can can' enters enters' takes takes' = ap (Result k) (takes ∙ sym takes')
-one_act m objects source (Enter o a) r w can can' enters enters' takes takes' = refl
-one_act m objects source (Try o) zero zero can can' enters enters' takes takes' = refl
-one_act m objects source (Try o) zero (suc zero) can can' enters enters' takes takes' = absurd (cc (enters o refl can'))
-one_act m objects source (Try o) zero (suc (suc w)) can can' enters enters' takes takes' = absurd can'
-one_act m objects source (Try o) (suc zero) zero can can' enters enters' takes takes' = absurd (cc (enters' o refl can))
-one_act m objects source (Try o) (suc zero) (suc zero) can can' enters enters' takes takes' = refl
-one_act m objects source (Try o) (suc zero) (suc (suc w)) can can' enters enters' takes takes' = absurd can'
-one_act m objects source (Try o) (suc (suc r)) w can can' enters enters' takes takes' = absurd can
-one_act m objects source (Leave o a) r w can can' enters enters' takes takes' = refl
-one_act m objects source (Get o i) r w can can' enters enters' takes takes' = refl
-one_act m objects source (Put o i v) r w can can' enters enters' takes takes' = refl
-one_act m objects source Done r w can can' enters enters' takes takes' = absurd can
+act_taken_from_source_is_unique m objects source Private r w can can' enters enters' takes takes' = refl
+act_taken_from_source_is_unique m objects source (Env k) r w can can' enters enters' takes takes' = ap (Result k) (takes ∙ sym takes')
+act_taken_from_source_is_unique m objects source (Enter o a) r w can can' enters enters' takes takes' = refl
+act_taken_from_source_is_unique m objects source (Try o) zero zero can can' enters enters' takes takes' = refl
+act_taken_from_source_is_unique m objects source (Try o) zero (suc zero) can can' enters enters' takes takes' = absurd (cc (enters o refl can'))
+act_taken_from_source_is_unique m objects source (Try o) zero (suc (suc w)) can can' enters enters' takes takes' = absurd can'
+act_taken_from_source_is_unique m objects source (Try o) (suc zero) zero can can' enters enters' takes takes' = absurd (cc (enters' o refl can))
+act_taken_from_source_is_unique m objects source (Try o) (suc zero) (suc zero) can can' enters enters' takes takes' = refl
+act_taken_from_source_is_unique m objects source (Try o) (suc zero) (suc (suc w)) can can' enters enters' takes takes' = absurd can'
+act_taken_from_source_is_unique m objects source (Try o) (suc (suc r)) w can can' enters enters' takes takes' = absurd can
+act_taken_from_source_is_unique m objects source (Leave o a) r w can can' enters enters' takes takes' = refl
+act_taken_from_source_is_unique m objects source (Get o i) r w can can' enters enters' takes takes' = refl
+act_taken_from_source_is_unique m objects source (Put o i v) r w can can' enters enters' takes takes' = refl
+act_taken_from_source_is_unique m objects source Done r w can can' enters enters' takes takes' = absurd can

@@ -6,106 +6,106 @@ use Rattle.ir_runs.specs.Machine.{Act, act_of, Machine, upd, target, Admits}
 use Rattle.ir_runs.specs.Run.{State, Step, asked, act, after, end, log, IsDone}
 use Rattle.ir_runs.specs.Bounds.{IsIdle}
 use Rattle.ir_runs.specs.InOrder.{InTurn, rounds, IsByOrder}
-use Rattle.ir_runs.proofs.CallerLemmas.{below_idle}
+use Rattle.ir_runs.proofs.CallerLemmas.{step_below_idle_keeps_idle}
 use Rattle.ir_flat.specs.Flat.{start_flat, tables, machine}
-use Rattle.ir_flat.proofs.CallerLemmas.{start_idle}
+use Rattle.ir_flat.proofs.CallerLemmas.{guest_start_is_idle}
 use Rattle.ir_record.specs.Worlds.{answers_in}
 use Rattle.ir_sources.specs.Sources.{MadeWith, Source, source, from_sources, Gave}
 use Rattle.ir_order.specs.OneRun.{AreSame, AreAnswered, OneRunByAnOrder}
-use Rattle.ir_order.proofs.Given.{left_by, AreGiven, step_takes, step_leaves, one_act}
-use Rattle.ir_order.proofs.Alike.{Alike, acted_by, alike_equal, alike_step, same_by}
+use Rattle.ir_order.proofs.Given.{left_by, AreGiven, step_takes_next_answer, given_after_step, act_taken_from_source_is_unique}
+use Rattle.ir_order.proofs.Alike.{Alike, acted_by, alike_if_equal, alike_step, same_runs_if_alike}
 
 -- where all threads are done, no order has a step
-none_left : {T : Type 0} (m : Machine T) (s : State T) (order : List ℕ) (run : List Step) → IsDone m s → InTurn m s order run → run ≡ []
-none_left m s [] run done h = h
-none_left m s (t ∷ order) run done (inl none) = none_left m s order run done none.1
-none_left m s (t ∷ order) run done (inr some) =
+no_turn_taken_if_done : {T : Type 0} (m : Machine T) (s : State T) (order : List ℕ) (run : List Step) → IsDone m s → InTurn m s order run → run ≡ []
+no_turn_taken_if_done m s [] run done h = h
+no_turn_taken_if_done m s (t ∷ order) run done (inl none) = no_turn_taken_if_done m s order run done none.1
+no_turn_taken_if_done m s (t ∷ order) run done (inr some) =
     absurd (subst (λ q. Admits m (act_of q some.0) (s.objects (target (act_of q some.0)))) (done t) some.3)
 
 -- what two turns of one thread leave to the turns after them
-after_both : {T : Type 0} (m : Machine T) (s : State T) (n : ℕ) (sources : ℕ → Source) (t r w : ℕ) (order : List ℕ) (run : List Step)
+turns_after_equal_acts : {T : Type 0} (m : Machine T) (s : State T) (n : ℕ) (sources : ℕ → Source) (t r w : ℕ) (order : List ℕ) (run : List Step)
     → act m s (t, r) ≡ act m s (t, w) → InTurn m (after m s (t, w)) order run
     → AreGiven m s n sources ((t, w) ∷ run)
     → InTurn m (after m s (t, r)) order run
     × AreGiven m (after m s (t, r)) n (upd sources t (left_by (act m s (t, r)) (sources t))) run
 unfolding after
-after_both m s n sources t r w order run p turns gives = (
+turns_after_equal_acts m s n sources t r w order run p turns gives = (
   subst (λ (q : Act). InTurn m (acted_by m s t q) order run) (sym p) turns,
   subst (λ (q : Act). AreGiven m (acted_by m s t q) n (upd sources t (left_by q (sources t))) run) (sym p)
-      (step_leaves m s n sources (t, w) run gives),
+      (given_after_step m s n sources (t, w) run gives),
 )
 
 -- where a run by turns ends with all threads done, each run by these turns and more is the same
-alike : {T : Type 0} (m : Machine T) (n : ℕ) (more : List ℕ) (order : List ℕ) (s : State T) (sources : ℕ → Source) (a b : List Step) → IsIdle m s n
+runs_by_extended_order_alike : {T : Type 0} (m : Machine T) (n : ℕ) (more : List ℕ) (order : List ℕ) (s : State T) (sources : ℕ → Source) (a b : List Step) → IsIdle m s n
     → InTurn m s order a → IsDone m (end m s a) → InTurn m s (order ++ more) b → AreGiven m s n sources a → AreGiven m s n sources b
     → Alike m s a b
 unfolding after
-alike m n more [] s sources a b idle turns done turns' gives gives' = alike_equal m s a b
-    (turns ∙ sym (none_left m s more b (subst (λ z. IsDone m (end m s z)) turns done) turns'))
-alike m n more (t ∷ order) s sources a b idle (inl none) done (inl none') gives gives' =
-    alike m n more order s sources a b idle none.1 done none'.1 gives gives'
-alike m n more (t ∷ order) s sources a b idle (inl none) done (inr some') gives gives' = absurd (none.0 some'.0 some'.3)
-alike m n more (t ∷ order) s sources a b idle (inr some) done (inl none') gives gives' = absurd (none'.0 some.0 some.3)
-alike m n more (t ∷ order) s sources a b idle (inr some) done (inr some') gives gives' =
+runs_by_extended_order_alike m n more [] s sources a b idle turns done turns' gives gives' = alike_if_equal m s a b
+    (turns ∙ sym (no_turn_taken_if_done m s more b (subst (λ z. IsDone m (end m s z)) turns done) turns'))
+runs_by_extended_order_alike m n more (t ∷ order) s sources a b idle (inl none) done (inl none') gives gives' =
+    runs_by_extended_order_alike m n more order s sources a b idle none.1 done none'.1 gives gives'
+runs_by_extended_order_alike m n more (t ∷ order) s sources a b idle (inl none) done (inr some') gives gives' = absurd (none.0 some'.0 some'.3)
+runs_by_extended_order_alike m n more (t ∷ order) s sources a b idle (inr some) done (inl none') gives gives' = absurd (none'.0 some.0 some.3)
+runs_by_extended_order_alike m n more (t ∷ order) s sources a b idle (inr some) done (inr some') gives gives' =
     let r : ℕ = some.0 in
     let w : ℕ = some'.0 in
-    let below = below_idle m s n idle (t, r) some.3 in
+    let below = step_below_idle_keeps_idle m s n idle (t, r) some.3 in
     let given_a : AreGiven m s n sources ((t, r) ∷ some.1) = subst (AreGiven m s n sources) some.2 gives in
     let given_b : AreGiven m s n sources ((t, w) ∷ some'.1) = subst (AreGiven m s n sources) some'.2 gives' in
-    let p : act m s (t, r) ≡ act m s (t, w) = one_act m s.objects (sources t) (asked m s t) r w some.3 some'.3 some.4 some'.4
-    (step_takes m s n sources (t, r) some.1 given_a below.0) (step_takes m s n sources (t, w) some'.1 given_b below.0) in
-    let rest = after_both m s n sources t r w (order ++ more) some'.1 p some'.5 given_b in
+    let p : act m s (t, r) ≡ act m s (t, w) = act_taken_from_source_is_unique m s.objects (sources t) (asked m s t) r w some.3 some'.3 some.4 some'.4
+    (step_takes_next_answer m s n sources (t, r) some.1 given_a below.0) (step_takes_next_answer m s n sources (t, w) some'.1 given_b below.0) in
+    let rest = turns_after_equal_acts m s n sources t r w (order ++ more) some'.1 p some'.5 given_b in
     let h : Alike m s ((t, r) ∷ some.1) ((t, w) ∷ some'.1) = alike_step m s t r w some.1 some'.1 p
-    (alike m n more order (after m s (t, r)) (upd sources t (left_by (act m s (t, r)) (sources t))) some.1 some'.1 below.1 some.5
-    (subst (λ z. IsDone m (end m s z)) some.2 done) rest.0 (step_leaves m s n sources (t, r) some.1 given_a) rest.1) in
+    (runs_by_extended_order_alike m n more order (after m s (t, r)) (upd sources t (left_by (act m s (t, r)) (sources t))) some.1 some'.1 below.1 some.5
+    (subst (λ z. IsDone m (end m s z)) some.2 done) rest.0 (given_after_step m s n sources (t, r) some.1 given_a) rest.1) in
     subst (λ z. Alike m s z b) (sym some.2) (subst (Alike m s ((t, r) ∷ some.1)) (sym some'.2) h)
 
 -- more rounds
-rounds_more : (n c d : ℕ) → rounds n (c + d) ≡ rounds n c ++ rounds n d
-rounds_more n zero d = let e : zero + d ≡ d = omega arith in ap (rounds n) e
-rounds_more n (suc c) d = let e : suc c + d ≡ suc (c + d) = omega arith in
-    ap (rounds n) e ∙ ap (λ (z : List ℕ). range_with_len 0 n ++ z) (rounds_more n c d)
+rounds_of_sum : (n c d : ℕ) → rounds n (c + d) ≡ rounds n c ++ rounds n d
+rounds_of_sum n zero d = let e : zero + d ≡ d = omega arith in ap (rounds n) e
+rounds_of_sum n (suc c) d = let e : suc c + d ≡ suc (c + d) = omega arith in
+    ap (rounds n) e ∙ ap (λ (z : List ℕ). range_with_len 0 n ++ z) (rounds_of_sum n c d)
     ∙ sym (append_assoc (range_with_len 0 n) (rounds n c) (rounds n d))
 
-turns_within : {T : Type 0} (m : Machine T) (s : State T) (n c d : ℕ) (order : List ℕ) (run : List Step) → c ≤ d
+in_turn_split_rounds : {T : Type 0} (m : Machine T) (s : State T) (n c d : ℕ) (order : List ℕ) (run : List Step) → c ≤ d
     → InTurn m s (order ++ rounds n d) run → InTurn m s ((order ++ rounds n c) ++ rounds n (d - c)) run
-turns_within m s n c d order run l h =
+in_turn_split_rounds m s n c d order run l h =
     let e : c + (d - c) ≡ d = omega (arith, l) in
     subst (λ (z : List ℕ). InTurn m s z run)
-    (ap (λ (k : ℕ). order ++ rounds n k) (sym e) ∙ ap (λ (z : List ℕ). order ++ z) (rounds_more n c (d - c))
+    (ap (λ (k : ℕ). order ++ rounds n k) (sym e) ∙ ap (λ (z : List ℕ). order ++ z) (rounds_of_sum n c (d - c))
     ∙ sym (append_assoc order (rounds n c) (rounds n (d - c)))) h
 
 -- runs by an order are alike where the one takes no more rounds than the other
-alike_within : {T : Type 0} (m : Machine T) (s : State T) (n : ℕ) (sources : ℕ → Source) (order : List ℕ) (a b : List Step) → IsIdle m s n
+alike_if_fewer_rounds : {T : Type 0} (m : Machine T) (s : State T) (n : ℕ) (sources : ℕ → Source) (order : List ℕ) (a b : List Step) → IsIdle m s n
     → (x : IsByOrder m s n order a) (y : IsByOrder m s n order b) → x.count ≤ y.count → AreGiven m s n sources a
     → AreGiven m s n sources b → Alike m s a b
-alike_within m s n sources order a b idle x y l gives gives' =
-    alike m n (rounds n (y.count - x.count)) (order ++ rounds n x.count) s sources a b idle x.turns x.done
-    (turns_within m s n x.count y.count order b l y.turns) gives gives'
+alike_if_fewer_rounds m s n sources order a b idle x y l gives gives' =
+    runs_by_extended_order_alike m n (rounds n (y.count - x.count)) (order ++ rounds n x.count) s sources a b idle x.turns x.done
+    (in_turn_split_rounds m s n x.count y.count order b l y.turns) gives gives'
 
 -- they are the same
-one_run : {T : Type 0} (m : Machine T) (s : State T) (n : ℕ) (sources : ℕ → Source) (order : List ℕ) (a b : List Step) → IsIdle m s n
+runs_by_order_are_same : {T : Type 0} (m : Machine T) (s : State T) (n : ℕ) (sources : ℕ → Source) (order : List ℕ) (a b : List Step) → IsIdle m s n
     → IsByOrder m s n order a → IsByOrder m s n order b → AreGiven m s n sources a → AreGiven m s n sources b → AreSame m s a b
-one_run m s n sources order a b idle x y gives gives' = elim (cases_lt x.count y.count) [
-  | inl l ↦ same_by m s a b (alike_within m s n sources order a b idle x y (omega (arith, l)) gives gives')
-  | inr g ↦ turned m s a b (same_by m s b a (alike_within m s n sources order b a idle y x g gives' gives))
+runs_by_order_are_same m s n sources order a b idle x y gives gives' = elim (cases_lt x.count y.count) [
+  | inl l ↦ same_runs_if_alike m s a b (alike_if_fewer_rounds m s n sources order a b idle x y (omega (arith, l)) gives gives')
+  | inr g ↦ turned m s a b (same_runs_if_alike m s b a (alike_if_fewer_rounds m s n sources order b a idle y x g gives' gives))
 ]
   where
     turned : {T : Type 0} (m : Machine T) (s : State T) (a b : List Step) → AreSame m s b a → AreSame m s a b
     turned m s a b h = record { steps = sym h.steps; trails = λ t. sym (h.trails t); traces = sym h.traces; ends = sym h.ends }
 
 -- worlds in which calls for the time are counted answer from their sources alone
-given_by : {T : Type 0} (m : Machine T) (s : State T) (n : ℕ) (made : ℕ → MadeWith) (run : List Step)
+given_by_counted_worlds : {T : Type 0} (m : Machine T) (s : State T) (n : ℕ) (made : ℕ → MadeWith) (run : List Step)
     → ((t : ℕ) → t < n → (made t).counted ≡ true) → AreAnswered m s n made run
     → AreGiven m s n (λ t. source (made t).seed (made t).file) run
-given_by m s n made run counted h t l =
+given_by_counted_worlds m s n made run counted h t l =
     subst (λ (c : Bool). (left : Source) × Gave (source (made t).seed (made t).file) (from_sources c (answers_in (log m s run t))) left)
     (counted t l) (h t l)
 
 pub one_run_by_order : OneRunByAnOrder
 one_run_by_order guest budget profile order made a b counted x y =
     let f = start_flat guest budget profile in
-    one_run (machine f) (tables f) (length guest.entries) (λ t. source (made t).seed (made t).file) order a b
-    (start_idle guest budget profile) x.by_order y.by_order
-    (given_by (machine f) (tables f) (length guest.entries) made a counted x.answered)
-    (given_by (machine f) (tables f) (length guest.entries) made b counted y.answered)
+    runs_by_order_are_same (machine f) (tables f) (length guest.entries) (λ t. source (made t).seed (made t).file) order a b
+    (guest_start_is_idle guest budget profile) x.by_order y.by_order
+    (given_by_counted_worlds (machine f) (tables f) (length guest.entries) made a counted x.answered)
+    (given_by_counted_worlds (machine f) (tables f) (length guest.entries) made b counted y.answered)

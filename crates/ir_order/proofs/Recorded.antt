@@ -7,11 +7,11 @@ use Rattle.ir_image.specs.Guest.{Guest}
 use Rattle.ir_runs.specs.Machine.{Machine, Trace}
 use Rattle.ir_runs.specs.Run.{State, Step, IsRun, IsDone, end, events, log}
 use Rattle.ir_runs.specs.Verdicts.{IsWhole}
-use Rattle.ir_runs.proofs.CallerLemmas.{turns_run}
+use Rattle.ir_runs.proofs.CallerLemmas.{turns_are_run}
 use Rattle.ir_thread.specs.declared.profile.Profile.{Profile}
 use Rattle.ir_flat.specs.Flat.{start_flat, tables, machine}
 use Rattle.ir_trace.specs.Recorded.{Recorded, trace_of}
-use Rattle.ir_record.specs.Recording.{AreAnswers, IsRecording, IsRecordingOf}
+use Rattle.ir_record.specs.Recording.{AreAnswers, IsRecordingInOrder, IsRecordingOf}
 use Rattle.ir_record.specs.Worlds.{Answered, answers_in}
 use Rattle.ir_record_run.specs.Order.{order_of}
 use Rattle.ir_record_run.specs.Plan.{Plan}
@@ -20,11 +20,11 @@ use Rattle.ir_sources.specs.Sources.{origin_of, IsAnswered}
 use Rattle.ir_order.specs.OneRun.{AreSame, IsAnsweredByOrder}
 use Rattle.ir_order.specs.Recording.{IsPlanned, IsOfRun, RecordingsAreOfTheRun, OneRecordingByAList}
 use Rattle.ir_order.proofs.OneRun.{one_run_by_order}
-use Rattle.ir_order.proofs.Traces.{one_of_run}
+use Rattle.ir_order.proofs.Traces.{recording_of_run_is_unique}
 
-whole_same : {T : Type 0} (m : Machine T) (s : State T) (n : ℕ) (tr : Trace) (a b : List Step) → AreSame m s a b → IsRun m s a
+is_whole_of_same_run : {T : Type 0} (m : Machine T) (s : State T) (n : ℕ) (tr : Trace) (a b : List Step) → AreSame m s a b → IsRun m s a
     → IsDone m (end m s a) → IsWhole m s n tr b → IsWhole m s n tr a
-whole_same m s n tr a b same runs done w = record {
+is_whole_of_same_run m s n tr a b same runs done w = record {
   runs = runs;
   done = done;
   steps = λ t l. ap length (same.trails t) ∙ w.steps t l;
@@ -33,11 +33,11 @@ whole_same m s n tr a b same runs done w = record {
 }
 
 -- what is recorded of a run is of each that is the same
-of_same : (guest : Guest) (budget : ℕ) (profile : Profile) (order : List ℕ) (run b : List Step) (before : List (List Answered)) (trace : Recorded)
+recording_is_of_same_run : (guest : Guest) (budget : ℕ) (profile : Profile) (order : List ℕ) (run b : List Step) (before : List (List Answered)) (trace : Recorded)
     (outputs : List (List ℕ)) (answers : List (List Answered)) (made : _) → IsAnsweredByOrder guest budget profile order made run
     → AreSame (machine (start_flat guest budget profile)) (tables (start_flat guest budget profile)) run b
     → IsRecordingOf guest budget profile b before trace outputs answers → IsOfRun guest budget profile run trace outputs
-of_same guest budget profile order run b before trace outputs answers made x same h =
+recording_is_of_same_run guest budget profile order run b before trace outputs answers made x same h =
     let f = start_flat guest budget profile in
     record {
       trace_of = record {
@@ -45,8 +45,8 @@ of_same guest budget profile order run b before trace outputs answers made x sam
         limit = h.emitted.limit;
         profile_is = h.emitted.profile_is;
         threads = h.emitted.threads;
-        whole = whole_same (machine f) (tables f) (length guest.entries) (trace_of trace) run b same
-            (turns_run (machine f) (tables f) _ run x.by_order.turns) x.by_order.done h.emitted.whole;
+        whole = is_whole_of_same_run (machine f) (tables f) (length guest.entries) (trace_of trace) run b same
+            (turns_are_run (machine f) (tables f) _ run x.by_order.turns) x.by_order.done h.emitted.whole;
       };
       printed = record {
         threads = h.printed.threads;
@@ -55,97 +55,97 @@ of_same guest budget profile order run b before trace outputs answers made x sam
     }
 
 -- the answers that were kept of a thread are those in its log
-logged_answers : (guest : Guest) (budget : ℕ) (profile : Profile) (run : List Step) (answers : List (List Answered)) (t : ℕ) → t < length guest.entries
+kept_answers_are_logged : (guest : Guest) (budget : ℕ) (profile : Profile) (run : List Step) (answers : List (List Answered)) (t : ℕ) → t < length guest.entries
     → AreAnswers guest budget profile run (unasked guest) answers
     → get_or answers t [] ≡ answers_in (log (machine (start_flat guest budget profile)) (tables (start_flat guest budget profile)) run t)
-logged_answers guest budget profile run answers t l h =
+kept_answers_are_logged guest budget profile run answers t l h =
     get_or_from_slice_get answers t _ [] (h.each t l)
     ∙ ap (λ (z : List Answered). z ++ answers_in (log (machine (start_flat guest budget profile)) (tables (start_flat guest budget profile)) run t))
     (get_or-replicate (length guest.entries) t [] [] l)
 
 -- the run that was recorded was answered by the plan's sources
-recorded_planned : (guest : Guest) (plan : Plan) (list order : List ℕ) (trace : Recorded) (outputs : List (List ℕ)) (answers : List (List Answered))
-    → plan.order ≡ Some list → (r : IsRecording guest plan.budget plan.profile order (unasked guest) trace outputs answers)
+recorded_run_is_planned : (guest : Guest) (plan : Plan) (list order : List ℕ) (trace : Recorded) (outputs : List (List ℕ)) (answers : List (List Answered))
+    → plan.order ≡ Some list → (r : IsRecordingInOrder guest plan.budget plan.profile order (unasked guest) trace outputs answers)
     → ((t : ℕ) → t < length guest.entries → IsAnswered (origin_of (is_some plan.order) plan.random plan.input t) (get_or answers t []))
     → IsPlanned guest plan order r.run
-recorded_planned guest plan list order trace outputs answers is r answered = record {
+recorded_run_is_planned guest plan list order trace outputs answers is r answered = record {
   by_order = r.by_order;
   answered = λ t l. subst (IsAnswered (origin_of true plan.random plan.input t))
-      (logged_answers guest plan.budget plan.profile r.run answers t l r.of.answered)
+      (kept_answers_are_logged guest plan.budget plan.profile r.run answers t l r.of.answered)
       (subst (λ c. IsAnswered (origin_of c plan.random plan.input t) (get_or answers t [])) (ap is_some is) (answered t l));
 }
 
-of_recording : (guest : Guest) (plan : Plan) (list order : List ℕ) (run : List Step) (trace : Recorded) (outputs : List (List ℕ)) (answers : List (List Answered))
+recording_is_of_planned_run : (guest : Guest) (plan : Plan) (list order : List ℕ) (run : List Step) (trace : Recorded) (outputs : List (List ℕ)) (answers : List (List Answered))
     → plan.order ≡ Some list → IsPlanned guest plan order run
-    → IsRecording guest plan.budget plan.profile order (unasked guest) trace outputs answers
+    → IsRecordingInOrder guest plan.budget plan.profile order (unasked guest) trace outputs answers
     → ((t : ℕ) → t < length guest.entries → IsAnswered (origin_of (is_some plan.order) plan.random plan.input t) (get_or answers t []))
     → IsOfRun guest plan.budget plan.profile run trace outputs
-of_recording guest plan list order run trace outputs answers is x r answered =
-    of_same guest plan.budget plan.profile order run r.run (unasked guest) trace outputs answers (origin_of true plan.random plan.input) x
+recording_is_of_planned_run guest plan list order run trace outputs answers is x r answered =
+    recording_is_of_same_run guest plan.budget plan.profile order run r.run (unasked guest) trace outputs answers (origin_of true plan.random plan.input) x
     (one_run_by_order guest plan.budget plan.profile order (origin_of true plan.random plan.input) run r.run (λ t l. refl) x
-    (recorded_planned guest plan list order trace outputs answers is r answered)) r.of
+    (recorded_run_is_planned guest plan list order trace outputs answers is r answered)) r.of
 
 -- what is recorded in turns is of each run that the guest makes by their order with the same answers
-pub of_turns : (guest : Guest) (plan : Plan) (order : List ℕ) (run : List Step) (trace : Recorded) (outputs : List (List ℕ)) (answers : List (List Answered))
-    → IsPlanned guest plan order run → IsRecording guest plan.budget plan.profile order (unasked guest) trace outputs answers
+pub recording_in_turns_is_of_run : (guest : Guest) (plan : Plan) (order : List ℕ) (run : List Step) (trace : Recorded) (outputs : List (List ℕ)) (answers : List (List Answered))
+    → IsPlanned guest plan order run → IsRecordingInOrder guest plan.budget plan.profile order (unasked guest) trace outputs answers
     → ((t : ℕ) → t < length guest.entries → IsAnswered (origin_of true plan.random plan.input t) (get_or answers t []))
     → IsOfRun guest plan.budget plan.profile run trace outputs
-of_turns guest plan order run trace outputs answers x r answered =
-    of_recording guest (record plan { order = Some [] }) [] order run trace outputs answers refl x r answered
+recording_in_turns_is_of_run guest plan order run trace outputs answers x r answered =
+    recording_is_of_planned_run guest (record plan { order = Some [] }) [] order run trace outputs answers refl x r answered
 
 -- the same of a recording by the list
-of_list : (guest : Guest) (plan : Plan) (list order : List ℕ) (run : List Step) (trace : Recorded) (outputs : List (List ℕ)) (answers : List (List Answered))
+recording_by_list_is_of_run : (guest : Guest) (plan : Plan) (list order : List ℕ) (run : List Step) (trace : Recorded) (outputs : List (List ℕ)) (answers : List (List Answered))
     → plan.order ≡ Some list → order_of (length guest.entries) list ≡ Some order → IsPlanned guest plan order run
     → IsRecordedBy (Some list) guest plan.budget plan.profile trace outputs answers
     → ((t : ℕ) → t < length guest.entries → IsAnswered (origin_of (is_some plan.order) plan.random plan.input t) (get_or answers t []))
     → IsOfRun guest plan.budget plan.profile run trace outputs
-of_list guest plan list order run trace outputs answers is spelled x (other, spelled', r) answered =
+recording_by_list_is_of_run guest plan list order run trace outputs answers is spelled x (other, spelled', r) answered =
     let same : other ≡ order = cc (spelled, spelled') in
-    of_recording guest plan list order run trace outputs answers is x
-    (subst (λ (z : List ℕ). IsRecording guest plan.budget plan.profile z (unasked guest) trace outputs answers) same r) answered
+    recording_is_of_planned_run guest plan list order run trace outputs answers is x
+    (subst (λ (z : List ℕ). IsRecordingInOrder guest plan.budget plan.profile z (unasked guest) trace outputs answers) same r) answered
 
 -- the same of the image's guest
-of_guest : (image : List ℕ) (guest : Guest) (plan : Plan) (list order : List ℕ) (run : List Step) (trace : Recorded) (outputs : List (List ℕ))
+recording_of_image_is_of_run : (image : List ℕ) (guest : Guest) (plan : Plan) (list order : List ℕ) (run : List Step) (trace : Recorded) (outputs : List (List ℕ))
     → plan.order ≡ Some list → (r : IsRecordedOf image plan trace outputs) → order_of (length r.guest.entries) list ≡ Some order
     → IsPlanned r.guest plan order run → IsOfRun r.guest plan.budget plan.profile run trace outputs
-of_guest image guest plan list order run trace outputs is r spelled x =
-    of_list r.guest plan list order run trace outputs r.answers is spelled x
+recording_of_image_is_of_run image guest plan list order run trace outputs is r spelled x =
+    recording_by_list_is_of_run r.guest plan list order run trace outputs r.answers is spelled x
     (subst (λ (o : Option (List ℕ)). IsRecordedBy o r.guest plan.budget plan.profile trace outputs r.answers) is r.recorded) r.answered
 
-pub recordings_of_run : RecordingsAreOfTheRun
-recordings_of_run image guest plan list order run trace outputs found is spelled x r =
+pub recordings_are_of_the_run : RecordingsAreOfTheRun
+recordings_are_of_the_run image guest plan list order run trace outputs found is spelled x r =
     let same : guest ≡ r.guest = cc (found, r.is) in
     subst (λ (g : Guest). IsOfRun g plan.budget plan.profile run trace outputs) (sym same)
-    (of_guest image guest plan list order run trace outputs is r
+    (recording_of_image_is_of_run image guest plan list order run trace outputs is r
     (subst (λ (g : Guest). order_of (length g.entries) list ≡ Some order) same spelled)
     (subst (λ (g : Guest). IsPlanned g plan order run) same x))
 
 -- the run that was recorded with a list
-record OfSome (image : List ℕ) (plan : Plan) (list : List ℕ) (guest : Guest) (trace : Recorded) (outputs : List (List ℕ)) : Type 0 where
+record RecordedRun (image : List ℕ) (plan : Plan) (list : List ℕ) (guest : Guest) (trace : Recorded) (outputs : List (List ℕ)) : Type 0 where
   order : List ℕ
   run : List Step
   spelled : order_of (length guest.entries) list ≡ Some order
   planned : IsPlanned guest plan order run
   of : IsOfRun guest plan.budget plan.profile run trace outputs
 
-of_some : (image : List ℕ) (plan : Plan) (list : List ℕ) (guest : Guest) (trace : Recorded) (outputs : List (List ℕ)) (answers : List (List Answered))
+recording_by_list_has_run : (image : List ℕ) (plan : Plan) (list : List ℕ) (guest : Guest) (trace : Recorded) (outputs : List (List ℕ)) (answers : List (List Answered))
     → plan.order ≡ Some list → IsRecordedBy (Some list) guest plan.budget plan.profile trace outputs answers
     → ((t : ℕ) → t < length guest.entries → IsAnswered (origin_of (is_some plan.order) plan.random plan.input t) (get_or answers t []))
-    → OfSome image plan list guest trace outputs
-of_some image plan list guest trace outputs answers is (order, spelled, r) answered = record {
+    → RecordedRun image plan list guest trace outputs
+recording_by_list_has_run image plan list guest trace outputs answers is (order, spelled, r) answered = record {
   order = order;
   run = r.run;
   spelled = spelled;
-  planned = recorded_planned guest plan list order trace outputs answers is r answered;
+  planned = recorded_run_is_planned guest plan list order trace outputs answers is r answered;
   of = record { trace_of = r.of.emitted; printed = r.of.printed };
 }
 
-one_recording_of : (image : List ℕ) (plan : Plan) (list : List ℕ) (a b : Recorded) (x y : List (List ℕ)) → plan.order ≡ Some list
-    → (r : IsRecordedOf image plan a x) → OfSome image plan list r.guest a x → IsRecordedOf image plan b y → (a ≡ b) × (x ≡ y)
-one_recording_of image plan list a b x y is r h other = one_of_run r.guest plan.budget plan.profile h.run a b x y h.of
-    (recordings_of_run image r.guest plan list h.order h.run b y r.is is h.spelled h.planned other)
+recordings_by_list_equal_of_run : (image : List ℕ) (plan : Plan) (list : List ℕ) (a b : Recorded) (x y : List (List ℕ)) → plan.order ≡ Some list
+    → (r : IsRecordedOf image plan a x) → RecordedRun image plan list r.guest a x → IsRecordedOf image plan b y → (a ≡ b) × (x ≡ y)
+recordings_by_list_equal_of_run image plan list a b x y is r h other = recording_of_run_is_unique r.guest plan.budget plan.profile h.run a b x y h.of
+    (recordings_are_of_the_run image r.guest plan list h.order h.run b y r.is is h.spelled h.planned other)
 
-pub one_recording : OneRecordingByAList
-one_recording image plan list a b x y is r other = one_recording_of image plan list a b x y is r
-    (of_some image plan list r.guest a x r.answers is
+pub one_recording_by_list : OneRecordingByAList
+one_recording_by_list image plan list a b x y is r other = recordings_by_list_equal_of_run image plan list a b x y is r
+    (recording_by_list_has_run image plan list r.guest a x r.answers is
     (subst (λ (o : Option (List ℕ)). IsRecordedBy o r.guest plan.budget plan.profile a x r.answers) is r.recorded) r.answered) other

@@ -31,70 +31,70 @@ abbrev events_of : List Label → List Event
 events_of [] = []
 events_of (l ∷ ls) = with_event l (events_of ls)
 
-with_event-label_of : (e : Event) (es : List Event) → with_event (label_of e) es ≡ e ∷ es
-with_event-label_of (event.Answer kind value) es = refl
-with_event-label_of (event.Read object version) es = refl
-with_event-label_of (event.Write object version readers) es = refl
-with_event-label_of (event.Try object) es = refl
+with_event_of_label : (e : Event) (es : List Event) → with_event (label_of e) es ≡ e ∷ es
+with_event_of_label (event.Answer kind value) es = refl
+with_event_of_label (event.Read object version) es = refl
+with_event_of_label (event.Write object version readers) es = refl
+with_event_of_label (event.Try object) es = refl
 
-events_of-labels : (es : List Event) → events_of (map label_of es) ≡ es
-events_of-labels [] = refl
-events_of-labels (e ∷ es) = ap (with_event (label_of e)) (events_of-labels es) ∙ with_event-label_of e es
+events_of_labels : (es : List Event) → events_of (map label_of es) ≡ es
+events_of_labels [] = refl
+events_of_labels (e ∷ es) = ap (with_event (label_of e)) (events_of_labels es) ∙ with_event_of_label e es
 
-same_events : (xs ys : List Event) → map label_of xs ≡ map label_of ys → xs ≡ ys
-same_events xs ys e = sym (events_of-labels xs) ∙ ap events_of e ∙ events_of-labels ys
+labels_injective : (xs ys : List Event) → map label_of xs ≡ map label_of ys → xs ≡ ys
+labels_injective xs ys e = sym (events_of_labels xs) ∙ ap events_of e ∙ events_of_labels ys
 
 -- ---- the number and the code of an end say which it is
 
 abbrev end_by : ℕ × ℕ → Option End
 end_by e = end_of e.0 e.1
 
-end_by-end : (e : End) → end_by (end_number e, end_code e) ≡ Some e
-end_by-end (Exit code) = rw (eq-eqb code code refl) refl
-end_by-end Breakpoint = refl
-end_by-end IllegalWord = refl
-end_by-end TargetMisaligned = refl
-end_by-end OutsideCode = refl
-end_by-end BadLoad = refl
-end_by-end BadStore = refl
-end_by-end UnknownCall = refl
-end_by-end NoSuchObject = refl
-end_by-end EntryOutOfOrder = refl
-end_by-end NotHeld = refl
-end_by-end OutputFull = refl
-end_by-end BudgetSpent = refl
-end_by-end LogFull = refl
+end_by_of_end : (e : End) → end_by (end_number e, end_code e) ≡ Some e
+end_by_of_end (Exit code) = rw (eq-eqb code code refl) refl
+end_by_of_end Breakpoint = refl
+end_by_of_end IllegalWord = refl
+end_by_of_end TargetMisaligned = refl
+end_by_of_end OutsideCode = refl
+end_by_of_end BadLoad = refl
+end_by_of_end BadStore = refl
+end_by_of_end UnknownCall = refl
+end_by_of_end NoSuchObject = refl
+end_by_of_end EntryOutOfOrder = refl
+end_by_of_end NotHeld = refl
+end_by_of_end OutputFull = refl
+end_by_of_end BudgetSpent = refl
+end_by_of_end LogFull = refl
 
-same_end : (a b : End) → ◌≡◌ {A = Option (ℕ × ℕ)} (Some (end_number a, end_code a)) (Some (end_number b, end_code b)) → a ≡ b
-same_end a b e =
+end_number_and_code_injective : (a b : End) → ◌≡◌ {A = Option (ℕ × ℕ)} (Some (end_number a, end_code a)) (Some (end_number b, end_code b)) → a ≡ b
+end_number_and_code_injective a b e =
     let p : ◌≡◌ {A = ℕ × ℕ} (end_number a, end_code a) (end_number b, end_code b) = cc e in
-    let q : ◌≡◌ {A = Option End} (Some a) (Some b) = sym (end_by-end a) ∙ ap end_by p ∙ end_by-end b in cc q
+    let q : ◌≡◌ {A = Option End} (Some a) (Some b) = sym (end_by_of_end a) ∙ ap end_by p ∙ end_by_of_end b in cc q
 
 -- ---- recordings of one run
 
-same_thread : (x y : RecordedThread) → x.steps ≡ y.steps → x.end ≡ y.end → x.events ≡ y.events → x ≡ y
-same_thread x y a b c = λ i. record { steps = a i; end = b i; events = c i }
+recorded_threads_equal_by_fields : (x y : RecordedThread) → x.steps ≡ y.steps → x.end ≡ y.end → x.events ≡ y.events → x ≡ y
+recorded_threads_equal_by_fields x y a b c = λ i. record { steps = a i; end = b i; events = c i }
 
-same_recorded : (x y : Recorded) → x.objects ≡ y.objects → x.budget ≡ y.budget → x.profile ≡ y.profile → x.threads ≡ y.threads → x ≡ y
-same_recorded x y a b c d = λ i. record { objects = a i; budget = b i; profile = c i; threads = d i }
+recorded_equal_by_fields : (x y : Recorded) → x.objects ≡ y.objects → x.budget ≡ y.budget → x.profile ≡ y.profile → x.threads ≡ y.threads → x ≡ y
+recorded_equal_by_fields x y a b c d = λ i. record { objects = a i; budget = b i; profile = c i; threads = d i }
 
-one_trace : (guest : Guest) (budget : ℕ) (profile : Profile) (run : List Step) (a b : Recorded) → IsTraceOf guest budget profile run a
+trace_of_run_is_unique : (guest : Guest) (budget : ℕ) (profile : Profile) (run : List Step) (a b : Recorded) → IsTraceOf guest budget profile run a
     → IsTraceOf guest budget profile run b → a ≡ b
-one_trace guest budget profile run a b x y = same_recorded a b (x.objects ∙ sym y.objects) (x.limit ∙ sym y.limit)
+trace_of_run_is_unique guest budget profile run a b x y = recorded_equal_by_fields a b (x.objects ∙ sym y.objects) (x.limit ∙ sym y.limit)
     (x.profile_is ∙ sym y.profile_is)
     (ext_get_or absent a.threads b.threads (x.threads ∙ sym y.threads)
     (λ t l. let below : t < length guest.entries = subst (λ n. t < n) x.threads l in
-    same_thread (recorded_thread a t) (recorded_thread b t) (sym (x.whole.steps t below) ∙ y.whole.steps t below)
-    (same_end (recorded_thread a t).end (recorded_thread b t).end (sym (x.whole.ends t below) ∙ y.whole.ends t below))
-    (same_events (recorded_thread a t).events (recorded_thread b t).events (sym (x.whole.logs t below) ∙ y.whole.logs t below))))
+    recorded_threads_equal_by_fields (recorded_thread a t) (recorded_thread b t) (sym (x.whole.steps t below) ∙ y.whole.steps t below)
+    (end_number_and_code_injective (recorded_thread a t).end (recorded_thread b t).end (sym (x.whole.ends t below) ∙ y.whole.ends t below))
+    (labels_injective (recorded_thread a t).events (recorded_thread b t).events (sym (x.whole.logs t below) ∙ y.whole.logs t below))))
 
-one_output : (guest : Guest) (budget : ℕ) (profile : Profile) (run : List Step) (x y : List (List ℕ)) → AreOutputs guest budget profile run x
+outputs_of_run_are_unique : (guest : Guest) (budget : ℕ) (profile : Profile) (run : List Step) (x y : List (List ℕ)) → AreOutputs guest budget profile run x
     → AreOutputs guest budget profile run y → x ≡ y
-one_output guest budget profile run x y a b = ext_get_or [] x y (a.threads ∙ sym b.threads)
+outputs_of_run_are_unique guest budget profile run x y a b = ext_get_or [] x y (a.threads ∙ sym b.threads)
     (λ t l. let below : t < length guest.entries = subst (λ n. t < n) a.threads l in
     get_or_from_slice_get x t _ [] (a.each t below) ∙ sym (get_or_from_slice_get y t _ [] (b.each t below)))
 
-pub one_of_run : (guest : Guest) (budget : ℕ) (profile : Profile) (run : List Step) (a b : Recorded) (x y : List (List ℕ))
+pub recording_of_run_is_unique : (guest : Guest) (budget : ℕ) (profile : Profile) (run : List Step) (a b : Recorded) (x y : List (List ℕ))
     → IsOfRun guest budget profile run a x → IsOfRun guest budget profile run b y → (a ≡ b) × (x ≡ y)
-one_of_run guest budget profile run a b x y p q =
-    (one_trace guest budget profile run a b p.trace_of q.trace_of, one_output guest budget profile run x y p.printed q.printed)
+recording_of_run_is_unique guest budget profile run a b x y p q =
+    (trace_of_run_is_unique guest budget profile run a b p.trace_of q.trace_of, outputs_of_run_are_unique guest budget profile run x y p.printed q.printed)

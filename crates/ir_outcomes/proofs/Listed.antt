@@ -6,7 +6,7 @@ use Rattle.std.proofs.lemmas.Bool.{cases_lt}
 use Rattle.std.proofs.lemmas.Option.{same_Some}
 use Rattle.ir_image.specs.Guest.{Guest}
 use Rattle.ir_explore.specs.declared.origin.Origin.{Origin}
-use Rattle.ir_explore.proofs.CallerLemmas.{pushed_cases, slice_less}
+use Rattle.ir_explore.proofs.CallerLemmas.{slice_get_after_push_cases, place_of_element_is_below_length}
 use Rattle.ir_runs.specs.Run.{Step}
 use Rattle.ir_record.specs.Recording.{order_of_turns}
 use Rattle.ir_thread.specs.Calls.{most_budget}
@@ -23,24 +23,24 @@ use Rattle.ir_outcomes.specs.Shown.{IsShown}
 use Rattle.ir_outcomes.specs.declared.shown.Shown.{Shown}
 
 -- one more is shown
-pub shown_more : (guest : Guest) (flats : List Flat) (origins : List Origin) (listed : List ℕ) (many : ℕ) (outcomes : List Shown) (x : Shown)
+pub are_shown_step : (guest : Guest) (flats : List Flat) (origins : List Origin) (listed : List ℕ) (many : ℕ) (outcomes : List Shown) (x : Shown)
     → AreShown guest flats origins listed many outcomes → slice_get listed many ≡ Some x.node
     → ((n : Origin) → slice_get origins x.node ≡ Some n → x.level ≡ n.level)
     → ((f : Flat) → slice_get flats x.node ≡ Some f → IsShown guest f x.level (order_of_turns x.turns.items))
     → AreShown guest flats origins listed (many + 1) (outcomes ++ x ∷ [])
-shown_more guest flats origins listed many outcomes x s node level shown = record {
+are_shown_step guest flats origins listed many outcomes x s node level shown = record {
   count = let a = length-append outcomes (x ∷ []) in let b = s.count in omega (arith, a, b);
-  node = λ i y is. elim (pushed_cases outcomes x i y is) [
+  node = λ i y is. elim (slice_get_after_push_cases outcomes x i y is) [
     | inl old ↦ s.node i y old
     | inr p ↦ subst (λ z. slice_get listed i ≡ Some z.node) p.1
         (subst (λ z. slice_get listed z ≡ Some x.node) (sym (p.0 ∙ s.count)) node)
   ];
-  level = λ i y n is at. elim (pushed_cases outcomes x i y is) [
+  level = λ i y n is at. elim (slice_get_after_push_cases outcomes x i y is) [
     | inl old ↦ s.level i y n old at
     | inr p ↦
         ap (λ z. z.level) (sym p.1) ∙ level n (subst (λ z. slice_get origins z.node ≡ Some n) (sym p.1) at)
   ];
-  shown = λ i y f at. elim (pushed_cases outcomes x i y at.0) [
+  shown = λ i y f at. elim (slice_get_after_push_cases outcomes x i y at.0) [
     | inl old ↦ s.shown i y f (old, at.1)
     | inr p ↦
         subst (λ z. IsShown guest f z.level (order_of_turns z.turns.items)) p.1
@@ -49,23 +49,23 @@ shown_more guest flats origins listed many outcomes x s node level shown = recor
 }
 
 -- what is so where there is a value, if there is no error
-pub if_no_error : {A E X : Type 0} (r : Result A E) (new more old : X) → new ≡ (if is_ok r then more else old) → is_err r ≡ false → new ≡ more
-if_no_error (Ok x) new more old e none = e
-if_no_error (Err x) new more old e none = absurd cc
+pub chosen_value_if_no_error : {A E X : Type 0} (r : Result A E) (new more old : X) → new ≡ (if is_ok r then more else old) → is_err r ≡ false → new ≡ more
+chosen_value_if_no_error (Ok x) new more old e none = e
+chosen_value_if_no_error (Err x) new more old e none = absurd cc
 
 -- an element at each place
-at_place : {A : Type 0} (xs : List A) (i : ℕ) → i < length xs → (x : A) × (slice_get xs i ≡ Some x)
-at_place [] i l = absurd (omega (arith, l))
-at_place (x ∷ xs) zero l = (x, refl)
-at_place (x ∷ xs) (suc i) l = at_place xs i (omega (arith, l))
+element_below_length_exists : {A : Type 0} (xs : List A) (i : ℕ) → i < length xs → (x : A) × (slice_get xs i ≡ Some x)
+element_below_length_exists [] i l = absurd (omega (arith, l))
+element_below_length_exists (x ∷ xs) zero l = (x, refl)
+element_below_length_exists (x ∷ xs) (suc i) l = element_below_length_exists xs i (omega (arith, l))
 
 -- nodes of few switches come before these many of the listed
-abbrev AreBefore : List Origin → List ℕ → ℕ → ℕ → Type 0
-AreBefore origins listed until many = (i v : ℕ) (n : Origin) → slice_get listed i ≡ Some v → slice_get origins v ≡ Some n → n.level < until → i < many
+abbrev FewSwitchesComeBefore : List Origin → List ℕ → ℕ → ℕ → Type 0
+FewSwitchesComeBefore origins listed until many = (i v : ℕ) (n : Origin) → slice_get listed i ≡ Some v → slice_get origins v ≡ Some n → n.level < until → i < many
 
 -- these many of the listed need no more
-abbrev AreWithin : List Origin → List ℕ → ℕ → ℕ → Type 0
-AreWithin origins listed until many = (i v : ℕ) (n : Origin) → i < many → slice_get listed i ≡ Some v → slice_get origins v ≡ Some n → n.level ≤ until
+abbrev NeedNoMoreSwitches : List Origin → List ℕ → ℕ → ℕ → Type 0
+NeedNoMoreSwitches origins listed until many = (i v : ℕ) (n : Origin) → i < many → slice_get listed i ≡ Some v → slice_get origins v ≡ Some n → n.level ≤ until
 
 module _ (guest : Guest) (flats : List Flat) (origins : List Origin) (levels : ℕ) (listed : List ℕ) (outcomes : List Shown)
     (searched : AreSearched guest flats origins levels) (different : AreOutcomes flats (length origins) listed)
@@ -73,7 +73,7 @@ module _ (guest : Guest) (flats : List Flat) (origins : List Origin) (levels : �
   -- a listed node is shown
   in_list : (i v : ℕ) → i < length outcomes → slice_get listed i ≡ Some v → (x : Shown) × (slice_get outcomes i ≡ Some x) × (x.node ≡ v)
   in_list i v less is =
-      let x = at_place outcomes i less in
+      let x = element_below_length_exists outcomes i less in
       (x.0, x.1, same_Some x.0.node v (sym (shown.node i x.0 x.1) ∙ is))
 
   -- where a listed node has the outcome of a state, it is in the list
@@ -83,18 +83,18 @@ module _ (guest : Guest) (flats : List Flat) (origins : List Origin) (levels : �
       (h.place, x.0, h.state, (x.1, subst (λ z. slice_get flats z ≡ Some h.state) (sym x.2) h.at), h.same)
 
   origin_of : (i v : ℕ) → slice_get listed i ≡ Some v → (n : Origin) × (slice_get origins v ≡ Some n)
-  origin_of i v is = at_place origins v (different.done i v is).0
+  origin_of i v is = element_below_length_exists origins v (different.done i v is).0
 
   origin_at : (i : ℕ) (x : Shown) → slice_get outcomes i ≡ Some x → (n : Origin) × (slice_get origins x.node ≡ Some n)
   origin_at i x is = origin_of i x.node (shown.node i x is)
 
   -- what a run of few switches comes to is in the list
-  in_covered : (until : ℕ) → until ≤ levels → AreBefore origins listed until (length outcomes) → (c : ℕ) → c < until → (answers : ℕ → List ℕ) (budget : ℕ)
+  in_covered : (until : ℕ) → until ≤ levels → FewSwitchesComeBefore origins listed until (length outcomes) → (c : ℕ) → c < until → (answers : ℕ → List ℕ) (budget : ℕ)
       (steps : List Step) → IsCounted guest budget One told answers steps → switches_by guest budget steps ≤ c
       → IsIn flats outcomes (outcome_by guest budget steps)
   in_covered until within before c less answers budget steps counted few =
       let r = searched.within c (omega (arith, less, within)) answers budget steps counted few in
-      let h = different.all r.0 r.1 (slice_less origins r.0 r.2 r.4) r.3.0 r.3.1 in
+      let h = different.all r.0 r.1 (place_of_element_is_below_length origins r.0 r.2 r.4) r.3.0 r.3.1 in
       let n = origin_of h.0.place h.0.node h.0.stands in
       let rise = searched.rising h.0.node r.0 n.0 r.2 n.1 r.4 h.1 in
       let late = r.5 in
@@ -110,7 +110,7 @@ module _ (guest : Guest) (flats : List Flat) (origins : List Origin) (levels : �
         let level : x.level ≡ n.0.level = shown.level i x n.0 at.0 n.1 in
         let most = searched.most x.node n.0 n.1 in
         let r = searched.within (switches_by guest budget steps) (omega (arith, less, level, most)) answers budget steps counted (omega arith) in
-        let h = different.all r.0 r.1 (slice_less origins r.0 r.2 r.4) r.3.0 r.3.1 in
+        let h = different.all r.0 r.1 (place_of_element_is_below_length origins r.0 r.2 r.4) r.3.0 r.3.1 in
         let one : h.0.place ≡ i =
         different.different h.0.place i h.0.node x.node h.0.state f h.0.stands (shown.node i x at.0) h.0.at at.1 (h.0.same ∙ r.3.2 ∙ same) in
         let node : h.0.node ≡ x.node =
@@ -122,7 +122,7 @@ module _ (guest : Guest) (flats : List Flat) (origins : List Origin) (levels : �
     | inr most ↦ most
   ]
 
-  explored_to : (until : ℕ) → until ≤ levels → AreBefore origins listed until (length outcomes) → AreWithin origins listed until (length outcomes)
+  explored_to : (until : ℕ) → until ≤ levels → FewSwitchesComeBefore origins listed until (length outcomes) → NeedNoMoreSwitches origins listed until (length outcomes)
       → AreExplored guest flats until outcomes
   explored_to until within before most = record {
     shown = shown.shown;
@@ -144,7 +144,7 @@ module _ (guest : Guest) (flats : List Flat) (origins : List Origin) (levels : �
     most = λ i x is.
         let n = origin_at i x is in
         let a = shown.level i x n.0 is n.1 in
-        let b = most i x.node n.0 (slice_less outcomes i x is) (shown.node i x is) n.1 in
+        let b = most i x.node n.0 (place_of_element_is_below_length outcomes i x is) (shown.node i x is) n.1 in
         omega (arith, a, b);
     covered = in_covered until within before;
   }
@@ -152,7 +152,7 @@ module _ (guest : Guest) (flats : List Flat) (origins : List Origin) (levels : �
   -- if each listed node is shown
   explored_whole : length outcomes ≡ length listed → AreExplored guest flats levels outcomes
   explored_whole whole = explored_to levels (omega arith)
-      (λ i v n is at less. let a = slice_less listed i v is in omega (arith, a, whole))
+      (λ i v n is at less. let a = place_of_element_is_below_length listed i v is in omega (arith, a, whole))
       (λ i v n less is at. searched.most v n at)
 
   -- if only those before some node are, up to the level of that
@@ -182,9 +182,9 @@ module _ (guest : Guest) (flats : List Flat) (origins : List Origin) (levels : �
   all_outcomes whole all nodes x = (
     λ h.
         let r = all h.0 h.1 h.2 h.3 in
-        let less : r.0 < length origins = (let a = slice_less flats r.0 r.1 r.2.0 in omega (arith, a, nodes)) in
+        let less : r.0 < length origins = (let a = place_of_element_is_below_length flats r.0 r.1 r.2.0 in omega (arith, a, nodes)) in
         let k = different.all r.0 r.1 less r.2.0 r.2.1 in
-        let place = slice_less listed k.0.place k.0.node k.0.stands in
+        let place = place_of_element_is_below_length listed k.0.place k.0.node k.0.stands in
         subst (IsIn flats outcomes) (r.2.2 ∙ h.4) (has_in r.1 k.0 (omega (arith, place, whole))),
     λ h.
         let s = shown.shown h.0 h.1 h.2 h.3 in
@@ -198,7 +198,7 @@ module _ (guest : Guest) (flats : List Flat) (origins : List Origin) (levels : �
       → AreExplored guest flats until outcomes
   explored_shown until few whole cut = elim (cases_lt (length outcomes) (length listed)) [
     | inl less ↦
-        let v = at_place listed (length outcomes) less in
+        let v = element_below_length_exists listed (length outcomes) less in
         let n = origin_of (length outcomes) v.0 v.1 in
         subst (λ z. AreExplored guest flats z outcomes) (sym (cut v.0 n.0 v.1 n.1)) (explored_cut v.0 n.0 v.1 n.1)
     | inr all ↦ subst (λ z. AreExplored guest flats z outcomes) (sym (whole all)) (explored_whole (omega (arith, few, all)))

@@ -17,86 +17,86 @@ use Rattle.ir_graph.specs.Hangs.{CanEndFrom, IsHangOf, AreMarked, AllStand}
 use Rattle.ir_graph.specs.Nodes.{LookAlike}
 use Rattle.ir_graph.specs.Plain.{IsLike}
 use Rattle.ir_graph.specs.Reached.{beginning}
-use Rattle.ir_graph.proofs.CallerLemmas.{quiet_counting, hang_never, quiet_can_end}
+use Rattle.ir_graph.proofs.CallerLemmas.{quiet_run_is_counting, hang_never_completes, can_end_if_quiet_run_can}
 use Rattle.ir_outcomes.specs.Again.{steps_of, IsAgainWithin}
 use Rattle.ir_outcomes.specs.Explored.{switches_by, AreHangs}
 use Rattle.ir_outcomes.specs.Hang.{IsFirst}
 use Rattle.ir_outcomes.specs.Shown.{IsShownAt, IsHangShown}
 use Rattle.ir_outcomes.specs.declared.shown.Shown.{Shown}
-use Rattle.ir_outcomes.proofs.Showing.{quiet_turns}
+use Rattle.ir_outcomes.proofs.Showing.{quiet_run_is_in_turn}
 
-pub again_at : (guest : Guest) (order : List ℕ) (most level : ℕ) (f g : Flat) → IsAgainWithin guest order most g → most ≤ suc level
+pub shown_at_if_again_within : (guest : Guest) (order : List ℕ) (most level : ℕ) (f g : Flat) → IsAgainWithin guest order most g → most ≤ suc level
     → IsLike g f → LookAlike g f → IsShownAt guest f level order
-again_at guest order most level f g w few like looks =
+shown_at_if_again_within guest order most level f g w few like looks =
     let a = w.again in record {
-      counting = λ answers. quiet_counting guest (steps_of order) answers a.quiet;
-      in_turn = quiet_turns guest.code (beginning guest) order a.quiet;
+      counting = λ answers. quiet_run_is_counting guest (steps_of order) answers a.quiet;
+      in_turn = quiet_run_is_in_turn guest.code (beginning guest) order a.quiet;
       stands = λ answers can.
-          quiet_can_end guest (steps_of order) answers f g a.quiet a.ends a.like.code like.code looks can;
+          can_end_if_quiet_run_can guest (steps_of order) answers f g a.quiet a.ends a.like.code like.code looks can;
       few = let l = w.few in let e = ap switches a.enters in omega (arith, l, e, few);
     }
 
-hang_shown : (guest : Guest) (f : Flat) (level : ℕ) (order : List ℕ) → IsShownAt guest f level order
+hang_shown_if_cannot_end : (guest : Guest) (f : Flat) (level : ℕ) (order : List ℕ) → IsShownAt guest f level order
     → ((answers : ℕ → List ℕ) → CanEndFrom f answers → ⊥) → IsHangShown guest level order
-hang_shown guest f level order s lost =
+hang_shown_if_cannot_end guest f level order s lost =
     let hangs : (answers : ℕ → List ℕ) → IsHangOf guest most_budget answers (steps_of order) =
     λ answers. (s.counting answers, λ can. lost answers (s.stands answers can)) in record {
       hangs = hangs;
-      never = λ answers budget more c. hang_never guest most_budget answers (steps_of order) (hangs answers) budget more c;
+      never = λ answers budget more c. hang_never_completes guest most_budget answers (steps_of order) (hangs answers) budget more c;
       in_turn = s.in_turn;
       few = s.few;
     }
 
-got : {A : Type 0} (xs : List A) (i : ℕ) → i < length xs → (x : A) × (slice_get xs i ≡ Some x)
-got [] i l = absurd (omega (arith, l))
-got (x ∷ xs) zero l = (x, refl)
-got (x ∷ xs) (suc i) l = got xs i (omega (arith, l))
+element_below_length_exists : {A : Type 0} (xs : List A) (i : ℕ) → i < length xs → (x : A) × (slice_get xs i ≡ Some x)
+element_below_length_exists [] i l = absurd (omega (arith, l))
+element_below_length_exists (x ∷ xs) zero l = (x, refl)
+element_below_length_exists (x ∷ xs) (suc i) l = element_below_length_exists xs i (omega (arith, l))
 
 -- one more is counted
-pub shut_none : (marks : List Bool) → ((v : ℕ) → v < length marks → IsOpen marks v) → shut marks ≡ 0
+pub shut_is_zero_if_all_open : (marks : List Bool) → ((v : ℕ) → v < length marks → IsOpen marks v) → shut marks ≡ 0
 unfolding shut
-shut_none [] all = refl
-shut_none (true ∷ marks) all = shut_none marks (λ v l. all (suc v) (omega (arith, l)))
-shut_none (false ∷ marks) all = absurd (true≢false (sym (same_Some false true (all 0 (omega arith)))))
+shut_is_zero_if_all_open [] all = refl
+shut_is_zero_if_all_open (true ∷ marks) all = shut_is_zero_if_all_open marks (λ v l. all (suc v) (omega (arith, l)))
+shut_is_zero_if_all_open (false ∷ marks) all = absurd (true≢false (sym (same_Some false true (all 0 (omega arith)))))
 
-pub shut_some : (marks : List Bool) (v : ℕ) → slice_get marks v ≡ Some false → 0 < shut marks
+pub shut_is_positive_if_some_closed : (marks : List Bool) (v : ℕ) → slice_get marks v ≡ Some false → 0 < shut marks
 unfolding shut
-shut_some [] v is = absurd (cc is)
-shut_some (true ∷ marks) zero is = absurd (true≢false (same_Some true false is))
-shut_some (true ∷ marks) (suc v) is = shut_some marks v is
-shut_some (false ∷ marks) v is = omega arith
+shut_is_positive_if_some_closed [] v is = absurd (cc is)
+shut_is_positive_if_some_closed (true ∷ marks) zero is = absurd (true≢false (same_Some true false is))
+shut_is_positive_if_some_closed (true ∷ marks) (suc v) is = shut_is_positive_if_some_closed marks v is
+shut_is_positive_if_some_closed (false ∷ marks) v is = omega arith
 
 -- of the first nodes, with one more
-pub shut_marked : (marks : List Bool) (v : ℕ) (d : Bool) → v < length marks → get_or marks v d ≡ true
+pub shut_up_to_marked_node : (marks : List Bool) (v : ℕ) (d : Bool) → v < length marks → get_or marks v d ≡ true
     → shut (take (suc v) marks) ≡ shut (take v marks)
 unfolding shut
-shut_marked [] v d l is = absurd (omega (arith, l))
-shut_marked (true ∷ marks) zero d l is = refl
-shut_marked (false ∷ marks) zero d l is = absurd (true≢false (sym is))
-shut_marked (true ∷ marks) (suc v) d l is = shut_marked marks v d (omega (arith, l)) is
-shut_marked (false ∷ marks) (suc v) d l is = ap suc (shut_marked marks v d (omega (arith, l)) is)
+shut_up_to_marked_node [] v d l is = absurd (omega (arith, l))
+shut_up_to_marked_node (true ∷ marks) zero d l is = refl
+shut_up_to_marked_node (false ∷ marks) zero d l is = absurd (true≢false (sym is))
+shut_up_to_marked_node (true ∷ marks) (suc v) d l is = shut_up_to_marked_node marks v d (omega (arith, l)) is
+shut_up_to_marked_node (false ∷ marks) (suc v) d l is = ap suc (shut_up_to_marked_node marks v d (omega (arith, l)) is)
 
-pub shut_unmarked : (marks : List Bool) (v : ℕ) (d : Bool) → v < length marks → get_or marks v d ≡ false
+pub shut_up_to_unmarked_node : (marks : List Bool) (v : ℕ) (d : Bool) → v < length marks → get_or marks v d ≡ false
     → shut (take (suc v) marks) ≡ suc (shut (take v marks))
 unfolding shut
-shut_unmarked [] v d l is = absurd (omega (arith, l))
-shut_unmarked (true ∷ marks) zero d l is = absurd (true≢false is)
-shut_unmarked (false ∷ marks) zero d l is = refl
-shut_unmarked (true ∷ marks) (suc v) d l is = shut_unmarked marks v d (omega (arith, l)) is
-shut_unmarked (false ∷ marks) (suc v) d l is = ap suc (shut_unmarked marks v d (omega (arith, l)) is)
+shut_up_to_unmarked_node [] v d l is = absurd (omega (arith, l))
+shut_up_to_unmarked_node (true ∷ marks) zero d l is = absurd (true≢false is)
+shut_up_to_unmarked_node (false ∷ marks) zero d l is = refl
+shut_up_to_unmarked_node (true ∷ marks) (suc v) d l is = shut_up_to_unmarked_node marks v d (omega (arith, l)) is
+shut_up_to_unmarked_node (false ∷ marks) (suc v) d l is = ap suc (shut_up_to_unmarked_node marks v d (omega (arith, l)) is)
 
-pub shut_nothing : 0 ≡ shut []
+pub shut_of_empty : 0 ≡ shut []
 unfolding shut
-shut_nothing = refl
+shut_of_empty = refl
 
-never_open : (marks : List Bool) (v : ℕ) → slice_get marks v ≡ Some false → IsOpen marks v → ⊥
-never_open marks v unmarked is = true≢false (same_Some true false (sym is ∙ unmarked))
+closed_place_is_not_open : (marks : List Bool) (v : ℕ) → slice_get marks v ≡ Some false → IsOpen marks v → ⊥
+closed_place_is_not_open marks v unmarked is = true≢false (same_Some true false (sym is ∙ unmarked))
 
 -- without marks there is no first that isn't marked
-pub none_first : (marks : List Bool) (hang : Option Shown) → length marks ≤ 0
+pub no_hang_without_marks : (marks : List Bool) (hang : Option Shown) → length marks ≤ 0
     → ((x : Shown) → hang ≡ Some x → IsFirst marks x.node) → hang ≡ None
-none_first marks None few first = refl
-none_first marks (Some x) few first =
+no_hang_without_marks marks None few first = refl
+no_hang_without_marks marks (Some x) few first =
     let l = slice_get_within marks x.node false (first x refl).0 in absurd (omega (arith, l, few))
 
 module _ (guest : Guest) (flats : List Flat) (origins : List Origin) (marks : List Bool) (marked : AreMarked flats marks)
@@ -117,7 +117,7 @@ module _ (guest : Guest) (flats : List Flat) (origins : List Origin) (marks : Li
 
   no_hangs : ((v : ℕ) → v < length marks → IsOpen marks v) → AreHangs guest flats (shut marks) None
   no_hangs all =
-      let zero_is = shut_none marks all in record {
+      let zero_is = shut_is_zero_if_all_open marks all in record {
         marks = marks;
         marked = marked;
         count = refl;
@@ -135,14 +135,14 @@ module _ (guest : Guest) (flats : List Flat) (origins : List Origin) (marks : Li
       → ((f : Flat) → slice_get flats x.node ≡ Some f → IsShownAt guest f x.level (order_of_turns x.turns.items))
       → AreHangs guest flats (shut marks) (Some x)
   one_hang rising x first level wide shown =
-      let some = shut_some marks x.node first.0 in
+      let some = shut_is_positive_if_some_closed marks x.node first.0 in
       let l : x.node < length flats =
       (let a = slice_get_within marks x.node false first.0 in let b = marked.all in omega (arith, a, b)) in
-      let f = got flats x.node l in
-      let n = got origins x.node (omega (arith, l, wide)) in
+      let f = element_below_length_exists flats x.node l in
+      let n = element_below_length_exists origins x.node (omega (arith, l, wide)) in
       let here : IsHangShown guest x.level (order_of_turns x.turns.items) =
-      hang_shown guest f.0 x.level (order_of_turns x.turns.items) (shown f.0 f.1)
-      (λ answers can. never_open marks x.node first.0 (marked.other x.node f.0 f.1 answers can)) in record {
+      hang_shown_if_cannot_end guest f.0 x.level (order_of_turns x.turns.items) (shown f.0 f.1)
+      (λ answers can. closed_place_is_not_open marks x.node first.0 (marked.other x.node f.0 f.1 answers can)) in record {
         marks = marks;
         marked = marked;
         count = refl;

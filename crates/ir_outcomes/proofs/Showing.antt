@@ -10,30 +10,30 @@ use Rattle.ir_thread.specs.State as thread
 use Rattle.ir_flat.specs.Flat.{Flat, machine, tables}
 use Rattle.ir_graph.specs.Outcomes.{outcome_of}
 use Rattle.ir_graph.specs.Reached.{is_sure, IsQuietRun, beginning}
-use Rattle.ir_graph.proofs.CallerLemmas.{quiet_counted}
+use Rattle.ir_graph.proofs.CallerLemmas.{done_quiet_run_is_counted}
 use Rattle.ir_outcomes.specs.Again.{steps_of, IsAgainWithin}
 use Rattle.ir_outcomes.specs.Shown.{IsShown}
 
 -- each of the steps is taken in turn
-pub quiet_turns : (code : List ℕ) (s : State thread.State) (order : List ℕ) → IsQuietRun code s (steps_of order)
+pub quiet_run_is_in_turn : (code : List ℕ) (s : State thread.ThreadState) (order : List ℕ) → IsQuietRun code s (steps_of order)
     → InTurn (thread_machine code) s order (steps_of order)
-quiet_turns code s [] quiet = refl
-quiet_turns code s (t ∷ order) (can, live, sure, rest) =
+quiet_run_is_in_turn code s [] quiet = refl
+quiet_run_is_in_turn code s (t ∷ order) (can, live, sure, rest) =
     let free : EntersIfFree (thread_machine code) s (t, 0) =
     λ o tries enters. absurd (cc (sym (ap is_sure tries) ∙ sure)) in
-    inr (0, steps_of order, refl, can, free, quiet_turns code (after (thread_machine code) s (t, 0)) order rest)
+    inr (0, steps_of order, refl, can, free, quiet_run_is_in_turn code (after (thread_machine code) s (t, 0)) order rest)
 
-pub again_shown : (guest : Guest) (order : List ℕ) (most level : ℕ) (f g : Flat) → IsAgainWithin guest order most g → most ≤ suc level
+pub shown_if_again_within : (guest : Guest) (order : List ℕ) (most level : ℕ) (f g : Flat) → IsAgainWithin guest order most g → most ≤ suc level
     → IsDone (machine g) (tables g) → outcome_of (tables g) ≡ outcome_of (tables f) → IsShown guest f level order
-again_shown guest order most level f g w few done same =
+shown_if_again_within guest order most level f g w few done same =
     let a = w.again in
     let really : IsDone (thread_machine guest.code) (end (thread_machine guest.code) (beginning guest) (steps_of order)) =
     subst (IsDone (thread_machine guest.code)) a.ends (subst (λ z. IsDone (thread_machine z) (tables g)) a.like.code done) in record {
-      counted = λ answers. quiet_counted guest (steps_of order) answers a.quiet really;
+      counted = λ answers. done_quiet_run_is_counted guest (steps_of order) answers a.quiet really;
       by_order = record {
         count = 0;
         turns = subst (λ z. InTurn (thread_machine guest.code) (beginning guest) z (steps_of order)) (sym (append-nil order))
-            (quiet_turns guest.code (beginning guest) order a.quiet);
+            (quiet_run_is_in_turn guest.code (beginning guest) order a.quiet);
         done = really;
       };
       same = ap outcome_of (sym a.ends) ∙ same;

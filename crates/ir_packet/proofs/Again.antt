@@ -8,110 +8,110 @@ use Rattle.ir_packet.specs.Packets.{checksum, unescaped, unescaped_from, joined,
 use Rattle.ir_packet.specs.Stream.{Item, Packet, TooLong, BadSum, Between, Inside, Summing, packet_item, items_from, items, most_bytes}
 
 -- what holds of the four bytes that are escaped holds of each byte that is
-escaped_one : (P : ℕ → Type 0) (b : ℕ) (t u v w : Bool) → eqb b 35 ≡ t → eqb b 36 ≡ u → eqb b 125 ≡ v → eqb b 42 ≡ w
+escaped_byte_is_one_of_four : (P : ℕ → Type 0) (b : ℕ) (t u v w : Bool) → eqb b 35 ≡ t → eqb b 36 ≡ u → eqb b 125 ≡ v → eqb b 42 ≡ w
     → (t || u || v || w) ≡ true → P 35 → P 36 → P 125 → P 42 → P b
-escaped_one P b true u v w e1 e2 e3 e4 any p1 p2 p3 p4 = subst P (sym (eqb-true b 35 e1)) p1
-escaped_one P b false true v w e1 e2 e3 e4 any p1 p2 p3 p4 = subst P (sym (eqb-true b 36 e2)) p2
-escaped_one P b false false true w e1 e2 e3 e4 any p1 p2 p3 p4 = subst P (sym (eqb-true b 125 e3)) p3
-escaped_one P b false false false true e1 e2 e3 e4 any p1 p2 p3 p4 = subst P (sym (eqb-true b 42 e4)) p4
-escaped_one P b false false false false e1 e2 e3 e4 any p1 p2 p3 p4 = absurd (false≢true any)
+escaped_byte_is_one_of_four P b true u v w e1 e2 e3 e4 any p1 p2 p3 p4 = subst P (sym (eqb-true b 35 e1)) p1
+escaped_byte_is_one_of_four P b false true v w e1 e2 e3 e4 any p1 p2 p3 p4 = subst P (sym (eqb-true b 36 e2)) p2
+escaped_byte_is_one_of_four P b false false true w e1 e2 e3 e4 any p1 p2 p3 p4 = subst P (sym (eqb-true b 125 e3)) p3
+escaped_byte_is_one_of_four P b false false false true e1 e2 e3 e4 any p1 p2 p3 p4 = subst P (sym (eqb-true b 42 e4)) p4
+escaped_byte_is_one_of_four P b false false false false e1 e2 e3 e4 any p1 p2 p3 p4 = absurd (false≢true any)
 
 -- a byte that needs no escape is none of the four
-plain_one : (b : ℕ) (t u v w : Bool) → eqb b 35 ≡ t → eqb b 36 ≡ u → eqb b 125 ≡ v → (t || u || v || w) ≡ false
+unescaped_byte_is_no_mark : (b : ℕ) (t u v w : Bool) → eqb b 35 ≡ t → eqb b 36 ≡ u → eqb b 125 ≡ v → (t || u || v || w) ≡ false
     → (eqb b 35 ≡ false) × (eqb b 36 ≡ false) × (eqb b 125 ≡ false)
-plain_one b true u v w e1 e2 e3 none = absurd (false≢true (sym none))
-plain_one b false true v w e1 e2 e3 none = absurd (false≢true (sym none))
-plain_one b false false true w e1 e2 e3 none = absurd (false≢true (sym none))
-plain_one b false false false w e1 e2 e3 none = (e1, e2, e3)
+unescaped_byte_is_no_mark b true u v w e1 e2 e3 none = absurd (false≢true (sym none))
+unescaped_byte_is_no_mark b false true v w e1 e2 e3 none = absurd (false≢true (sym none))
+unescaped_byte_is_no_mark b false false true w e1 e2 e3 none = absurd (false≢true (sym none))
+unescaped_byte_is_no_mark b false false false w e1 e2 e3 none = (e1, e2, e3)
 
 -- a byte that is neither `$` nor `#` stays in the packet
-inside_plain : (raw : List ℕ) (b : ℕ) (more : List ℕ) → eqb b 36 ≡ false → eqb b 35 ≡ false
+plain_byte_stays_inside : (raw : List ℕ) (b : ℕ) (more : List ℕ) → eqb b 36 ≡ false → eqb b 35 ≡ false
     → items_from (Inside raw) (b ∷ more) ≡ items_from (Inside (raw ++ b ∷ [])) more
 unfolding items_from
-inside_plain raw b more begins ends =
+plain_byte_stays_inside raw b more begins ends =
     ap (λ (t : Bool). items_from (cond t (Inside []) (cond (eqb b 35) (Summing raw) (Inside (raw ++ b ∷ [])))) more) begins
     ∙ ap (λ (t : Bool). items_from (cond t (Summing raw) (Inside (raw ++ b ∷ []))) more) ends
 
-inside_two : (raw : List ℕ) (b : ℕ) (more : List ℕ) → eqb b 36 ≡ false → eqb b 35 ≡ false
+escape_pair_stays_inside : (raw : List ℕ) (b : ℕ) (more : List ℕ) → eqb b 36 ≡ false → eqb b 35 ≡ false
     → items_from (Inside raw) (125 ∷ b ∷ more) ≡ items_from (Inside (raw ++ 125 ∷ b ∷ [])) more
-inside_two raw b more begins ends =
-    inside_plain raw 125 (b ∷ more) refl refl ∙ inside_plain (raw ++ 125 ∷ []) b more begins ends
+escape_pair_stays_inside raw b more begins ends =
+    plain_byte_stays_inside raw 125 (b ∷ more) refl refl ∙ plain_byte_stays_inside (raw ++ 125 ∷ []) b more begins ends
     ∙ ap (λ (r : List ℕ). items_from (Inside r) more) (append_assoc raw (125 ∷ []) (b ∷ []))
 
-inside_escaped_byte : (raw : List ℕ) (b : ℕ) (more : List ℕ) (t : Bool) → needs_escape b ≡ t
+escaped_byte_stays_inside : (raw : List ℕ) (b : ℕ) (more : List ℕ) (t : Bool) → needs_escape b ≡ t
     → items_from (Inside raw) (cond t (125 ∷ bit_xor b 32 ∷ []) (b ∷ []) ++ more)
     ≡ items_from (Inside (raw ++ cond t (125 ∷ bit_xor b 32 ∷ []) (b ∷ []))) more
-inside_escaped_byte raw b more true needs =
-    escaped_one (λ (x : ℕ). items_from (Inside raw) (125 ∷ bit_xor x 32 ∷ more) ≡ items_from (Inside (raw ++ 125 ∷ bit_xor x 32 ∷ [])) more) b
-    (eqb b 35) (eqb b 36) (eqb b 125) (eqb b 42) refl refl refl refl needs (inside_two raw 3 more refl refl) (inside_two raw 4 more refl refl)
-    (inside_two raw 93 more refl refl) (inside_two raw 10 more refl refl)
-inside_escaped_byte raw b more false needs =
-    let n = plain_one b (eqb b 35) (eqb b 36) (eqb b 125) (eqb b 42) refl refl refl needs in
-    inside_plain raw b more n.1 n.0
+escaped_byte_stays_inside raw b more true needs =
+    escaped_byte_is_one_of_four (λ (x : ℕ). items_from (Inside raw) (125 ∷ bit_xor x 32 ∷ more) ≡ items_from (Inside (raw ++ 125 ∷ bit_xor x 32 ∷ [])) more) b
+    (eqb b 35) (eqb b 36) (eqb b 125) (eqb b 42) refl refl refl refl needs (escape_pair_stays_inside raw 3 more refl refl) (escape_pair_stays_inside raw 4 more refl refl)
+    (escape_pair_stays_inside raw 93 more refl refl) (escape_pair_stays_inside raw 10 more refl refl)
+escaped_byte_stays_inside raw b more false needs =
+    let n = unescaped_byte_is_no_mark b (eqb b 35) (eqb b 36) (eqb b 125) (eqb b 42) refl refl refl needs in
+    plain_byte_stays_inside raw b more n.1 n.0
 
-inside_escaped : (raw payload rest : List ℕ) → items_from (Inside raw) (escaped payload ++ rest) ≡ items_from (Inside (raw ++ escaped payload)) rest
+escaped_payload_stays_inside : (raw payload rest : List ℕ) → items_from (Inside raw) (escaped payload ++ rest) ≡ items_from (Inside (raw ++ escaped payload)) rest
 unfolding escaped
-inside_escaped raw [] rest = ap (λ (r : List ℕ). items_from (Inside r) rest) (sym (append-nil raw))
-inside_escaped raw (b ∷ payload) rest =
+escaped_payload_stays_inside raw [] rest = ap (λ (r : List ℕ). items_from (Inside r) rest) (sym (append-nil raw))
+escaped_payload_stays_inside raw (b ∷ payload) rest =
     ap (items_from (Inside raw)) (append_assoc (escaped_byte b) (escaped payload) rest)
-    ∙ inside_escaped_byte raw b (escaped payload ++ rest) (needs_escape b) refl ∙ inside_escaped (raw ++ escaped_byte b) payload rest
+    ∙ escaped_byte_stays_inside raw b (escaped payload ++ rest) (needs_escape b) refl ∙ escaped_payload_stays_inside (raw ++ escaped_byte b) payload rest
     ∙ ap (λ (r : List ℕ). items_from (Inside r) rest) (append_assoc raw (escaped_byte b) (escaped payload))
 
-unescaped_byte : (b : ℕ) (more : List ℕ) (t : Bool) → needs_escape b ≡ t
+unescaped_of_escaped_byte : (b : ℕ) (more : List ℕ) (t : Bool) → needs_escape b ≡ t
     → unescaped_from false (cond t (125 ∷ bit_xor b 32 ∷ []) (b ∷ []) ++ more) ≡ b ∷ unescaped_from false more
 unfolding unescaped_from
-unescaped_byte b more true needs =
-    escaped_one (λ (x : ℕ). unescaped_from false (125 ∷ bit_xor x 32 ∷ more) ≡ x ∷ unescaped_from false more) b (eqb b 35) (eqb b 36)
+unescaped_of_escaped_byte b more true needs =
+    escaped_byte_is_one_of_four (λ (x : ℕ). unescaped_from false (125 ∷ bit_xor x 32 ∷ more) ≡ x ∷ unescaped_from false more) b (eqb b 35) (eqb b 36)
     (eqb b 125) (eqb b 42) refl refl refl refl needs refl refl refl refl
-unescaped_byte b more false needs =
-    let n = plain_one b (eqb b 35) (eqb b 36) (eqb b 125) (eqb b 42) refl refl refl needs in
+unescaped_of_escaped_byte b more false needs =
+    let n = unescaped_byte_is_no_mark b (eqb b 35) (eqb b 36) (eqb b 125) (eqb b 42) refl refl refl needs in
     ap (λ (t : Bool). cond t (unescaped_from true more) (b ∷ unescaped_from false more)) n.2
 
-unescaped-escaped : (payload : List ℕ) → unescaped_from false (escaped payload) ≡ payload
+unescaped_of_escaped : (payload : List ℕ) → unescaped_from false (escaped payload) ≡ payload
 unfolding escaped unescaped_from
-unescaped-escaped [] = refl
-unescaped-escaped (b ∷ payload) =
-    unescaped_byte b (escaped payload) (needs_escape b) refl ∙ ap (λ (r : List ℕ). b ∷ r) (unescaped-escaped payload)
+unescaped_of_escaped [] = refl
+unescaped_of_escaped (b ∷ payload) =
+    unescaped_of_escaped_byte b (escaped payload) (needs_escape b) refl ∙ ap (λ (r : List ℕ). b ∷ r) (unescaped_of_escaped payload)
 
-eqb-same : (n : ℕ) → eqb n n ≡ true
-eqb-same n = eq-eqb n n refl
+eqb_reflexive : (n : ℕ) → eqb n n ≡ true
+eqb_reflexive n = eq-eqb n n refl
 
-joined_is : (x y : Option ℕ) (h l n : ℕ) → x ≡ Some h → y ≡ Some l → h * 16 + l ≡ n → is_number (joined x y) n ≡ true
-joined_is x y h l n p q e =
+joined_digits_are_number : (x y : Option ℕ) (h l n : ℕ) → x ≡ Some h → y ≡ Some l → h * 16 + l ≡ n → is_number (joined x y) n ≡ true
+joined_digits_are_number x y h l n p q e =
     ap (λ (o : Option ℕ). is_number (joined o y) n) p ∙ ap (λ (o : Option ℕ). is_number (joined (Some h) o) n) q
-    ∙ ap (λ (m : ℕ). eqb m n) e ∙ eqb-same n
+    ∙ ap (λ (m : ℕ). eqb m n) e ∙ eqb_reflexive n
 
-digits_are : (n : ℕ) → n < 256 → is_number (two_digits (slice_index lower_digits (n / 16)) (slice_index lower_digits (n % 16))) n ≡ true
-digits_are n below =
-    joined_is (hex_digit_value (slice_index lower_digits (n / 16))) (hex_digit_value (slice_index lower_digits (n % 16))) (n / 16) (n % 16) n
+two_lower_digits_are_number : (n : ℕ) → n < 256 → is_number (two_digits (slice_index lower_digits (n / 16)) (slice_index lower_digits (n % 16))) n ≡ true
+two_lower_digits_are_number n below =
+    joined_digits_are_number (hex_digit_value (slice_index lower_digits (n / 16))) (hex_digit_value (slice_index lower_digits (n % 16))) (n / 16) (n % 16) n
     (IsDigits-lower_digits (n / 16) (omega (arith, below))) (IsDigits-lower_digits (n % 16) (omega arith)) (omega arith)
 
-whole_packet : (payload : List ℕ) → length (escaped payload) ≤ 4096
+packet_item_of_escaped_payload : (payload : List ℕ) → length (escaped payload) ≤ 4096
     → packet_item (escaped payload) (slice_index lower_digits (checksum (escaped payload) / 16))
     (slice_index lower_digits (checksum (escaped payload) % 16)) ≡ Packet payload
-whole_packet payload fits =
+packet_item_of_escaped_payload payload fits =
     let raw = escaped payload in
     let s = checksum raw in
     let below : s < 256 = omega arith in
     ap (λ (t : Bool). cond t TooLong (cond (is_number (two_digits (slice_index lower_digits (s / 16)) (slice_index lower_digits (s % 16))) s)
     (Packet (unescaped raw)) BadSum)) (le-ltb 4096 (length raw) fits)
-    ∙ ap (λ (t : Bool). cond t (Packet (unescaped raw)) BadSum) (digits_are s below) ∙ ap Packet (unescaped-escaped payload)
+    ∙ ap (λ (t : Bool). cond t (Packet (unescaped raw)) BadSum) (two_lower_digits_are_number s below) ∙ ap Packet (unescaped_of_escaped payload)
 
-begun_packet : (more : List ℕ) → items_from Between (36 ∷ more) ≡ items_from (Inside []) more
+items_after_packet_mark : (more : List ℕ) → items_from Between (36 ∷ more) ≡ items_from (Inside []) more
 unfolding items_from
-begun_packet more = refl
+items_after_packet_mark more = refl
 
-ended_packet : (raw : List ℕ) (a b : ℕ) (rest : List ℕ) → items_from (Inside raw) (35 ∷ a ∷ b ∷ rest) ≡ packet_item raw a b ∷ items_from Between rest
+items_after_packet_end : (raw : List ℕ) (a b : ℕ) (rest : List ℕ) → items_from (Inside raw) (35 ∷ a ∷ b ∷ rest) ≡ packet_item raw a b ∷ items_from Between rest
 unfolding items_from
-ended_packet raw a b rest = refl
+items_after_packet_end raw a b rest = refl
 
-pub packet_again : (payload rest : List ℕ) → length (escaped payload) ≤ most_bytes → items (packet_of payload ++ rest) ≡ Packet payload ∷ items rest
-packet_again payload rest fits =
+pub items_of_packet_begin_with_payload : (payload rest : List ℕ) → length (escaped payload) ≤ most_bytes → items (packet_of payload ++ rest) ≡ Packet payload ∷ items rest
+items_of_packet_begin_with_payload payload rest fits =
     let raw = escaped payload in
     let s = checksum raw in
     let a = slice_index lower_digits (s / 16) in
     let b = slice_index lower_digits (s % 16) in
-    begun_packet ((raw ++ 35 ∷ a ∷ b ∷ []) ++ rest)
+    items_after_packet_mark ((raw ++ 35 ∷ a ∷ b ∷ []) ++ rest)
     ∙ ap (items_from (Inside [])) (append_assoc raw (35 ∷ a ∷ b ∷ []) rest)
-    ∙ inside_escaped [] payload (35 ∷ a ∷ b ∷ rest) ∙ ended_packet raw a b rest
-    ∙ ap (λ (i : Item). i ∷ items_from Between rest) (whole_packet payload fits)
+    ∙ escaped_payload_stays_inside [] payload (35 ∷ a ∷ b ∷ rest) ∙ items_after_packet_end raw a b rest
+    ∙ ap (λ (i : Item). i ∷ items_from Between rest) (packet_item_of_escaped_payload payload fits)

@@ -3,11 +3,11 @@ use Rattle.std.proofs.Common.{◌≡◌, ◌≤◌, ◌++◌, [], ℕ, List, Boo
 use Rattle.std.proofs.Math.ListN.{drop_of_length-le}
 use Rattle.ir_packet.specs.Packets.{unescaped_from}
 
-unescaped-nil : (e : Bool) → unescaped_from e [] ≡ []
+unescaped_of_empty : (e : Bool) → unescaped_from e [] ≡ []
 unfolding unescaped_from
-unescaped-nil e = refl
+unescaped_of_empty e = refl
 
-pub unescaped-past : (done whole raw : List ℕ) (e : Bool) (i : ℕ) → length raw ≤ i → done ++ unescaped_from e (drop i raw) ≡ whole
+pub unescaped_complete_past_end : (done whole raw : List ℕ) (e : Bool) (i : ℕ) → length raw ≤ i → done ++ unescaped_from e (drop i raw) ≡ whole
     → done ≡ whole
-unescaped-past done whole raw e i past is =
-    sym (append-nil done) ∙ ap (λ (r : List ℕ). done ++ r) (sym (ap (unescaped_from e) (drop_of_length-le raw past) ∙ unescaped-nil e)) ∙ is
+unescaped_complete_past_end done whole raw e i past is =
+    sym (append-nil done) ∙ ap (λ (r : List ℕ). done ++ r) (sym (ap (unescaped_from e) (drop_of_length-le raw past) ∙ unescaped_of_empty e)) ∙ is

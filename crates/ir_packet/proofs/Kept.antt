@@ -6,28 +6,28 @@ use Rattle.ir_packet.specs.Reading.{kept, place_of}
 use Rattle.ir_packet.specs.declared.standing.Standing.{Standing}
 use Rattle.ir_packet.specs.declared.standing.Standing.TheVariants as standing
 
-pub kept_summing : (raw : List ℕ) → length raw ≤ 4097 → Summing raw ≡ kept (Summing raw)
-kept_summing raw fits = ap Summing (sym (take_all 4097 raw fits))
+pub short_summing_is_kept : (raw : List ℕ) → length raw ≤ 4097 → Summing raw ≡ kept (Summing raw)
+short_summing_is_kept raw fits = ap Summing (sym (take_all 4097 raw fits))
 
-pub kept_digit : (raw : List ℕ) (a : ℕ) → length raw ≤ 4097 → Digit raw a ≡ kept (Digit raw a)
-kept_digit raw a fits = ap (λ (r : List ℕ). Digit r a) (sym (take_all 4097 raw fits))
+pub short_digit_is_kept : (raw : List ℕ) (a : ℕ) → length raw ≤ 4097 → Digit raw a ≡ kept (Digit raw a)
+short_digit_is_kept raw a fits = ap (λ (r : List ℕ). Digit r a) (sym (take_all 4097 raw fits))
 
-pub kept_longer : (raw : List ℕ) (b : ℕ) → length raw ≤ 4096 → Inside (raw ++ b ∷ []) ≡ kept (Inside (raw ++ b ∷ []))
-kept_longer raw b fits = ap Inside (sym (take_all 4097 (raw ++ b ∷ []) (omega (arith, length-append raw (b ∷ [])))))
+pub short_inside_is_kept : (raw : List ℕ) (b : ℕ) → length raw ≤ 4096 → Inside (raw ++ b ∷ []) ≡ kept (Inside (raw ++ b ∷ []))
+short_inside_is_kept raw b fits = ap Inside (sym (take_all 4097 (raw ++ b ∷ []) (omega (arith, length-append raw (b ∷ [])))))
 
-pub kept_full : (raw : List ℕ) (b : ℕ) → length raw ≤ 4097 → 4096 < length raw → Inside raw ≡ kept (Inside (raw ++ b ∷ []))
-kept_full raw b fits full =
+pub kept_of_full_inside : (raw : List ℕ) (b : ℕ) → length raw ≤ 4097 → 4096 < length raw → Inside raw ≡ kept (Inside (raw ++ b ∷ []))
+kept_of_full_inside raw b fits full =
     let n : length raw ≡ 4097 = omega (arith, fits, full) in
     ap Inside (sym (take-append-le 4097 raw (b ∷ []) (omega (arith, n)) ∙ take_all 4097 raw fits))
 
-pub inside_full : (raw : List ℕ) (b : ℕ) → length raw ≤ 4097 → 4096 < length raw → eqb b 36 ≡ false → eqb b 35 ≡ false
+pub kept_step_of_full_inside : (raw : List ℕ) (b : ℕ) → length raw ≤ 4097 → 4096 < length raw → eqb b 36 ≡ false → eqb b 35 ≡ false
     → Inside raw ≡ kept (step (Inside raw) b)
-inside_full raw b fits full begins ends =
-    kept_full raw b fits full
+kept_step_of_full_inside raw b fits full begins ends =
+    kept_of_full_inside raw b fits full
     ∙ ap (λ (t : Bool). kept (cond t (Summing raw) (Inside (raw ++ b ∷ [])))) (sym ends)
     ∙ ap (λ (t : Bool). kept (cond t (Inside []) (cond (eqb b 35) (Summing raw) (Inside (raw ++ b ∷ []))))) (sym begins)
 
-pub first_digit : (s : Standing) (p : Place) (raw : List ℕ) (b : ℕ) → length raw ≤ 4097 → s ≡ standing.Summing → p ≡ place_of s raw
+pub kept_step_of_first_digit : (s : Standing) (p : Place) (raw : List ℕ) (b : ℕ) → length raw ≤ 4097 → s ≡ standing.Summing → p ≡ place_of s raw
     → Digit raw b ≡ kept (step p b)
-first_digit s p raw b fits stands is =
-    kept_digit raw b fits ∙ sym (ap (λ (q : Place). kept (step q b)) (is ∙ ap (λ (t : Standing). place_of t raw) stands))
+kept_step_of_first_digit s p raw b fits stands is =
+    short_digit_is_kept raw b fits ∙ sym (ap (λ (q : Place). kept (step q b)) (is ∙ ap (λ (t : Standing). place_of t raw) stands))

@@ -6,58 +6,58 @@ use Rattle.ir_packet.specs.Packets.{checksum, unescaped, two_digits, is_number}
 use Rattle.ir_packet.specs.Stream.{Item, Packet, TooLong, BadSum, Place, Between, Inside, Summing, Digit, packet_item, ends, step, place_after, items_from}
 use Rattle.ir_packet.specs.Reading.{kept, items_read}
 
-pub items_from-append : (p : Place) (xs ys : List ℕ) → items_from p (xs ++ ys) ≡ items_from p xs ++ items_from (place_after p xs) ys
+pub items_from_of_append : (p : Place) (xs ys : List ℕ) → items_from p (xs ++ ys) ≡ items_from p xs ++ items_from (place_after p xs) ys
 unfolding items_from place_after
-items_from-append p [] ys = refl
-items_from-append p (x ∷ xs) ys =
-    ap (λ (r : List Item). ends p x ++ r) (items_from-append (step p x) xs ys)
+items_from_of_append p [] ys = refl
+items_from_of_append p (x ∷ xs) ys =
+    ap (λ (r : List Item). ends p x ++ r) (items_from_of_append (step p x) xs ys)
     ∙ sym (append_assoc (ends p x) (items_from (step p x) xs) (items_from (place_after (step p x) xs) ys))
 
-take_again : (n : ℕ) (xs : List ℕ) → take n (take n xs) ≡ take n xs
-take_again n xs = take_all n (take n xs) (omega (arith, length-take n xs))
+take_of_take : (n : ℕ) (xs : List ℕ) → take n (take n xs) ≡ take n xs
+take_of_take n xs = take_all n (take n xs) (omega (arith, length-take n xs))
 
-take_pushed_by : (n : ℕ) (xs : List ℕ) (b : ℕ) (t : Bool) → ltb n (length xs) ≡ t → take n (take n xs ++ b ∷ []) ≡ take n (xs ++ b ∷ [])
-take_pushed_by n xs b true long =
+take_of_taken_pushed : (n : ℕ) (xs : List ℕ) (b : ℕ) (t : Bool) → ltb n (length xs) ≡ t → take n (take n xs ++ b ∷ []) ≡ take n (xs ++ b ∷ [])
+take_of_taken_pushed n xs b true long =
     let h : n < length xs = ltb-true n (length xs) long in
-    take-append-le n (take n xs) (b ∷ []) (omega (arith, length-take n xs)) ∙ take_again n xs
+    take-append-le n (take n xs) (b ∷ []) (omega (arith, length-take n xs)) ∙ take_of_take n xs
     ∙ sym (take-append-le n xs (b ∷ []) (omega (arith, h)))
-take_pushed_by n xs b false short = ap (λ (r : List ℕ). take n (r ++ b ∷ [])) (take_all n xs (ltb-false n (length xs) short))
+take_of_taken_pushed n xs b false short = ap (λ (r : List ℕ). take n (r ++ b ∷ [])) (take_all n xs (ltb-false n (length xs) short))
 
-too_long : (raw : List ℕ) (a b : ℕ) → 4096 < length raw → packet_item raw a b ≡ TooLong
-too_long raw a b h =
+packet_item_too_long : (raw : List ℕ) (a b : ℕ) → 4096 < length raw → packet_item raw a b ≡ TooLong
+packet_item_too_long raw a b h =
     ap (λ (t : Bool). cond t TooLong (cond (is_number (two_digits a b) (checksum raw)) (Packet (unescaped raw)) BadSum))
     (lt-ltb 4096 (length raw) h)
 
-packet_kept : (raw : List ℕ) (a b : ℕ) (t : Bool) → ltb 4096 (length raw) ≡ t → packet_item (take 4097 raw) a b ≡ packet_item raw a b
-packet_kept raw a b true long =
+packet_item_of_taken : (raw : List ℕ) (a b : ℕ) (t : Bool) → ltb 4096 (length raw) ≡ t → packet_item (take 4097 raw) a b ≡ packet_item raw a b
+packet_item_of_taken raw a b true long =
     let h : 4096 < length raw = ltb-true 4096 (length raw) long in
-    too_long (take 4097 raw) a b (omega (arith, length-take 4097 raw, h)) ∙ sym (too_long raw a b h)
-packet_kept raw a b false short =
+    packet_item_too_long (take 4097 raw) a b (omega (arith, length-take 4097 raw, h)) ∙ sym (packet_item_too_long raw a b h)
+packet_item_of_taken raw a b false short =
     let h : length raw ≤ 4096 = ltb-false 4096 (length raw) short in
     ap (λ (r : List ℕ). packet_item r a b) (take_all 4097 raw (omega (arith, h)))
 
-pub ends-kept : (p : Place) (b : ℕ) → ends (kept p) b ≡ ends p b
-ends-kept Between b = refl
-ends-kept (Inside raw) b = refl
-ends-kept (Summing raw) b = refl
-ends-kept (Digit raw a) b = ap (λ (i : Item). i ∷ []) (packet_kept raw a b (ltb 4096 (length raw)) refl)
+pub ends_of_kept : (p : Place) (b : ℕ) → ends (kept p) b ≡ ends p b
+ends_of_kept Between b = refl
+ends_of_kept (Inside raw) b = refl
+ends_of_kept (Summing raw) b = refl
+ends_of_kept (Digit raw a) b = ap (λ (i : Item). i ∷ []) (packet_item_of_taken raw a b (ltb 4096 (length raw)) refl)
 
-inside_kept : (raw : List ℕ) (b : ℕ) (t u : Bool) → kept (cond t (Inside []) (cond u (Summing (take 4097 raw)) (Inside (take 4097 raw ++ b ∷ []))))
+kept_of_taken_inside_step : (raw : List ℕ) (b : ℕ) (t u : Bool) → kept (cond t (Inside []) (cond u (Summing (take 4097 raw)) (Inside (take 4097 raw ++ b ∷ []))))
     ≡ kept (cond t (Inside []) (cond u (Summing raw) (Inside (raw ++ b ∷ []))))
-inside_kept raw b true u = refl
-inside_kept raw b false true = ap Summing (take_again 4097 raw)
-inside_kept raw b false false = ap Inside (take_pushed_by 4097 raw b (ltb 4097 (length raw)) refl)
+kept_of_taken_inside_step raw b true u = refl
+kept_of_taken_inside_step raw b false true = ap Summing (take_of_take 4097 raw)
+kept_of_taken_inside_step raw b false false = ap Inside (take_of_taken_pushed 4097 raw b (ltb 4097 (length raw)) refl)
 
-pub step-kept : (p : Place) (b : ℕ) → kept (step (kept p) b) ≡ kept (step p b)
-step-kept Between b = refl
-step-kept (Inside raw) b = inside_kept raw b (eqb b 36) (eqb b 35)
-step-kept (Summing raw) b = ap (λ (r : List ℕ). Digit r b) (take_again 4097 raw)
-step-kept (Digit raw a) b = refl
+pub kept_step_of_kept : (p : Place) (b : ℕ) → kept (step (kept p) b) ≡ kept (step p b)
+kept_step_of_kept Between b = refl
+kept_step_of_kept (Inside raw) b = kept_of_taken_inside_step raw b (eqb b 36) (eqb b 35)
+kept_step_of_kept (Summing raw) b = ap (λ (r : List ℕ). Digit r b) (take_of_take 4097 raw)
+kept_step_of_kept (Digit raw a) b = refl
 
-pub items_read-kept : (p : Place) (bytes : List ℕ) → items_read (kept p) bytes ≡ items_from p bytes
+pub items_read_of_kept : (p : Place) (bytes : List ℕ) → items_read (kept p) bytes ≡ items_from p bytes
 unfolding items_from items_read
-items_read-kept p [] = refl
-items_read-kept p (b ∷ bytes) =
-    ap (λ (e : List Item). e ++ items_read (kept (step (kept p) b)) bytes) (ends-kept p b)
-    ∙ ap (λ (q : Place). ends p b ++ items_read q bytes) (step-kept p b)
-    ∙ ap (λ (r : List Item). ends p b ++ r) (items_read-kept (step p b) bytes)
+items_read_of_kept p [] = refl
+items_read_of_kept p (b ∷ bytes) =
+    ap (λ (e : List Item). e ++ items_read (kept (step (kept p) b)) bytes) (ends_of_kept p b)
+    ∙ ap (λ (q : Place). ends p b ++ items_read q bytes) (kept_step_of_kept p b)
+    ∙ ap (λ (r : List Item). ends p b ++ r) (items_read_of_kept (step p b) bytes)

@@ -93,7 +93,7 @@ fn alone(byte: u8) -> Option<Found>
     }
 }
 
-#[tactic(auto, using(crate::proofs::Kept::kept_summing, crate::proofs::Kept::kept_longer))]
+#[tactic(auto, using(crate::proofs::Kept::short_summing_is_kept, crate::proofs::Kept::short_inside_is_kept))]
 // Takes a byte after `$` and the bytes that are kept.
 fn inside(raw: &mut Vec<u8>, byte: u8) -> Standing
     requires len { vec_len raw.old ≤ 4097 }

@@ -9,50 +9,50 @@ use Rattle.ir_runs.specs.declared.access.Access.TheVariants.{Reading, Writing}
 use Rattle.ir_runs.specs.Run.{act, State, Step, after, label, trail, IsRun, IsDone, end}
 use Rattle.ir_runs.specs.Bounds.{IsComplete, IsStart}
 use Rattle.ir_runs.specs.Cuts.{At, Emits}
-use Rattle.ir_runs.proofs.CallerLemmas.{upd_same, Good, stays_good, start_good, trail_same, trail_other}
+use Rattle.ir_runs.proofs.CallerLemmas.{upd_at_own_place, StateInvariant, state_invariant_after_step, state_invariant_at_start, trail_of_cons_own_thread, trail_of_cons_other_thread}
 use Rattle.ir_thread.specs.Instance.{thread_machine}
 use Rattle.ir_thread.specs.State as thread
-use Rattle.ir_thread.proofs.CallerLemmas.{lawful}
+use Rattle.ir_thread.proofs.CallerLemmas.{thread_machine_is_lawful}
 use Rattle.ir_past.specs.Leaving.{LeavesFirst}
-use Rattle.ir_past.proofs.Returning.{Enters, object_after, IsEntering, entering, exit_inside, entry_inside, own_step, other_step, none_written}
+use Rattle.ir_past.proofs.Returning.{Enters, target_object_after_step, IsEntering, act_emitting_entry_is_entering, exiting_thread_is_inside, entering_thread_is_not_inside, own_step_keeps_object_or_exits, other_step_on_version_and_inside, no_other_writes_while_inside}
 
 -- ---- the steps of a thread
 
-own_trail : {T : Type 0} (m : Machine T) (s : State T) (e : Step) (run : List Step) (t : ℕ) → e.0 ≡ t
+trail_of_own_step : {T : Type 0} (m : Machine T) (s : State T) (e : Step) (run : List Step) (t : ℕ) → e.0 ≡ t
     → trail m s (e ∷ run) t ≡ (s.now t, label m s e) ∷ trail m (after m s e) run t
-own_trail m s e run t own = subst (λ z. trail m s (e ∷ run) z ≡ (s.now z, label m s e) ∷ trail m (after m s e) run z) own (trail_same m s e run)
+trail_of_own_step m s e run t own = subst (λ z. trail m s (e ∷ run) z ≡ (s.now z, label m s e) ∷ trail m (after m s e) run z) own (trail_of_cons_own_thread m s e run)
 
 -- what the thread's later steps emit
-emits_more : {T : Type 0} (m : Machine T) (s : State T) (e : Step) (run : List Step) (t k : ℕ) (b : Label) → e.0 ≡ t
+emits_from_rest_after_own_step : {T : Type 0} (m : Machine T) (s : State T) (e : Step) (run : List Step) (t k : ℕ) (b : Label) → e.0 ≡ t
     → Emits m (after m s e) run t k b → Emits m s (e ∷ run) t (suc k) b
-emits_more {T} m s e run t k b own x = (x.0, subst (λ (ks : List (T × Label)). At ks (suc k) (x.0, b)) (sym (own_trail m s e run t own)) x.1)
+emits_from_rest_after_own_step {T} m s e run t k b own x = (x.0, subst (λ (ks : List (T × Label)). At ks (suc k) (x.0, b)) (sym (trail_of_own_step m s e run t own)) x.1)
 
-emits_rest : {T : Type 0} (m : Machine T) (s : State T) (e : Step) (run : List Step) (t k : ℕ) (b : Label) → e.0 ≡ t
+rest_emits_after_own_step : {T : Type 0} (m : Machine T) (s : State T) (e : Step) (run : List Step) (t k : ℕ) (b : Label) → e.0 ≡ t
     → Emits m s (e ∷ run) t (suc k) b → Emits m (after m s e) run t k b
-emits_rest {T} m s e run t k b own x = (x.0, subst (λ (ks : List (T × Label)). At ks (suc k) (x.0, b)) (own_trail m s e run t own) x.1)
+rest_emits_after_own_step {T} m s e run t k b own x = (x.0, subst (λ (ks : List (T × Label)). At ks (suc k) (x.0, b)) (trail_of_own_step m s e run t own) x.1)
 
 -- and what its first one does
-emits_first : {T : Type 0} (m : Machine T) (s : State T) (e : Step) (run : List Step) (t : ℕ) (b : Label) → e.0 ≡ t
+emits_own_first_label : {T : Type 0} (m : Machine T) (s : State T) (e : Step) (run : List Step) (t : ℕ) (b : Label) → e.0 ≡ t
     → label m s e ≡ b → Emits m s (e ∷ run) t 0 b
-emits_first {T} m s e run t b own is = (
+emits_own_first_label {T} m s e run t b own is = (
   s.now t,
-  subst (λ (ks : List (T × Label)). At ks 0 (s.now t, b)) (sym (own_trail m s e run t own))
+  subst (λ (ks : List (T × Label)). At ks 0 (s.now t, b)) (sym (trail_of_own_step m s e run t own))
       (let same : (s.now t, label m s e) ≡ (s.now t, b) = ap (λ (z : Label). (s.now t, z)) is in same),
 )
 
-first_emits : {T : Type 0} (m : Machine T) (s : State T) (e : Step) (run : List Step) (t : ℕ) (b : Label) → e.0 ≡ t
+first_emitted_label_is_own : {T : Type 0} (m : Machine T) (s : State T) (e : Step) (run : List Step) (t : ℕ) (b : Label) → e.0 ≡ t
     → Emits m s (e ∷ run) t 0 b → label m s e ≡ b
-first_emits {T} m s e run t b own x =
-    let same : (s.now t, label m s e) ≡ (x.0, b) = subst (λ (ks : List (T × Label)). At ks 0 (x.0, b)) (own_trail m s e run t own) x.1 in
+first_emitted_label_is_own {T} m s e run t b own x =
+    let same : (s.now t, label m s e) ≡ (x.0, b) = subst (λ (ks : List (T × Label)). At ks 0 (x.0, b)) (trail_of_own_step m s e run t own) x.1 in
     ap (λ (p : T × Label). p.1) same
 
-emits_other : {T : Type 0} (m : Machine T) (s : State T) (e : Step) (run : List Step) (t k : ℕ) (b : Label) → t ≢ e.0
+emits_from_rest_after_other_step : {T : Type 0} (m : Machine T) (s : State T) (e : Step) (run : List Step) (t k : ℕ) (b : Label) → t ≢ e.0
     → Emits m (after m s e) run t k b → Emits m s (e ∷ run) t k b
-emits_other {T} m s e run t k b ne x = (x.0, subst (λ (ks : List (T × Label)). At ks k (x.0, b)) (sym (trail_other m s e run t ne)) x.1)
+emits_from_rest_after_other_step {T} m s e run t k b ne x = (x.0, subst (λ (ks : List (T × Label)). At ks k (x.0, b)) (sym (trail_of_cons_other_thread m s e run t ne)) x.1)
 
-other_emits : {T : Type 0} (m : Machine T) (s : State T) (e : Step) (run : List Step) (t k : ℕ) (b : Label) → t ≢ e.0
+rest_emits_after_other_step : {T : Type 0} (m : Machine T) (s : State T) (e : Step) (run : List Step) (t k : ℕ) (b : Label) → t ≢ e.0
     → Emits m s (e ∷ run) t k b → Emits m (after m s e) run t k b
-other_emits {T} m s e run t k b ne x = (x.0, subst (λ (ks : List (T × Label)). At ks k (x.0, b)) (trail_other m s e run t ne) x.1)
+rest_emits_after_other_step {T} m s e run t k b ne x = (x.0, subst (λ (ks : List (T × Label)). At ks k (x.0, b)) (trail_of_cons_other_thread m s e run t ne) x.1)
 
 -- ---- acts
 
@@ -62,31 +62,31 @@ pub record IsEntry (q : Act) (o : ℕ) : Type 0 where
   pub answer : ℕ
   pub does : q ≡ Entry o access answer
 
-enters_entry : (q : Act) (b : Object) (o : ℕ) → Enters o (emitted q b) → IsEntry q o
-enters_entry Silent b o h = absurd h
-enters_entry (Result k x) b o h = absurd h
-enters_entry (Entry p Reading x) b o h = record { access = Reading; answer = x; does = ap (λ z. Entry z Reading x) h }
-enters_entry (Entry p Writing x) b o h = record { access = Writing; answer = x; does = ap (λ z. Entry z Writing x) h }
-enters_entry (Refusal p) b o h = absurd h
-enters_entry (Exit p a) b o h = absurd h
-enters_entry (Load p i) b o h = absurd h
-enters_entry (Store p i x) b o h = absurd h
-enters_entry Never b o h = absurd h
+act_emitting_entry_is_entry : (q : Act) (b : Object) (o : ℕ) → Enters o (emitted q b) → IsEntry q o
+act_emitting_entry_is_entry Silent b o h = absurd h
+act_emitting_entry_is_entry (Result k x) b o h = absurd h
+act_emitting_entry_is_entry (Entry p Reading x) b o h = record { access = Reading; answer = x; does = ap (λ z. Entry z Reading x) h }
+act_emitting_entry_is_entry (Entry p Writing x) b o h = record { access = Writing; answer = x; does = ap (λ z. Entry z Writing x) h }
+act_emitting_entry_is_entry (Refusal p) b o h = absurd h
+act_emitting_entry_is_entry (Exit p a) b o h = absurd h
+act_emitting_entry_is_entry (Load p i) b o h = absurd h
+act_emitting_entry_is_entry (Store p i x) b o h = absurd h
+act_emitting_entry_is_entry Never b o h = absurd h
 
 -- what emits a leave is one
-leaving : (q : Act) (b : Object) (o : ℕ) (a : Access) (v : ℕ) → emitted q b ≡ Out o a v → q ≡ Exit o a
-leaving Silent b o a v e = absurd (cc e)
-leaving (Result k x) b o a v e = absurd (cc e)
-leaving (Entry p Reading x) b o a v e = absurd (cc e)
-leaving (Entry p Writing x) b o a v e = absurd (cc e)
-leaving (Refusal p) b o a v e = absurd (cc e)
-leaving (Exit p c) b o a v e =
+act_emitting_leave_is_exit : (q : Act) (b : Object) (o : ℕ) (a : Access) (v : ℕ) → emitted q b ≡ Out o a v → q ≡ Exit o a
+act_emitting_leave_is_exit Silent b o a v e = absurd (cc e)
+act_emitting_leave_is_exit (Result k x) b o a v e = absurd (cc e)
+act_emitting_leave_is_exit (Entry p Reading x) b o a v e = absurd (cc e)
+act_emitting_leave_is_exit (Entry p Writing x) b o a v e = absurd (cc e)
+act_emitting_leave_is_exit (Refusal p) b o a v e = absurd (cc e)
+act_emitting_leave_is_exit (Exit p c) b o a v e =
     let object : p ≡ o = cc e in
     let access : c ≡ a = cc e in
     λ i. Exit (object i) (access i)
-leaving (Load p i) b o a v e = absurd (cc e)
-leaving (Store p i x) b o a v e = absurd (cc e)
-leaving Never b o a v e = absurd (cc e)
+act_emitting_leave_is_exit (Load p i) b o a v e = absurd (cc e)
+act_emitting_leave_is_exit (Store p i x) b o a v e = absurd (cc e)
+act_emitting_leave_is_exit Never b o a v e = absurd (cc e)
 
 -- ---- a thread that is inside
 
@@ -96,155 +96,155 @@ pub record Exits {T : Type 0} (m : Machine T) (s : State T) (run : List Step) (t
   pub leaves : Emits m s run t leave (Out o a v)
   pub first : (k : ℕ) → Emits m s run t k (Out o a v) → leave ≤ k
 
-exits_later : {T : Type 0} (m : Machine T) (s : State T) (e : Step) (run : List Step) (t o : ℕ) (a : Access) (v : ℕ) → e.0 ≡ t
+exits_from_rest_after_own_step : {T : Type 0} (m : Machine T) (s : State T) (e : Step) (run : List Step) (t o : ℕ) (a : Access) (v : ℕ) → e.0 ≡ t
     → (label m s e ≡ Out o a v → ⊥) → Exits m (after m s e) run t o a v → Exits m s (e ∷ run) t o a v
-exits_later m s e run t o a v own stays x = record {
+exits_from_rest_after_own_step m s e run t o a v own stays x = record {
   leave = suc x.leave;
-  leaves = emits_more m s e run t x.leave (Out o a v) own x.leaves;
+  leaves = emits_from_rest_after_own_step m s e run t x.leave (Out o a v) own x.leaves;
   first = no_earlier;
 }
   where
     no_earlier : (k : ℕ) → Emits m s (e ∷ run) t k (Out o a v) → suc x.leave ≤ k
-    no_earlier zero y = absurd (stays (first_emits m s e run t (Out o a v) own y))
-    no_earlier (suc k) y = let low = x.first k (emits_rest m s e run t k (Out o a v) own y) in omega (arith, low)
+    no_earlier zero y = absurd (stays (first_emitted_label_is_own m s e run t (Out o a v) own y))
+    no_earlier (suc k) y = let low = x.first k (rest_emits_after_own_step m s e run t k (Out o a v) own y) in omega (arith, low)
 
-exits_other : {T : Type 0} (m : Machine T) (s : State T) (e : Step) (run : List Step) (t o : ℕ) (a : Access) (v : ℕ) → (e.0 ≡ t → ⊥)
+exits_from_rest_after_other_step : {T : Type 0} (m : Machine T) (s : State T) (e : Step) (run : List Step) (t o : ℕ) (a : Access) (v : ℕ) → (e.0 ≡ t → ⊥)
     → Exits m (after m s e) run t o a v → Exits m s (e ∷ run) t o a v
-exits_other m s e run t o a v other x = record {
+exits_from_rest_after_other_step m s e run t o a v other x = record {
   leave = x.leave;
-  leaves = emits_other m s e run t x.leave (Out o a v) (λ same. other (sym same)) x.leaves;
-  first = λ k y. x.first k (other_emits m s e run t k (Out o a v) (λ same. other (sym same)) y);
+  leaves = emits_from_rest_after_other_step m s e run t x.leave (Out o a v) (λ same. other (sym same)) x.leaves;
+  first = λ k y. x.first k (rest_emits_after_other_step m s e run t k (Out o a v) (λ same. other (sym same)) y);
 }
 
 -- behind a leave the thread isn't inside
-left_outside : {T : Type 0} (m : Machine T) (s : State T) (e : Step) (t o : ℕ) (a : Access) → e.0 ≡ t → act m s e ≡ Exit o a
+outside_after_exit : {T : Type 0} (m : Machine T) (s : State T) (e : Step) (t o : ℕ) (a : Access) → e.0 ≡ t → act m s e ≡ Exit o a
     → ((after m s e).objects o).inside t ≡ None
-left_outside m s e t o a own does = ap (λ z. z.inside t) object ∙ gone a
+outside_after_exit m s e t o a own does = ap (λ z. z.inside t) object ∙ gone a
   where
     object : (after m s e).objects o ≡ acted (Exit o a) e.0 (s.objects o)
-    object = subst (λ q. (after m s e).objects (target q) ≡ acted q e.0 (s.objects (target q))) does (object_after m s e)
+    object = subst (λ q. (after m s e).objects (target q) ≡ acted q e.0 (s.objects (target q))) does (target_object_after_step m s e)
 
     gone : (c : Access) → (acted (Exit o c) e.0 (s.objects o)).inside t ≡ None
-    gone Reading = subst (λ z. upd (s.objects o).inside e.0 None z ≡ None) own (upd_same (s.objects o).inside e.0 None)
-    gone Writing = subst (λ z. upd (s.objects o).inside e.0 None z ≡ None) own (upd_same (s.objects o).inside e.0 None)
+    gone Reading = subst (λ z. upd (s.objects o).inside e.0 None z ≡ None) own (upd_at_own_place (s.objects o).inside e.0 None)
+    gone Writing = subst (λ z. upd (s.objects o).inside e.0 None z ≡ None) own (upd_at_own_place (s.objects o).inside e.0 None)
 
 -- a thread that is inside doesn't enter
-no_entry : {T : Type 0} (m : Machine T) → IsLawful m → (s : State T) → Good m s → (e : Step) (t o : ℕ) (a : Access) → e.0 ≡ t
+thread_inside_does_not_enter : {T : Type 0} (m : Machine T) → IsLawful m → (s : State T) → StateInvariant m s → (e : Step) (t o : ℕ) (a : Access) → e.0 ≡ t
     → (s.objects o).inside t ≡ Some a → Enters o (label m s e) → ⊥
-no_entry m law s good e t o a own inside enters =
-    let h = enters_entry (act m s e) (s.objects (target (act m s e))) o enters in
-    none-some a (sym (subst (λ z. (s.objects o).inside z ≡ None) own (entry_inside m law s good e o h.access h.answer h.does)) ∙ inside)
+thread_inside_does_not_enter m law s good e t o a own inside enters =
+    let h = act_emitting_entry_is_entry (act m s e) (s.objects (target (act m s e))) o enters in
+    none-some a (sym (subst (λ z. (s.objects o).inside z ≡ None) own (entering_thread_is_not_inside m law s good e o h.access h.answer h.does)) ∙ inside)
 
 -- at the end no thread is inside
-none_inside : {T : Type 0} (m : Machine T) → IsLawful m → (s : State T) → Good m s → IsDone m s → (t o : ℕ) → (s.objects o).inside t ≡ None
-none_inside m law s good done t o =
+none_inside_when_done : {T : Type 0} (m : Machine T) → IsLawful m → (s : State T) → StateInvariant m s → IsDone m s → (t o : ℕ) → (s.objects o).inside t ≡ None
+none_inside_when_done m law s good done t o =
     let holds : Holds Done (m.held (s.now t)) = subst (λ q. Holds q (m.held (s.now t))) (done t) (law.holds (s.now t)) in
     good.linked t o ∙ holds o
 
-exits : {T : Type 0} (m : Machine T) → IsLawful m → (s : State T) → Good m s → (run : List Step) → IsRun m s run → IsDone m (end m s run)
+thread_inside_exits : {T : Type 0} (m : Machine T) → IsLawful m → (s : State T) → StateInvariant m s → (run : List Step) → IsRun m s run → IsDone m (end m s run)
     → (t o : ℕ) (a : Access) (v : ℕ) → (s.objects o).inside t ≡ Some a → (s.objects o).version ≡ v → Exits m s run t o a v
-exits m law s good [] ok done t o a v inside version = absurd (none-some a (sym (none_inside m law s good done t o) ∙ inside))
-exits m law s good (e ∷ run) ok done t o a v inside version = elim (cases_eq e.0 t) [
-  | inl own ↦ elim (own_step m s e t o own (no_entry m law s good e t o a own inside)) [
-    | inl same ↦ exits_later m s e run t o a v own
-        (λ out. none-some a (sym (left_outside m s e t o a own (leaving (act m s e) (s.objects (target (act m s e))) o a v out)) ∙ (same.1 ∙ inside)))
-        (exits m law (after m s e) (stays_good m law s good e ok.0) run ok.1 done t o a v (same.1 ∙ inside) (same.0 ∙ version))
+thread_inside_exits m law s good [] ok done t o a v inside version = absurd (none-some a (sym (none_inside_when_done m law s good done t o) ∙ inside))
+thread_inside_exits m law s good (e ∷ run) ok done t o a v inside version = elim (cases_eq e.0 t) [
+  | inl own ↦ elim (own_step_keeps_object_or_exits m s e t o own (thread_inside_does_not_enter m law s good e t o a own inside)) [
+    | inl same ↦ exits_from_rest_after_own_step m s e run t o a v own
+        (λ out. none-some a (sym (outside_after_exit m s e t o a own (act_emitting_leave_is_exit (act m s e) (s.objects (target (act m s e))) o a v out)) ∙ (same.1 ∙ inside)))
+        (thread_inside_exits m law (after m s e) (state_invariant_after_step m law s good e ok.0) run ok.1 done t o a v (same.1 ∙ inside) (same.0 ∙ version))
     | inr exit ↦
-        let held = subst (λ z. (s.objects o).inside z ≡ Some exit.0) own (exit_inside m law s good e o exit.0 exit.1) in
+        let held = subst (λ z. (s.objects o).inside z ≡ Some exit.0) own (exiting_thread_is_inside m law s good e o exit.0 exit.1) in
         let access : exit.0 ≡ a = same_Some exit.0 a (sym held ∙ inside) in
         let does : act m s e ≡ Exit o a = exit.1 ∙ ap (λ z. Exit o z) access in
         record {
           leave = 0;
-          leaves = emits_first m s e run t (Out o a v) own (ap (λ q. emitted q (s.objects (target q))) does ∙ ap (λ z. Out o a z) version);
+          leaves = emits_own_first_label m s e run t (Out o a v) own (ap (λ q. emitted q (s.objects (target q))) does ∙ ap (λ z. Out o a z) version);
           first = λ k y. omega arith;
         }
   ]
   | inr other ↦
-      let step = other_step m s e t o other in
-      let none = none_written m law s good e t o a other inside in
-      exits_other m s e run t o a v other
-      (exits m law (after m s e) (stays_good m law s good e ok.0) run ok.1 done t o a v (step.1 ∙ inside)
+      let step = other_step_on_version_and_inside m s e t o other in
+      let none = no_other_writes_while_inside m law s good e t o a other inside in
+      exits_from_rest_after_other_step m s e run t o a v other
+      (thread_inside_exits m law (after m s e) (state_invariant_after_step m law s good e ok.0) run ok.1 done t o a v (step.1 ∙ inside)
       (let same = step.0 in omega (arith, same, none, version)))
 ]
 
 -- ---- a thread that enters
 
 -- behind an entry the thread is inside, at the version that it found
-record IsIn {T : Type 0} (m : Machine T) (s : State T) (e : Step) (t o : ℕ) (a : Access) (v : ℕ) : Type 0 where
+record IsInsideAt {T : Type 0} (m : Machine T) (s : State T) (e : Step) (t o : ℕ) (a : Access) (v : ℕ) : Type 0 where
   inside : ((after m s e).objects o).inside t ≡ Some a
   version : ((after m s e).objects o).version ≡ v
 
-is_in : {T : Type 0} (m : Machine T) (s : State T) (e : Step) (t o : ℕ) (a : Access) (v l : ℕ) → e.0 ≡ t → label m s e ≡ In o a v l
-    → IsIn m s e t o a v
-is_in m s e t o a v l own enters = record {
+inside_after_entry : {T : Type 0} (m : Machine T) (s : State T) (e : Step) (t o : ℕ) (a : Access) (v l : ℕ) → e.0 ≡ t → label m s e ≡ In o a v l
+    → IsInsideAt m s e t o a v
+inside_after_entry m s e t o a v l own enters = record {
   inside = ap (λ z. z.inside t) object
-      ∙ subst (λ z. upd (s.objects o).inside e.0 (Some a) z ≡ Some a) own (upd_same (s.objects o).inside e.0 (Some a));
+      ∙ subst (λ z. upd (s.objects o).inside e.0 (Some a) z ≡ Some a) own (upd_at_own_place (s.objects o).inside e.0 (Some a));
   version = ap (λ z. z.version) object ∙ ap (λ z. (s.objects (target z)).version) (sym entry.does) ∙ entry.version;
 }
   where
     entry : IsEntering (act m s e) (s.objects (target (act m s e))) o a v
-    entry = entering (act m s e) (s.objects (target (act m s e))) o a v l enters
+    entry = act_emitting_entry_is_entering (act m s e) (s.objects (target (act m s e))) o a v l enters
 
     object : (after m s e).objects o ≡ acted (Entry o a entry.answer) e.0 (s.objects o)
-    object = subst (λ q. (after m s e).objects (target q) ≡ acted q e.0 (s.objects (target q))) entry.does (object_after m s e)
+    object = subst (λ q. (after m s e).objects (target q) ≡ acted q e.0 (s.objects (target q))) entry.does (target_object_after_step m s e)
 
-left_here : {T : Type 0} (m : Machine T) (s : State T) (e : Step) (run : List Step) (t o : ℕ) (a : Access) (v : ℕ) → e.0 ≡ t
+leaves_first_if_exits : {T : Type 0} (m : Machine T) (s : State T) (e : Step) (run : List Step) (t o : ℕ) (a : Access) (v : ℕ) → e.0 ≡ t
     → Exits m (after m s e) run t o a v → LeavesFirst m s (e ∷ run) t 0 o a v
-left_here m s e run t o a v own x = record {
+leaves_first_if_exits m s e run t o a v own x = record {
   leave = suc x.leave;
   past = omega arith;
-  leaves = emits_more m s e run t x.leave (Out o a v) own x.leaves;
+  leaves = emits_from_rest_after_own_step m s e run t x.leave (Out o a v) own x.leaves;
   first = no_earlier;
 }
   where
     no_earlier : (k : ℕ) → 0 < k → Emits m s (e ∷ run) t k (Out o a v) → suc x.leave ≤ k
     no_earlier zero past y = absurd (omega (arith, past))
-    no_earlier (suc k) past y = let low = x.first k (emits_rest m s e run t k (Out o a v) own y) in omega (arith, low)
+    no_earlier (suc k) past y = let low = x.first k (rest_emits_after_own_step m s e run t k (Out o a v) own y) in omega (arith, low)
 
-left_later : {T : Type 0} (m : Machine T) (s : State T) (e : Step) (run : List Step) (t j o : ℕ) (a : Access) (v : ℕ) → e.0 ≡ t
+leaves_first_after_own_step : {T : Type 0} (m : Machine T) (s : State T) (e : Step) (run : List Step) (t j o : ℕ) (a : Access) (v : ℕ) → e.0 ≡ t
     → LeavesFirst m (after m s e) run t j o a v → LeavesFirst m s (e ∷ run) t (suc j) o a v
-left_later m s e run t j o a v own x = record {
+leaves_first_after_own_step m s e run t j o a v own x = record {
   leave = suc x.leave;
   past = (let less = x.past in omega (arith, less));
-  leaves = emits_more m s e run t x.leave (Out o a v) own x.leaves;
+  leaves = emits_from_rest_after_own_step m s e run t x.leave (Out o a v) own x.leaves;
   first = no_earlier;
 }
   where
     no_earlier : (k : ℕ) → suc j < k → Emits m s (e ∷ run) t k (Out o a v) → suc x.leave ≤ k
     no_earlier zero past y = absurd (omega (arith, past))
-    no_earlier (suc k) past y = let low = x.first k (omega (arith, past)) (emits_rest m s e run t k (Out o a v) own y) in omega (arith, low)
+    no_earlier (suc k) past y = let low = x.first k (omega (arith, past)) (rest_emits_after_own_step m s e run t k (Out o a v) own y) in omega (arith, low)
 
-left_other : {T : Type 0} (m : Machine T) (s : State T) (e : Step) (run : List Step) (t j o : ℕ) (a : Access) (v : ℕ) → (e.0 ≡ t → ⊥)
+leaves_first_after_other_step : {T : Type 0} (m : Machine T) (s : State T) (e : Step) (run : List Step) (t j o : ℕ) (a : Access) (v : ℕ) → (e.0 ≡ t → ⊥)
     → LeavesFirst m (after m s e) run t j o a v → LeavesFirst m s (e ∷ run) t j o a v
-left_other m s e run t j o a v other x = record {
+leaves_first_after_other_step m s e run t j o a v other x = record {
   leave = x.leave;
   past = x.past;
-  leaves = emits_other m s e run t x.leave (Out o a v) (λ same. other (sym same)) x.leaves;
-  first = λ k past y. x.first k past (other_emits m s e run t k (Out o a v) (λ same. other (sym same)) y);
+  leaves = emits_from_rest_after_other_step m s e run t x.leave (Out o a v) (λ same. other (sym same)) x.leaves;
+  first = λ k past y. x.first k past (rest_emits_after_other_step m s e run t k (Out o a v) (λ same. other (sym same)) y);
 }
 
-pub is_left : {T : Type 0} (m : Machine T) → IsLawful m → (s : State T) → Good m s → (run : List Step) → IsRun m s run → IsDone m (end m s run)
+pub entry_is_left : {T : Type 0} (m : Machine T) → IsLawful m → (s : State T) → StateInvariant m s → (run : List Step) → IsRun m s run → IsDone m (end m s run)
     → (t j o : ℕ) (a : Access) (v l : ℕ) → Emits m s run t j (In o a v l) → LeavesFirst m s run t j o a v
-is_left m law s good [] ok done t j o a v l enters = absurd enters.1
-is_left m law s good (e ∷ run) ok done t j o a v l enters = elim (cases_eq e.0 t) [
-  | inl own ↦ by own (λ k y. is_left m law (after m s e) (stays_good m law s good e ok.0) run ok.1 done t k o a v l y) j enters
-  | inr other ↦ left_other m s e run t j o a v other
-      (is_left m law (after m s e) (stays_good m law s good e ok.0) run ok.1 done t j o a v l
-      (other_emits m s e run t j (In o a v l) (λ same. other (sym same)) enters))
+entry_is_left m law s good [] ok done t j o a v l enters = absurd enters.1
+entry_is_left m law s good (e ∷ run) ok done t j o a v l enters = elim (cases_eq e.0 t) [
+  | inl own ↦ by own (λ k y. entry_is_left m law (after m s e) (state_invariant_after_step m law s good e ok.0) run ok.1 done t k o a v l y) j enters
+  | inr other ↦ leaves_first_after_other_step m s e run t j o a v other
+      (entry_is_left m law (after m s e) (state_invariant_after_step m law s good e ok.0) run ok.1 done t j o a v l
+      (rest_emits_after_other_step m s e run t j (In o a v l) (λ same. other (sym same)) enters))
 ]
   where
     by : e.0 ≡ t → ((k : ℕ) → Emits m (after m s e) run t k (In o a v l) → LeavesFirst m (after m s e) run t k o a v) → (j : ℕ)
         → Emits m s (e ∷ run) t j (In o a v l) → LeavesFirst m s (e ∷ run) t j o a v
     by own again zero y =
-        let there = is_in m s e t o a v l own (first_emits m s e run t (In o a v l) own y) in
-        left_here m s e run t o a v own
-        (exits m law (after m s e) (stays_good m law s good e ok.0) run ok.1 done t o a v there.inside there.version)
-    by own again (suc j) y = left_later m s e run t j o a v own (again j (emits_rest m s e run t j (In o a v l) own y))
+        let there = inside_after_entry m s e t o a v l own (first_emitted_label_is_own m s e run t (In o a v l) own y) in
+        leaves_first_if_exits m s e run t o a v own
+        (thread_inside_exits m law (after m s e) (state_invariant_after_step m law s good e ok.0) run ok.1 done t o a v there.inside there.version)
+    by own again (suc j) y = leaves_first_after_own_step m s e run t j o a v own (again j (rest_emits_after_own_step m s e run t j (In o a v l) own y))
 
 -- ---- the law
 
-pub entries_left : (code : List ℕ) (s : State thread.State) → IsStart (thread_machine code) s → (run : List Step)
+pub entries_left : (code : List ℕ) (s : State thread.ThreadState) → IsStart (thread_machine code) s → (run : List Step)
     → IsComplete (thread_machine code) s run → (t j o : ℕ) (a : Access) (v l : ℕ) → Emits (thread_machine code) s run t j (In o a v l)
     → LeavesFirst (thread_machine code) s run t j o a v
 entries_left code s start run whole t j o a v l enters =
-    is_left (thread_machine code) (lawful code) s (start_good (thread_machine code) s start) run whole.0 whole.1 t j o a v l enters
+    entry_is_left (thread_machine code) (thread_machine_is_lawful code) s (state_invariant_at_start (thread_machine code) s start) run whole.0 whole.1 t j o a v l enters

@@ -19,60 +19,60 @@ use Rattle.ir_past.specs.Answers.{AreCoherent}
 use Rattle.ir_past.specs.Progress.{Makes}
 use Rattle.ir_past.specs.declared.place.Place.{Place}
 use Rattle.ir_past.specs.declared.makers.Makers.{Makers}
-use Rattle.ir_past.proofs.Rows.{before_cases, of_thread}
+use Rattle.ir_past.proofs.Rows.{before_next_event_cases, event_is_of_existing_thread}
 
 -- ---- logs of events and of labels
 
-pub at_label : (es : List Event) (i : ℕ) (e : Event) → slice_get es i ≡ Some e → At (map label_of es) i (label_of e)
-at_label [] i e is = absurd (none-some e is)
-at_label (x ∷ xs) zero e is = ap label_of (same_Some x e is)
-at_label (x ∷ xs) (suc i) e is = at_label xs i e is
+pub at_of_mapped_label : (es : List Event) (i : ℕ) (e : Event) → slice_get es i ≡ Some e → At (map label_of es) i (label_of e)
+at_of_mapped_label [] i e is = absurd (none-some e is)
+at_of_mapped_label (x ∷ xs) zero e is = ap label_of (same_Some x e is)
+at_of_mapped_label (x ∷ xs) (suc i) e is = at_of_mapped_label xs i e is
 
-pub event_of : (es : List Event) (i : ℕ) (m : Label) → At (map label_of es) i m → (e : Event) × (slice_get es i ≡ Some e) × (label_of e ≡ m)
-event_of [] i m at = absurd at
-event_of (x ∷ xs) zero m at = (x, refl, at)
-event_of (x ∷ xs) (suc i) m at = event_of xs i m at
+pub event_of_label_at : (es : List Event) (i : ℕ) (m : Label) → At (map label_of es) i m → (e : Event) × (slice_get es i ≡ Some e) × (label_of e ≡ m)
+event_of_label_at [] i m at = absurd at
+event_of_label_at (x ∷ xs) zero m at = (x, refl, at)
+event_of_label_at (x ∷ xs) (suc i) m at = event_of_label_at xs i m at
 
-write_of : (e : Event) (o v l : ℕ) → label_of e ≡ In o Writing v l → e ≡ variant.Write o v l
-write_of (variant.Answer k x) o v l is = absurd (let bad : Answer k x ≡ In o Writing v l = is in cc)
-write_of (variant.Read p w) o v l is = absurd (let bad : In p Reading w 0 ≡ In o Writing v l = is in let same : Reading ≡ Writing = cc in cc)
-write_of (variant.Write p w k) o v l is =
+write_event_of_write_label : (e : Event) (o v l : ℕ) → label_of e ≡ In o Writing v l → e ≡ variant.Write o v l
+write_event_of_write_label (variant.Answer k x) o v l is = absurd (let bad : Answer k x ≡ In o Writing v l = is in cc)
+write_event_of_write_label (variant.Read p w) o v l is = absurd (let bad : In p Reading w 0 ≡ In o Writing v l = is in let same : Reading ≡ Writing = cc in cc)
+write_event_of_write_label (variant.Write p w k) o v l is =
     let same : In p Writing w k ≡ In o Writing v l = is in
     let object : p ≡ o = cc in
     let version : w ≡ v = cc in
     let readers : k ≡ l = cc in
     λ i. variant.Write (object i) (version i) (readers i)
-write_of (variant.Try p) o v l is = absurd (let bad : Refused p ≡ In o Writing v l = is in cc)
+write_event_of_write_label (variant.Try p) o v l is = absurd (let bad : Refused p ≡ In o Writing v l = is in cc)
 
-write_at : (r : Recorded) (t i o v l : ℕ) → At ((trace_of r).logs t) i (In o Writing v l) → IsWriteAt r t i o v l
-write_at r t i o v l at =
-    let e = event_of (recorded_thread r t).events i (In o Writing v l) at in
-    e.1 ∙ ap Some (write_of e.0 o v l e.2)
+write_at_of_write_label : (r : Recorded) (t i o v l : ℕ) → At ((trace_of r).logs t) i (In o Writing v l) → IsWriteAt r t i o v l
+write_at_of_write_label r t i o v l at =
+    let e = event_of_label_at (recorded_thread r t).events i (In o Writing v l) at in
+    e.1 ∙ ap Some (write_event_of_write_label e.0 o v l e.2)
 
 -- what made a version that is entered
-pub made_before : (r : Recorded) → IsCoherent (length r.threads) (trace_of r) → (t i o v : ℕ) (a : Access) (l : ℕ)
+pub entered_version_was_made : (r : Recorded) → IsCoherent (length r.threads) (trace_of r) → (t i o v : ℕ) (a : Access) (l : ℕ)
     → At ((trace_of r).logs t) i (In o a (suc v) l) → (u j k : ℕ) × IsWriteAt r u j o v k
-made_before r coherent t i o v a l at =
+entered_version_was_made r coherent t i o v a l at =
     let made = coherent.made t i o v l a at in
-    (made.0, made.1, made.2, write_at r made.0 made.1 o v made.2 made.3)
+    (made.0, made.1, made.2, write_at_of_write_label r made.0 made.1 o v made.2 made.3)
 
 -- ---- the versions below a write entry's are made
 
-pub made_below : (r : Recorded) → IsCoherent (length r.threads) (trace_of r) → (w v t j o l : ℕ) → v < w → IsWriteAt r t j o w l
+pub version_below_write_was_made : (r : Recorded) → IsCoherent (length r.threads) (trace_of r) → (w v t j o l : ℕ) → v < w → IsWriteAt r t j o w l
     → (u k m : ℕ) × IsWriteAt r u k o v m
-made_below r coherent zero v t j o l less is = absurd (omega (arith, less))
-made_below r coherent (suc w) v t j o l less is =
-    let made = made_before r coherent t j o w Writing l (at_label (recorded_thread r t).events j (variant.Write o (suc w) l) is) in
+version_below_write_was_made r coherent zero v t j o l less is = absurd (omega (arith, less))
+version_below_write_was_made r coherent (suc w) v t j o l less is =
+    let made = entered_version_was_made r coherent t j o w Writing l (at_of_mapped_label (recorded_thread r t).events j (variant.Write o (suc w) l) is) in
     let here : IsWriteAt r made.0 made.1 o w made.2 = made.3 in
     elim (cases_eq v w) [
       | inl same ↦ (made.0, made.1, made.2, subst (λ z. IsWriteAt r made.0 made.1 o z made.2) (sym same) here)
-      | inr ne ↦ made_below r coherent w v made.0 made.1 o made.2 (omega (arith, less, ne)) here
+      | inr ne ↦ version_below_write_was_made r coherent w v made.0 made.1 o made.2 (omega (arith, less, ne)) here
     ]
 
 -- ---- what is noted
 
-pub makes_none : (r : Recorded) (m : Makers) → vec_len m.objects ≡ r.objects → ((o v : ℕ) → maker_in m o v ≡ None) → Makes r 0 0 m
-makes_none r m objects none = record {
+pub makes_at_start : (r : Recorded) (m : Makers) → vec_len m.objects ≡ r.objects → ((o v : ℕ) → maker_in m o v ≡ None) → Makes r 0 0 m
+makes_at_start r m objects none = record {
   objects = objects;
   sound = λ o v p is. absurd (none-some p (sym (none o v) ∙ is));
   noted = λ u j o v l at b is. none_before u j b;
@@ -83,12 +83,12 @@ makes_none r m objects none = record {
     none_before u j (inr here) = omega (arith, here.1)
 
 -- an event that is no write entry
-pub makes_same : (r : Recorded) (t n : ℕ) (m : Makers) (e : Event) → event_at r t n ≡ Some e → ((o v l : ℕ) → e ≡ variant.Write o v l → ⊥)
+pub makes_after_other_event : (r : Recorded) (t n : ℕ) (m : Makers) (e : Event) → event_at r t n ≡ Some e → ((o v l : ℕ) → e ≡ variant.Write o v l → ⊥)
     → Makes r t n m → Makes r t (n + 1) m
-makes_same r t n m e at ne h = record {
+makes_after_other_event r t n m e at ne h = record {
   objects = h.objects;
   sound = h.sound;
-  noted = λ u j o v l is b none. elim (before_cases u j t n b) [
+  noted = λ u j o v l is b none. elim (before_next_event_cases u j t n b) [
     | inl less ↦ h.noted u j o v l is less none
     | inr here ↦ ne o v l (same_Some e (variant.Write o v l) (sym at
         ∙ subst (λ z. event_at r z n ≡ Some (variant.Write o v l)) here.0 (subst (λ z. event_at r u z ≡ Some (variant.Write o v l)) here.1 is)))
@@ -96,13 +96,13 @@ makes_same r t n m e at ne h = record {
 }
 
 -- a write entry
-pub makes_more : (r : Recorded) (t n o v l : ℕ) (a b : Makers) (p : Place) → IsWriteAt r t n o v l → p.thread ≡ t → p.event ≡ n
+pub makes_after_write : (r : Recorded) (t n o v l : ℕ) (a b : Makers) (p : Place) → IsWriteAt r t n o v l → p.thread ≡ t → p.event ≡ n
     → vec_len b.objects ≡ vec_len a.objects
     → ((q w : ℕ) → maker_in b q w ≡ (if (q == o) && (w == v) then Some p else maker_in a q w)) → Makes r t n a → Makes r t (n + 1) b
-makes_more r t n o v l a b p at thread event objects noted h = record {
+makes_after_write r t n o v l a b p at thread event objects noted h = record {
   objects = objects ∙ h.objects;
   sound = λ q w x is. sound_by q w x ((q == o) && (w == v)) refl is;
-  noted = λ u j q w k is before none. elim (before_cases u j t n before) [
+  noted = λ u j q w k is before none. elim (before_next_event_cases u j t n before) [
     | inl less ↦ old q w ((q == o) && (w == v)) refl none (h.noted u j q w k is less)
     | inr here ↦ new q w (here_object u j q w k is here.0 here.1) (here_version u j q w k is here.0 here.1) none
   ];
@@ -144,8 +144,8 @@ makes_more r t n o v l a b p at thread event objects noted h = record {
     new q w object version none = none-some p (sym none ∙ (noted q w ∙ ap (λ (c : Bool). if c then Some p else maker_in a q w) (both q w object version)))
 
 -- all events of a thread
-pub makes_thread : (r : Recorded) (t n : ℕ) (m : Makers) → length (recorded_thread r t).events ≤ n → Makes r t n m → Makes r (t + 1) 0 m
-makes_thread r t n m all h = record {
+pub makes_before_next_thread : (r : Recorded) (t n : ℕ) (m : Makers) → length (recorded_thread r t).events ≤ n → Makes r t n m → Makes r (t + 1) 0 m
+makes_before_next_thread r t n m all h = record {
   objects = h.objects;
   sound = h.sound;
   noted = λ u j o v l is b none. elim (cases_eq u t) [
@@ -166,29 +166,29 @@ makes_thread r t n m all h = record {
 pub overwriter_noted : (r : Recorded) (m : Makers) (n t i j o v w : ℕ) → IsCoherent (length r.threads) (trace_of r) → length r.threads ≤ n
     → Makes r n 0 m → IsStale r t i j o v w → maker_in m o v ≡ None → ⊥
 overwriter_noted r m n t i j o v w coherent all h s none =
-    let made = made_below r coherent w v t j o s.readers s.over s.write in
-    h.noted made.0 made.1 o v made.2 made.3 (inl (omega (arith, of_thread r made.0 made.1 _ made.3, all))) none
+    let made = version_below_write_was_made r coherent w v t j o s.readers s.over s.write in
+    h.noted made.0 made.1 o v made.2 made.3 (inl (omega (arith, event_is_of_existing_thread r made.0 made.1 _ made.3, all))) none
 
 -- a write entry was noted, unless memory ran out
-pub makes_noted : {A E : Type 0} (result : Result A E) (r : Recorded) (t n o v l : ℕ) (a b : Makers) (p : Place) → IsWriteAt r t n o v l
+pub makes_after_noted_write : {A E : Type 0} (result : Result A E) (r : Recorded) (t n o v l : ℕ) (a b : Makers) (p : Place) → IsWriteAt r t n o v l
     → p.thread ≡ t → p.event ≡ n → Makes r t n a → OnOk result (vec_len b.objects ≡ vec_len a.objects)
     → OnOk result ((q w : ℕ) → maker_in b q w ≡ (if (q == o) && (w == v) then Some p else maker_in a q w))
     → OnOk result (Makes r t (n + 1) b)
-makes_noted (Ok x) r t n o v l a b p at thread event h objects noted = makes_more r t n o v l a b p at thread event objects noted h
-makes_noted (Err e) r t n o v l a b p at thread event h objects noted = tt
+makes_after_noted_write (Ok x) r t n o v l a b p at thread event h objects noted = makes_after_write r t n o v l a b p at thread event objects noted h
+makes_after_noted_write (Err e) r t n o v l a b p at thread event h objects noted = tt
 
-pub makes_at : (r : Recorded) (t n : ℕ) (m : Makers) → t ≡ n → Makes r t 0 m → Makes r n 0 m
-makes_at r t n m same h = subst (λ z. Makes r z 0 m) same h
+pub makes_of_equal_thread : (r : Recorded) (t n : ℕ) (m : Makers) → t ≡ n → Makes r t 0 m → Makes r n 0 m
+makes_of_equal_thread r t n m same h = subst (λ z. Makes r z 0 m) same h
 
 -- at most one write entry of an object is at a version
-pub one_writer : (r : Recorded) → AreCoherent r → (t i u j o v l k : ℕ) → IsWriteAt r t i o v l → IsWriteAt r u j o v k
+pub writer_of_version_is_unique : (r : Recorded) → AreCoherent r → (t i u j o v l k : ℕ) → IsWriteAt r t i o v l → IsWriteAt r u j o v k
     → (t ≡ u) × (i ≡ j)
-one_writer r coherent t i u j o v l k one two = coherent.writer t i u j o v l k
-    (at_label (recorded_thread r t).events i (variant.Write o v l) one) (at_label (recorded_thread r u).events j (variant.Write o v k) two)
+writer_of_version_is_unique r coherent t i u j o v l k one two = coherent.writer t i u j o v l k
+    (at_of_mapped_label (recorded_thread r t).events i (variant.Write o v l) one) (at_of_mapped_label (recorded_thread r u).events j (variant.Write o v k) two)
 
 -- the write entry that is noted is the only one
-pub noted_one : (r : Recorded) (m : Makers) (n o w u j l : ℕ) (p : Place) → AreCoherent r → Makes r n 0 m → maker_in m o w ≡ Some p
+pub noted_writer_is_unique : (r : Recorded) (m : Makers) (n o w u j l : ℕ) (p : Place) → AreCoherent r → Makes r n 0 m → maker_in m o w ≡ Some p
     → IsWriteAt r u j o w l → (u ≡ p.thread) × (j ≡ p.event)
-noted_one r m n o w u j l p coherent makes noted write =
+noted_writer_is_unique r m n o w u j l p coherent makes noted write =
     let there = makes.sound o w p noted in
-    one_writer r coherent u j p.thread p.event o w l there.0 write there.1
+    writer_of_version_is_unique r coherent u j p.thread p.event o w l there.0 write there.1

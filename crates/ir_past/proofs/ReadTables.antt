@@ -9,30 +9,30 @@ use Rattle.ir_past.specs.Tables.{read_in}
 use Rattle.ir_past.specs.Progress.{ReadBefore, HasReads}
 use Rattle.ir_past.specs.declared.place.Place.{Place}
 use Rattle.ir_past.specs.declared.reads.Reads.{Reads}
-use Rattle.ir_past.proofs.Reading.{none_read, read_same, read_more, read_thread, read_all}
+use Rattle.ir_past.proofs.Reading.{read_before_first_event, read_before_step_without_read, read_before_step_with_read, read_before_next_thread, are_readers_if_read_to_end}
 
 -- ---- what is noted
 
-pub reads_none : (r : Recorded) (m : Reads) → vec_len m.objects ≡ r.objects → ((o v : ℕ) → read_in m o v ≡ []) → HasReads r 0 0 m
-reads_none r m objects none = record {
+pub has_reads_at_start : (r : Recorded) (m : Reads) → vec_len m.objects ≡ r.objects → ((o v : ℕ) → read_in m o v ≡ []) → HasReads r 0 0 m
+has_reads_at_start r m objects none = record {
   objects = objects;
-  each = λ o v. subst (ReadBefore r o v 0 0) (sym (none o v)) (none_read r o v);
+  each = λ o v. subst (ReadBefore r o v 0 0) (sym (none o v)) (read_before_first_event r o v);
 }
 
 -- an event that is no read entry
-pub reads_same : (r : Recorded) (t n : ℕ) (m : Reads) (e : Event) → event_at r t n ≡ Some e → ((o v : ℕ) → e ≡ variant.Read o v → ⊥)
+pub has_reads_after_other_event : (r : Recorded) (t n : ℕ) (m : Reads) (e : Event) → event_at r t n ≡ Some e → ((o v : ℕ) → e ≡ variant.Read o v → ⊥)
     → HasReads r t n m → HasReads r t (n + 1) m
-reads_same r t n m e at ne h = record {
+has_reads_after_other_event r t n m e at ne h = record {
   objects = h.objects;
-  each = λ o v. read_same r o v t n (read_in m o v) e at (ne o v) (h.each o v);
+  each = λ o v. read_before_step_without_read r o v t n (read_in m o v) e at (ne o v) (h.each o v);
 }
 
 -- a read entry
-reads_more : (r : Recorded) (t n o v : ℕ) (a b : Reads) (p : Place) → IsReadAt r t n o v → p.thread ≡ t → p.event ≡ n
+has_reads_after_read : (r : Recorded) (t n o v : ℕ) (a b : Reads) (p : Place) → IsReadAt r t n o v → p.thread ≡ t → p.event ≡ n
     → vec_len b.objects ≡ vec_len a.objects
     → ((q w : ℕ) → read_in b q w ≡ (if (q == o) && (w == v) then read_in a o v ++ p ∷ [] else read_in a q w)) → HasReads r t n a
     → HasReads r t (n + 1) b
-reads_more r t n o v a b p at thread event objects noted h = record {
+has_reads_after_read r t n o v a b p at thread event objects noted h = record {
   objects = objects ∙ h.objects;
   each = λ q w. by q w ((q == o) && (w == v)) refl;
 }
@@ -40,7 +40,7 @@ reads_more r t n o v a b p at thread event objects noted h = record {
     here : ReadBefore r o v t (n + 1) (read_in a o v ++ p ∷ [])
     here = subst (λ z. ReadBefore r o v z (n + 1) (read_in a o v ++ p ∷ [])) thread
         (subst (λ z. ReadBefore r o v p.thread (z + 1) (read_in a o v ++ p ∷ [])) event
-        (read_more r o v p (read_in a o v)
+        (read_before_step_with_read r o v p (read_in a o v)
         (subst (λ z. IsReadAt r p.thread z o v) (sym event) (subst (λ z. IsReadAt r z n o v) (sym thread) at))
         (subst (λ z. ReadBefore r o v p.thread z (read_in a o v)) (sym event) (subst (λ z. ReadBefore r o v z n (read_in a o v)) (sym thread) (h.each o v)))))
 
@@ -63,23 +63,23 @@ reads_more r t n o v a b p at thread event objects noted h = record {
         (subst (λ z. ReadBefore r o z t (n + 1) (read_in a o v ++ p ∷ [])) (sym (eqb-true w v parts.1)) here))
     by q w false e = subst (ReadBefore r q w t (n + 1))
         (sym (noted q w ∙ ap (λ (c : Bool). if c then read_in a o v ++ p ∷ [] else read_in a q w) e))
-        (read_same r q w t n (read_in a q w) (variant.Read o v) at (other q w e) (h.each q w))
+        (read_before_step_without_read r q w t n (read_in a q w) (variant.Read o v) at (other q w e) (h.each q w))
 
 -- a read entry was noted, unless memory ran out
-pub reads_noted : {A E : Type 0} (result : Result A E) (r : Recorded) (t n o v : ℕ) (a b : Reads) (p : Place) → IsReadAt r t n o v
+pub has_reads_after_noted_read : {A E : Type 0} (result : Result A E) (r : Recorded) (t n o v : ℕ) (a b : Reads) (p : Place) → IsReadAt r t n o v
     → p.thread ≡ t → p.event ≡ n → HasReads r t n a → OnOk result (vec_len b.objects ≡ vec_len a.objects)
     → OnOk result ((q w : ℕ) → read_in b q w ≡ (if (q == o) && (w == v) then read_in a o v ++ p ∷ [] else read_in a q w))
     → OnOk result (HasReads r t (n + 1) b)
-reads_noted (Ok x) r t n o v a b p at thread event h objects noted = reads_more r t n o v a b p at thread event objects noted h
-reads_noted (Err e) r t n o v a b p at thread event h objects noted = tt
+has_reads_after_noted_read (Ok x) r t n o v a b p at thread event h objects noted = has_reads_after_read r t n o v a b p at thread event objects noted h
+has_reads_after_noted_read (Err e) r t n o v a b p at thread event h objects noted = tt
 
 -- all events of a thread
-pub reads_thread : (r : Recorded) (t n : ℕ) (m : Reads) → length (recorded_thread r t).events ≤ n → HasReads r t n m → HasReads r (t + 1) 0 m
-reads_thread r t n m all h = record {
+pub has_reads_before_next_thread : (r : Recorded) (t n : ℕ) (m : Reads) → length (recorded_thread r t).events ≤ n → HasReads r t n m → HasReads r (t + 1) 0 m
+has_reads_before_next_thread r t n m all h = record {
   objects = h.objects;
-  each = λ o v. read_thread r o v t n (read_in m o v) all (h.each o v);
+  each = λ o v. read_before_next_thread r o v t n (read_in m o v) all (h.each o v);
 }
 
 -- all threads
-pub reads_all : (r : Recorded) (n : ℕ) (m : Reads) → length r.threads ≤ n → HasReads r n 0 m → (o v : ℕ) → AreReaders r o v (read_in m o v)
-reads_all r n m all h = λ o v. read_all r o v n (read_in m o v) all (h.each o v)
+pub table_reads_to_end_are_readers : (r : Recorded) (n : ℕ) (m : Reads) → length r.threads ≤ n → HasReads r n 0 m → (o v : ℕ) → AreReaders r o v (read_in m o v)
+table_reads_to_end_are_readers r n m all h = λ o v. are_readers_if_read_to_end r o v n (read_in m o v) all (h.each o v)

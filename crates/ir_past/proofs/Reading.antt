@@ -9,28 +9,28 @@ use Rattle.ir_coherence.specs.Breaking.{IsBefore}
 use Rattle.ir_past.specs.Past.{event_at, IsReadAt, HasPlace, AreReaders}
 use Rattle.ir_past.specs.Progress.{ReadBefore}
 use Rattle.ir_past.specs.declared.place.Place.{Place}
-use Rattle.ir_past.proofs.Tables.{push_cases, push_old, push_new}
-use Rattle.ir_past.proofs.Rows.{before_step, before_cases, before_thread, of_thread}
+use Rattle.ir_past.proofs.Tables.{slice_get_after_push_cases, slice_get_after_push_earlier, slice_get_of_pushed}
+use Rattle.ir_past.proofs.Rows.{before_next_event, before_next_event_cases, before_next_thread, event_is_of_existing_thread}
 
-none_before : (u j : ℕ) → IsBefore u j 0 0 → ⊥
-none_before u j (inl less) = omega (arith, less)
-none_before u j (inr here) = omega (arith, here.1)
+nothing_before_first_event : (u j : ℕ) → IsBefore u j 0 0 → ⊥
+nothing_before_first_event u j (inl less) = omega (arith, less)
+nothing_before_first_event u j (inr here) = omega (arith, here.1)
 
-pub none_read : (r : Recorded) (o v : ℕ) → ReadBefore r o v 0 0 []
-none_read r o v = record {
+pub read_before_first_event : (r : Recorded) (o v : ℕ) → ReadBefore r o v 0 0 []
+read_before_first_event r o v = record {
   sound = λ k p is. absurd (none-some p is);
   before = λ k p is. absurd (none-some p is);
-  complete = λ u i is b. absurd (none_before u i b);
+  complete = λ u i is b. absurd (nothing_before_first_event u i b);
   rising = λ a b p q less is other. absurd (none-some p is);
 }
 
 -- an event that is no such entry
-pub read_same : (r : Recorded) (o v t n : ℕ) (places : List Place) (e : Event) → event_at r t n ≡ Some e → (e ≡ variant.Read o v → ⊥)
+pub read_before_step_without_read : (r : Recorded) (o v t n : ℕ) (places : List Place) (e : Event) → event_at r t n ≡ Some e → (e ≡ variant.Read o v → ⊥)
     → ReadBefore r o v t n places → ReadBefore r o v t (n + 1) places
-read_same r o v t n places e at ne h = record {
+read_before_step_without_read r o v t n places e at ne h = record {
   sound = h.sound;
-  before = λ k p is. before_step p.thread p.event t n (h.before k p is);
-  complete = λ u i is b. elim (before_cases u i t n b) [
+  before = λ k p is. before_next_event p.thread p.event t n (h.before k p is);
+  complete = λ u i is b. elim (before_next_event_cases u i t n b) [
     | inl less ↦ h.complete u i is less
     | inr here ↦ absurd (ne (same_Some e (variant.Read o v) (sym at
         ∙ subst (λ z. event_at r z n ≡ Some (variant.Read o v)) here.0 (subst (λ z. event_at r u z ≡ Some (variant.Read o v)) here.1 is))))
@@ -39,27 +39,27 @@ read_same r o v t n places e at ne h = record {
 }
 
 -- such an entry
-pub read_more : (r : Recorded) (o v : ℕ) (p : Place) (places : List Place) → IsReadAt r p.thread p.event o v
+pub read_before_step_with_read : (r : Recorded) (o v : ℕ) (p : Place) (places : List Place) → IsReadAt r p.thread p.event o v
     → ReadBefore r o v p.thread p.event places → ReadBefore r o v p.thread (p.event + 1) (places ++ p ∷ [])
-read_more r o v p places at h = record {
-  sound = λ k q is. elim (push_cases places p q k is) [
+read_before_step_with_read r o v p places at h = record {
+  sound = λ k q is. elim (slice_get_after_push_cases places p q k is) [
     | inl old ↦ h.sound k q old
     | inr new ↦ subst (λ (z : Place). IsReadAt r z.thread z.event o v) new.1 at
   ];
-  before = λ k q is. elim (push_cases places p q k is) [
-    | inl old ↦ before_step q.thread q.event p.thread p.event (h.before k q old)
+  before = λ k q is. elim (slice_get_after_push_cases places p q k is) [
+    | inl old ↦ before_next_event q.thread q.event p.thread p.event (h.before k q old)
     | inr new ↦ subst (λ (z : Place). IsBefore z.thread z.event p.thread (p.event + 1)) new.1 (inr (refl, omega arith))
   ];
-  complete = λ u i is b. elim (before_cases u i p.thread p.event b) [
+  complete = λ u i is b. elim (before_next_event_cases u i p.thread p.event b) [
     | inl less ↦ has_more u i (h.complete u i is less)
-    | inr here ↦ record { number = length places; place = p; there = push_new places p; thread = sym here.0; event = sym here.1 }
+    | inr here ↦ record { number = length places; place = p; there = slice_get_of_pushed places p; thread = sym here.0; event = sym here.1 }
   ];
-  rising = λ a b x z less first second. elim (push_cases places p z b second) [
-    | inl old ↦ elim (push_cases places p x a first) [
+  rising = λ a b x z less first second. elim (slice_get_after_push_cases places p z b second) [
+    | inl old ↦ elim (slice_get_after_push_cases places p x a first) [
       | inl both ↦ h.rising a b x z less both old
       | inr new ↦ absurd (omega (arith, less, new.0, slice_get_within places b z old))
     ]
-    | inr new ↦ elim (push_cases places p x a first) [
+    | inr new ↦ elim (slice_get_after_push_cases places p x a first) [
       | inl old ↦ subst (λ (k : Place). IsBefore x.thread x.event k.thread k.event) new.1 (h.before a x old)
       | inr same ↦ absurd (omega (arith, less, same.0, new.0))
     ]
@@ -70,17 +70,17 @@ read_more r o v p places at h = record {
     has_more u i has = record {
       number = has.number;
       place = has.place;
-      there = push_old places p has.place has.number has.there;
+      there = slice_get_after_push_earlier places p has.place has.number has.there;
       thread = has.thread;
       event = has.event;
     }
 
 -- all events of a thread
-pub read_thread : (r : Recorded) (o v t n : ℕ) (places : List Place) → length (recorded_thread r t).events ≤ n → ReadBefore r o v t n places
+pub read_before_next_thread : (r : Recorded) (o v t n : ℕ) (places : List Place) → length (recorded_thread r t).events ≤ n → ReadBefore r o v t n places
     → ReadBefore r o v (t + 1) 0 places
-read_thread r o v t n places all h = record {
+read_before_next_thread r o v t n places all h = record {
   sound = h.sound;
-  before = λ k p is. before_thread p.thread p.event t n (h.before k p is);
+  before = λ k p is. before_next_thread p.thread p.event t n (h.before k p is);
   complete = λ u i is b. elim (cases_eq u t) [
     | inl here ↦ h.complete u i is (inr (here, within u i here is))
     | inr ne ↦ h.complete u i is (inl (below u i ne b))
@@ -97,9 +97,9 @@ read_thread r o v t n places all h = record {
     below u j ne (inr here) = absurd (omega (arith, here.1))
 
 -- all threads
-pub read_all : (r : Recorded) (o v n : ℕ) (places : List Place) → length r.threads ≤ n → ReadBefore r o v n 0 places → AreReaders r o v places
-read_all r o v n places all h = record {
+pub are_readers_if_read_to_end : (r : Recorded) (o v n : ℕ) (places : List Place) → length r.threads ≤ n → ReadBefore r o v n 0 places → AreReaders r o v places
+are_readers_if_read_to_end r o v n places all h = record {
   sound = h.sound;
-  complete = λ t i is. h.complete t i is (inl (omega (arith, of_thread r t i _ is, all)));
+  complete = λ t i is. h.complete t i is (inl (omega (arith, event_is_of_existing_thread r t i _ is, all)));
   rising = h.rising;
 }

@@ -9,15 +9,15 @@ use Rattle.ir_runs.specs.declared.access.Access.TheVariants.{Reading, Writing}
 use Rattle.ir_runs.specs.Run.{asked, act, State, Step, Can, after, label, IsRun, events, log}
 use Rattle.ir_runs.specs.Bounds.{IsStart}
 use Rattle.ir_runs.specs.Cuts.{At}
-use Rattle.ir_runs.proofs.CallerLemmas.{upd_same, upd_other, Good, stays_good, start_good, trail_same, trail_other}
+use Rattle.ir_runs.proofs.CallerLemmas.{upd_at_own_place, upd_at_other_place, StateInvariant, state_invariant_after_step, state_invariant_at_start, trail_of_cons_own_thread, trail_of_cons_other_thread}
 use Rattle.ir_thread.specs.Instance.{thread_machine}
 use Rattle.ir_thread.specs.State as thread
-use Rattle.ir_thread.proofs.CallerLemmas.{lawful}
+use Rattle.ir_thread.proofs.CallerLemmas.{thread_machine_is_lawful}
 use Rattle.ir_log.specs.Logging.{label_of}
 use Rattle.ir_log.specs.declared.event.Event.{Event}
 use Rattle.ir_log.specs.declared.event.Event.TheVariants as variant
 use Rattle.ir_past.specs.Past.{entered}
-use Rattle.ir_past.proofs.Noted.{at_label, event_of}
+use Rattle.ir_past.proofs.Noted.{at_of_mapped_label, event_of_label_at}
 use Rattle.ir_past.specs.Returning.{leaves_one, ComesBack, LeavesAndComesBack, ReadsAndComesBack, IsReturn}
 
 -- ---- logs
@@ -31,111 +31,111 @@ Enters o (Refused p) = ⊥
 Enters o (Out p a v) = ⊥
 
 -- label j of these is the first entry of object o, for writing at version w
-pub record IsNext (ks : List Label) (j o w l : ℕ) : Type 0 where
+pub record IsNextWrite (ks : List Label) (j o w l : ℕ) : Type 0 where
   pub at : At ks j (In o Writing w l)
   pub first : (k : ℕ) (x : Label) → k < j → At ks k x → Enters o x → ⊥
 
 -- how many labels one is logged as
-abbrev pub one_logged : Label → ℕ
-one_logged k = length (logged k [])
+abbrev pub logged_count : Label → ℕ
+logged_count k = length (logged k [])
 
-logged_more : (k : Label) (ks : List Label) → length (logged k ks) ≡ one_logged k + length ks
-logged_more Quiet ks = let same : length ks ≡ 0 + length ks = omega arith in same
-logged_more (Answer i x) ks = let same : suc (length ks) ≡ 1 + length ks = omega arith in same
-logged_more (In p a v l) ks = let same : suc (length ks) ≡ 1 + length ks = omega arith in same
-logged_more (Refused p) ks = let same : suc (length ks) ≡ 1 + length ks = omega arith in same
-logged_more (Out p a v) ks = let same : length ks ≡ 0 + length ks = omega arith in same
+length_of_logged : (k : Label) (ks : List Label) → length (logged k ks) ≡ logged_count k + length ks
+length_of_logged Quiet ks = let same : length ks ≡ 0 + length ks = omega arith in same
+length_of_logged (Answer i x) ks = let same : suc (length ks) ≡ 1 + length ks = omega arith in same
+length_of_logged (In p a v l) ks = let same : suc (length ks) ≡ 1 + length ks = omega arith in same
+length_of_logged (Refused p) ks = let same : suc (length ks) ≡ 1 + length ks = omega arith in same
+length_of_logged (Out p a v) ks = let same : length ks ≡ 0 + length ks = omega arith in same
 
 -- the first label is the entry, or what is left has it
-data NextBy (k : Label) (ks : List Label) (j o w l : ℕ) : Type 0 where
-  Here : k ≡ In o Writing w l → j ≡ 0 → NextBy k ks j o w l
-  There : (n : ℕ) → j ≡ one_logged k + n → (Enters o k → ⊥) → IsNext ks n o w l → NextBy k ks j o w l
+data NextWriteCases (k : Label) (ks : List Label) (j o w l : ℕ) : Type 0 where
+  Here : k ≡ In o Writing w l → j ≡ 0 → NextWriteCases k ks j o w l
+  There : (n : ℕ) → j ≡ logged_count k + n → (Enters o k → ⊥) → IsNextWrite ks n o w l → NextWriteCases k ks j o w l
 
-first_logged : (k : Label) (ks : List Label) (j o w l : ℕ) → one_logged k ≡ 1 → IsNext (k ∷ ks) j o w l → NextBy k ks j o w l
-first_logged k ks zero o w l one h = Here h.at refl
-first_logged k ks (suc n) o w l one h = There n (omega (arith, one)) (h.first 0 k (omega arith) refl)
+next_write_cases_for_logged_label : (k : Label) (ks : List Label) (j o w l : ℕ) → logged_count k ≡ 1 → IsNextWrite (k ∷ ks) j o w l → NextWriteCases k ks j o w l
+next_write_cases_for_logged_label k ks zero o w l one h = Here h.at refl
+next_write_cases_for_logged_label k ks (suc n) o w l one h = There n (omega (arith, one)) (h.first 0 k (omega arith) refl)
     (record { at = h.at; first = λ m x less is. h.first (suc m) x (omega (arith, less)) is })
 
-next_by : (k : Label) (ks : List Label) (j o w l : ℕ) → IsNext (logged k ks) j o w l → NextBy k ks j o w l
-next_by Quiet ks j o w l h = There j (let same : j ≡ 0 + j = omega arith in same) (λ e. e) h
-next_by (Answer i x) ks j o w l h = first_logged (Answer i x) ks j o w l refl h
-next_by (In p a v r) ks j o w l h = first_logged (In p a v r) ks j o w l refl h
-next_by (Refused p) ks j o w l h = first_logged (Refused p) ks j o w l refl h
-next_by (Out p a v) ks j o w l h = There j (let same : j ≡ 0 + j = omega arith in same) (λ e. e) h
+next_write_cases : (k : Label) (ks : List Label) (j o w l : ℕ) → IsNextWrite (logged k ks) j o w l → NextWriteCases k ks j o w l
+next_write_cases Quiet ks j o w l h = There j (let same : j ≡ 0 + j = omega arith in same) (λ e. e) h
+next_write_cases (Answer i x) ks j o w l h = next_write_cases_for_logged_label (Answer i x) ks j o w l refl h
+next_write_cases (In p a v r) ks j o w l h = next_write_cases_for_logged_label (In p a v r) ks j o w l refl h
+next_write_cases (Refused p) ks j o w l h = next_write_cases_for_logged_label (Refused p) ks j o w l refl h
+next_write_cases (Out p a v) ks j o w l h = There j (let same : j ≡ 0 + j = omega arith in same) (λ e. e) h
 
 -- the log of thread t from a step on
-pub log_own : {T : Type 0} (m : Machine T) (s : State T) (e : Step) (run : List Step) (t : ℕ) → e.0 ≡ t
+pub log_of_own_step : {T : Type 0} (m : Machine T) (s : State T) (e : Step) (run : List Step) (t : ℕ) → e.0 ≡ t
     → log m s (e ∷ run) t ≡ logged (label m s e) (log m (after m s e) run t)
-log_own m s e run t own = subst (λ z. log m s (e ∷ run) z ≡ logged (label m s e) (log m (after m s e) run z)) own (ap events (trail_same m s e run))
+log_of_own_step m s e run t own = subst (λ z. log m s (e ∷ run) z ≡ logged (label m s e) (log m (after m s e) run z)) own (ap events (trail_of_cons_own_thread m s e run))
 
-pub log_other : {T : Type 0} (m : Machine T) (s : State T) (e : Step) (run : List Step) (t : ℕ) → (e.0 ≡ t → ⊥)
+pub log_of_other_step : {T : Type 0} (m : Machine T) (s : State T) (e : Step) (run : List Step) (t : ℕ) → (e.0 ≡ t → ⊥)
     → log m s (e ∷ run) t ≡ log m (after m s e) run t
-log_other m s e run t other = ap events (trail_other m s e run t (λ same. other (sym same)))
+log_of_other_step m s e run t other = ap events (trail_of_cons_other_thread m s e run t (λ same. other (sym same)))
 
 -- ---- objects
 
-pub object_after : {T : Type 0} (m : Machine T) (s : State T) (e : Step) → (after m s e).objects (target (act m s e))
+pub target_object_after_step : {T : Type 0} (m : Machine T) (s : State T) (e : Step) → (after m s e).objects (target (act m s e))
     ≡ acted (act m s e) e.0 (s.objects (target (act m s e)))
 unfolding after
-object_after m s e = upd_same s.objects (target (act m s e)) (acted (act m s e) e.0 (s.objects (target (act m s e))))
+target_object_after_step m s e = upd_at_own_place s.objects (target (act m s e)) (acted (act m s e) e.0 (s.objects (target (act m s e))))
 
-pub object_stays : {T : Type 0} (m : Machine T) (s : State T) (e : Step) (o : ℕ) → (o ≡ target (act m s e) → ⊥) → (after m s e).objects o ≡ s.objects o
+pub other_object_after_step : {T : Type 0} (m : Machine T) (s : State T) (e : Step) (o : ℕ) → (o ≡ target (act m s e) → ⊥) → (after m s e).objects o ≡ s.objects o
 unfolding after
-object_stays m s e o ne = upd_other s.objects (target (act m s e)) o (acted (act m s e) e.0 (s.objects (target (act m s e)))) ne
+other_object_after_step m s e o ne = upd_at_other_place s.objects (target (act m s e)) o (acted (act m s e) e.0 (s.objects (target (act m s e)))) ne
 
 -- what an act of the thread that takes it does to the object that it is about, but for entries and leaves
-own_cases : (q : Act) (b : Object) (t o : ℕ) → target q ≡ o → (Enters o (emitted q b) → ⊥)
+own_act_keeps_object_or_exits : (q : Act) (b : Object) (t o : ℕ) → target q ≡ o → (Enters o (emitted q b) → ⊥)
     → (((acted q t b).version ≡ b.version) × ((acted q t b).inside t ≡ b.inside t)) ⊎ ((a : Access) × (q ≡ Exit o a))
-own_cases Silent b t o same free = inl (refl, refl)
-own_cases (Result k x) b t o same free = inl (refl, refl)
-own_cases (Entry p Reading x) b t o same free = absurd (free same)
-own_cases (Entry p Writing x) b t o same free = absurd (free same)
-own_cases (Refusal p) b t o same free = inl (refl, refl)
-own_cases (Exit p a) b t o same free = inr (a, ap (λ z. Exit z a) same)
-own_cases (Load p i) b t o same free = inl (refl, refl)
-own_cases (Store p i x) b t o same free = inl (refl, refl)
-own_cases Never b t o same free = inl (refl, refl)
+own_act_keeps_object_or_exits Silent b t o same free = inl (refl, refl)
+own_act_keeps_object_or_exits (Result k x) b t o same free = inl (refl, refl)
+own_act_keeps_object_or_exits (Entry p Reading x) b t o same free = absurd (free same)
+own_act_keeps_object_or_exits (Entry p Writing x) b t o same free = absurd (free same)
+own_act_keeps_object_or_exits (Refusal p) b t o same free = inl (refl, refl)
+own_act_keeps_object_or_exits (Exit p a) b t o same free = inr (a, ap (λ z. Exit z a) same)
+own_act_keeps_object_or_exits (Load p i) b t o same free = inl (refl, refl)
+own_act_keeps_object_or_exits (Store p i x) b t o same free = inl (refl, refl)
+own_act_keeps_object_or_exits Never b t o same free = inl (refl, refl)
 
 -- what an act of thread u does to the object that it is about, as thread t sees it
-other_cases : (q : Act) (b : Object) (u t o : ℕ) → (u ≡ t → ⊥) → target q ≡ o
+other_act_on_version_and_inside : (q : Act) (b : Object) (u t o : ℕ) → (u ≡ t → ⊥) → target q ≡ o
     → ((acted q u b).version ≡ b.version + leaves_one t o u (emitted q b)) × ((acted q u b).inside t ≡ b.inside t)
-other_cases Silent b u t o ne same = ((let plain : b.version ≡ b.version + 0 = omega arith in plain), refl)
-other_cases (Result k x) b u t o ne same = ((let plain : b.version ≡ b.version + 0 = omega arith in plain), refl)
-other_cases (Entry p Reading x) b u t o ne same =
-    ((let plain : b.version ≡ b.version + 0 = omega arith in plain), upd_other b.inside u t (Some Reading) (λ e. ne (sym e)))
-other_cases (Entry p Writing x) b u t o ne same =
-    ((let plain : b.version ≡ b.version + 0 = omega arith in plain), upd_other b.inside u t (Some Writing) (λ e. ne (sym e)))
-other_cases (Refusal p) b u t o ne same = ((let plain : b.version ≡ b.version + 0 = omega arith in plain), refl)
-other_cases (Exit p Reading) b u t o ne same =
-    ((let plain : b.version ≡ b.version + 0 = omega arith in plain), upd_other b.inside u t None (λ e. ne (sym e)))
-other_cases (Exit p Writing) b u t o ne same = (
+other_act_on_version_and_inside Silent b u t o ne same = ((let plain : b.version ≡ b.version + 0 = omega arith in plain), refl)
+other_act_on_version_and_inside (Result k x) b u t o ne same = ((let plain : b.version ≡ b.version + 0 = omega arith in plain), refl)
+other_act_on_version_and_inside (Entry p Reading x) b u t o ne same =
+    ((let plain : b.version ≡ b.version + 0 = omega arith in plain), upd_at_other_place b.inside u t (Some Reading) (λ e. ne (sym e)))
+other_act_on_version_and_inside (Entry p Writing x) b u t o ne same =
+    ((let plain : b.version ≡ b.version + 0 = omega arith in plain), upd_at_other_place b.inside u t (Some Writing) (λ e. ne (sym e)))
+other_act_on_version_and_inside (Refusal p) b u t o ne same = ((let plain : b.version ≡ b.version + 0 = omega arith in plain), refl)
+other_act_on_version_and_inside (Exit p Reading) b u t o ne same =
+    ((let plain : b.version ≡ b.version + 0 = omega arith in plain), upd_at_other_place b.inside u t None (λ e. ne (sym e)))
+other_act_on_version_and_inside (Exit p Writing) b u t o ne same = (
   (let one : leaves_one t o u (Out p Writing b.version) ≡ 1 = ap {B = ℕ} (λ (c : Bool). cond c 0 (cond (eqb p o) 1 0)) (ne_eqb u t ne)
       ∙ ap {B = ℕ} (λ (c : Bool). cond c 1 0) (eq-eqb p o same) in
       omega (arith, one)),
-  upd_other b.inside u t None (λ e. ne (sym e)),
+  upd_at_other_place b.inside u t None (λ e. ne (sym e)),
 )
-other_cases (Load p i) b u t o ne same = ((let plain : b.version ≡ b.version + 0 = omega arith in plain), refl)
-other_cases (Store p i x) b u t o ne same = ((let plain : b.version ≡ b.version + 0 = omega arith in plain), refl)
-other_cases Never b u t o ne same = ((let plain : b.version ≡ b.version + 0 = omega arith in plain), refl)
+other_act_on_version_and_inside (Load p i) b u t o ne same = ((let plain : b.version ≡ b.version + 0 = omega arith in plain), refl)
+other_act_on_version_and_inside (Store p i x) b u t o ne same = ((let plain : b.version ≡ b.version + 0 = omega arith in plain), refl)
+other_act_on_version_and_inside Never b u t o ne same = ((let plain : b.version ≡ b.version + 0 = omega arith in plain), refl)
 
 -- what is counted of a label: nothing, or it is a leave of the object after writing by another thread
-leaves_cases : (q : Act) (b : Object) (u t o : ℕ) → (leaves_one t o u (emitted q b) ≡ 0) ⊎ ((q ≡ Exit o Writing) × (u ≡ t → ⊥))
-leaves_cases Silent b u t o = inl refl
-leaves_cases (Result k x) b u t o = inl refl
-leaves_cases (Entry p Reading x) b u t o = inl refl
-leaves_cases (Entry p Writing x) b u t o = inl refl
-leaves_cases (Refusal p) b u t o = inl refl
-leaves_cases (Exit p Reading) b u t o = inl refl
-leaves_cases (Exit p Writing) b u t o = elim (cases_eq u t) [
+leaves_one_is_zero_or_exit : (q : Act) (b : Object) (u t o : ℕ) → (leaves_one t o u (emitted q b) ≡ 0) ⊎ ((q ≡ Exit o Writing) × (u ≡ t → ⊥))
+leaves_one_is_zero_or_exit Silent b u t o = inl refl
+leaves_one_is_zero_or_exit (Result k x) b u t o = inl refl
+leaves_one_is_zero_or_exit (Entry p Reading x) b u t o = inl refl
+leaves_one_is_zero_or_exit (Entry p Writing x) b u t o = inl refl
+leaves_one_is_zero_or_exit (Refusal p) b u t o = inl refl
+leaves_one_is_zero_or_exit (Exit p Reading) b u t o = inl refl
+leaves_one_is_zero_or_exit (Exit p Writing) b u t o = elim (cases_eq u t) [
   | inl same ↦ inl (ap {B = ℕ} (λ (c : Bool). cond c 0 (cond (eqb p o) 1 0)) (eq-eqb u t same))
   | inr ne ↦ elim (cases_eq p o) [
     | inl here ↦ inr (ap (λ z. Exit z Writing) here, ne)
     | inr other ↦ inl (ap {B = ℕ} (λ (c : Bool). cond c 0 (cond (eqb p o) 1 0)) (ne_eqb u t ne) ∙ ap {B = ℕ} (λ (c : Bool). cond c 1 0) (ne_eqb p o other))
   ]
 ]
-leaves_cases (Load p i) b u t o = inl refl
-leaves_cases (Store p i x) b u t o = inl refl
-leaves_cases Never b u t o = inl refl
+leaves_one_is_zero_or_exit (Load p i) b u t o = inl refl
+leaves_one_is_zero_or_exit (Store p i x) b u t o = inl refl
+leaves_one_is_zero_or_exit Never b u t o = inl refl
 
 -- an entry is of the object that the act is about, and finds its version
 pub record IsEntering (q : Act) (b : Object) (o : ℕ) (a : Access) (v : ℕ) : Type 0 where
@@ -143,112 +143,112 @@ pub record IsEntering (q : Act) (b : Object) (o : ℕ) (a : Access) (v : ℕ) : 
   pub does : q ≡ Entry o a answer
   pub version : b.version ≡ v
 
-pub entering : (q : Act) (b : Object) (o : ℕ) (a : Access) (v l : ℕ) → emitted q b ≡ In o a v l → IsEntering q b o a v
-entering Silent b o a v l e = absurd (cc e)
-entering (Result k x) b o a v l e = absurd (cc e)
-entering (Entry p Reading x) b o a v l e =
+pub act_emitting_entry_is_entering : (q : Act) (b : Object) (o : ℕ) (a : Access) (v l : ℕ) → emitted q b ≡ In o a v l → IsEntering q b o a v
+act_emitting_entry_is_entering Silent b o a v l e = absurd (cc e)
+act_emitting_entry_is_entering (Result k x) b o a v l e = absurd (cc e)
+act_emitting_entry_is_entering (Entry p Reading x) b o a v l e =
     let object : p ≡ o = cc e in
     let access : Reading ≡ a = cc e in
     record { answer = x; does = (λ i. Entry (object i) (access i) x); version = cc e }
-entering (Entry p Writing x) b o a v l e =
+act_emitting_entry_is_entering (Entry p Writing x) b o a v l e =
     let object : p ≡ o = cc e in
     let access : Writing ≡ a = cc e in
     record { answer = x; does = (λ i. Entry (object i) (access i) x); version = cc e }
-entering (Refusal p) b o a v l e = absurd (cc e)
-entering (Exit p c) b o a v l e = absurd (cc e)
-entering (Load p i) b o a v l e = absurd (cc e)
-entering (Store p i x) b o a v l e = absurd (cc e)
-entering Never b o a v l e = absurd (cc e)
+act_emitting_entry_is_entering (Refusal p) b o a v l e = absurd (cc e)
+act_emitting_entry_is_entering (Exit p c) b o a v l e = absurd (cc e)
+act_emitting_entry_is_entering (Load p i) b o a v l e = absurd (cc e)
+act_emitting_entry_is_entering (Store p i x) b o a v l e = absurd (cc e)
+act_emitting_entry_is_entering Never b o a v l e = absurd (cc e)
 
 -- ---- what a thread that enters or leaves holds
 
-exit_held : (q : Ask) (r o : ℕ) (a : Access) (h : ℕ → Option Access) → act_of q r ≡ Exit o a → Holds q h → h o ≡ Some a
-exit_held Private r o a h e k = absurd (cc e)
-exit_held (Env c) r o a h e k = absurd (cc e)
-exit_held (Enter p c) r o a h e k = absurd (cc e)
-exit_held (Try p) zero o a h e k = absurd (cc e)
-exit_held (Try p) (suc zero) o a h e k = absurd (cc e)
-exit_held (Try p) (suc (suc r)) o a h e k = absurd (cc e)
-exit_held (Leave p c) r o a h e k =
+exited_object_is_held : (q : Ask) (r o : ℕ) (a : Access) (h : ℕ → Option Access) → act_of q r ≡ Exit o a → Holds q h → h o ≡ Some a
+exited_object_is_held Private r o a h e k = absurd (cc e)
+exited_object_is_held (Env c) r o a h e k = absurd (cc e)
+exited_object_is_held (Enter p c) r o a h e k = absurd (cc e)
+exited_object_is_held (Try p) zero o a h e k = absurd (cc e)
+exited_object_is_held (Try p) (suc zero) o a h e k = absurd (cc e)
+exited_object_is_held (Try p) (suc (suc r)) o a h e k = absurd (cc e)
+exited_object_is_held (Leave p c) r o a h e k =
     let object : p ≡ o = cc e in
     let access : c ≡ a = cc e in
     ap h (sym object) ∙ k ∙ ap Some access
-exit_held (Get p i) r o a h e k = absurd (cc e)
-exit_held (Put p i x) r o a h e k = absurd (cc e)
-exit_held Done r o a h e k = absurd (cc e)
+exited_object_is_held (Get p i) r o a h e k = absurd (cc e)
+exited_object_is_held (Put p i x) r o a h e k = absurd (cc e)
+exited_object_is_held Done r o a h e k = absurd (cc e)
 
-entry_held : (q : Ask) (r o : ℕ) (a : Access) (x : ℕ) (h : ℕ → Option Access) → act_of q r ≡ Entry o a x → Holds q h → h o ≡ None
-entry_held Private r o a x h e k = absurd (cc e)
-entry_held (Env c) r o a x h e k = absurd (cc e)
-entry_held (Enter p c) r o a x h e k = let object : p ≡ o = cc e in k o (omega (arith, object))
-entry_held (Try p) zero o a x h e k = absurd (cc e)
-entry_held (Try p) (suc zero) o a x h e k = let object : p ≡ o = cc e in k o (omega (arith, object))
-entry_held (Try p) (suc (suc r)) o a x h e k = absurd (cc e)
-entry_held (Leave p c) r o a x h e k = absurd (cc e)
-entry_held (Get p i) r o a x h e k = absurd (cc e)
-entry_held (Put p i y) r o a x h e k = absurd (cc e)
-entry_held Done r o a x h e k = absurd (cc e)
+entered_object_is_not_held : (q : Ask) (r o : ℕ) (a : Access) (x : ℕ) (h : ℕ → Option Access) → act_of q r ≡ Entry o a x → Holds q h → h o ≡ None
+entered_object_is_not_held Private r o a x h e k = absurd (cc e)
+entered_object_is_not_held (Env c) r o a x h e k = absurd (cc e)
+entered_object_is_not_held (Enter p c) r o a x h e k = let object : p ≡ o = cc e in k o (omega (arith, object))
+entered_object_is_not_held (Try p) zero o a x h e k = absurd (cc e)
+entered_object_is_not_held (Try p) (suc zero) o a x h e k = let object : p ≡ o = cc e in k o (omega (arith, object))
+entered_object_is_not_held (Try p) (suc (suc r)) o a x h e k = absurd (cc e)
+entered_object_is_not_held (Leave p c) r o a x h e k = absurd (cc e)
+entered_object_is_not_held (Get p i) r o a x h e k = absurd (cc e)
+entered_object_is_not_held (Put p i y) r o a x h e k = absurd (cc e)
+entered_object_is_not_held Done r o a x h e k = absurd (cc e)
 
-pub exit_inside : {T : Type 0} (m : Machine T) → IsLawful m → (s : State T) → Good m s → (e : Step) (o : ℕ) (a : Access) → act m s e ≡ Exit o a
+pub exiting_thread_is_inside : {T : Type 0} (m : Machine T) → IsLawful m → (s : State T) → StateInvariant m s → (e : Step) (o : ℕ) (a : Access) → act m s e ≡ Exit o a
     → (s.objects o).inside e.0 ≡ Some a
-exit_inside m law s good e o a is = good.linked e.0 o ∙ exit_held (asked m s e.0) e.1 o a (m.held (s.now e.0)) is (law.holds (s.now e.0))
+exiting_thread_is_inside m law s good e o a is = good.linked e.0 o ∙ exited_object_is_held (asked m s e.0) e.1 o a (m.held (s.now e.0)) is (law.holds (s.now e.0))
 
-pub entry_inside : {T : Type 0} (m : Machine T) → IsLawful m → (s : State T) → Good m s → (e : Step) (o : ℕ) (a : Access) (x : ℕ)
+pub entering_thread_is_not_inside : {T : Type 0} (m : Machine T) → IsLawful m → (s : State T) → StateInvariant m s → (e : Step) (o : ℕ) (a : Access) (x : ℕ)
     → act m s e ≡ Entry o a x → (s.objects o).inside e.0 ≡ None
-entry_inside m law s good e o a x is = good.linked e.0 o ∙ entry_held (asked m s e.0) e.1 o a x (m.held (s.now e.0)) is (law.holds (s.now e.0))
+entering_thread_is_not_inside m law s good e o a x is = good.linked e.0 o ∙ entered_object_is_not_held (asked m s e.0) e.1 o a x (m.held (s.now e.0)) is (law.holds (s.now e.0))
 
 -- ---- one step
 
 -- a step of thread t that doesn't enter object o leaves it, or changes neither its version nor how t is inside
-pub own_step : {T : Type 0} (m : Machine T) (s : State T) (e : Step) (t o : ℕ) → e.0 ≡ t → (Enters o (label m s e) → ⊥)
+pub own_step_keeps_object_or_exits : {T : Type 0} (m : Machine T) (s : State T) (e : Step) (t o : ℕ) → e.0 ≡ t → (Enters o (label m s e) → ⊥)
     → ((((after m s e).objects o).version ≡ (s.objects o).version) × (((after m s e).objects o).inside t ≡ (s.objects o).inside t))
     ⊎ ((a : Access) × (act m s e ≡ Exit o a))
-own_step m s e t o own free = elim (cases_eq (target (act m s e)) o) [
-  | inl here ↦ elim (own_cases (act m s e) (s.objects (target (act m s e))) e.0 o here free) [
+own_step_keeps_object_or_exits m s e t o own free = elim (cases_eq (target (act m s e)) o) [
+  | inl here ↦ elim (own_act_keeps_object_or_exits (act m s e) (s.objects (target (act m s e))) e.0 o here free) [
     | inl h ↦ inl (subst (λ z. (((after m s e).objects z).version ≡ (s.objects z).version) × (((after m s e).objects z).inside t ≡ (s.objects z).inside t)) here (
-      ap (λ z. z.version) (object_after m s e) ∙ h.0,
-      ap (λ z. z.inside t) (object_after m s e) ∙ subst (λ z. (acted (act m s e) e.0 (s.objects (target (act m s e)))).inside z
+      ap (λ z. z.version) (target_object_after_step m s e) ∙ h.0,
+      ap (λ z. z.inside t) (target_object_after_step m s e) ∙ subst (λ z. (acted (act m s e) e.0 (s.objects (target (act m s e)))).inside z
           ≡ (s.objects (target (act m s e))).inside z) own h.1,
     ))
     | inr h ↦ inr h
   ]
-  | inr ne ↦ inl (ap (λ z. z.version) (object_stays m s e o (λ z. ne (sym z))), ap (λ z. z.inside t) (object_stays m s e o (λ z. ne (sym z))))
+  | inr ne ↦ inl (ap (λ z. z.version) (other_object_after_step m s e o (λ z. ne (sym z))), ap (λ z. z.inside t) (other_object_after_step m s e o (λ z. ne (sym z))))
 ]
 
 -- a step of another thread
-pub other_step : {T : Type 0} (m : Machine T) (s : State T) (e : Step) (t o : ℕ) → (e.0 ≡ t → ⊥)
+pub other_step_on_version_and_inside : {T : Type 0} (m : Machine T) (s : State T) (e : Step) (t o : ℕ) → (e.0 ≡ t → ⊥)
     → (((after m s e).objects o).version ≡ (s.objects o).version + leaves_one t o e.0 (label m s e))
     × (((after m s e).objects o).inside t ≡ (s.objects o).inside t)
-other_step m s e t o other = elim (cases_eq (target (act m s e)) o) [
-  | inl here ↦ let h = other_cases (act m s e) (s.objects (target (act m s e))) e.0 t o other here in (
+other_step_on_version_and_inside m s e t o other = elim (cases_eq (target (act m s e)) o) [
+  | inl here ↦ let h = other_act_on_version_and_inside (act m s e) (s.objects (target (act m s e))) e.0 t o other here in (
     subst (λ z. ((after m s e).objects z).version ≡ (s.objects z).version + leaves_one t o e.0 (label m s e)) here
-        (ap (λ z. z.version) (object_after m s e) ∙ h.0),
-    subst (λ z. ((after m s e).objects z).inside t ≡ (s.objects z).inside t) here (ap (λ z. z.inside t) (object_after m s e) ∙ h.1),
+        (ap (λ z. z.version) (target_object_after_step m s e) ∙ h.0),
+    subst (λ z. ((after m s e).objects z).inside t ≡ (s.objects z).inside t) here (ap (λ z. z.inside t) (target_object_after_step m s e) ∙ h.1),
   )
-  | inr ne ↦ elim (leaves_cases (act m s e) (s.objects (target (act m s e))) e.0 t o) [
+  | inr ne ↦ elim (leaves_one_is_zero_or_exit (act m s e) (s.objects (target (act m s e))) e.0 t o) [
     | inl none ↦ (
-      (let same = ap (λ z. z.version) (object_stays m s e o (λ z. ne (sym z))) in omega (arith, same, none)),
-      ap (λ z. z.inside t) (object_stays m s e o (λ z. ne (sym z))),
+      (let same = ap (λ z. z.version) (other_object_after_step m s e o (λ z. ne (sym z))) in omega (arith, same, none)),
+      ap (λ z. z.inside t) (other_object_after_step m s e o (λ z. ne (sym z))),
     )
     | inr h ↦ absurd (ne (ap target h.0))
   ]
 ]
 
-none_own : (t o u : ℕ) (k : Label) → u ≡ t → leaves_one t o u k ≡ 0
-none_own t o u Quiet same = refl
-none_own t o u (Answer c x) same = refl
-none_own t o u (In p a v l) same = refl
-none_own t o u (Refused p) same = refl
-none_own t o u (Out p Reading v) same = refl
-none_own t o u (Out p Writing v) same = ap {B = ℕ} (λ (c : Bool). cond c 0 (cond (eqb p o) 1 0)) (eq-eqb u t same)
+leaves_one_of_own_step : (t o u : ℕ) (k : Label) → u ≡ t → leaves_one t o u k ≡ 0
+leaves_one_of_own_step t o u Quiet same = refl
+leaves_one_of_own_step t o u (Answer c x) same = refl
+leaves_one_of_own_step t o u (In p a v l) same = refl
+leaves_one_of_own_step t o u (Refused p) same = refl
+leaves_one_of_own_step t o u (Out p Reading v) same = refl
+leaves_one_of_own_step t o u (Out p Writing v) same = ap {B = ℕ} (λ (c : Bool). cond c 0 (cond (eqb p o) 1 0)) (eq-eqb u t same)
 
 -- ---- the thread comes back
 
 -- one step more, of thread t or of another
-comes_own : {T : Type 0} (m : Machine T) (s : State T) (e : Step) (run : List Step) (t j n o w : ℕ) → e.0 ≡ t
-    → ((after m s e).objects o).version ≡ (s.objects o).version → j ≡ one_logged (label m s e) + n
+comes_back_after_own_step : {T : Type 0} (m : Machine T) (s : State T) (e : Step) (run : List Step) (t j n o w : ℕ) → e.0 ≡ t
+    → ((after m s e).objects o).version ≡ (s.objects o).version → j ≡ logged_count (label m s e) + n
     → ComesBack m (after m s e) run t n o w → ComesBack m s (e ∷ run) t j o w
-comes_own m s e run t j n o w own version number c = record {
+comes_back_after_own_step m s e run t j n o w own version number c = record {
   between = e ∷ c.between;
   write = c.write;
   rest = c.rest;
@@ -256,15 +256,15 @@ comes_own m s e run t j n o w own version number c = record {
   own = c.own;
   readers = c.readers;
   writes = c.writes;
-  number = (let long = ap length (log_own m s e c.between t own) ∙ logged_more (label m s e) (log m (after m s e) c.between t) in
+  number = (let long = ap length (log_of_own_step m s e c.between t own) ∙ length_of_logged (label m s e) (log m (after m s e) c.between t) in
       let rest = c.number in omega (arith, long, rest, number));
-  counted = (let none = none_own t o e.0 (label m s e) own in let rest = c.counted in omega (arith, none, rest, version));
+  counted = (let none = leaves_one_of_own_step t o e.0 (label m s e) own in let rest = c.counted in omega (arith, none, rest, version));
 }
 
-comes_other : {T : Type 0} (m : Machine T) (s : State T) (e : Step) (run : List Step) (t j o w : ℕ) → (e.0 ≡ t → ⊥)
+comes_back_after_other_step : {T : Type 0} (m : Machine T) (s : State T) (e : Step) (run : List Step) (t j o w : ℕ) → (e.0 ≡ t → ⊥)
     → ((after m s e).objects o).version ≡ (s.objects o).version + leaves_one t o e.0 (label m s e)
     → ComesBack m (after m s e) run t j o w → ComesBack m s (e ∷ run) t j o w
-comes_other m s e run t j o w other version c = record {
+comes_back_after_other_step m s e run t j o w other version c = record {
   between = e ∷ c.between;
   write = c.write;
   rest = c.rest;
@@ -272,27 +272,27 @@ comes_other m s e run t j o w other version c = record {
   own = c.own;
   readers = c.readers;
   writes = c.writes;
-  number = ap length (log_other m s e c.between t other) ∙ c.number;
+  number = ap length (log_of_other_step m s e c.between t other) ∙ c.number;
   counted = (let rest = c.counted in omega (arith, rest, version));
 }
 
-come_back : {T : Type 0} (m : Machine T) → IsLawful m → (s : State T) → Good m s → (run : List Step) → IsRun m s run → (t j o w l : ℕ)
-    → (s.objects o).inside t ≡ None → IsNext (log m s run t) j o w l → ComesBack m s run t j o w
-come_back m law s good [] ok t j o w l out h = absurd h.at
-come_back m law s good (e ∷ run) ok t j o w l out h = elim (cases_eq e.0 t) [
-  | inl own ↦ by own (λ n free next. come_back m law (after m s e) (stays_good m law s good e ok.0) run ok.1 t n o w l free next)
-      (next_by (label m s e) (log m (after m s e) run t) j o w l
-      (subst (λ (ks : List Label). IsNext ks j o w l) (log_own m s e run t own) h))
-  | inr other ↦ let step = other_step m s e t o other in
-      comes_other m s e run t j o w other step.0
-      (come_back m law (after m s e) (stays_good m law s good e ok.0) run ok.1 t j o w l (step.1 ∙ out)
-      (subst (λ (ks : List Label). IsNext ks j o w l) (log_other m s e run t other) h))
+outside_thread_comes_back : {T : Type 0} (m : Machine T) → IsLawful m → (s : State T) → StateInvariant m s → (run : List Step) → IsRun m s run → (t j o w l : ℕ)
+    → (s.objects o).inside t ≡ None → IsNextWrite (log m s run t) j o w l → ComesBack m s run t j o w
+outside_thread_comes_back m law s good [] ok t j o w l out h = absurd h.at
+outside_thread_comes_back m law s good (e ∷ run) ok t j o w l out h = elim (cases_eq e.0 t) [
+  | inl own ↦ by own (λ n free next. outside_thread_comes_back m law (after m s e) (state_invariant_after_step m law s good e ok.0) run ok.1 t n o w l free next)
+      (next_write_cases (label m s e) (log m (after m s e) run t) j o w l
+      (subst (λ (ks : List Label). IsNextWrite ks j o w l) (log_of_own_step m s e run t own) h))
+  | inr other ↦ let step = other_step_on_version_and_inside m s e t o other in
+      comes_back_after_other_step m s e run t j o w other step.0
+      (outside_thread_comes_back m law (after m s e) (state_invariant_after_step m law s good e ok.0) run ok.1 t j o w l (step.1 ∙ out)
+      (subst (λ (ks : List Label). IsNextWrite ks j o w l) (log_of_other_step m s e run t other) h))
 ]
   where
-    by : e.0 ≡ t → ((n : ℕ) → ((after m s e).objects o).inside t ≡ None → IsNext (log m (after m s e) run t) n o w l
-        → ComesBack m (after m s e) run t n o w) → NextBy (label m s e) (log m (after m s e) run t) j o w l → ComesBack m s (e ∷ run) t j o w
+    by : e.0 ≡ t → ((n : ℕ) → ((after m s e).objects o).inside t ≡ None → IsNextWrite (log m (after m s e) run t) n o w l
+        → ComesBack m (after m s e) run t n o w) → NextWriteCases (label m s e) (log m (after m s e) run t) j o w l → ComesBack m s (e ∷ run) t j o w
     by own again (Here k is) =
-        let own_entry = entering (act m s e) (s.objects (target (act m s e))) o Writing w l k in
+        let own_entry = act_emitting_entry_is_entering (act m s e) (s.objects (target (act m s e))) o Writing w l k in
         let version : (s.objects o).version ≡ w = ap (λ z. (s.objects (target z)).version) (sym own_entry.does) ∙ own_entry.version in
         record {
           between = [];
@@ -305,16 +305,16 @@ come_back m law s good (e ∷ run) ok t j o w l out h = elim (cases_eq e.0 t) [
           number = sym is;
           counted = omega (arith, version);
         }
-    by own again (There n is none next) = elim (own_step m s e t o own none) [
-      | inl same ↦ comes_own m s e run t j n o w own same.0 is (again n (same.1 ∙ out) next)
-      | inr exit ↦ absurd (none-some exit.0 (sym out ∙ subst (λ z. (s.objects o).inside z ≡ Some exit.0) own (exit_inside m law s good e o exit.0 exit.1)))
+    by own again (There n is none next) = elim (own_step_keeps_object_or_exits m s e t o own none) [
+      | inl same ↦ comes_back_after_own_step m s e run t j n o w own same.0 is (again n (same.1 ∙ out) next)
+      | inr exit ↦ absurd (none-some exit.0 (sym out ∙ subst (λ z. (s.objects o).inside z ≡ Some exit.0) own (exiting_thread_is_inside m law s good e o exit.0 exit.1)))
     ]
 
 -- ---- the thread leaves, and comes back
 
-leaves_own : {T : Type 0} (m : Machine T) (s : State T) (e : Step) (run : List Step) (t j n o v w : ℕ) → e.0 ≡ t
-    → j ≡ one_logged (label m s e) + n → LeavesAndComesBack m (after m s e) run t n o v w → LeavesAndComesBack m s (e ∷ run) t j o v w
-leaves_own m s e run t j n o v w own number c = record {
+leaves_and_comes_after_own_step : {T : Type 0} (m : Machine T) (s : State T) (e : Step) (run : List Step) (t j n o v w : ℕ) → e.0 ≡ t
+    → j ≡ logged_count (label m s e) + n → LeavesAndComesBack m (after m s e) run t n o v w → LeavesAndComesBack m s (e ∷ run) t j o v w
+leaves_and_comes_after_own_step m s e run t j n o v w own number c = record {
   before = e ∷ c.before;
   leave = c.leave;
   after_leave = c.after_leave;
@@ -322,15 +322,15 @@ leaves_own m s e run t j n o v w own number c = record {
   own = c.own;
   leaves = c.leaves;
   back = c.back;
-  number = (let long = ap length (log_own m s e c.before t own) ∙ logged_more (label m s e) (log m (after m s e) c.before t) in
+  number = (let long = ap length (log_of_own_step m s e c.before t own) ∙ length_of_logged (label m s e) (log m (after m s e) c.before t) in
       let rest = c.number in omega (arith, long, rest, number));
   comes = c.comes;
   version = c.version;
 }
 
-leaves_other : {T : Type 0} (m : Machine T) (s : State T) (e : Step) (run : List Step) (t j o v w : ℕ) → (e.0 ≡ t → ⊥)
+leaves_and_comes_after_other_step : {T : Type 0} (m : Machine T) (s : State T) (e : Step) (run : List Step) (t j o v w : ℕ) → (e.0 ≡ t → ⊥)
     → LeavesAndComesBack m (after m s e) run t j o v w → LeavesAndComesBack m s (e ∷ run) t j o v w
-leaves_other m s e run t j o v w other c = record {
+leaves_and_comes_after_other_step m s e run t j o v w other c = record {
   before = e ∷ c.before;
   leave = c.leave;
   after_leave = c.after_leave;
@@ -338,24 +338,24 @@ leaves_other m s e run t j o v w other c = record {
   own = c.own;
   leaves = c.leaves;
   back = c.back;
-  number = (let long = ap length (log_other m s e c.before t other) in let rest = c.number in omega (arith, long, rest));
+  number = (let long = ap length (log_of_other_step m s e c.before t other) in let rest = c.number in omega (arith, long, rest));
   comes = c.comes;
   version = c.version;
 }
 
 -- while a thread is inside, no other leaves after writing
-pub none_written : {T : Type 0} (m : Machine T) → IsLawful m → (s : State T) → Good m s → (e : Step) (t o : ℕ) (a : Access) → (e.0 ≡ t → ⊥)
+pub no_other_writes_while_inside : {T : Type 0} (m : Machine T) → IsLawful m → (s : State T) → StateInvariant m s → (e : Step) (t o : ℕ) (a : Access) → (e.0 ≡ t → ⊥)
     → (s.objects o).inside t ≡ Some a → leaves_one t o e.0 (label m s e) ≡ 0
-none_written m law s good e t o a other inside = elim (leaves_cases (act m s e) (s.objects (target (act m s e))) e.0 t o) [
+no_other_writes_while_inside m law s good e t o a other inside = elim (leaves_one_is_zero_or_exit (act m s e) (s.objects (target (act m s e))) e.0 t o) [
   | inl none ↦ none
-  | inr h ↦ absurd (none-some a (sym (good.exclusive o e.0 t other (exit_inside m law s good e o Writing h.0)) ∙ inside))
+  | inr h ↦ absurd (none-some a (sym (good.exclusive o e.0 t other (exiting_thread_is_inside m law s good e o Writing h.0)) ∙ inside))
 ]
 
 -- the reader leaves
-leaves_here : {T : Type 0} (m : Machine T) → IsLawful m → (s : State T) → Good m s → (e : Step) → Can m s e → (run : List Step)
+leaves_and_comes_at_exit : {T : Type 0} (m : Machine T) → IsLawful m → (s : State T) → StateInvariant m s → (e : Step) → Can m s e → (run : List Step)
     → IsRun m (after m s e) run → (t j o v w l : ℕ) → e.0 ≡ t → act m s e ≡ Exit o Reading → (s.objects o).version ≡ v
-    → IsNext (log m (after m s e) run t) j o w l → LeavesAndComesBack m s (e ∷ run) t j o v w
-leaves_here m law s good e can run ok t j o v w l own does version next = record {
+    → IsNextWrite (log m (after m s e) run t) j o w l → LeavesAndComesBack m s (e ∷ run) t j o v w
+leaves_and_comes_at_exit m law s good e can run ok t j o v w l own does version next = record {
   before = [];
   leave = e;
   after_leave = run;
@@ -364,118 +364,118 @@ leaves_here m law s good e can run ok t j o v w l own does version next = record
   leaves = ap (λ q. emitted q (s.objects (target q))) does ∙ ap (λ z. Out o Reading z) version;
   back = j;
   number = (let same : 0 + j ≡ j = omega arith in same);
-  comes = come_back m law (after m s e) (stays_good m law s good e can) run ok t j o w l out next;
+  comes = outside_thread_comes_back m law (after m s e) (state_invariant_after_step m law s good e can) run ok t j o w l out next;
   version = ap (λ z. z.version) object ∙ version;
 }
   where
     object : (after m s e).objects o ≡ acted (Exit o Reading) e.0 (s.objects o)
-    object = subst (λ q. (after m s e).objects (target q) ≡ acted q e.0 (s.objects (target q))) does (object_after m s e)
+    object = subst (λ q. (after m s e).objects (target q) ≡ acted q e.0 (s.objects (target q))) does (target_object_after_step m s e)
 
     out : ((after m s e).objects o).inside t ≡ None
-    out = ap (λ z. z.inside t) object ∙ subst (λ z. upd (s.objects o).inside e.0 None z ≡ None) own (upd_same (s.objects o).inside e.0 None)
+    out = ap (λ z. z.inside t) object ∙ subst (λ z. upd (s.objects o).inside e.0 None z ≡ None) own (upd_at_own_place (s.objects o).inside e.0 None)
 
-leave_and_come : {T : Type 0} (m : Machine T) → IsLawful m → (s : State T) → Good m s → (run : List Step) → IsRun m s run → (t j o v w l : ℕ)
-    → (s.objects o).inside t ≡ Some Reading → (s.objects o).version ≡ v → IsNext (log m s run t) j o w l → LeavesAndComesBack m s run t j o v w
-leave_and_come m law s good [] ok t j o v w l reads version h = absurd h.at
-leave_and_come m law s good (e ∷ run) ok t j o v w l reads version h = elim (cases_eq e.0 t) [
+inside_reader_leaves_and_comes_back : {T : Type 0} (m : Machine T) → IsLawful m → (s : State T) → StateInvariant m s → (run : List Step) → IsRun m s run → (t j o v w l : ℕ)
+    → (s.objects o).inside t ≡ Some Reading → (s.objects o).version ≡ v → IsNextWrite (log m s run t) j o w l → LeavesAndComesBack m s run t j o v w
+inside_reader_leaves_and_comes_back m law s good [] ok t j o v w l reads version h = absurd h.at
+inside_reader_leaves_and_comes_back m law s good (e ∷ run) ok t j o v w l reads version h = elim (cases_eq e.0 t) [
   | inl own ↦ by own
-      (λ n inside same next. leave_and_come m law (after m s e) (stays_good m law s good e ok.0) run ok.1 t n o v w l inside same next)
-      (next_by (label m s e) (log m (after m s e) run t) j o w l
-      (subst (λ (ks : List Label). IsNext ks j o w l) (log_own m s e run t own) h))
-  | inr other ↦ let step = other_step m s e t o other in
-      let none = none_written m law s good e t o Reading other reads in
-      leaves_other m s e run t j o v w other
-      (leave_and_come m law (after m s e) (stays_good m law s good e ok.0) run ok.1 t j o v w l (step.1 ∙ reads)
+      (λ n inside same next. inside_reader_leaves_and_comes_back m law (after m s e) (state_invariant_after_step m law s good e ok.0) run ok.1 t n o v w l inside same next)
+      (next_write_cases (label m s e) (log m (after m s e) run t) j o w l
+      (subst (λ (ks : List Label). IsNextWrite ks j o w l) (log_of_own_step m s e run t own) h))
+  | inr other ↦ let step = other_step_on_version_and_inside m s e t o other in
+      let none = no_other_writes_while_inside m law s good e t o Reading other reads in
+      leaves_and_comes_after_other_step m s e run t j o v w other
+      (inside_reader_leaves_and_comes_back m law (after m s e) (state_invariant_after_step m law s good e ok.0) run ok.1 t j o v w l (step.1 ∙ reads)
       (let same = step.0 in omega (arith, same, none, version))
-      (subst (λ (ks : List Label). IsNext ks j o w l) (log_other m s e run t other) h))
+      (subst (λ (ks : List Label). IsNextWrite ks j o w l) (log_of_other_step m s e run t other) h))
 ]
   where
     by : e.0 ≡ t → ((n : ℕ) → ((after m s e).objects o).inside t ≡ Some Reading → ((after m s e).objects o).version ≡ v
-        → IsNext (log m (after m s e) run t) n o w l → LeavesAndComesBack m (after m s e) run t n o v w)
-        → NextBy (label m s e) (log m (after m s e) run t) j o w l → LeavesAndComesBack m s (e ∷ run) t j o v w
+        → IsNextWrite (log m (after m s e) run t) n o w l → LeavesAndComesBack m (after m s e) run t n o v w)
+        → NextWriteCases (label m s e) (log m (after m s e) run t) j o w l → LeavesAndComesBack m s (e ∷ run) t j o v w
     by own again (Here k is) =
-        let own_entry = entering (act m s e) (s.objects (target (act m s e))) o Writing w l k in
+        let own_entry = act_emitting_entry_is_entering (act m s e) (s.objects (target (act m s e))) o Writing w l k in
         absurd (none-some Reading (sym (subst (λ z. (s.objects o).inside z ≡ None) own
-        (entry_inside m law s good e o Writing own_entry.answer own_entry.does)) ∙ reads))
-    by own again (There n is none next) = elim (own_step m s e t o own none) [
-      | inl same ↦ leaves_own m s e run t j n o v w own is (again n (same.1 ∙ reads) (same.0 ∙ version) next)
-      | inr exit ↦ let held = subst (λ z. (s.objects o).inside z ≡ Some exit.0) own (exit_inside m law s good e o exit.0 exit.1) in
+        (entering_thread_is_not_inside m law s good e o Writing own_entry.answer own_entry.does)) ∙ reads))
+    by own again (There n is none next) = elim (own_step_keeps_object_or_exits m s e t o own none) [
+      | inl same ↦ leaves_and_comes_after_own_step m s e run t j n o v w own is (again n (same.1 ∙ reads) (same.0 ∙ version) next)
+      | inr exit ↦ let held = subst (λ z. (s.objects o).inside z ≡ Some exit.0) own (exiting_thread_is_inside m law s good e o exit.0 exit.1) in
           let access : exit.0 ≡ Reading = same_Some exit.0 Reading (sym held ∙ reads) in
           let does : act m s e ≡ Exit o Reading = exit.1 ∙ ap (Exit o) access in
-          let quiet : one_logged (label m s e) ≡ 0 = ap (λ q. one_logged (emitted q (s.objects (target q)))) does in
-          leaves_here m law s good e ok.0 run ok.1 t j o v w l own does version
-          (subst (λ z. IsNext (log m (after m s e) run t) z o w l) (let same : n ≡ j = omega (arith, is, quiet) in same) next)
+          let quiet : logged_count (label m s e) ≡ 0 = ap (λ q. logged_count (emitted q (s.objects (target q)))) does in
+          leaves_and_comes_at_exit m law s good e ok.0 run ok.1 t j o v w l own does version
+          (subst (λ z. IsNextWrite (log m (after m s e) run t) z o w l) (let same : n ≡ j = omega (arith, is, quiet) in same) next)
     ]
 
 -- ---- the thread reads, leaves, and comes back
 
 -- labels i and j of these are a read of object o at version v, and the next entry of it, for writing at version w
-record IsPair (ks : List Label) (i j o v w l : ℕ) : Type 0 where
+record IsReadWritePair (ks : List Label) (i j o v w l : ℕ) : Type 0 where
   pub read : At ks i (In o Reading v 0)
   pub write : At ks j (In o Writing w l)
   pub later : i < j
   pub first : (k : ℕ) (x : Label) → i < k → k < j → At ks k x → Enters o x → ⊥
 
 -- the first label is the read, or what is left has both
-data PairBy (k : Label) (ks : List Label) (i j o v w l : ℕ) : Type 0 where
-  Read : k ≡ In o Reading v 0 → i ≡ 0 → (n : ℕ) → j ≡ 1 + n → IsNext ks n o w l → PairBy k ks i j o v w l
-  Later : (m n : ℕ) → i ≡ one_logged k + m → j ≡ one_logged k + n → IsPair ks m n o v w l → PairBy k ks i j o v w l
+data PairCases (k : Label) (ks : List Label) (i j o v w l : ℕ) : Type 0 where
+  Read : k ≡ In o Reading v 0 → i ≡ 0 → (n : ℕ) → j ≡ 1 + n → IsNextWrite ks n o w l → PairCases k ks i j o v w l
+  Later : (m n : ℕ) → i ≡ logged_count k + m → j ≡ logged_count k + n → IsReadWritePair ks m n o v w l → PairCases k ks i j o v w l
 
-pair_logged : (k : Label) (ks : List Label) (i j o v w l : ℕ) → one_logged k ≡ 1 → IsPair (k ∷ ks) i j o v w l → PairBy k ks i j o v w l
-pair_logged k ks i zero o v w l one h = absurd (let less = h.later in omega (arith, less))
-pair_logged k ks zero (suc n) o v w l one h = Read h.read refl n (let same : suc n ≡ 1 + n = omega arith in same)
+pair_cases_for_logged_label : (k : Label) (ks : List Label) (i j o v w l : ℕ) → logged_count k ≡ 1 → IsReadWritePair (k ∷ ks) i j o v w l → PairCases k ks i j o v w l
+pair_cases_for_logged_label k ks i zero o v w l one h = absurd (let less = h.later in omega (arith, less))
+pair_cases_for_logged_label k ks zero (suc n) o v w l one h = Read h.read refl n (let same : suc n ≡ 1 + n = omega arith in same)
     (record { at = h.write; first = λ m x less is. h.first (suc m) x (omega arith) (omega (arith, less)) is })
-pair_logged k ks (suc m) (suc n) o v w l one h = Later m n (omega (arith, one)) (omega (arith, one)) (record {
+pair_cases_for_logged_label k ks (suc m) (suc n) o v w l one h = Later m n (omega (arith, one)) (omega (arith, one)) (record {
   read = h.read;
   write = h.write;
   later = (let less = h.later in omega (arith, less));
   first = λ d x from to is. h.first (suc d) x (omega (arith, from)) (omega (arith, to)) is;
 })
 
-pair_by : (k : Label) (ks : List Label) (i j o v w l : ℕ) → IsPair (logged k ks) i j o v w l → PairBy k ks i j o v w l
-pair_by Quiet ks i j o v w l h = Later i j (let same : i ≡ 0 + i = omega arith in same) (let same : j ≡ 0 + j = omega arith in same) h
-pair_by (Answer c x) ks i j o v w l h = pair_logged (Answer c x) ks i j o v w l refl h
-pair_by (In p a u r) ks i j o v w l h = pair_logged (In p a u r) ks i j o v w l refl h
-pair_by (Refused p) ks i j o v w l h = pair_logged (Refused p) ks i j o v w l refl h
-pair_by (Out p a u) ks i j o v w l h = Later i j (let same : i ≡ 0 + i = omega arith in same) (let same : j ≡ 0 + j = omega arith in same) h
+pair_cases : (k : Label) (ks : List Label) (i j o v w l : ℕ) → IsReadWritePair (logged k ks) i j o v w l → PairCases k ks i j o v w l
+pair_cases Quiet ks i j o v w l h = Later i j (let same : i ≡ 0 + i = omega arith in same) (let same : j ≡ 0 + j = omega arith in same) h
+pair_cases (Answer c x) ks i j o v w l h = pair_cases_for_logged_label (Answer c x) ks i j o v w l refl h
+pair_cases (In p a u r) ks i j o v w l h = pair_cases_for_logged_label (In p a u r) ks i j o v w l refl h
+pair_cases (Refused p) ks i j o v w l h = pair_cases_for_logged_label (Refused p) ks i j o v w l refl h
+pair_cases (Out p a u) ks i j o v w l h = Later i j (let same : i ≡ 0 + i = omega arith in same) (let same : j ≡ 0 + j = omega arith in same) h
 
-reads_own : {T : Type 0} (m : Machine T) (s : State T) (e : Step) (run : List Step) (t i j a b o v w : ℕ) → e.0 ≡ t
-    → i ≡ one_logged (label m s e) + a → j ≡ one_logged (label m s e) + b → ReadsAndComesBack m (after m s e) run t a b o v w
+reads_and_comes_after_own_step : {T : Type 0} (m : Machine T) (s : State T) (e : Step) (run : List Step) (t i j a b o v w : ℕ) → e.0 ≡ t
+    → i ≡ logged_count (label m s e) + a → j ≡ logged_count (label m s e) + b → ReadsAndComesBack m (after m s e) run t a b o v w
     → ReadsAndComesBack m s (e ∷ run) t i j o v w
-reads_own m s e run t i j a b o v w own first second c = record {
+reads_and_comes_after_own_step m s e run t i j a b o v w own first second c = record {
   before = e ∷ c.before;
   read = c.read;
   after_read = c.after_read;
   split = ap (λ (z : List Step). e ∷ z) c.split;
   own = c.own;
   reads = c.reads;
-  number = (let long = ap length (log_own m s e c.before t own) ∙ logged_more (label m s e) (log m (after m s e) c.before t) in
+  number = (let long = ap length (log_of_own_step m s e c.before t own) ∙ length_of_logged (label m s e) (log m (after m s e) c.before t) in
       let rest = c.number in omega (arith, long, rest, first));
   later = c.later;
   place = (let rest = c.place in omega (arith, rest, first, second));
   comes = c.comes;
 }
 
-reads_other : {T : Type 0} (m : Machine T) (s : State T) (e : Step) (run : List Step) (t i j o v w : ℕ) → (e.0 ≡ t → ⊥)
+reads_and_comes_after_other_step : {T : Type 0} (m : Machine T) (s : State T) (e : Step) (run : List Step) (t i j o v w : ℕ) → (e.0 ≡ t → ⊥)
     → ReadsAndComesBack m (after m s e) run t i j o v w → ReadsAndComesBack m s (e ∷ run) t i j o v w
-reads_other m s e run t i j o v w other c = record {
+reads_and_comes_after_other_step m s e run t i j o v w other c = record {
   before = e ∷ c.before;
   read = c.read;
   after_read = c.after_read;
   split = ap (λ (z : List Step). e ∷ z) c.split;
   own = c.own;
   reads = c.reads;
-  number = (let long = ap length (log_other m s e c.before t other) in let rest = c.number in omega (arith, long, rest));
+  number = (let long = ap length (log_of_other_step m s e c.before t other) in let rest = c.number in omega (arith, long, rest));
   later = c.later;
   place = c.place;
   comes = c.comes;
 }
 
 -- the reader enters
-reads_here : {T : Type 0} (m : Machine T) → IsLawful m → (s : State T) → Good m s → (e : Step) → Can m s e → (run : List Step)
+reads_and_comes_at_entry : {T : Type 0} (m : Machine T) → IsLawful m → (s : State T) → StateInvariant m s → (e : Step) → Can m s e → (run : List Step)
     → IsRun m (after m s e) run → (t n o v w l : ℕ) → e.0 ≡ t → label m s e ≡ In o Reading v 0
-    → IsNext (log m (after m s e) run t) n o w l → (i j : ℕ) → i ≡ 0 → j ≡ 1 + n → ReadsAndComesBack m s (e ∷ run) t i j o v w
-reads_here m law s good e can run ok t n o v w l own reads next i j first second = record {
+    → IsNextWrite (log m (after m s e) run t) n o w l → (i j : ℕ) → i ≡ 0 → j ≡ 1 + n → ReadsAndComesBack m s (e ∷ run) t i j o v w
+reads_and_comes_at_entry m law s good e can run ok t n o v w l own reads next i j first second = record {
   before = [];
   read = e;
   after_read = run;
@@ -485,59 +485,59 @@ reads_here m law s good e can run ok t n o v w l own reads next i j first second
   number = sym first;
   later = n;
   place = omega (arith, first, second);
-  comes = leave_and_come m law (after m s e) (stays_good m law s good e can) run ok t n o v w l inside version next;
+  comes = inside_reader_leaves_and_comes_back m law (after m s e) (state_invariant_after_step m law s good e can) run ok t n o v w l inside version next;
 }
   where
     entry : IsEntering (act m s e) (s.objects (target (act m s e))) o Reading v
-    entry = entering (act m s e) (s.objects (target (act m s e))) o Reading v 0 reads
+    entry = act_emitting_entry_is_entering (act m s e) (s.objects (target (act m s e))) o Reading v 0 reads
 
     object : (after m s e).objects o ≡ acted (Entry o Reading entry.answer) e.0 (s.objects o)
-    object = subst (λ q. (after m s e).objects (target q) ≡ acted q e.0 (s.objects (target q))) entry.does (object_after m s e)
+    object = subst (λ q. (after m s e).objects (target q) ≡ acted q e.0 (s.objects (target q))) entry.does (target_object_after_step m s e)
 
     inside : ((after m s e).objects o).inside t ≡ Some Reading
     inside = ap (λ z. z.inside t) object
-        ∙ subst (λ z. upd (s.objects o).inside e.0 (Some Reading) z ≡ Some Reading) own (upd_same (s.objects o).inside e.0 (Some Reading))
+        ∙ subst (λ z. upd (s.objects o).inside e.0 (Some Reading) z ≡ Some Reading) own (upd_at_own_place (s.objects o).inside e.0 (Some Reading))
 
     version : ((after m s e).objects o).version ≡ v
     version = ap (λ z. z.version) object ∙ ap (λ z. (s.objects (target z)).version) (sym entry.does) ∙ entry.version
 
-read_and_come : {T : Type 0} (m : Machine T) → IsLawful m → (s : State T) → Good m s → (run : List Step) → IsRun m s run
-    → (t i j o v w l : ℕ) → IsPair (log m s run t) i j o v w l → ReadsAndComesBack m s run t i j o v w
-read_and_come m law s good [] ok t i j o v w l h = absurd h.read
-read_and_come m law s good (e ∷ run) ok t i j o v w l h = elim (cases_eq e.0 t) [
-  | inl own ↦ by own (λ a b pair. read_and_come m law (after m s e) (stays_good m law s good e ok.0) run ok.1 t a b o v w l pair)
-      (pair_by (label m s e) (log m (after m s e) run t) i j o v w l
-      (subst (λ (ks : List Label). IsPair ks i j o v w l) (log_own m s e run t own) h))
-  | inr other ↦ reads_other m s e run t i j o v w other
-      (read_and_come m law (after m s e) (stays_good m law s good e ok.0) run ok.1 t i j o v w l
-      (subst (λ (ks : List Label). IsPair ks i j o v w l) (log_other m s e run t other) h))
+reader_reads_and_comes_back : {T : Type 0} (m : Machine T) → IsLawful m → (s : State T) → StateInvariant m s → (run : List Step) → IsRun m s run
+    → (t i j o v w l : ℕ) → IsReadWritePair (log m s run t) i j o v w l → ReadsAndComesBack m s run t i j o v w
+reader_reads_and_comes_back m law s good [] ok t i j o v w l h = absurd h.read
+reader_reads_and_comes_back m law s good (e ∷ run) ok t i j o v w l h = elim (cases_eq e.0 t) [
+  | inl own ↦ by own (λ a b pair. reader_reads_and_comes_back m law (after m s e) (state_invariant_after_step m law s good e ok.0) run ok.1 t a b o v w l pair)
+      (pair_cases (label m s e) (log m (after m s e) run t) i j o v w l
+      (subst (λ (ks : List Label). IsReadWritePair ks i j o v w l) (log_of_own_step m s e run t own) h))
+  | inr other ↦ reads_and_comes_after_other_step m s e run t i j o v w other
+      (reader_reads_and_comes_back m law (after m s e) (state_invariant_after_step m law s good e ok.0) run ok.1 t i j o v w l
+      (subst (λ (ks : List Label). IsReadWritePair ks i j o v w l) (log_of_other_step m s e run t other) h))
 ]
   where
-    by : e.0 ≡ t → ((a b : ℕ) → IsPair (log m (after m s e) run t) a b o v w l → ReadsAndComesBack m (after m s e) run t a b o v w)
-        → PairBy (label m s e) (log m (after m s e) run t) i j o v w l → ReadsAndComesBack m s (e ∷ run) t i j o v w
-    by own again (Read k first n second next) = reads_here m law s good e ok.0 run ok.1 t n o v w l own k next i j first second
-    by own again (Later a b first second pair) = reads_own m s e run t i j a b o v w own first second (again a b pair)
+    by : e.0 ≡ t → ((a b : ℕ) → IsReadWritePair (log m (after m s e) run t) a b o v w l → ReadsAndComesBack m (after m s e) run t a b o v w)
+        → PairCases (label m s e) (log m (after m s e) run t) i j o v w l → ReadsAndComesBack m s (e ∷ run) t i j o v w
+    by own again (Read k first n second next) = reads_and_comes_at_entry m law s good e ok.0 run ok.1 t n o v w l own k next i j first second
+    by own again (Later a b first second pair) = reads_and_comes_after_own_step m s e run t i j a b o v w own first second (again a b pair)
 
 -- ---- the law
 
-enters_object : (o : ℕ) (e : Event) → Enters o (label_of e) → entered e ≡ Some o
-enters_object o (variant.Answer k x) h = absurd h
-enters_object o (variant.Read p v) h = ap Some h
-enters_object o (variant.Write p v l) h = ap Some h
-enters_object o (variant.Try p) h = absurd h
+entered_if_label_enters : (o : ℕ) (e : Event) → Enters o (label_of e) → entered e ≡ Some o
+entered_if_label_enters o (variant.Answer k x) h = absurd h
+entered_if_label_enters o (variant.Read p v) h = ap Some h
+entered_if_label_enters o (variant.Write p v l) h = ap Some h
+entered_if_label_enters o (variant.Try p) h = absurd h
 
-pair_of : (es : List Event) (i j o v w : ℕ) → (h : IsReturn es i j o v w) → IsPair (map label_of es) i j o v w h.readers
-pair_of es i j o v w h = record {
-  read = at_label es i (variant.Read o v) h.read;
-  write = at_label es j (variant.Write o w h.readers) h.write;
+return_is_read_write_pair : (es : List Event) (i j o v w : ℕ) → (h : IsReturn es i j o v w) → IsReadWritePair (map label_of es) i j o v w h.readers
+return_is_read_write_pair es i j o v w h = record {
+  read = at_of_mapped_label es i (variant.Read o v) h.read;
+  write = at_of_mapped_label es j (variant.Write o w h.readers) h.write;
   later = h.later;
-  first = λ k x from to at enters. let e = event_of es k x at in
-      h.next k e.0 from to e.1 (enters_object o e.0 (subst (Enters o) (sym e.2) enters));
+  first = λ k x from to at enters. let e = event_of_label_at es k x at in
+      h.next k e.0 from to e.1 (entered_if_label_enters o e.0 (subst (Enters o) (sym e.2) enters));
 }
 
-pub returns_counted : (code : List ℕ) (s : State thread.State) → IsStart (thread_machine code) s → (run : List Step)
+pub returns_counted : (code : List ℕ) (s : State thread.ThreadState) → IsStart (thread_machine code) s → (run : List Step)
     → IsRun (thread_machine code) s run → (t i j o v w : ℕ) (es : List Event) → log (thread_machine code) s run t ≡ map label_of es
     → IsReturn es i j o v w → ReadsAndComesBack (thread_machine code) s run t i j o v w
 returns_counted code s start run ok t i j o v w es logs h =
-    read_and_come (thread_machine code) (lawful code) s (start_good (thread_machine code) s start) run ok t i j o v w h.readers
-    (subst (λ (ks : List Label). IsPair ks i j o v w h.readers) (sym logs) (pair_of es i j o v w h))
+    reader_reads_and_comes_back (thread_machine code) (thread_machine_is_lawful code) s (state_invariant_at_start (thread_machine code) s start) run ok t i j o v w h.readers
+    (subst (λ (ks : List Label). IsReadWritePair ks i j o v w h.readers) (sym logs) (return_is_read_write_pair es i j o v w h))

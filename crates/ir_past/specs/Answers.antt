@@ -4,7 +4,7 @@ use Rattle.std.specs.Io.KnownBytes.{Appends}
 use Rattle.ir_stream.specs.Answers.{AppendsPrefix}
 use Rattle.ir_runs.specs.Coherent.{IsCoherent}
 use Rattle.ir_trace.specs.Recorded.{Recorded, trace_of}
-use Rattle.ir_trace.specs.Reading.{number_of}
+use Rattle.ir_trace.specs.Reading.{trace_fault_number}
 use Rattle.ir_trace.specs.declared.trace_err.TraceErr.{TraceErr}
 use Rattle.ir_coherence.specs.Breaking.{IsFirstBreak, cause_number}
 use Rattle.ir_coherence.specs.declared.incoherence.Incoherence.{Incoherence}
@@ -26,7 +26,7 @@ AreCoherent r = IsCoherent (length r.threads) (trace_of r)
 abbrev pub IsRefusedFor : Result Recorded TraceErr → Refusal → Type 0
 IsRefusedFor (Ok r) (refusal.NoTrace fault) = ⊥
 IsRefusedFor (Ok r) (refusal.Incoherent x) = IsFirstBreak (length r.threads) (trace_of r) x.thread x.event x.cause
-IsRefusedFor (Err e) (refusal.NoTrace fault) = number_of e ≡ Some fault
+IsRefusedFor (Err e) (refusal.NoTrace fault) = trace_fault_number e ≡ Some fault
 IsRefusedFor (Err e) (refusal.Incoherent x) = ⊥
 
 -- what bytes are

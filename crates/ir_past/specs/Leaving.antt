@@ -17,6 +17,6 @@ pub record LeavesFirst {T : Type 0} (m : Machine T) (s : State T) (run : List St
 
 -- the law: in each complete run of threads of any code, what a thread enters it leaves, at the version that it found
 abbrev pub EntriesLeft : Type 0
-EntriesLeft = (code : List ℕ) (s : State thread.State) → IsStart (thread_machine code) s → (run : List Step)
+EntriesLeft = (code : List ℕ) (s : State thread.ThreadState) → IsStart (thread_machine code) s → (run : List Step)
     → IsComplete (thread_machine code) s run → (t j o : ℕ) (a : Access) (v l : ℕ) → Emits (thread_machine code) s run t j (In o a v l)
     → LeavesFirst (thread_machine code) s run t j o a v

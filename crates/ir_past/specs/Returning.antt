@@ -76,6 +76,6 @@ pub record IsReturn (es : List Event) (i j o v w : ℕ) : Type 0 where
 -- the law: in each run of threads of any code, in which thread t has this log, it leaves o after the read and comes back, and between others leave o after writing as often
 -- as its version grew, so w - v times. So the two are a stale read and write exactly where some other did
 abbrev pub ReturnsCounted : Type 0
-ReturnsCounted = (code : List ℕ) (s : State thread.State) → IsStart (thread_machine code) s → (run : List Step) → IsRun (thread_machine code) s run
+ReturnsCounted = (code : List ℕ) (s : State thread.ThreadState) → IsStart (thread_machine code) s → (run : List Step) → IsRun (thread_machine code) s run
     → (t i j o v w : ℕ) (es : List Event) → log (thread_machine code) s run t ≡ map label_of es → IsReturn es i j o v w
     → ReadsAndComesBack (thread_machine code) s run t i j o v w

@@ -11,7 +11,7 @@ use ir_log::Event;
 use ir_trace::Trace;
 
 /// How many threads there are.
-#[tactic(auto, using(ir_trace::proofs::CallerLemmas::most_recorded_threads))]
+#[tactic(auto, using(ir_trace::proofs::CallerLemmas::recorded_threads_at_most_limit))]
 pub fn thread_count(trace: &Trace) -> u8
     ensures { result ≡ length trace.now.threads }
 {
@@ -31,7 +31,7 @@ pub fn events_of(trace: &Trace, thread: u8) -> &[Event]
 }
 
 /// An event, by its thread and its place in the thread's log.
-#[tactic(auto, using(crate::proofs::Open::at_place))]
+#[tactic(auto, using(crate::proofs::Open::slice_get_from_get_or))]
 pub fn event_of(trace: &Trace, here: Place) -> Event
     requires thread { here.thread < length trace.now.threads }
     requires event { here.event < length (recorded_thread trace.now here.thread).events }

@@ -73,7 +73,7 @@ fn add_event(
 }
 
 // Adds the rows of a thread.
-#[tactic(auto, using(crate::proofs::Open::none_open))]
+#[tactic(auto, using(crate::proofs::Open::holds_open_at_start))]
 fn add_thread(
     alloc: Global,
     rows: &mut Vec<StaleWrite>,
@@ -100,7 +100,7 @@ fn add_thread(
 ///
 /// # Errors
 /// Out of memory.
-#[tactic(auto, using(crate::proofs::Rows::no_rows))]
+#[tactic(auto, using(crate::proofs::Rows::has_rows_at_start))]
 pub fn stale_writes(alloc: Global, trace: &Trace) -> Result<Vec<StaleWrite>, AllocError>
     requires { IsCoherent (length trace.now.threads) (trace_of trace.now) }
     ensures { IfOk result (λ rows. AreStaleWrites trace.now rows.items) }

@@ -10,31 +10,31 @@ use Rattle.ir_coherence.specs.Breaking.{IsBefore}
 use Rattle.ir_picture.specs.Boxes.{AreFolded, IsInBox, HasBox, IsBox, AreBoxes}
 use Rattle.ir_picture.specs.Boxing.{IsFold, EndsBy, HasLast, BoxedBefore}
 use Rattle.ir_picture.specs.declared.event_box.EventBox.{EventBox}
-use Rattle.ir_picture.proofs.Lists.{set_here, set_other, set_cases, set_length, push_cases, push_old, push_new}
+use Rattle.ir_picture.proofs.Lists.{slice_get_after_set, slice_get_after_set_elsewhere, slice_get_after_set_cases, length_of_slice_set, slice_get_after_push_cases, slice_get_after_push_earlier, slice_get_of_pushed}
 
-suc_more : (n : ℕ) → suc n ≡ n + 1
-suc_more n = omega arith
+suc_is_plus_one : (n : ℕ) → suc n ≡ n + 1
+suc_is_plus_one n = omega arith
 
-before_cases : (u j t n : ℕ) → IsBefore u j t (n + 1) → IsBefore u j t n ⊎ ((u ≡ t) × (j ≡ n))
-before_cases u j t n (inl less) = inl (inl less)
-before_cases u j t n (inr here) = elim (cases_lt j n) [
+before_next_event_cases : (u j t n : ℕ) → IsBefore u j t (n + 1) → IsBefore u j t n ⊎ ((u ≡ t) × (j ≡ n))
+before_next_event_cases u j t n (inl less) = inl (inl less)
+before_next_event_cases u j t n (inr here) = elim (cases_lt j n) [
   | inl less ↦ inl (inr (here.0, less))
   | inr not ↦ inr (here.0, omega (arith, here.1, not))
 ]
 
-ends_step : (b : EventBox) (t n : ℕ) → EndsBy b t n → EndsBy b t (n + 1)
-ends_step b t n (inl less) = inl less
-ends_step b t n (inr here) = inr (here.0, omega (arith, here.1))
+ends_by_next_event : (b : EventBox) (t n : ℕ) → EndsBy b t n → EndsBy b t (n + 1)
+ends_by_next_event b t n (inl less) = inl less
+ends_by_next_event b t n (inr here) = inr (here.0, omega (arith, here.1))
 
-none_before : (u j : ℕ) → IsBefore u j 0 0 → ⊥
-none_before u j (inl less) = omega (arith, less)
-none_before u j (inr here) = omega (arith, here.1)
+nothing_before_first_event : (u j : ℕ) → IsBefore u j 0 0 → ⊥
+nothing_before_first_event u j (inl less) = omega (arith, less)
+nothing_before_first_event u j (inr here) = omega (arith, here.1)
 
-pub boxed_none : (r : Recorded) → BoxedBefore r 0 0 []
-boxed_none r = record {
+pub boxed_before_first_event : (r : Recorded) → BoxedBefore r 0 0 []
+boxed_before_first_event r = record {
   each = λ k b is. absurd (none-some b is);
   before = λ k b is. absurd (none-some b is);
-  all = λ u i within b. absurd (none_before u i b);
+  all = λ u i within b. absurd (nothing_before_first_event u i b);
   apart = λ k m a b less is other. absurd (none-some a is);
   joined = λ k u i b is. absurd (none-some b is);
   last = tt;
@@ -42,11 +42,11 @@ boxed_none r = record {
 }
 
 -- an event that is in a box of its own
-pub boxed_more : (r : Recorded) (t n : ℕ) (boxes : List EventBox) (new : EventBox) → new.thread ≡ t → new.event ≡ n → new.count ≡ 1 → t < length r.threads
+pub boxed_before_step_for_new_box : (r : Recorded) (t n : ℕ) (boxes : List EventBox) (new : EventBox) → new.thread ≡ t → new.event ≡ n → new.count ≡ 1 → t < length r.threads
     → n < length (recorded_thread r t).events → IsFold (recorded_thread r t).events n false → BoxedBefore r t n boxes
     → BoxedBefore r t (n + 1) (boxes ++ new ∷ [])
-boxed_more r t n boxes new thread event count there within fold h = record {
-  each = λ k b is. elim (push_cases boxes new b k is) [
+boxed_before_step_for_new_box r t n boxes new thread event count there within fold h = record {
+  each = λ k b is. elim (slice_get_after_push_cases boxes new b k is) [
     | inl old ↦ h.each k b old
     | inr now ↦ subst (IsBox r) now.1 (record {
       thread = omega (arith, thread, there);
@@ -55,16 +55,16 @@ boxed_more r t n boxes new thread event count there within fold h = record {
       folds = λ i from below. absurd (omega (arith, from, below, event, count));
     })
   ];
-  before = λ k b is. elim (push_cases boxes new b k is) [
-    | inl old ↦ ends_step b t n (h.before k b old)
+  before = λ k b is. elim (slice_get_after_push_cases boxes new b k is) [
+    | inl old ↦ ends_by_next_event b t n (h.before k b old)
     | inr now ↦ subst (λ (x : EventBox). EndsBy x t (n + 1)) now.1 (inr (thread, omega (arith, event, count)))
   ];
-  all = λ u i inside b. elim (before_cases u i t n b) [
+  all = λ u i inside b. elim (before_next_event_cases u i t n b) [
     | inl less ↦ has_more u i (h.all u i inside less)
     | inr here ↦ record {
       number = length boxes;
       box = new;
-      there = push_new boxes new;
+      there = slice_get_of_pushed boxes new;
       has = record {
         thread = omega (arith, thread, here.0);
         from = omega (arith, event, here.1);
@@ -72,19 +72,19 @@ boxed_more r t n boxes new thread event count there within fold h = record {
       };
     }
   ];
-  apart = λ k m a b less first second. elim (push_cases boxes new b m second) [
-    | inl old ↦ elim (push_cases boxes new a k first) [
+  apart = λ k m a b less first second. elim (slice_get_after_push_cases boxes new b m second) [
+    | inl old ↦ elim (slice_get_after_push_cases boxes new a k first) [
       | inl both ↦ h.apart k m a b less both old
       | inr now ↦ absurd (omega (arith, less, now.0, slice_get_within boxes m b old))
     ]
-    | inr now ↦ elim (push_cases boxes new a k first) [
+    | inr now ↦ elim (slice_get_after_push_cases boxes new a k first) [
       | inl old ↦ subst (λ (x : EventBox). EndsBy a x.thread x.event) now.1
           (subst (λ z. EndsBy a z new.event) (sym thread) (subst (EndsBy a t) (sym event) (h.before k a old)))
       | inr same ↦ absurd (omega (arith, less, same.0, now.0))
     ]
   ];
-  joined = λ k u i b is has folded b4. elim (push_cases boxes new b k is) [
-    | inl old ↦ elim (before_cases u (suc i) t n b4) [
+  joined = λ k u i b is has folded b4. elim (slice_get_after_push_cases boxes new b k is) [
+    | inl old ↦ elim (before_next_event_cases u (suc i) t n b4) [
       | inl less ↦ h.joined k u i b old has folded less
       | inr here ↦ absurd (fold i (sym here.1)
           (subst (λ z. AreFolded (recorded_thread r z).events i n) here.0 (subst (AreFolded (recorded_thread r u).events i) here.1 folded)))
@@ -94,26 +94,26 @@ boxed_more r t n boxes new thread event count there within fold h = record {
       | inr here ↦ omega (arith, here.1, has.from, event, ap (λ (x : EventBox). x.event) now.1)
     ])
   ];
-  last = subst (HasLast (boxes ++ new ∷ []) t) (suc_more n) last_new;
+  last = subst (HasLast (boxes ++ new ∷ []) t) (suc_is_plus_one n) last_new;
   few = omega (arith, h.few, length-append boxes (new ∷ []));
 }
   where
     has_more : (u i : ℕ) → HasBox boxes u i → HasBox (boxes ++ new ∷ []) u i
-    has_more u i has = record { number = has.number; box = has.box; there = push_old boxes new has.box has.number has.there; has = has.has }
+    has_more u i has = record { number = has.number; box = has.box; there = slice_get_after_push_earlier boxes new has.box has.number has.there; has = has.has }
 
     last_new : HasLast (boxes ++ new ∷ []) t (suc n)
     last_new = (
       length boxes,
       new,
       omega (arith, length-append boxes (new ∷ [])),
-      push_new boxes new,
+      slice_get_of_pushed boxes new,
       record { thread = thread; from = omega (arith, event); below = omega (arith, event, count) },
     )
 
 -- the last box, where an event is folded with the one before
-pub last_box : (r : Recorded) (t n : ℕ) (boxes : List EventBox) → IsFold (recorded_thread r t).events n true → BoxedBefore r t n boxes
+pub last_box_ends_at_folded_event : (r : Recorded) (t n : ℕ) (boxes : List EventBox) → IsFold (recorded_thread r t).events n true → BoxedBefore r t n boxes
     → (k : ℕ) × (b : EventBox) × (length boxes ≡ suc k) × (slice_get boxes k ≡ Some b) × (b.thread ≡ t) × (b.event + b.count ≡ n) × (1 ≤ b.count)
-last_box r t n boxes fold h =
+last_box_ends_at_folded_event r t n boxes fold h =
     let last : HasLast boxes t (suc fold.0) = subst (HasLast boxes t) fold.1 h.last in
     let has = last.4 in
     (last.0, last.1, last.2, last.3, has.thread, ends last.1 has (h.before last.0 last.1 last.3), (h.each last.0 last.1 last.3).some)
@@ -123,12 +123,12 @@ last_box r t n boxes fold h =
     ends b has (inr by) = omega (arith, by.1, has.below, fold.1)
 
 -- an event that joins the last box
-pub boxed_joined : (r : Recorded) (t n k : ℕ) (boxes : List EventBox) (b new : EventBox) → length boxes ≡ suc k → slice_get boxes k ≡ Some b
+pub boxed_before_step_for_joined_box : (r : Recorded) (t n k : ℕ) (boxes : List EventBox) (b new : EventBox) → length boxes ≡ suc k → slice_get boxes k ≡ Some b
     → b.thread ≡ t → b.event + b.count ≡ n → new.thread ≡ b.thread → new.event ≡ b.event → new.count ≡ b.count + 1
     → n < length (recorded_thread r t).events → IsFold (recorded_thread r t).events n true → BoxedBefore r t n boxes
     → BoxedBefore r t (n + 1) (slice_set boxes k new)
-boxed_joined r t n k boxes b new long at thread ends thread_new event_new count_new within fold h = record {
-  each = λ m a is. elim (set_cases boxes k m new a inside is) [
+boxed_before_step_for_joined_box r t n k boxes b new long at thread ends thread_new event_new count_new within fold h = record {
+  each = λ m a is. elim (slice_get_after_set_cases boxes k m new a inside is) [
     | inl now ↦ subst (IsBox r) now.1 (record {
       thread = omega (arith, thread_new, box.thread);
       some = omega (arith, count_new);
@@ -152,16 +152,16 @@ boxed_joined r t n k boxes b new long at thread ends thread_new event_new count_
     })
     | inr old ↦ h.each m a old.1
   ];
-  before = λ m a is. elim (set_cases boxes k m new a inside is) [
+  before = λ m a is. elim (slice_get_after_set_cases boxes k m new a inside is) [
     | inl now ↦ subst (λ (x : EventBox). EndsBy x t (n + 1)) now.1 (inr (thread_new ∙ thread, omega (arith, event_new, count_new, ends)))
-    | inr old ↦ ends_step a t n (h.before m a old.1)
+    | inr old ↦ ends_by_next_event a t n (h.before m a old.1)
   ];
-  all = λ u i there b4. elim (before_cases u i t n b4) [
+  all = λ u i there b4. elim (before_next_event_cases u i t n b4) [
     | inl less ↦ has_more u i (h.all u i there less)
     | inr here ↦ record {
       number = k;
       box = new;
-      there = set_here boxes k new inside;
+      there = slice_get_after_set boxes k new inside;
       has = record {
         thread = omega (arith, thread_new, thread, here.0);
         from = omega (arith, event_new, ends, here.1);
@@ -169,19 +169,19 @@ boxed_joined r t n k boxes b new long at thread ends thread_new event_new count_
       };
     }
   ];
-  apart = λ m p x y less first second. elim (set_cases boxes k p new y inside second) [
-    | inl now ↦ elim (set_cases boxes k m new x inside first) [
+  apart = λ m p x y less first second. elim (slice_get_after_set_cases boxes k p new y inside second) [
+    | inl now ↦ elim (slice_get_after_set_cases boxes k m new x inside first) [
       | inl same ↦ absurd (omega (arith, less, now.0, same.0))
       | inr old ↦ subst (λ (z : EventBox). EndsBy x z.thread z.event) now.1
           (subst (λ z. EndsBy x z new.event) (sym thread_new) (subst (EndsBy x b.thread) (sym event_new)
           (h.apart m k x b (omega (arith, less, now.0)) old.1 at)))
     ]
-    | inr other ↦ elim (set_cases boxes k m new x inside first) [
+    | inr other ↦ elim (slice_get_after_set_cases boxes k m new x inside first) [
       | inl same ↦ absurd (omega (arith, less, same.0, slice_get_within boxes p y other.1, long))
       | inr old ↦ h.apart m p x y less old.1 other.1
     ]
   ];
-  joined = λ m u i a is has folded b4. elim (set_cases boxes k m new a inside is) [
+  joined = λ m u i a is has folded b4. elim (slice_get_after_set_cases boxes k m new a inside is) [
     | inl now ↦ subst (λ (x : EventBox). IsInBox x u (suc i)) now.1 (elim b4 [
       | inl less ↦ absurd (omega (arith, less, has.thread, thread_new, thread, ap (λ (x : EventBox). x.thread) now.1))
       | inr here ↦ record {
@@ -190,7 +190,7 @@ boxed_joined r t n k boxes b new long at thread ends thread_new event_new count_
         below = omega (arith, here.1, event_new, count_new, ends);
       }
     ])
-    | inr old ↦ elim (before_cases u (suc i) t n b4) [
+    | inr old ↦ elim (before_next_event_cases u (suc i) t n b4) [
       | inl less ↦ h.joined m u i a old.1 has folded less
       | inr here ↦ absurd (elim (h.apart m k a b (omega (arith, old.0, slice_get_within boxes m a old.1, long)) old.1 at) [
         | inl less ↦ omega (arith, less, has.thread, here.0, thread)
@@ -198,8 +198,8 @@ boxed_joined r t n k boxes b new long at thread ends thread_new event_new count_
       ])
     ]
   ];
-  last = subst (HasLast (slice_set boxes k new) t) (suc_more n) last_new;
-  few = omega (arith, h.few, set_length boxes k new);
+  last = subst (HasLast (slice_set boxes k new) t) (suc_is_plus_one n) last_new;
+  few = omega (arith, h.few, length_of_slice_set boxes k new);
 }
   where
     inside : k < length boxes
@@ -215,29 +215,29 @@ boxed_joined r t n k boxes b new long at thread ends thread_new event_new count_
           record {
             number = k;
             box = new;
-            there = set_here boxes k new inside;
+            there = slice_get_after_set boxes k new inside;
             has = record {
               thread = omega (arith, thread_new, has.has.thread, ap (λ (x : EventBox). x.thread) same);
               from = omega (arith, event_new, has.has.from, ap (λ (x : EventBox). x.event) same);
               below = omega (arith, event_new, count_new, has.has.below, ap (λ (x : EventBox). x.event) same, ap (λ (x : EventBox). x.count) same);
             };
           }
-      | inr ne ↦ record { number = has.number; box = has.box; there = set_other boxes k has.number new ne ∙ has.there; has = has.has }
+      | inr ne ↦ record { number = has.number; box = has.box; there = slice_get_after_set_elsewhere boxes k has.number new ne ∙ has.there; has = has.has }
     ]
 
     last_new : HasLast (slice_set boxes k new) t (suc n)
     last_new = (
       k,
       new,
-      set_length boxes k new ∙ long,
-      set_here boxes k new inside,
+      length_of_slice_set boxes k new ∙ long,
+      slice_get_after_set boxes k new inside,
       record { thread = thread_new ∙ thread; from = omega (arith, event_new, ends); below = omega (arith, event_new, count_new, ends) },
     )
 
 -- all events of a thread
-pub boxed_thread : (r : Recorded) (t n : ℕ) (boxes : List EventBox) → length (recorded_thread r t).events ≤ n → n ≤ most_events → BoxedBefore r t n boxes
+pub boxed_before_next_thread : (r : Recorded) (t n : ℕ) (boxes : List EventBox) → length (recorded_thread r t).events ≤ n → n ≤ most_events → BoxedBefore r t n boxes
     → BoxedBefore r (t + 1) 0 boxes
-boxed_thread r t n boxes all most h = record {
+boxed_before_next_thread r t n boxes all most h = record {
   each = h.each;
   before = λ k b is. elim (h.before k b is) [
     | inl less ↦ inl (omega (arith, less))
@@ -267,8 +267,8 @@ boxed_thread r t n boxes all most h = record {
     ]
 
 -- all threads
-pub boxed_all : (r : Recorded) (n : ℕ) (boxes : List EventBox) → n ≡ length r.threads → BoxedBefore r n 0 boxes → AreBoxes r boxes
-boxed_all r n boxes all h = record {
+pub are_boxes_if_boxed_to_end : (r : Recorded) (n : ℕ) (boxes : List EventBox) → n ≡ length r.threads → BoxedBefore r n 0 boxes → AreBoxes r boxes
+are_boxes_if_boxed_to_end r n boxes all h = record {
   each = h.each;
   all = λ t i within. h.all t i within (inl (thread_there t i within));
   one = λ k m t i a b at_k at_m in_a in_b. elim (cases_lt k m) [
@@ -297,19 +297,19 @@ boxed_all r n boxes all h = record {
       | inr by ↦ omega (arith, by.1, in_a.below, in_b.from)
     ]
 
-pub boxes_few : (r : Recorded) (n : ℕ) (boxes : List EventBox) → n ≡ length r.threads → BoxedBefore r n 0 boxes
+pub box_count_within_limit : (r : Recorded) (n : ℕ) (boxes : List EventBox) → n ≡ length r.threads → BoxedBefore r n 0 boxes
     → length boxes ≤ length r.threads * most_events
-boxes_few r n boxes all h = subst (λ z. length boxes ≤ z * most_events) all (omega (arith, h.few))
+box_count_within_limit r n boxes all h = subst (λ z. length boxes ≤ z * most_events) all (omega (arith, h.few))
 
 -- the same by the length of the list
-pub joined_last : (r : Recorded) (t n long : ℕ) (boxes : List EventBox) (own : EventBox) → long ≡ length boxes → own ≡ get_or boxes (long - 1) own
+pub boxed_before_step_for_last_box : (r : Recorded) (t n long : ℕ) (boxes : List EventBox) (own : EventBox) → long ≡ length boxes → own ≡ get_or boxes (long - 1) own
     → n < length (recorded_thread r t).events → IsFold (recorded_thread r t).events n true → BoxedBefore r t n boxes
     → BoxedBefore r t (n + 1) (slice_set boxes (long - 1) (record { thread = own.thread; event = own.event; count = own.count + 1 }))
-joined_last r t n long boxes own all is within fold h =
-    let last = last_box r t n boxes fold h in
+boxed_before_step_for_last_box r t n long boxes own all is within fold h =
+    let last = last_box_ends_at_folded_event r t n boxes fold h in
     let place : last.0 ≡ long - 1 = omega (arith, all, last.2) in
     let at : slice_get boxes (long - 1) ≡ Some own = slice_get_read boxes long (long - 1) own all (omega (arith, all, last.2)) is in
     let same : last.1 ≡ own = same_Some last.1 own (sym last.3 ∙ subst (λ k. slice_get boxes k ≡ Some own) (sym place) at) in
-    boxed_joined r t n (long - 1) boxes own (record { thread = own.thread; event = own.event; count = own.count + 1 }) (omega (arith, all, last.2)) at
+    boxed_before_step_for_joined_box r t n (long - 1) boxes own (record { thread = own.thread; event = own.event; count = own.count + 1 }) (omega (arith, all, last.2)) at
     (ap (λ (x : EventBox). x.thread) (sym same) ∙ last.4)
     (omega (arith, last.5, ap (λ (x : EventBox). x.event) same, ap (λ (x : EventBox). x.count) same)) refl refl refl within fold h

@@ -19,39 +19,39 @@ use Rattle.ir_picture.specs.declared.placed_box.Point.{Point}
 use Rattle.ir_picture.specs.declared.placed_box.PlacedBox.{PlacedBox}
 use Rattle.ir_picture.specs.declared.table.Version.{Version}
 use Rattle.ir_picture.specs.declared.placing.Lane.{Lane}
-use Rattle.ir_picture.proofs.Lists.{map_get, map_back}
-use Rattle.ir_picture.proofs.Least.{least_same, after_none}
-use Rattle.ir_picture.proofs.Orders.{placed_within, full_order}
-use Rattle.ir_picture.proofs.Follows.{waiting_not}
-use Rattle.ir_picture.proofs.Cuts.{first_in, next_first, none_next}
-use Rattle.ir_picture.proofs.Known.{knows_none}
-use Rattle.ir_picture.proofs.Placed.{event_there}
-use Rattle.ir_picture.proofs.Room.{left_most, near_first}
-use Rattle.ir_picture.proofs.Next.{lane_at}
+use Rattle.ir_picture.proofs.Lists.{slice_get_of_map, slice_get_before_map}
+use Rattle.ir_picture.proofs.Least.{least_above_of_equal_sets, place_after_no_events}
+use Rattle.ir_picture.proofs.Orders.{placed_at_most_event_count, stuck_order_is_full}
+use Rattle.ir_picture.proofs.Follows.{cannot_follow_if_no_place_known}
+use Rattle.ir_picture.proofs.Cuts.{first_event_is_in_box, cut_box_begins_with_next_event, no_events_left_without_next_box}
+use Rattle.ir_picture.proofs.Known.{knows_at_start}
+use Rattle.ir_picture.proofs.Placed.{first_event_of_box_exists}
+use Rattle.ir_picture.proofs.Room.{left_of_at_most_product, near_first_point}
+use Rattle.ir_picture.proofs.Next.{element_below_length_exists}
 
 -- ---- the start
 
-pub starts : (r : Recorded) (boxes : List PlacedBox) (lanes : List Lane) (f : ℕ → ℕ → Version) → AreBoxes r (events_of_all boxes)
+pub being_placed_at_start : (r : Recorded) (boxes : List PlacedBox) (lanes : List Lane) (f : ℕ → ℕ → Version) → AreBoxes r (events_of_all boxes)
     → length lanes ≡ length r.threads
     → ((t : ℕ) (l : Lane) → slice_get lanes t ≡ Some l → (l.free ≡ first_point) × IsCut (events_of_all boxes) t 0 l.next)
     → ((o v : ℕ) → f o v ≡ unknown) → length boxes ≤ length r.threads * most_events → length r.threads ≤ 16 → AreBeingPlaced r boxes lanes f
-starts r boxes lanes f are same at none few threads = record {
+being_placed_at_start r boxes lanes f are same at none few threads = record {
   order = [];
   is = tt;
   boxes = are;
   threads = same;
   at = λ t l is. record {
     cut = (at t l is).1;
-    free = subst (IsAfter boxes (IsOf t 0)) (sym (at t l is).0) (after_none boxes (IsOf t 0) (λ u i own. omega (arith, own.1)));
+    free = subst (IsAfter boxes (IsOf t 0)) (sym (at t l is).0) (place_after_no_events boxes (IsOf t 0) (λ u i own. omega (arith, own.1)));
   };
   done = λ k b is less. absurd (omega (arith, less));
-  knows = knows_none r boxes f none;
+  knows = knows_at_start r boxes f none;
   top = top;
   room = record {
     small = omega (arith, left_small);
     first = omega arith;
-    lanes = λ t l is. subst (IsNear top (left_of boxes lanes)) (sym (at t l is).0) (near_first top (left_of boxes lanes) (omega arith));
-    left = λ o v. subst (λ (x : Version). IsNear top (left_of boxes lanes) x.left) (sym (none o v)) (near_first top (left_of boxes lanes) (omega arith));
+    lanes = λ t l is. subst (IsNear top (left_of boxes lanes)) (sym (at t l is).0) (near_first_point top (left_of boxes lanes) (omega arith));
+    left = λ o v. subst (λ (x : Version). IsNear top (left_of boxes lanes) x.left) (sym (none o v)) (near_first_point top (left_of boxes lanes) (omega arith));
     made = λ o v p is. absurd (none-some p (sym (ap (λ (x : Version). x.made) (none o v)) ∙ is));
   };
 }
@@ -67,26 +67,26 @@ starts r boxes lanes f are same at none few threads = record {
 
     left_small : left_of boxes lanes ≤ 16 * (16 * most_events)
     left_small = few_left (length lanes) (length boxes) (left_of boxes lanes) (omega (arith, same, threads))
-        (few_boxes (length r.threads) (length boxes) threads few) (left_most boxes lanes)
+        (few_boxes (length r.threads) (length boxes) threads few) (left_of_at_most_product boxes lanes)
 
 -- ---- the next box of a thread, if there is one
 
-pub find_next : (boxes : List PlacedBox) (k t : ℕ)
+pub next_box_of_thread_or_none : (boxes : List PlacedBox) (k t : ℕ)
     → ((b : PlacedBox) × (slice_get boxes k ≡ Some b) × (b.events.thread ≡ t)) ⊎ ((b : PlacedBox) → slice_get boxes k ≡ Some b → b.events.thread ≡ t → ⊥)
-find_next [] k t = inr (λ b is thread. none-some b is)
-find_next (x ∷ xs) zero t = elim (cases_eq x.events.thread t) [
+next_box_of_thread_or_none [] k t = inr (λ b is thread. none-some b is)
+next_box_of_thread_or_none (x ∷ xs) zero t = elim (cases_eq x.events.thread t) [
   | inl same ↦ inl (x, refl, same)
   | inr ne ↦ inr (λ b is thread. ne (ap (λ (y : PlacedBox). y.events.thread) (same_Some x b is) ∙ thread))
 ]
-find_next (x ∷ xs) (suc k) t = find_next xs k t
+next_box_of_thread_or_none (x ∷ xs) (suc k) t = next_box_of_thread_or_none xs k t
 
 -- a thread with no next box has all its events placed
-pub over_placed : (r : Recorded) (boxes : List PlacedBox) (lanes : List Lane) (f : ℕ → ℕ → Version) (h : AreBeingPlaced r boxes lanes f) (t : ℕ)
+pub events_placed_if_no_next_box : (r : Recorded) (boxes : List PlacedBox) (lanes : List Lane) (f : ℕ → ℕ → Version) (h : AreBeingPlaced r boxes lanes f) (t : ℕ)
     → ((l : Lane) (b : PlacedBox) → slice_get lanes t ≡ Some l → slice_get boxes l.next ≡ Some b → b.events.thread ≡ t → ⊥)
     → placed h.order t ≡ length (recorded_thread r t).events
-over_placed r boxes lanes f h t none = elim (cases_lt (placed h.order t) (length (recorded_thread r t).events)) [
+events_placed_if_no_next_box r boxes lanes f h t none = elim (cases_lt (placed h.order t) (length (recorded_thread r t).events)) [
   | inl less ↦ absurd (not_all less)
-  | inr not ↦ omega (arith, not, placed_within r h.order h.is t)
+  | inr not ↦ omega (arith, not, placed_at_most_event_count r h.order h.is t)
 ]
   where
     thread_there : (i : ℕ) → i < length (recorded_thread r t).events → t < length r.threads
@@ -97,77 +97,77 @@ over_placed r boxes lanes f h t none = elim (cases_lt (placed h.order t) (length
 
     not_all : placed h.order t < length (recorded_thread r t).events → ⊥
     not_all less =
-        let lane = lane_at lanes t (omega (arith, thread_there (placed h.order t) less, h.threads)) in
-        none_next r (events_of_all boxes) t (placed h.order t) lane.0.next h.boxes (h.at t lane.0 lane.1).cut
+        let lane = element_below_length_exists lanes t (omega (arith, thread_there (placed h.order t) less, h.threads)) in
+        no_events_left_without_next_box r (events_of_all boxes) t (placed h.order t) lane.0.next h.boxes (h.at t lane.0 lane.1).cut
         (λ a is thread.
-        let back = map_back (λ (x : PlacedBox). x.events) boxes lane.0.next a is in
+        let back = slice_get_before_map (λ (x : PlacedBox). x.events) boxes lane.0.next a is in
         none lane.0 back.0 lane.1 back.1 (ap (λ (x : EventBox). x.thread) back.2 ∙ thread)) less
 
 -- no thread can follow where each next box waits
-pub none_follows : (r : Recorded) (boxes : List PlacedBox) (lanes : List Lane) (f : ℕ → ℕ → Version) → AreCoherent r → (h : AreBeingPlaced r boxes lanes f)
+pub cannot_follow_if_boxes_wait : (r : Recorded) (boxes : List PlacedBox) (lanes : List Lane) (f : ℕ → ℕ → Version) → AreCoherent r → (h : AreBeingPlaced r boxes lanes f)
     → ((t : ℕ) (lane : Lane) (b : PlacedBox) (e : Event) → IsNext r boxes lanes t lane b e → after_needs f e ≡ None) → (t : ℕ)
     → CanFollow r (placed h.order) t → ⊥
-none_follows r boxes lanes f coherent h waits t follow = elim (cases_lt t (length lanes)) [
+cannot_follow_if_boxes_wait r boxes lanes f coherent h waits t follow = elim (cases_lt t (length lanes)) [
   | inl within ↦
-      let lane = lane_at lanes t within in
-      elim (find_next boxes lane.0.next t) [
+      let lane = element_below_length_exists lanes t within in
+      elim (next_box_of_thread_or_none boxes lane.0.next t) [
         | inl found ↦
-            let at = map_get (λ (x : PlacedBox). x.events) boxes lane.0.next found.0 found.1 in
-            let event = event_there r found.0.events (h.boxes.each lane.0.next found.0.events at) in
-            let here = next_first r (events_of_all boxes) t (placed h.order t) lane.0.next found.0.events h.boxes (h.at t lane.0 lane.1).cut at found.2 in
+            let at = slice_get_of_map (λ (x : PlacedBox). x.events) boxes lane.0.next found.0 found.1 in
+            let event = first_event_of_box_exists r found.0.events (h.boxes.each lane.0.next found.0.events at) in
+            let here = cut_box_begins_with_next_event r (events_of_all boxes) t (placed h.order t) lane.0.next found.0.events h.boxes (h.at t lane.0 lane.1).cut at found.2 in
             let there : event_at r t found.0.events.event ≡ Some event.0 = subst (λ z. event_at r z found.0.events.event ≡ Some event.0) found.2 event.1 in
-            waiting_not r boxes (placed h.order) f coherent h.knows t event.0 (subst (λ n. event_at r t n ≡ Some event.0) here there)
+            cannot_follow_if_no_place_known r boxes (placed h.order) f coherent h.knows t event.0 (subst (λ n. event_at r t n ≡ Some event.0) here there)
             (waits t lane.0 found.0 event.0 (record { at = lane.1; there = found.1; thread = found.2; first = there })) follow
         | inr none ↦
-            let over = over_placed r boxes lanes f h t (λ l b at there thread. none b
+            let over = events_placed_if_no_next_box r boxes lanes f h t (λ l b at there thread. none b
             (subst (λ (x : Lane). slice_get boxes x.next ≡ Some b) (same_Some l lane.0 (sym at ∙ lane.1)) there) thread) in
             omega (arith, over, follow.there)
       ]
   | inr past ↦
-      let over = over_placed r boxes lanes f h t (λ l b at there thread. omega (arith, past, slice_get_within lanes t l at)) in
+      let over = events_placed_if_no_next_box r boxes lanes f h t (λ l b at there thread. omega (arith, past, slice_get_within lanes t l at)) in
       omega (arith, over, follow.there)
 ]
 
 -- the lowest thread with a next box, where each next box waits
-pub circle_at : (r : Recorded) (boxes : List PlacedBox) (lanes : List Lane) (f : ℕ → ℕ → Version) → AreCoherent r → (h : AreBeingPlaced r boxes lanes f)
+pub circle_at_lowest_waiting_thread : (r : Recorded) (boxes : List PlacedBox) (lanes : List Lane) (f : ℕ → ℕ → Version) → AreCoherent r → (h : AreBeingPlaced r boxes lanes f)
     → ((t : ℕ) (lane : Lane) (b : PlacedBox) (e : Event) → IsNext r boxes lanes t lane b e → after_needs f e ≡ None) → (t : ℕ) (lane : Lane) (b : PlacedBox)
     → slice_get lanes t ≡ Some lane → slice_get boxes lane.next ≡ Some b → b.events.thread ≡ t
     → ((u : ℕ) → u < t → (l : Lane) (a : PlacedBox) → slice_get lanes u ≡ Some l → slice_get boxes l.next ≡ Some a → a.events.thread ≡ u → ⊥)
     → IsCircleAt r t b.events.event
-circle_at r boxes lanes f coherent h waits t lane b at there thread lowest = record {
+circle_at_lowest_waiting_thread r boxes lanes f coherent h waits t lane b at there thread lowest = record {
   order = h.order;
-  full = full_order r h.order h.is (none_follows r boxes lanes f coherent h waits);
+  full = stuck_order_is_full r h.order h.is (cannot_follow_if_boxes_wait r boxes lanes f coherent h waits);
   next = sym here;
   left = omega (arith, box.some, box.within, ap (λ z. length (recorded_thread r z).events) thread);
-  lowest = λ u less. over_placed r boxes lanes f h u (lowest u less);
+  lowest = λ u less. events_placed_if_no_next_box r boxes lanes f h u (lowest u less);
 }
   where
     at_events : slice_get (events_of_all boxes) lane.next ≡ Some b.events
-    at_events = map_get (λ (x : PlacedBox). x.events) boxes lane.next b there
+    at_events = slice_get_of_map (λ (x : PlacedBox). x.events) boxes lane.next b there
 
     here : b.events.event ≡ placed h.order t
-    here = next_first r (events_of_all boxes) t (placed h.order t) lane.next b.events h.boxes (h.at t lane at).cut at_events thread
+    here = cut_box_begins_with_next_event r (events_of_all boxes) t (placed h.order t) lane.next b.events h.boxes (h.at t lane at).cut at_events thread
 
     box : IsBox r b.events
     box = h.boxes.each lane.next b.events at_events
 
 -- ---- where no thread has a next box
 
-pub no_circle : (r : Recorded) (boxes : List PlacedBox) (lanes : List Lane) (f : ℕ → ℕ → Version) → AreBeingPlaced r boxes lanes f
+pub no_circle_if_no_next_box : (r : Recorded) (boxes : List PlacedBox) (lanes : List Lane) (f : ℕ → ℕ → Version) → AreBeingPlaced r boxes lanes f
     → ((t : ℕ) (l : Lane) (b : PlacedBox) → slice_get lanes t ≡ Some l → slice_get boxes l.next ≡ Some b → b.events.thread ≡ t → ⊥) → HasNoCircle r
-no_circle r boxes lanes f h over = (h.order, h.is, λ t. over_placed r boxes lanes f h t (over t))
+no_circle_if_no_next_box r boxes lanes f h over = (h.order, h.is, λ t. events_placed_if_no_next_box r boxes lanes f h t (over t))
 
-pub all_placed : (r : Recorded) (boxes : List PlacedBox) (lanes : List Lane) (f : ℕ → ℕ → Version) → AreBeingPlaced r boxes lanes f
+pub are_placed_if_no_next_box : (r : Recorded) (boxes : List PlacedBox) (lanes : List Lane) (f : ℕ → ℕ → Version) → AreBeingPlaced r boxes lanes f
     → ((t : ℕ) (l : Lane) (b : PlacedBox) → slice_get lanes t ≡ Some l → slice_get boxes l.next ≡ Some b → b.events.thread ≡ t → ⊥)
     → ArePlaced r boxes (map (λ (l : Lane). l.free) lanes)
-all_placed r boxes lanes f h over = record {
+are_placed_if_no_next_box r boxes lanes f h over = record {
   all = h.boxes;
   placed = λ k b is.
-      let box = h.boxes.each k b.events (map_get (λ (x : PlacedBox). x.events) boxes k b is) in
-      h.done k b is (omega (arith, box.some, box.within, over_placed r boxes lanes f h b.events.thread (over b.events.thread)));
+      let box = h.boxes.each k b.events (slice_get_of_map (λ (x : PlacedBox). x.events) boxes k b is) in
+      h.done k b is (omega (arith, box.some, box.within, events_placed_if_no_next_box r boxes lanes f h b.events.thread (over b.events.thread)));
   threads = length_same lanes ∙ h.threads;
   last = λ t p is.
-      let back = map_back (λ (l : Lane). l.free) lanes t p is in
+      let back = slice_get_before_map (λ (l : Lane). l.free) lanes t p is in
       subst (IsThreadEnd boxes t) back.2 (thread_end t back.0 back.1);
 }
   where
@@ -180,14 +180,14 @@ all_placed r boxes lanes f h over = record {
 
     of_thread : (number : Point → ℕ) (t z : ℕ) → EndsIn boxes number t z → EndsWhere boxes number (IsOf t (placed h.order t)) z
     of_thread number t z w =
-        let box = h.boxes.each w.at w.box.events (map_get (λ (x : PlacedBox). x.events) boxes w.at w.box w.there) in
+        let box = h.boxes.each w.at w.box.events (slice_get_of_map (λ (x : PlacedBox). x.events) boxes w.at w.box w.there) in
         record {
           at = w.at;
           box = w.box;
           event = w.box.events.event;
           there = w.there;
-          has = first_in r w.box.events box;
-          these = (w.thread, omega (arith, box.some, box.within, over_placed r boxes lanes f h t (over t), ap (λ x. length (recorded_thread r x).events) w.thread));
+          has = first_event_is_in_box r w.box.events box;
+          these = (w.thread, omega (arith, box.some, box.within, events_placed_if_no_next_box r boxes lanes f h t (over t), ap (λ x. length (recorded_thread r x).events) w.thread));
           ends = w.ends;
         }
 
@@ -195,12 +195,12 @@ all_placed r boxes lanes f h over = record {
     thread_end t l is =
         let free = (h.at t l is).free in
         record {
-          x = least_same 0 (EndsWhere boxes (λ q. q.x) (IsOf t (placed h.order t))) (EndsIn boxes (λ q. q.x) t) l.free.x
+          x = least_above_of_equal_sets 0 (EndsWhere boxes (λ q. q.x) (IsOf t (placed h.order t))) (EndsIn boxes (λ q. q.x) t) l.free.x
               (to_thread (λ q. q.x) t) (of_thread (λ q. q.x) t) free.x;
-          u = least_same 1 (EndsWhere boxes (λ q. q.u) (IsOf t (placed h.order t))) (EndsIn boxes (λ q. q.u) t) l.free.u
+          u = least_above_of_equal_sets 1 (EndsWhere boxes (λ q. q.u) (IsOf t (placed h.order t))) (EndsIn boxes (λ q. q.u) t) l.free.u
               (to_thread (λ q. q.u) t) (of_thread (λ q. q.u) t) free.u;
         }
 
-pub events_count_same : (boxes : List PlacedBox) → length (events_of_all boxes) ≡ length boxes
-events_count_same [] = refl
-events_count_same (b ∷ bs) = ap suc (events_count_same bs)
+pub length_of_events_of_all : (boxes : List PlacedBox) → length (events_of_all boxes) ≡ length boxes
+length_of_events_of_all [] = refl
+length_of_events_of_all (b ∷ bs) = ap suc (length_of_events_of_all bs)

@@ -4,24 +4,24 @@ use Rattle.std.specs.Prelude.{slice_get}
 use Rattle.std.proofs.lemmas.Bool.{cases_eq, cases_lt}
 use Rattle.std.proofs.lemmas.Option.{same_Some, none-some}
 use Rattle.ir_runs.specs.Coherent.{reads_one, reads, sum_below}
-use Rattle.ir_runs.proofs.CallerLemmas.{sum_less}
+use Rattle.ir_runs.proofs.CallerLemmas.{sum_below_less_if_one_less}
 use Rattle.ir_log.specs.Logging.{label_of}
 use Rattle.ir_log.specs.declared.event.Event.{Event}
 use Rattle.ir_log.specs.declared.event.Event.TheVariants.{Answer, Read, Write, Try}
 use Rattle.ir_thread.specs.Calls.{most_events}
 use Rattle.ir_trace.specs.Recorded.{Recorded, recorded_thread, trace_of}
 use Rattle.ir_trace.specs.Within.{IsRecorded}
-use Rattle.ir_coherence.proofs.CallerLemmas.{thread_fits}
+use Rattle.ir_coherence.proofs.CallerLemmas.{recorded_thread_at_number_is_recorded}
 use Rattle.ir_past.specs.Past.{event_at, IsReadAt}
-use Rattle.ir_past.proofs.CallerLemmas.{of_thread}
+use Rattle.ir_past.proofs.CallerLemmas.{event_is_of_existing_thread}
 use Rattle.ir_picture.specs.Placing.{placed_reads}
 
-pub one_read : (o v : ℕ) → reads_one o v (label_of (Read o v)) ≡ 1
-one_read o v = ap (λ b. cond b (cond (eqb v v) 1 0) 0) (eq-eqb o o refl) ∙ ap (λ b. cond b 1 0) (eq-eqb v v refl)
+pub reads_one_of_read : (o v : ℕ) → reads_one o v (label_of (Read o v)) ≡ 1
+reads_one_of_read o v = ap (λ b. cond b (cond (eqb v v) 1 0) 0) (eq-eqb o o refl) ∙ ap (λ b. cond b 1 0) (eq-eqb v v refl)
 
-pub no_read : (e : Event) (o v : ℕ) → (e ≡ Read o v → ⊥) → reads_one o v (label_of e) ≡ 0
-no_read (Answer kind value) o v ne = refl
-no_read (Read p w) o v ne = elim (cases_eq p o) [
+pub reads_one_of_other_event : (e : Event) (o v : ℕ) → (e ≡ Read o v → ⊥) → reads_one o v (label_of e) ≡ 0
+reads_one_of_other_event (Answer kind value) o v ne = refl
+reads_one_of_other_event (Read p w) o v ne = elim (cases_eq p o) [
   | inl object ↦ elim (cases_eq w v) [
     | inl version ↦ absurd (ne (λ i. Read (object i) (version i)))
     | inr other ↦ ap {B = ℕ} (λ b. cond (eqb p o) (cond b 1 0) 0) (ne_eqb w v other) ∙ none (eqb p o)
@@ -32,90 +32,90 @@ no_read (Read p w) o v ne = elim (cases_eq p o) [
     none : (b : Bool) → ◌≡◌ {A = ℕ} (cond b 0 0) 0
     none true = refl
     none false = refl
-no_read (Write p w l) o v ne = refl
-no_read (Try p) o v ne = refl
+reads_one_of_other_event (Write p w l) o v ne = refl
+reads_one_of_other_event (Try p) o v ne = refl
 
-pub few_reads : (o v : ℕ) (e : Event) → reads_one o v (label_of e) ≤ 1
-few_reads o v (Answer kind value) = omega arith
-few_reads o v (Read p w) = few (eqb p o) (eqb w v)
+pub reads_one_at_most_one : (o v : ℕ) (e : Event) → reads_one o v (label_of e) ≤ 1
+reads_one_at_most_one o v (Answer kind value) = omega arith
+reads_one_at_most_one o v (Read p w) = few (eqb p o) (eqb w v)
   where
     few : (a b : Bool) → cond {A = ℕ} a (cond b 1 0) 0 ≤ 1
     few true true = omega arith
     few true false = omega arith
     few false true = omega arith
     few false false = omega arith
-few_reads o v (Write p w l) = omega arith
-few_reads o v (Try p) = omega arith
+reads_one_at_most_one o v (Write p w l) = omega arith
+reads_one_at_most_one o v (Try p) = omega arith
 
 -- ---- one log
 
-pub reads_few : (o v n : ℕ) (es : List Event) → reads o v (map label_of (take n es)) ≤ length es
-reads_few o v zero es = omega arith
-reads_few o v (suc n) [] = omega arith
-reads_few o v (suc n) (e ∷ es) = omega (arith, few_reads o v e, reads_few o v n es)
+pub reads_of_prefix_at_most_length : (o v n : ℕ) (es : List Event) → reads o v (map label_of (take n es)) ≤ length es
+reads_of_prefix_at_most_length o v zero es = omega arith
+reads_of_prefix_at_most_length o v (suc n) [] = omega arith
+reads_of_prefix_at_most_length o v (suc n) (e ∷ es) = omega (arith, reads_one_at_most_one o v e, reads_of_prefix_at_most_length o v n es)
 
-pub reads_le : (o v n : ℕ) (es : List Event) → reads o v (map label_of (take n es)) ≤ reads o v (map label_of es)
-reads_le o v zero es = omega arith
-reads_le o v (suc n) [] = omega arith
-reads_le o v (suc n) (e ∷ es) = omega (arith, reads_le o v n es)
+pub reads_of_prefix_at_most_reads : (o v n : ℕ) (es : List Event) → reads o v (map label_of (take n es)) ≤ reads o v (map label_of es)
+reads_of_prefix_at_most_reads o v zero es = omega arith
+reads_of_prefix_at_most_reads o v (suc n) [] = omega arith
+reads_of_prefix_at_most_reads o v (suc n) (e ∷ es) = omega (arith, reads_of_prefix_at_most_reads o v n es)
 
-pub reads_step : (o v n : ℕ) (es : List Event) (e : Event) → slice_get es n ≡ Some e
+pub reads_of_prefix_step : (o v n : ℕ) (es : List Event) (e : Event) → slice_get es n ≡ Some e
     → reads o v (map label_of (take (suc n) es)) ≡ reads_one o v (label_of e) + reads o v (map label_of (take n es))
-reads_step o v n [] e is = absurd (none-some e is)
-reads_step o v zero (x ∷ es) e is = omega (arith, ap (λ (y : Event). reads_one o v (label_of y)) (same_Some x e is))
-reads_step o v (suc n) (x ∷ es) e is = omega (arith, reads_step o v n es e is)
+reads_of_prefix_step o v n [] e is = absurd (none-some e is)
+reads_of_prefix_step o v zero (x ∷ es) e is = omega (arith, ap (λ (y : Event). reads_one o v (label_of y)) (same_Some x e is))
+reads_of_prefix_step o v (suc n) (x ∷ es) e is = omega (arith, reads_of_prefix_step o v n es e is)
 
-read_counted : (o v j : ℕ) (es : List Event) → slice_get es j ≡ Some (Read o v) → 0 < reads o v (map label_of es)
-read_counted o v j [] is = absurd (none-some (Read o v) is)
-read_counted o v zero (x ∷ es) is = omega (arith, ap (λ (y : Event). reads_one o v (label_of y)) (same_Some x (Read o v) is), one_read o v)
-read_counted o v (suc j) (x ∷ es) is = omega (arith, read_counted o v j es is)
+reads_positive_if_read : (o v j : ℕ) (es : List Event) → slice_get es j ≡ Some (Read o v) → 0 < reads o v (map label_of es)
+reads_positive_if_read o v j [] is = absurd (none-some (Read o v) is)
+reads_positive_if_read o v zero (x ∷ es) is = omega (arith, ap (λ (y : Event). reads_one o v (label_of y)) (same_Some x (Read o v) is), reads_one_of_read o v)
+reads_positive_if_read o v (suc j) (x ∷ es) is = omega (arith, reads_positive_if_read o v j es is)
 
 -- all are counted where each is among the first n
-pub reads_whole : (o v n : ℕ) (es : List Event) → ((j : ℕ) → slice_get es j ≡ Some (Read o v) → j < n)
+pub reads_of_prefix_if_each_within : (o v n : ℕ) (es : List Event) → ((j : ℕ) → slice_get es j ≡ Some (Read o v) → j < n)
     → reads o v (map label_of (take n es)) ≡ reads o v (map label_of es)
-reads_whole o v zero [] all = refl
-reads_whole o v zero (e ∷ es) all =
+reads_of_prefix_if_each_within o v zero [] all = refl
+reads_of_prefix_if_each_within o v zero (e ∷ es) all =
     omega (
       arith,
-      no_read e o v (λ same. absurd (omega (arith, all 0 (ap Some same)))),
-      reads_whole o v zero es (λ j is. absurd (omega (arith, all (suc j) is))),
+      reads_one_of_other_event e o v (λ same. absurd (omega (arith, all 0 (ap Some same)))),
+      reads_of_prefix_if_each_within o v zero es (λ j is. absurd (omega (arith, all (suc j) is))),
       zero_reads es,
     )
   where
     zero_reads : (xs : List Event) → reads o v (map label_of (take 0 xs)) ≡ 0
     zero_reads xs = refl
-reads_whole o v (suc n) [] all = refl
-reads_whole o v (suc n) (e ∷ es) all = omega (arith, reads_whole o v n es (λ j is. omega (arith, all (suc j) is)))
+reads_of_prefix_if_each_within o v (suc n) [] all = refl
+reads_of_prefix_if_each_within o v (suc n) (e ∷ es) all = omega (arith, reads_of_prefix_if_each_within o v n es (λ j is. omega (arith, all (suc j) is)))
 
 -- each is among the first n where all are counted there
-pub reads_within : (o v n j : ℕ) (es : List Event) → reads o v (map label_of (take n es)) ≡ reads o v (map label_of es)
+pub read_within_prefix_if_counted : (o v n j : ℕ) (es : List Event) → reads o v (map label_of (take n es)) ≡ reads o v (map label_of es)
     → slice_get es j ≡ Some (Read o v) → j < n
-reads_within o v zero j es same is = absurd (omega (arith, same, read_counted o v j es is))
-reads_within o v (suc n) j [] same is = absurd (none-some (Read o v) is)
-reads_within o v (suc n) zero (e ∷ es) same is = omega arith
-reads_within o v (suc n) (suc j) (e ∷ es) same is = omega (arith, reads_within o v n j es (omega (arith, same)) is)
+read_within_prefix_if_counted o v zero j es same is = absurd (omega (arith, same, reads_positive_if_read o v j es is))
+read_within_prefix_if_counted o v (suc n) j [] same is = absurd (none-some (Read o v) is)
+read_within_prefix_if_counted o v (suc n) zero (e ∷ es) same is = omega arith
+read_within_prefix_if_counted o v (suc n) (suc j) (e ∷ es) same is = omega (arith, read_within_prefix_if_counted o v n j es (omega (arith, same)) is)
 
 -- ---- all logs
 
-pub sum_same : (n : ℕ) (f g : ℕ → ℕ) → ((t : ℕ) → t < n → f t ≡ g t) → sum_below n f ≡ sum_below n g
-sum_same zero f g h = refl
-sum_same (suc n) f g h = omega (arith, h n (omega arith), sum_same n f g (λ t l. h t (omega arith)))
+pub sum_below_of_equal_functions : (n : ℕ) (f g : ℕ → ℕ) → ((t : ℕ) → t < n → f t ≡ g t) → sum_below n f ≡ sum_below n g
+sum_below_of_equal_functions zero f g h = refl
+sum_below_of_equal_functions (suc n) f g h = omega (arith, h n (omega arith), sum_below_of_equal_functions n f g (λ t l. h t (omega arith)))
 
-sum_step : (n t k : ℕ) (f g : ℕ → ℕ) → t < n → g t ≡ k + f t → ((u : ℕ) → (u ≡ t → ⊥) → g u ≡ f u) → sum_below n g ≡ k + sum_below n f
-sum_step zero t k f g l h other = absurd (omega (arith, l))
-sum_step (suc n) t k f g l h other = elim (cases_eq n t) [
-  | inl e ↦ omega (arith, ap f e, ap g e, h, sum_same n g f (λ u less. other u (λ same. absurd (omega (arith, less, same, e)))))
-  | inr ne ↦ omega (arith, other n ne, sum_step n t k f g (omega (arith, l, ne)) h other)
+sum_below_with_term_raised : (n t k : ℕ) (f g : ℕ → ℕ) → t < n → g t ≡ k + f t → ((u : ℕ) → (u ≡ t → ⊥) → g u ≡ f u) → sum_below n g ≡ k + sum_below n f
+sum_below_with_term_raised zero t k f g l h other = absurd (omega (arith, l))
+sum_below_with_term_raised (suc n) t k f g l h other = elim (cases_eq n t) [
+  | inl e ↦ omega (arith, ap f e, ap g e, h, sum_below_of_equal_functions n g f (λ u less. other u (λ same. absurd (omega (arith, less, same, e)))))
+  | inr ne ↦ omega (arith, other n ne, sum_below_with_term_raised n t k f g (omega (arith, l, ne)) h other)
 ]
 
-sum_most : (n m : ℕ) (f : ℕ → ℕ) → ((t : ℕ) → t < n → f t ≤ m) → sum_below n f ≤ n * m
-sum_most zero m f h = omega arith
-sum_most (suc n) m f h = grind (arith, h n (omega arith), sum_most n m f (λ t l. h t (omega arith)))
+sum_below_at_most_product : (n m : ℕ) (f : ℕ → ℕ) → ((t : ℕ) → t < n → f t ≤ m) → sum_below n f ≤ n * m
+sum_below_at_most_product zero m f h = omega arith
+sum_below_at_most_product (suc n) m f h = grind (arith, h n (omega arith), sum_below_at_most_product n m f (λ t l. h t (omega arith)))
 
 -- the terms of equal sums, none of which falls, are equal
-sum_terms : (n u : ℕ) (f g : ℕ → ℕ) → ((t : ℕ) → f t ≤ g t) → sum_below n f ≡ sum_below n g → u < n → f u ≡ g u
-sum_terms n u f g le same l = elim (cases_lt (f u) (g u)) [
-  | inl less ↦ absurd (omega (arith, same, sum_less n u f g l less le))
+terms_equal_if_sums_equal : (n u : ℕ) (f g : ℕ → ℕ) → ((t : ℕ) → f t ≤ g t) → sum_below n f ≡ sum_below n g → u < n → f u ≡ g u
+terms_equal_if_sums_equal n u f g le same l = elim (cases_lt (f u) (g u)) [
+  | inl less ↦ absurd (omega (arith, same, sum_below_less_if_one_less n u f g l less le))
   | inr not ↦ omega (arith, not, le u)
 ]
 
@@ -123,29 +123,29 @@ sum_terms n u f g le same l = elim (cases_lt (f u) (g u)) [
 abbrev pub all_reads : Recorded → ℕ → ℕ → ℕ
 all_reads r o v = sum_below (length r.threads) (λ u. reads o v ((trace_of r).logs u))
 
-pub reads_placed : (r : Recorded) (c : ℕ → ℕ) (o v : ℕ) → ((u j : ℕ) → IsReadAt r u j o v → j < c u) → placed_reads r c o v ≡ all_reads r o v
-reads_placed r c o v all = sum_same (length r.threads) (λ u. reads o v (map label_of (take (c u) (recorded_thread r u).events)))
-    (λ u. reads o v ((trace_of r).logs u)) (λ u l. reads_whole o v (c u) (recorded_thread r u).events (all u))
+pub placed_reads_if_each_placed : (r : Recorded) (c : ℕ → ℕ) (o v : ℕ) → ((u j : ℕ) → IsReadAt r u j o v → j < c u) → placed_reads r c o v ≡ all_reads r o v
+placed_reads_if_each_placed r c o v all = sum_below_of_equal_functions (length r.threads) (λ u. reads o v (map label_of (take (c u) (recorded_thread r u).events)))
+    (λ u. reads o v ((trace_of r).logs u)) (λ u l. reads_of_prefix_if_each_within o v (c u) (recorded_thread r u).events (all u))
 
-pub placed_read : (r : Recorded) (c : ℕ → ℕ) (o v u j : ℕ) → placed_reads r c o v ≡ all_reads r o v → IsReadAt r u j o v → j < c u
-placed_read r c o v u j same is = reads_within o v (c u) j (recorded_thread r u).events
-    (sum_terms (length r.threads) u (λ x. reads o v (map label_of (take (c x) (recorded_thread r x).events))) (λ x. reads o v ((trace_of r).logs x))
-    (λ x. reads_le o v (c x) (recorded_thread r x).events) same (of_thread r u j (Read o v) is)) is
+pub read_placed_if_counted : (r : Recorded) (c : ℕ → ℕ) (o v u j : ℕ) → placed_reads r c o v ≡ all_reads r o v → IsReadAt r u j o v → j < c u
+read_placed_if_counted r c o v u j same is = read_within_prefix_if_counted o v (c u) j (recorded_thread r u).events
+    (terms_equal_if_sums_equal (length r.threads) u (λ x. reads o v (map label_of (take (c x) (recorded_thread r x).events))) (λ x. reads o v ((trace_of r).logs x))
+    (λ x. reads_of_prefix_at_most_reads o v (c x) (recorded_thread r x).events) same (event_is_of_existing_thread r u j (Read o v) is)) is
 
 pub placed_reads_step : (r : Recorded) (c d : ℕ → ℕ) (t o v : ℕ) (e : Event) → event_at r t (c t) ≡ Some e → d t ≡ suc (c t)
     → ((u : ℕ) → (u ≡ t → ⊥) → d u ≡ c u) → placed_reads r d o v ≡ reads_one o v (label_of e) + placed_reads r c o v
-placed_reads_step r c d t o v e is here other = sum_step (length r.threads) t (reads_one o v (label_of e))
+placed_reads_step r c d t o v e is here other = sum_below_with_term_raised (length r.threads) t (reads_one o v (label_of e))
     (λ u. reads o v (map label_of (take (c u) (recorded_thread r u).events))) (λ u. reads o v (map label_of (take (d u) (recorded_thread r u).events)))
-    (of_thread r t (c t) e is)
-    (ap (λ n. reads o v (map label_of (take n (recorded_thread r t).events))) here ∙ reads_step o v (c t) (recorded_thread r t).events e is)
+    (event_is_of_existing_thread r t (c t) e is)
+    (ap (λ n. reads o v (map label_of (take n (recorded_thread r t).events))) here ∙ reads_of_prefix_step o v (c t) (recorded_thread r t).events e is)
     (λ u ne. ap (λ n. reads o v (map label_of (take n (recorded_thread r u).events))) (other u ne))
 
-pub placed_reads_few : (r : Recorded) (c : ℕ → ℕ) (o v : ℕ) → IsRecorded r → placed_reads r c o v ≤ length r.threads * most_events
-placed_reads_few r c o v fits = sum_most (length r.threads) most_events (λ u. reads o v (map label_of (take (c u) (recorded_thread r u).events)))
-    (λ u l. omega (arith, reads_few o v (c u) (recorded_thread r u).events, (thread_fits r fits u l).few_events))
+pub placed_reads_within_limit : (r : Recorded) (c : ℕ → ℕ) (o v : ℕ) → IsRecorded r → placed_reads r c o v ≤ length r.threads * most_events
+placed_reads_within_limit r c o v fits = sum_below_at_most_product (length r.threads) most_events (λ u. reads o v (map label_of (take (c u) (recorded_thread r u).events)))
+    (λ u l. omega (arith, reads_of_prefix_at_most_length o v (c u) (recorded_thread r u).events, (recorded_thread_at_number_is_recorded r fits u l).few_events))
 
-pub placed_reads_none : (r : Recorded) (o v : ℕ) → placed_reads r (λ u. 0) o v ≡ 0
-placed_reads_none r o v = zeros (length r.threads)
+pub placed_reads_at_start : (r : Recorded) (o v : ℕ) → placed_reads r (λ u. 0) o v ≡ 0
+placed_reads_at_start r o v = zeros (length r.threads)
   where
     zeros : (n : ℕ) → sum_below n (λ u. reads o v (map label_of (take 0 (recorded_thread r u).events))) ≡ 0
     zeros zero = refl

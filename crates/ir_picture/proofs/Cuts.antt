@@ -10,25 +10,25 @@ use Rattle.ir_picture.specs.Placing.{IsCut}
 use Rattle.ir_picture.specs.declared.event_box.EventBox.{EventBox}
 
 -- the first event of a box is in it
-pub first_in : (r : Recorded) (b : EventBox) → IsBox r b → IsInBox b b.thread b.event
-first_in r b is = record { thread = refl; from = omega arith; below = omega (arith, is.some) }
+pub first_event_is_in_box : (r : Recorded) (b : EventBox) → IsBox r b → IsInBox b b.thread b.event
+first_event_is_in_box r b is = record { thread = refl; from = omega arith; below = omega (arith, is.some) }
 
 -- of two boxes the earlier ends before the later begins
-pub apart : (r : Recorded) (boxes : List EventBox) → AreBoxes r boxes → AreApart boxes
-apart r boxes are k m a b less at_k at_m = elim (are.rising k m a b less at_k at_m) [
+pub boxes_are_apart : (r : Recorded) (boxes : List EventBox) → AreBoxes r boxes → AreApart boxes
+boxes_are_apart r boxes are k m a b less at_k at_m = elim (are.rising k m a b less at_k at_m) [
   | inl thread ↦ inl thread
   | inr same ↦ elim (cases_lt b.event (a.event + a.count)) [
     | inl inside ↦
         let both : k ≡ m = are.one k m b.thread b.event a b at_k at_m (record { thread = same.0; from = omega (arith, same.1); below = inside })
-        (first_in r b (are.each m b at_m)) in
+        (first_event_is_in_box r b (are.each m b at_m)) in
         absurd (omega (arith, both, less))
     | inr not ↦ inr (same.0, omega (arith, not))
   ]
 ]
 
 -- the box that has the next event of a thread isn't one of those before
-not_before : (boxes : List EventBox) (t n k m : ℕ) (b : EventBox) → IsCut boxes t n k → slice_get boxes m ≡ Some b → IsInBox b t n → k ≤ m
-not_before boxes t n k m b cut at has = elim (cases_lt m k) [
+next_event_box_not_before_cut : (boxes : List EventBox) (t n k m : ℕ) (b : EventBox) → IsCut boxes t n k → slice_get boxes m ≡ Some b → IsInBox b t n → k ≤ m
+next_event_box_not_before_cut boxes t n k m b cut at has = elim (cases_lt m k) [
   | inl less ↦ elim (cut.before m b at less) [
     | inl thread ↦ absurd (omega (arith, thread, has.thread))
     | inr ends ↦ absurd (omega (arith, ends.1, has.below))
@@ -37,9 +37,9 @@ not_before boxes t n k m b cut at has = elim (cases_lt m k) [
 ]
 
 -- where the box at a cut is one of the thread, it begins with the thread's next event
-pub next_first : (r : Recorded) (boxes : List EventBox) (t n k : ℕ) (b : EventBox) → AreBoxes r boxes → IsCut boxes t n k → slice_get boxes k ≡ Some b
+pub cut_box_begins_with_next_event : (r : Recorded) (boxes : List EventBox) (t n k : ℕ) (b : EventBox) → AreBoxes r boxes → IsCut boxes t n k → slice_get boxes k ≡ Some b
     → b.thread ≡ t → b.event ≡ n
-next_first r boxes t n k b are cut at thread = elim (cut.after k b at (omega arith)) [
+cut_box_begins_with_next_event r boxes t n k b are cut at thread = elim (cut.after k b at (omega arith)) [
   | inl above ↦ absurd (omega (arith, above, thread))
   | inr from ↦ elim (cases_eq b.event n) [
     | inl here ↦ here
@@ -58,7 +58,7 @@ next_first r boxes t n k b are cut at thread = elim (cut.after k b at (omega ari
           ap (λ z. length (recorded_thread r z).events) thread,
         ) in
         let h = are.all t n within in
-        let after : k ≤ h.number = not_before boxes t n k h.number h.box cut h.there h.has in
+        let after : k ≤ h.number = next_event_box_not_before_cut boxes t n k h.number h.box cut h.there h.has in
         elim (cases_eq k h.number) [
           | inl same ↦
               let box : b ≡ h.box = same_Some b h.box (sym at ∙ subst (λ z. slice_get boxes z ≡ Some h.box) (sym same) h.there) in
@@ -70,18 +70,18 @@ next_first r boxes t n k b are cut at thread = elim (cut.after k b at (omega ari
         ]
 
 -- there is a box at each place below another
-box_below : (xs : List EventBox) (m i : ℕ) (a : EventBox) → slice_get xs m ≡ Some a → i < m → (b : EventBox) × (slice_get xs i ≡ Some b)
-box_below [] m i a at less = absurd (none-some a at)
-box_below (x ∷ xs) zero i a at less = absurd (omega (arith, less))
-box_below (x ∷ xs) (suc m) zero a at less = (x, refl)
-box_below (x ∷ xs) (suc m) (suc i) a at less = box_below xs m i a at (omega (arith, less))
+element_exists_below_another : (xs : List EventBox) (m i : ℕ) (a : EventBox) → slice_get xs m ≡ Some a → i < m → (b : EventBox) × (slice_get xs i ≡ Some b)
+element_exists_below_another [] m i a at less = absurd (none-some a at)
+element_exists_below_another (x ∷ xs) zero i a at less = absurd (omega (arith, less))
+element_exists_below_another (x ∷ xs) (suc m) zero a at less = (x, refl)
+element_exists_below_another (x ∷ xs) (suc m) (suc i) a at less = element_exists_below_another xs m i a at (omega (arith, less))
 
 -- where it isn't, or there is none, the thread has no more events
-pub none_next : (r : Recorded) (boxes : List EventBox) (t n k : ℕ) → AreBoxes r boxes → IsCut boxes t n k
+pub no_events_left_without_next_box : (r : Recorded) (boxes : List EventBox) (t n k : ℕ) → AreBoxes r boxes → IsCut boxes t n k
     → ((b : EventBox) → slice_get boxes k ≡ Some b → b.thread ≡ t → ⊥) → n < length (recorded_thread r t).events → ⊥
-none_next r boxes t n k are cut none within =
+no_events_left_without_next_box r boxes t n k are cut none within =
     let h = are.all t n within in
-    let after : k ≤ h.number = not_before boxes t n k h.number h.box cut h.there h.has in
+    let after : k ≤ h.number = next_event_box_not_before_cut boxes t n k h.number h.box cut h.there h.has in
     elim (cases_eq k h.number) [
       | inl same ↦ none h.box (subst (λ z. slice_get boxes z ≡ Some h.box) (sym same) h.there) h.has.thread
       | inr other ↦ between h.number h.box (omega (arith, after, other)) h.there h.has
@@ -89,7 +89,7 @@ none_next r boxes t n k are cut none within =
   where
     between : (m : ℕ) (a : EventBox) → k < m → slice_get boxes m ≡ Some a → IsInBox a t n → ⊥
     between m a less at has =
-        let b = box_below boxes m k a at less in
+        let b = element_exists_below_another boxes m k a at less in
         elim (cut.after k b.0 b.1 (omega arith)) [
           | inl above ↦ elim (are.rising k m b.0 a less b.1 at) [
             | inl lower ↦ omega (arith, above, lower, has.thread)
@@ -99,9 +99,9 @@ none_next r boxes t n k are cut none within =
         ]
 
 -- the cut behind the box at a cut
-pub next_cut : (r : Recorded) (boxes : List EventBox) (t n k : ℕ) (b : EventBox) → AreBoxes r boxes → IsCut boxes t n k → slice_get boxes k ≡ Some b
+pub cut_behind_next_box : (r : Recorded) (boxes : List EventBox) (t n k : ℕ) (b : EventBox) → AreBoxes r boxes → IsCut boxes t n k → slice_get boxes k ≡ Some b
     → b.thread ≡ t → b.event ≡ n → IsCut boxes t (n + b.count) (k + 1)
-next_cut r boxes t n k b are cut at thread event = record {
+cut_behind_next_box r boxes t n k b are cut at thread event = record {
   before = λ m a at_m less. elim (cases_lt m k) [
     | inl old ↦ elim (cut.before m a at_m old) [
       | inl lower ↦ inl lower
@@ -115,7 +115,7 @@ next_cut r boxes t n k b are cut at thread event = record {
           omega (arith, event, ap (λ (x : EventBox). x.event) same, ap (λ (x : EventBox). x.count) same),
         )
   ];
-  after = λ m a at_m from. elim (apart r boxes are k m b a (omega (arith, from)) at at_m) [
+  after = λ m a at_m from. elim (boxes_are_apart r boxes are k m b a (omega (arith, from)) at at_m) [
     | inl above ↦ inl (omega (arith, above, thread))
     | inr ends ↦ inr (sym ends.0 ∙ thread, omega (arith, ends.1, event))
   ];

@@ -4,41 +4,41 @@ use Rattle.std.proofs.lemmas.List.{at_drop_more, at_drop_all}
 use Rattle.ir_log.specs.declared.event.Event.{Event}
 use Rattle.ir_log.specs.declared.event.Event.TheVariants.{Answer, Read, Write, Try}
 use Rattle.ir_picture.specs.Numbers.{version_read, read_pair, read_entry, read_pairs, with_commas}
-use Rattle.ir_picture.proofs.Texts.{comma_after, joined_more, comma_more}
+use Rattle.ir_picture.proofs.Texts.{comma_after, with_commas_of_push, comma_after_push}
 
 -- the first of two, if it is there
 abbrev or_else : Option ℕ → Option ℕ → Option ℕ
 or_else (Some v) other = Some v
 or_else None other = other
 
-first_read : (o : ℕ) (e : Event) (es : List Event) → version_read o (e ∷ es) ≡ or_else (version_read o (e ∷ [])) (version_read o es)
+version_read_of_cons : (o : ℕ) (e : Event) (es : List Event) → version_read o (e ∷ es) ≡ or_else (version_read o (e ∷ [])) (version_read o es)
 unfolding version_read
-first_read o (Answer kind value) es = refl
-first_read o (Read object version) es = by (eqb object o)
+version_read_of_cons o (Answer kind value) es = refl
+version_read_of_cons o (Read object version) es = by (eqb object o)
   where
     by : (b : Bool) → cond b (Some version) (version_read o es) ≡ or_else (cond b (Some version) None) (version_read o es)
     by true = refl
     by false = refl
-first_read o (Write object version readers) es = refl
-first_read o (Try object) es = refl
+version_read_of_cons o (Write object version readers) es = refl
+version_read_of_cons o (Try object) es = refl
 
-step_read : (o n : ℕ) (es : List Event) (e : Event) → n < length es
+version_read_of_drop : (o n : ℕ) (es : List Event) (e : Event) → n < length es
     → version_read o (drop n es) ≡ or_else (version_read o (get_or es n e ∷ [])) (version_read o (drop (n + 1) es))
-step_read o n es e some = at_drop_more (version_read o) es n e some ∙ first_read o (get_or es n e) (drop (n + 1) es)
+version_read_of_drop o n es e some = at_drop_more (version_read o) es n e some ∙ version_read_of_cons o (get_or es n e) (drop (n + 1) es)
 
 -- the next event reads the object
-pub found_next : (o n v : ℕ) (es : List Event) (e : Event) → n < length es → version_read o (get_or es n e ∷ []) ≡ Some v
+pub version_read_if_next_event_reads : (o n v : ℕ) (es : List Event) (e : Event) → n < length es → version_read o (get_or es n e ∷ []) ≡ Some v
     → version_read o (drop n es) ≡ Some v
-found_next o n v es e some is = step_read o n es e some ∙ ap (λ x. or_else x (version_read o (drop (n + 1) es))) is
+version_read_if_next_event_reads o n v es e some is = version_read_of_drop o n es e some ∙ ap (λ x. or_else x (version_read o (drop (n + 1) es))) is
 
 -- it doesn't
-pub not_next : (o n : ℕ) (es : List Event) (e : Event) → n < length es → version_read o (get_or es n e ∷ []) ≡ None
+pub version_read_unless_next_event_reads : (o n : ℕ) (es : List Event) (e : Event) → n < length es → version_read o (get_or es n e ∷ []) ≡ None
     → version_read o (drop n es) ≡ version_read o (drop (n + 1) es)
-not_next o n es e some is = step_read o n es e some ∙ ap (λ x. or_else x (version_read o (drop (n + 1) es))) is
+version_read_unless_next_event_reads o n es e some is = version_read_of_drop o n es e some ∙ ap (λ x. or_else x (version_read o (drop (n + 1) es))) is
 
-pub none_next : (o n : ℕ) (es : List Event) → length es ≤ n → version_read o (drop n es) ≡ None
+pub version_read_past_end : (o n : ℕ) (es : List Event) → length es ≤ n → version_read o (drop n es) ≡ None
 unfolding version_read
-none_next o n es all = at_drop_all (version_read o) es n all
+version_read_past_end o n es all = at_drop_all (version_read o) es n all
 
 -- ---- object by object
 
@@ -47,34 +47,34 @@ pub record ArePairs (n : ℕ) (es : List Event) (comma text : List ℕ) : Type 0
   pub lines : text ≡ with_commas (read_pairs n es)
   pub after : comma ≡ comma_after (read_pairs n es)
 
-pairs_more : (o : ℕ) (es : List Event) → read_pairs (o + 1) es ≡ read_pairs o es ++ read_entry o (version_read o es)
+read_pairs_step : (o : ℕ) (es : List Event) → read_pairs (o + 1) es ≡ read_pairs o es ++ read_entry o (version_read o es)
 unfolding read_pairs
-pairs_more o es = let on : o + 1 ≡ suc o = omega arith in ap (λ n. read_pairs n es) on
+read_pairs_step o es = let on : o + 1 ≡ suc o = omega arith in ap (λ n. read_pairs n es) on
 
 -- the next object was read
-pub read_more : (o v : ℕ) (es : List Event) (comma text own new : List ℕ) → ArePairs o es comma text → version_read o es ≡ Some v
+pub pairs_step_for_read_object : (o v : ℕ) (es : List Event) (comma text own new : List ℕ) → ArePairs o es comma text → version_read o es ≡ Some v
     → own ≡ comma ++ read_pair o v → new ≡ text ++ own → ArePairs (o + 1) es (codes ",") new
-read_more o v es comma text own new h is said made = record {
+pairs_step_for_read_object o v es comma text own new h is said made = record {
   lines = made ∙ ap (λ (x : List ℕ). x ++ own) h.lines
       ∙ ap (λ (x : List ℕ). with_commas (read_pairs o es) ++ x) (said ∙ ap (λ (x : List ℕ). x ++ read_pair o v) h.after)
-      ∙ sym (joined_more (read_pairs o es) (read_pair o v)) ∙ sym (ap with_commas all);
-  after = sym (ap comma_after all ∙ comma_more (read_pairs o es) (read_pair o v));
+      ∙ sym (with_commas_of_push (read_pairs o es) (read_pair o v)) ∙ sym (ap with_commas all);
+  after = sym (ap comma_after all ∙ comma_after_push (read_pairs o es) (read_pair o v));
 }
   where
     all : read_pairs (o + 1) es ≡ read_pairs o es ++ read_pair o v ∷ []
-    all = pairs_more o es ∙ ap (λ x. read_pairs o es ++ read_entry o x) is
+    all = read_pairs_step o es ∙ ap (λ x. read_pairs o es ++ read_entry o x) is
 
 -- it wasn't
-pub not_read : (o : ℕ) (es : List Event) (comma text : List ℕ) → ArePairs o es comma text → version_read o es ≡ None
+pub pairs_step_for_unread_object : (o : ℕ) (es : List Event) (comma text : List ℕ) → ArePairs o es comma text → version_read o es ≡ None
     → ArePairs (o + 1) es comma text
-not_read o es comma text h is = record {
+pairs_step_for_unread_object o es comma text h is = record {
   lines = h.lines ∙ sym (ap with_commas same);
   after = h.after ∙ sym (ap comma_after same);
 }
   where
     same : read_pairs (o + 1) es ≡ read_pairs o es
-    same = pairs_more o es ∙ ap (λ x. read_pairs o es ++ read_entry o x) is ∙ append-nil (read_pairs o es)
+    same = read_pairs_step o es ∙ ap (λ x. read_pairs o es ++ read_entry o x) is ∙ append-nil (read_pairs o es)
 
-pub no_pairs : (es : List Event) (text : List ℕ) → text ≡ [] → ArePairs 0 es [] text
+pub pairs_of_no_objects : (es : List Event) (text : List ℕ) → text ≡ [] → ArePairs 0 es [] text
 unfolding read_pairs with_commas
-no_pairs es text none = record { lines = none; after = refl }
+pairs_of_no_objects es text none = record { lines = none; after = refl }

@@ -4,28 +4,28 @@ use Rattle.std.proofs.lemmas.Result.{on_ok_weaker}
 use Rattle.std.specs.Io.KnownBytes.{Appends}
 use Rattle.std.proofs.KnownBytes.{Appends-nil, Appends-trans}
 use Rattle.ir_stream.specs.Answers.{AppendsPrefix}
-use Rattle.ir_stream.proofs.CallerLemmas.{prefix_after, prefix_longer}
+use Rattle.ir_stream.proofs.CallerLemmas.{prefix_after_whole_text, prefix_of_longer_text}
 use Rattle.ir_files.specs.Writers.{writer_of}
 use Rattle.ir_text.specs.Buffered.{Buffered}
-use Rattle.ir_text.proofs.CallerLemmas.{line_written}
+use Rattle.ir_text.proofs.CallerLemmas.{buffered_after_line_written}
 use Rattle.ir_past.specs.Answers.{Stops}
 use Rattle.ir_past.specs.declared.past_err.PastErr.{PastErr}
 use Rattle.ir_past.specs.declared.past_err.PastErr.TheVariants as err
 
 -- nothing was written, and all is held
-pub none_yet : (a : Option (List ℕ)) (text : List ℕ) → Buffered a a text text
-none_yet a text = record { part = []; written = Appends-nil a; others = refl }
+pub buffered_at_start : (a : Option (List ℕ)) (text : List ℕ) → Buffered a a text text
+buffered_at_start a text = record { part = []; written = Appends-nil a; others = refl }
 
 -- what was written is a prefix
-pub part_of : (a b : Option (List ℕ)) (left text : List ℕ) → Buffered a b left text → AppendsPrefix a b text
-part_of a b left text f = record { part = f.part; more = left; splits = sym f.others; grown = f.written }
+pub prefix_appended_if_buffered : (a b : Option (List ℕ)) (left text : List ℕ) → Buffered a b left text → AppendsPrefix a b text
+prefix_appended_if_buffered a b left text f = record { part = f.part; more = left; splits = sym f.others; grown = f.written }
 
 -- ---- in a loop over lines
 
 -- a piece was written if it was one, and a line was put after what is held
-pub line_put : (a b c : Option (List ℕ)) (held kept after line left more text : List ℕ) → Buffered a b (held ++ left) text
+pub buffered_after_line : (a b c : Option (List ℕ)) (held kept after line left more text : List ℕ) → Buffered a b (held ++ left) text
     → Buffered b c kept held → left ≡ line ++ more → after ≡ kept ++ line → Buffered a c (after ++ more) text
-line_put a b c held kept after line left more text f g first put = line_written a b c (held ++ left) g.part (after ++ more) text f
+buffered_after_line a b c held kept after line left more text f g first put = buffered_after_line_written a b c (held ++ left) g.part (after ++ more) text f
     (ap (λ (x : List ℕ). x ++ left) (sym g.others)
     ∙ append_assoc g.part kept left
     ∙ ap (λ (x : List ℕ). g.part ++ (kept ++ x)) first
@@ -34,90 +34,90 @@ line_put a b c held kept after line left more text f g first put = line_written 
     g.written
 
 -- a piece was written if it was one
-pub piece_written : (a b c : Option (List ℕ)) (held kept left text : List ℕ) → Buffered a b (held ++ left) text → Buffered b c kept held
+pub buffered_after_piece : (a b c : Option (List ℕ)) (held kept left text : List ℕ) → Buffered a b (held ++ left) text → Buffered b c kept held
     → Buffered a c (kept ++ left) text
-piece_written a b c held kept left text f g = line_written a b c (held ++ left) g.part (kept ++ left) text f
+buffered_after_piece a b c held kept left text f g = buffered_after_line_written a b c (held ++ left) g.part (kept ++ left) text f
     (ap (λ (x : List ℕ). x ++ left) (sym g.others) ∙ append_assoc g.part kept left) g.written
 
 -- nothing is left
-pub all_held : (a b : Option (List ℕ)) (held left text : List ℕ) → Buffered a b (held ++ left) text → left ≡ [] → Buffered a b held text
-all_held a b held left text f none =
+pub buffered_if_nothing_left : (a b : Option (List ℕ)) (held left text : List ℕ) → Buffered a b (held ++ left) text → left ≡ [] → Buffered a b held text
+buffered_if_nothing_left a b held left text f none =
     subst (λ (x : List ℕ). Buffered a b x text) (ap (λ (x : List ℕ). held ++ x) none ∙ append-nil held) f
 
 -- the writing of a piece failed
-pub piece_failed : (a b c : Option (List ℕ)) (held left text : List ℕ) → Buffered a b (held ++ left) text → AppendsPrefix b c held
+pub prefix_written_if_write_fails : (a b c : Option (List ℕ)) (held left text : List ℕ) → Buffered a b (held ++ left) text → AppendsPrefix b c held
     → AppendsPrefix a c text
-piece_failed a b c held left text f prefix =
+prefix_written_if_write_fails a b c held left text f prefix =
     subst (AppendsPrefix a c) (append_assoc f.part held left ∙ f.others)
-    (prefix_longer a c (f.part ++ held) left (prefix_after a b c f.part held f.written prefix))
+    (prefix_of_longer_text a c (f.part ++ held) left (prefix_after_whole_text a b c f.part held f.written prefix))
 
 -- ---- one text after another
 
 -- what comes after the text that was held is what comes after the whole text
-after_held : (a b : Option (List ℕ)) (held text next : List ℕ) → (f : Buffered a b held text) → f.part ++ (held ++ next) ≡ text ++ next
-after_held a b held text next f = sym (append_assoc f.part held next) ∙ ap (λ (x : List ℕ). x ++ next) f.others
+part_and_held_before_next_text : (a b : Option (List ℕ)) (held text next : List ℕ) → (f : Buffered a b held text) → f.part ++ (held ++ next) ≡ text ++ next
+part_and_held_before_next_text a b held text next f = sym (append_assoc f.part held next) ∙ ap (λ (x : List ℕ). x ++ next) f.others
 
 -- the next text was put
-pub next_put : (a b c : Option (List ℕ)) (held kept text next : List ℕ) → Buffered a b held text → Buffered b c kept (held ++ next)
+pub buffered_after_next_text : (a b c : Option (List ℕ)) (held kept text next : List ℕ) → Buffered a b held text → Buffered b c kept (held ++ next)
     → Buffered a c kept (text ++ next)
-next_put a b c held kept text next f g = record {
+buffered_after_next_text a b c held kept text next f g = record {
   part = f.part ++ g.part;
   written = Appends-trans a b c f.part g.part f.written g.written;
-  others = append_assoc f.part g.part kept ∙ ap (λ (x : List ℕ). f.part ++ x) g.others ∙ after_held a b held text next f;
+  others = append_assoc f.part g.part kept ∙ ap (λ (x : List ℕ). f.part ++ x) g.others ∙ part_and_held_before_next_text a b held text next f;
 }
 
 -- all was written at last
-pub last_put : (a b c : Option (List ℕ)) (held text next : List ℕ) → Buffered a b held text → Appends b c (held ++ next)
+pub appended_after_last_text : (a b c : Option (List ℕ)) (held text next : List ℕ) → Buffered a b held text → Appends b c (held ++ next)
     → Appends a c (text ++ next)
-last_put a b c held text next f done =
-    subst (Appends a c) (after_held a b held text next f) (Appends-trans a b c f.part (held ++ next) f.written done)
+appended_after_last_text a b c held text next f done =
+    subst (Appends a c) (part_and_held_before_next_text a b held text next f) (Appends-trans a b c f.part (held ++ next) f.written done)
 
-then_prefix : (a b c : Option (List ℕ)) (held text next : List ℕ) → Buffered a b held text → AppendsPrefix b c (held ++ next)
+prefix_appended_after_held_text : (a b c : Option (List ℕ)) (held text next : List ℕ) → Buffered a b held text → AppendsPrefix b c (held ++ next)
     → AppendsPrefix a c (text ++ next)
-then_prefix a b c held text next f prefix =
-    subst (AppendsPrefix a c) (after_held a b held text next f) (prefix_after a b c f.part (held ++ next) f.written prefix)
+prefix_appended_after_held_text a b c held text next f prefix =
+    subst (AppendsPrefix a c) (part_and_held_before_next_text a b held text next f) (prefix_after_whole_text a b c f.part (held ++ next) f.written prefix)
 
 -- the next text was stopped
-pub next_stopped : (e : PastErr) (a b c : Option (List ℕ)) (failed : Bool) (held text next : List ℕ) → Buffered a b held text
+pub stops_in_next_text : (e : PastErr) (a b c : Option (List ℕ)) (failed : Bool) (held text next : List ℕ) → Buffered a b held text
     → Stops e (writer_of b c failed) (held ++ next) → Stops e (writer_of a c failed) (text ++ next)
-next_stopped err.NoMem a b c failed held text next f h = (then_prefix a b c held text next f h.0, h.1)
-next_stopped err.Write a b c failed held text next f h = (then_prefix a b c held text next f h.0, h.1)
+stops_in_next_text err.NoMem a b c failed held text next f h = (prefix_appended_after_held_text a b c held text next f h.0, h.1)
+stops_in_next_text err.Write a b c failed held text next f h = (prefix_appended_after_held_text a b c held text next f h.0, h.1)
 
 -- a text was stopped, and so was one that is longer
-pub stopped_before : (e : PastErr) (a b : Option (List ℕ)) (failed : Bool) (text more : List ℕ) → Stops e (writer_of a b failed) text
+pub stops_in_longer_text : (e : PastErr) (a b : Option (List ℕ)) (failed : Bool) (text more : List ℕ) → Stops e (writer_of a b failed) text
     → Stops e (writer_of a b failed) (text ++ more)
-stopped_before err.NoMem a b failed text more h = (prefix_longer a b text more h.0, h.1)
-stopped_before err.Write a b failed text more h = (prefix_longer a b text more h.0, h.1)
+stops_in_longer_text err.NoMem a b failed text more h = (prefix_of_longer_text a b text more h.0, h.1)
+stops_in_longer_text err.Write a b failed text more h = (prefix_of_longer_text a b text more h.0, h.1)
 
 -- ---- four texts, of which the second and the third are put in pieces
 
 -- the second was stopped
-pub second_stopped : (e : PastErr) (o p : Option (List ℕ)) (failed : Bool) (a b c d text : List ℕ) → ((a ++ b) ++ c) ++ d ≡ text
+pub stops_in_second_of_four_texts : (e : PastErr) (o p : Option (List ℕ)) (failed : Bool) (a b c d text : List ℕ) → ((a ++ b) ++ c) ++ d ≡ text
     → Stops e (writer_of o p failed) (a ++ b) → Stops e (writer_of o p failed) text
-second_stopped e o p failed a b c d text whole h =
+stops_in_second_of_four_texts e o p failed a b c d text whole h =
     subst (λ (x : List ℕ). Stops e (writer_of o p failed) x) whole
-    (stopped_before e o p failed ((a ++ b) ++ c) d (stopped_before e o p failed (a ++ b) c h))
+    (stops_in_longer_text e o p failed ((a ++ b) ++ c) d (stops_in_longer_text e o p failed (a ++ b) c h))
 
 -- the third was stopped
-pub third_stopped : (e : PastErr) (o p q : Option (List ℕ)) (failed : Bool) (a b c d text held : List ℕ) → ((a ++ b) ++ c) ++ d ≡ text
+pub stops_in_third_of_four_texts : (e : PastErr) (o p q : Option (List ℕ)) (failed : Bool) (a b c d text held : List ℕ) → ((a ++ b) ++ c) ++ d ≡ text
     → Buffered o p held (a ++ b) → Stops e (writer_of p q failed) (held ++ c) → Stops e (writer_of o q failed) text
-third_stopped e o p q failed a b c d text held whole f h =
+stops_in_third_of_four_texts e o p q failed a b c d text held whole f h =
     subst (λ (x : List ℕ). Stops e (writer_of o q failed) x) whole
-    (stopped_before e o q failed ((a ++ b) ++ c) d (next_stopped e o p q failed held (a ++ b) c f h))
+    (stops_in_longer_text e o q failed ((a ++ b) ++ c) d (stops_in_next_text e o p q failed held (a ++ b) c f h))
 
 -- the last was stopped, if it was
-pub last_stopped : {A : Type 0} (result : Result A PastErr) (o p q s : Option (List ℕ)) (failed : Bool) (a b c d text held kept : List ℕ)
+pub stops_in_last_of_four_texts : {A : Type 0} (result : Result A PastErr) (o p q s : Option (List ℕ)) (failed : Bool) (a b c d text held kept : List ℕ)
     → ((a ++ b) ++ c) ++ d ≡ text → Buffered o p held (a ++ b) → Buffered p q kept (held ++ c)
     → IfErr result (λ e. Stops e (writer_of q s failed) (kept ++ d)) → IfErr result (λ e. Stops e (writer_of o s failed) text)
-last_stopped (Ok x) o p q s failed a b c d text held kept whole f g h = tt
-last_stopped (Err e) o p q s failed a b c d text held kept whole f g h =
+stops_in_last_of_four_texts (Ok x) o p q s failed a b c d text held kept whole f g h = tt
+stops_in_last_of_four_texts (Err e) o p q s failed a b c d text held kept whole f g h =
     subst (λ (x : List ℕ). Stops e (writer_of o s failed) x) whole
-    (next_stopped e o q s failed kept ((a ++ b) ++ c) d (next_put o p q held kept (a ++ b) c f g) h)
+    (stops_in_next_text e o q s failed kept ((a ++ b) ++ c) d (buffered_after_next_text o p q held kept (a ++ b) c f g) h)
 
 -- all was written
-pub four_written : {A E : Type 0} (result : Result A E) (o p q s : Option (List ℕ)) (a b c d text held kept : List ℕ)
+pub four_texts_are_appended : {A E : Type 0} (result : Result A E) (o p q s : Option (List ℕ)) (a b c d text held kept : List ℕ)
     → ((a ++ b) ++ c) ++ d ≡ text → Buffered o p held (a ++ b) → Buffered p q kept (held ++ c)
     → OnOk result (Appends q s (kept ++ d)) → OnOk result (Appends o s text)
-four_written result o p q s a b c d text held kept whole f g =
+four_texts_are_appended result o p q s a b c d text held kept whole f g =
     on_ok_weaker result
-    (λ done. subst (Appends o s) whole (last_put o q s kept ((a ++ b) ++ c) d (next_put o p q held kept (a ++ b) c f g) done))
+    (λ done. subst (Appends o s) whole (appended_after_last_text o q s kept ((a ++ b) ++ c) d (buffered_after_next_text o p q held kept (a ++ b) c f g) done))

@@ -9,33 +9,33 @@ use Rattle.ir_picture.specs.Placing.{EndsWhere, IsAfter, first_point, right_of, 
 use Rattle.ir_picture.specs.declared.event_box.EventBox.{EventBox}
 use Rattle.ir_picture.specs.declared.placed_box.Point.{Point}
 use Rattle.ir_picture.specs.declared.placed_box.PlacedBox.{PlacedBox}
-use Rattle.ir_picture.proofs.Lists.{set_other, set_cases}
+use Rattle.ir_picture.proofs.Lists.{slice_get_after_set_elsewhere, slice_get_after_set_cases}
 
-pub least_same : (from : ℕ) (A B : ℕ → Type 0) (y : ℕ) → ((z : ℕ) → A z → B z) → ((z : ℕ) → B z → A z) → IsLeastAbove from A y
+pub least_above_of_equal_sets : (from : ℕ) (A B : ℕ → Type 0) (y : ℕ) → ((z : ℕ) → A z → B z) → ((z : ℕ) → B z → A z) → IsLeastAbove from A y
     → IsLeastAbove from B y
-least_same from A B y to back h = record {
+least_above_of_equal_sets from A B y to back h = record {
   start = h.start;
   above = λ z b. h.above z (back z b);
   least = λ w low all. h.least w low (λ z a. all z (to z a));
 }
 
-pub least_none : (from : ℕ) (A : ℕ → Type 0) → ((z : ℕ) → A z → ⊥) → IsLeastAbove from A from
-least_none from A none = record {
+pub least_above_of_empty_set : (from : ℕ) (A : ℕ → Type 0) → ((z : ℕ) → A z → ⊥) → IsLeastAbove from A from
+least_above_of_empty_set from A none = record {
   start = omega arith;
   above = λ z a. absurd (none z a);
   least = λ w low all. low;
 }
 
-pub least_one : (from z : ℕ) (A : ℕ → Type 0) → from ≤ z + 1 → A z → ((w : ℕ) → A w → w ≡ z) → IsLeastAbove from A (z + 1)
-least_one from z A low is only = record {
+pub least_above_of_single_number : (from z : ℕ) (A : ℕ → Type 0) → from ≤ z + 1 → A z → ((w : ℕ) → A w → w ≡ z) → IsLeastAbove from A (z + 1)
+least_above_of_single_number from z A low is only = record {
   start = low;
   above = λ w a. omega (arith, only w a);
   least = λ w from_low all. omega (arith, all z is);
 }
 
-pub least_both : (from : ℕ) (A B C : ℕ → Type 0) (x y : ℕ) → ((z : ℕ) → A z → C z) → ((z : ℕ) → B z → C z) → ((z : ℕ) → C z → A z ⊎ B z)
+pub least_above_of_union : (from : ℕ) (A B C : ℕ → Type 0) (x y : ℕ) → ((z : ℕ) → A z → C z) → ((z : ℕ) → B z → C z) → ((z : ℕ) → C z → A z ⊎ B z)
     → IsLeastAbove from A x → IsLeastAbove from B y → IsLeastAbove from C (max x y)
-least_both from A B C x y of_a of_b parts h k = record {
+least_above_of_union from A B C x y of_a of_b parts h k = record {
   start = omega (arith, h.start);
   above = λ z c. elim (parts z c) [
     | inl a ↦ omega (arith, h.above z a)
@@ -46,9 +46,9 @@ least_both from A B C x y of_a of_b parts h k = record {
 
 -- ---- the ends of boxes
 
-pub ends_same : (boxes : List PlacedBox) (number : Point → ℕ) (A B : ℕ → ℕ → Type 0) → ((u i : ℕ) → A u i → B u i) → (z : ℕ)
+pub ends_where_of_wider_set : (boxes : List PlacedBox) (number : Point → ℕ) (A B : ℕ → ℕ → Type 0) → ((u i : ℕ) → A u i → B u i) → (z : ℕ)
     → EndsWhere boxes number A z → EndsWhere boxes number B z
-ends_same boxes number A B to z e = record {
+ends_where_of_wider_set boxes number A B to z e = record {
   at = e.at;
   box = e.box;
   event = e.event;
@@ -59,10 +59,10 @@ ends_same boxes number A B to z e = record {
 }
 
 -- the ends of boxes stay where another box is changed
-pub ends_kept : (boxes : List PlacedBox) (k : ℕ) (b new : PlacedBox) (number : Point → ℕ) (These : ℕ → ℕ → Type 0) → slice_get boxes k ≡ Some b
+pub ends_where_after_other_box_set : (boxes : List PlacedBox) (k : ℕ) (b new : PlacedBox) (number : Point → ℕ) (These : ℕ → ℕ → Type 0) → slice_get boxes k ≡ Some b
     → ((i : ℕ) → IsInBox b.events b.events.thread i → These b.events.thread i → ⊥) → (z : ℕ) → EndsWhere boxes number These z
     → EndsWhere (slice_set boxes k new) number These z
-ends_kept boxes k b new number These there not z e = elim (cases_eq k e.at) [
+ends_where_after_other_box_set boxes k b new number These there not z e = elim (cases_eq k e.at) [
   | inl here ↦
       let same : b ≡ e.box = same_Some b e.box (sym there ∙ subst (λ m. slice_get boxes m ≡ Some e.box) (sym here) e.there) in
       absurd (subst (λ (x : PlacedBox). ((i : ℕ) → IsInBox x.events x.events.thread i → These x.events.thread i → ⊥)) same not e.event e.has e.these)
@@ -70,17 +70,17 @@ ends_kept boxes k b new number These there not z e = elim (cases_eq k e.at) [
     at = e.at;
     box = e.box;
     event = e.event;
-    there = set_other boxes k e.at new ne ∙ e.there;
+    there = slice_get_after_set_elsewhere boxes k e.at new ne ∙ e.there;
     has = e.has;
     these = e.these;
     ends = e.ends;
   }
 ]
 
-pub ends_before : (boxes : List PlacedBox) (k : ℕ) (b new : PlacedBox) (number : Point → ℕ) (These : ℕ → ℕ → Type 0) → slice_get boxes k ≡ Some b
+pub ends_where_before_other_box_set : (boxes : List PlacedBox) (k : ℕ) (b new : PlacedBox) (number : Point → ℕ) (These : ℕ → ℕ → Type 0) → slice_get boxes k ≡ Some b
     → new.events ≡ b.events → ((i : ℕ) → IsInBox b.events b.events.thread i → These b.events.thread i → ⊥) → (z : ℕ)
     → EndsWhere (slice_set boxes k new) number These z → EndsWhere boxes number These z
-ends_before boxes k b new number These there same not z e = elim (set_cases boxes k e.at new e.box (slice_get_within boxes k b there) e.there) [
+ends_where_before_other_box_set boxes k b new number These there same not z e = elim (slice_get_after_set_cases boxes k e.at new e.box (slice_get_within boxes k b there) e.there) [
   | inl here ↦
       let events : b.events ≡ e.box.events = sym same ∙ ap (λ (x : PlacedBox). x.events) here.1 in
       absurd (subst (λ (x : EventBox). ((i : ℕ) → IsInBox x x.thread i → These x.thread i → ⊥)) events not e.event e.has e.these)
@@ -97,56 +97,56 @@ ends_before boxes k b new number These there same not z e = elim (set_cases boxe
 
 -- ---- places right of boxes
 
-pub after_same : (boxes : List PlacedBox) (A B : ℕ → ℕ → Type 0) (p : Point) → ((u i : ℕ) → A u i → B u i) → ((u i : ℕ) → B u i → A u i)
+pub place_after_equal_events : (boxes : List PlacedBox) (A B : ℕ → ℕ → Type 0) (p : Point) → ((u i : ℕ) → A u i → B u i) → ((u i : ℕ) → B u i → A u i)
     → IsAfter boxes A p → IsAfter boxes B p
-after_same boxes A B p to back h = record {
-  x = least_same 0 (EndsWhere boxes (λ q. q.x) A) (EndsWhere boxes (λ q. q.x) B) p.x (ends_same boxes (λ q. q.x) A B to)
-      (ends_same boxes (λ q. q.x) B A back) h.x;
-  u = least_same 1 (EndsWhere boxes (λ q. q.u) A) (EndsWhere boxes (λ q. q.u) B) p.u (ends_same boxes (λ q. q.u) A B to)
-      (ends_same boxes (λ q. q.u) B A back) h.u;
+place_after_equal_events boxes A B p to back h = record {
+  x = least_above_of_equal_sets 0 (EndsWhere boxes (λ q. q.x) A) (EndsWhere boxes (λ q. q.x) B) p.x (ends_where_of_wider_set boxes (λ q. q.x) A B to)
+      (ends_where_of_wider_set boxes (λ q. q.x) B A back) h.x;
+  u = least_above_of_equal_sets 1 (EndsWhere boxes (λ q. q.u) A) (EndsWhere boxes (λ q. q.u) B) p.u (ends_where_of_wider_set boxes (λ q. q.u) A B to)
+      (ends_where_of_wider_set boxes (λ q. q.u) B A back) h.u;
 }
 
-pub after_kept : (boxes : List PlacedBox) (k : ℕ) (b new : PlacedBox) (These : ℕ → ℕ → Type 0) (p : Point) → slice_get boxes k ≡ Some b
+pub place_after_other_box_set : (boxes : List PlacedBox) (k : ℕ) (b new : PlacedBox) (These : ℕ → ℕ → Type 0) (p : Point) → slice_get boxes k ≡ Some b
     → new.events ≡ b.events → ((i : ℕ) → IsInBox b.events b.events.thread i → These b.events.thread i → ⊥) → IsAfter boxes These p
     → IsAfter (slice_set boxes k new) These p
-after_kept boxes k b new These p there same not h = record {
-  x = least_same 0 (EndsWhere boxes (λ q. q.x) These) (EndsWhere (slice_set boxes k new) (λ q. q.x) These) p.x
-      (ends_kept boxes k b new (λ q. q.x) These there not) (ends_before boxes k b new (λ q. q.x) These there same not) h.x;
-  u = least_same 1 (EndsWhere boxes (λ q. q.u) These) (EndsWhere (slice_set boxes k new) (λ q. q.u) These) p.u
-      (ends_kept boxes k b new (λ q. q.u) These there not) (ends_before boxes k b new (λ q. q.u) These there same not) h.u;
+place_after_other_box_set boxes k b new These p there same not h = record {
+  x = least_above_of_equal_sets 0 (EndsWhere boxes (λ q. q.x) These) (EndsWhere (slice_set boxes k new) (λ q. q.x) These) p.x
+      (ends_where_after_other_box_set boxes k b new (λ q. q.x) These there not) (ends_where_before_other_box_set boxes k b new (λ q. q.x) These there same not) h.x;
+  u = least_above_of_equal_sets 1 (EndsWhere boxes (λ q. q.u) These) (EndsWhere (slice_set boxes k new) (λ q. q.u) These) p.u
+      (ends_where_after_other_box_set boxes k b new (λ q. q.u) These there not) (ends_where_before_other_box_set boxes k b new (λ q. q.u) These there same not) h.u;
 }
 
-pub after_none : (boxes : List PlacedBox) (These : ℕ → ℕ → Type 0) → ((u i : ℕ) → These u i → ⊥) → IsAfter boxes These first_point
-after_none boxes These none = record {
-  x = least_none 0 (EndsWhere boxes (λ q. q.x) These) (λ z e. none e.box.events.thread e.event e.these);
-  u = least_none 1 (EndsWhere boxes (λ q. q.u) These) (λ z e. none e.box.events.thread e.event e.these);
+pub place_after_no_events : (boxes : List PlacedBox) (These : ℕ → ℕ → Type 0) → ((u i : ℕ) → These u i → ⊥) → IsAfter boxes These first_point
+place_after_no_events boxes These none = record {
+  x = least_above_of_empty_set 0 (EndsWhere boxes (λ q. q.x) These) (λ z e. none e.box.events.thread e.event e.these);
+  u = least_above_of_empty_set 1 (EndsWhere boxes (λ q. q.u) These) (λ z e. none e.box.events.thread e.event e.these);
 }
 
-ends_parts : (boxes : List PlacedBox) (number : Point → ℕ) (A B C : ℕ → ℕ → Type 0) → ((u i : ℕ) → C u i → A u i ⊎ B u i) → (z : ℕ)
+ends_where_of_union : (boxes : List PlacedBox) (number : Point → ℕ) (A B C : ℕ → ℕ → Type 0) → ((u i : ℕ) → C u i → A u i ⊎ B u i) → (z : ℕ)
     → EndsWhere boxes number C z → EndsWhere boxes number A z ⊎ EndsWhere boxes number B z
-ends_parts boxes number A B C parts z e = elim (parts e.box.events.thread e.event e.these) [
+ends_where_of_union boxes number A B C parts z e = elim (parts e.box.events.thread e.event e.these) [
   | inl a ↦ inl (record { at = e.at; box = e.box; event = e.event; there = e.there; has = e.has; these = a; ends = e.ends })
   | inr b ↦ inr (record { at = e.at; box = e.box; event = e.event; there = e.there; has = e.has; these = b; ends = e.ends })
 ]
 
-pub after_both : (boxes : List PlacedBox) (A B C : ℕ → ℕ → Type 0) (p q : Point) → ((u i : ℕ) → A u i → C u i) → ((u i : ℕ) → B u i → C u i)
+pub place_after_union_of_events : (boxes : List PlacedBox) (A B C : ℕ → ℕ → Type 0) (p q : Point) → ((u i : ℕ) → A u i → C u i) → ((u i : ℕ) → B u i → C u i)
     → ((u i : ℕ) → C u i → A u i ⊎ B u i) → IsAfter boxes A p → IsAfter boxes B q → IsAfter boxes C (later_of p q)
-after_both boxes A B C p q of_a of_b parts h k = record {
-  x = least_both 0 (EndsWhere boxes (λ y. y.x) A) (EndsWhere boxes (λ y. y.x) B) (EndsWhere boxes (λ y. y.x) C) p.x q.x
-      (ends_same boxes (λ y. y.x) A C of_a) (ends_same boxes (λ y. y.x) B C of_b) (ends_parts boxes (λ y. y.x) A B C parts) h.x k.x;
-  u = least_both 1 (EndsWhere boxes (λ y. y.u) A) (EndsWhere boxes (λ y. y.u) B) (EndsWhere boxes (λ y. y.u) C) p.u q.u
-      (ends_same boxes (λ y. y.u) A C of_a) (ends_same boxes (λ y. y.u) B C of_b) (ends_parts boxes (λ y. y.u) A B C parts) h.u k.u;
+place_after_union_of_events boxes A B C p q of_a of_b parts h k = record {
+  x = least_above_of_union 0 (EndsWhere boxes (λ y. y.x) A) (EndsWhere boxes (λ y. y.x) B) (EndsWhere boxes (λ y. y.x) C) p.x q.x
+      (ends_where_of_wider_set boxes (λ y. y.x) A C of_a) (ends_where_of_wider_set boxes (λ y. y.x) B C of_b) (ends_where_of_union boxes (λ y. y.x) A B C parts) h.x k.x;
+  u = least_above_of_union 1 (EndsWhere boxes (λ y. y.u) A) (EndsWhere boxes (λ y. y.u) B) (EndsWhere boxes (λ y. y.u) C) p.u q.u
+      (ends_where_of_wider_set boxes (λ y. y.u) A C of_a) (ends_where_of_wider_set boxes (λ y. y.u) B C of_b) (ends_where_of_union boxes (λ y. y.u) A B C parts) h.u k.u;
 }
 
 -- where these are events of one box alone
-pub after_one : (boxes : List PlacedBox) (k i : ℕ) (b : PlacedBox) (These : ℕ → ℕ → Type 0) → slice_get boxes k ≡ Some b
+pub place_after_single_box : (boxes : List PlacedBox) (k i : ℕ) (b : PlacedBox) (These : ℕ → ℕ → Type 0) → slice_get boxes k ≡ Some b
     → IsInBox b.events b.events.thread i → These b.events.thread i
     → ((m j : ℕ) (a : PlacedBox) → slice_get boxes m ≡ Some a → IsInBox a.events a.events.thread j → These a.events.thread j → k ≡ m)
     → IsAfter boxes These (right_of b.end)
-after_one boxes k i b These there has is only = record {
-  x = least_one 0 b.end.x (EndsWhere boxes (λ q. q.x) These) (omega arith)
+place_after_single_box boxes k i b These there has is only = record {
+  x = least_above_of_single_number 0 b.end.x (EndsWhere boxes (λ q. q.x) These) (omega arith)
       (record { at = k; box = b; event = i; there = there; has = has; these = is; ends = refl }) (λ w e. one (λ q. q.x) w e);
-  u = least_one 1 b.end.u (EndsWhere boxes (λ q. q.u) These) (omega arith)
+  u = least_above_of_single_number 1 b.end.u (EndsWhere boxes (λ q. q.u) These) (omega arith)
       (record { at = k; box = b; event = i; there = there; has = has; these = is; ends = refl }) (λ w e. one (λ q. q.u) w e);
 }
   where

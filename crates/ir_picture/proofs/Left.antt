@@ -7,12 +7,12 @@ use Rattle.ir_picture.specs.declared.placed_box.Point.{Point}
 use Rattle.ir_picture.specs.declared.placed_box.PlacedBox.{PlacedBox}
 
 -- the end of a box that b needs is one of those before which b doesn't start
-ends_needed : (r : Recorded) (boxes : List PlacedBox) (number : Point → ℕ) (k : ℕ) (a b : PlacedBox) → slice_get boxes k ≡ Some a
+end_of_needed_box_is_before : (r : Recorded) (boxes : List PlacedBox) (number : Point → ℕ) (k : ℕ) (a b : PlacedBox) → slice_get boxes k ≡ Some a
     → NeedsBox r b.events a.events → EndsBefore r boxes number b (number a.end)
-ends_needed r boxes number k a b there needs = inr (record { at = k; box = a; there = there; needs = needs; ends = refl })
+end_of_needed_box_is_before r boxes number k a b there needs = inr (record { at = k; box = a; there = there; needs = needs; ends = refl })
 
 pub needs_are_left : PlacedNeedsAreLeft
 needs_are_left r boxes ends all k m a b at_k at_m needs = (
-  (all.placed m b at_m).start_x.above a.end.x (ends_needed r boxes (λ p. p.x) k a b at_k needs),
-  (all.placed m b at_m).start_u.above a.end.u (ends_needed r boxes (λ p. p.u) k a b at_k needs),
+  (all.placed m b at_m).start_x.above a.end.x (end_of_needed_box_is_before r boxes (λ p. p.x) k a b at_k needs),
+  (all.placed m b at_m).start_u.above a.end.u (end_of_needed_box_is_before r boxes (λ p. p.u) k a b at_k needs),
 )

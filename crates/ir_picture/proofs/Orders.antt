@@ -4,55 +4,55 @@ use Rattle.std.proofs.lemmas.Bool.{cases_eq, cases_lt}
 use Rattle.ir_trace.specs.Recorded.{Recorded, recorded_thread}
 use Rattle.ir_picture.specs.Needs.{Needs, placed, CanFollow, IsOrder, IsFullOrder}
 
-pub placed_here : (t : ℕ) (ts : List ℕ) → placed (t ∷ ts) t ≡ suc (placed ts t)
-placed_here t ts = omega (arith, ap {B = ℕ} (λ b. cond b 1 0) (eq-eqb t t refl))
+pub placed_of_own_thread : (t : ℕ) (ts : List ℕ) → placed (t ∷ ts) t ≡ suc (placed ts t)
+placed_of_own_thread t ts = omega (arith, ap {B = ℕ} (λ b. cond b 1 0) (eq-eqb t t refl))
 
-pub placed_other : (t u : ℕ) (ts : List ℕ) → (u ≡ t → ⊥) → placed (t ∷ ts) u ≡ placed ts u
-placed_other t u ts ne = omega (arith, ap {B = ℕ} (λ b. cond b 1 0) (ne_eqb t u (λ e. ne (sym e))))
+pub placed_of_other_thread : (t u : ℕ) (ts : List ℕ) → (u ≡ t → ⊥) → placed (t ∷ ts) u ≡ placed ts u
+placed_of_other_thread t u ts ne = omega (arith, ap {B = ℕ} (λ b. cond b 1 0) (ne_eqb t u (λ e. ne (sym e))))
 
-pub placed_more : (t u : ℕ) (ts : List ℕ) → placed ts u ≤ placed (t ∷ ts) u
-placed_more t u ts = elim (cases_eq u t) [
-  | inl here ↦ subst (λ z. placed ts z ≤ placed (t ∷ ts) z) (sym here) (omega (arith, placed_here t ts))
-  | inr ne ↦ omega (arith, placed_other t u ts ne)
+pub placed_never_falls : (t u : ℕ) (ts : List ℕ) → placed ts u ≤ placed (t ∷ ts) u
+placed_never_falls t u ts = elim (cases_eq u t) [
+  | inl here ↦ subst (λ z. placed ts z ≤ placed (t ∷ ts) z) (sym here) (omega (arith, placed_of_own_thread t ts))
+  | inr ne ↦ omega (arith, placed_of_other_thread t u ts ne)
 ]
 
 -- what a placed event needs is placed
-pub closed : (r : Recorded) (order : List ℕ) → IsOrder r order → (t i u j : ℕ) → i < placed order t → Needs r t i u j → j < placed order u
-closed r [] is t i u j less needs = absurd (omega (arith, less))
-closed r (s ∷ ss) is t i u j less needs = elim (cases_lt i (placed ss t)) [
-  | inl old ↦ omega (arith, closed r ss is.0 t i u j old needs, placed_more s u ss)
+pub needed_event_is_placed : (r : Recorded) (order : List ℕ) → IsOrder r order → (t i u j : ℕ) → i < placed order t → Needs r t i u j → j < placed order u
+needed_event_is_placed r [] is t i u j less needs = absurd (omega (arith, less))
+needed_event_is_placed r (s ∷ ss) is t i u j less needs = elim (cases_lt i (placed ss t)) [
+  | inl old ↦ omega (arith, needed_event_is_placed r ss is.0 t i u j old needs, placed_never_falls s u ss)
   | inr not ↦ elim (cases_eq t s) [
     | inl here ↦
-        let event : i ≡ placed ss s = omega (arith, not, less, placed_here s ss, ap (placed ss) here, ap (placed (s ∷ ss)) here) in
-        omega (arith, is.1.needs u j (subst (λ z. Needs r z (placed ss s) u j) here (subst (λ z. Needs r t z u j) event needs)), placed_more s u ss)
-    | inr ne ↦ absurd (omega (arith, not, less, placed_other s t ss ne))
+        let event : i ≡ placed ss s = omega (arith, not, less, placed_of_own_thread s ss, ap (placed ss) here, ap (placed (s ∷ ss)) here) in
+        omega (arith, is.1.needs u j (subst (λ z. Needs r z (placed ss s) u j) here (subst (λ z. Needs r t z u j) event needs)), placed_never_falls s u ss)
+    | inr ne ↦ absurd (omega (arith, not, less, placed_of_other_thread s t ss ne))
   ]
 ]
 
 -- no more events are placed than there are
-pub placed_within : (r : Recorded) (order : List ℕ) → IsOrder r order → (t : ℕ) → placed order t ≤ length (recorded_thread r t).events
-placed_within r [] is t = omega arith
-placed_within r (s ∷ ss) is t = elim (cases_eq t s) [
-  | inl here ↦ subst (λ z. placed (s ∷ ss) z ≤ length (recorded_thread r z).events) (sym here) (omega (arith, placed_here s ss, is.1.there))
-  | inr ne ↦ omega (arith, placed_other s t ss ne, placed_within r ss is.0 t)
+pub placed_at_most_event_count : (r : Recorded) (order : List ℕ) → IsOrder r order → (t : ℕ) → placed order t ≤ length (recorded_thread r t).events
+placed_at_most_event_count r [] is t = omega arith
+placed_at_most_event_count r (s ∷ ss) is t = elim (cases_eq t s) [
+  | inl here ↦ subst (λ z. placed (s ∷ ss) z ≤ length (recorded_thread r z).events) (sym here) (omega (arith, placed_of_own_thread s ss, is.1.there))
+  | inr ne ↦ omega (arith, placed_of_other_thread s t ss ne, placed_at_most_event_count r ss is.0 t)
 ]
 
 -- an order that no thread can follow places as many events as any
-pub most_placed : (r : Recorded) (order : List ℕ) → ((t : ℕ) → CanFollow r (placed order) t → ⊥) → (other : List ℕ) → IsOrder r other → (t : ℕ)
+pub stuck_order_places_most : (r : Recorded) (order : List ℕ) → ((t : ℕ) → CanFollow r (placed order) t → ⊥) → (other : List ℕ) → IsOrder r other → (t : ℕ)
     → placed other t ≤ placed order t
-most_placed r order stuck [] is t = omega arith
-most_placed r order stuck (s ∷ ss) is t = elim (cases_eq t s) [
+stuck_order_places_most r order stuck [] is t = omega arith
+stuck_order_places_most r order stuck (s ∷ ss) is t = elim (cases_eq t s) [
   | inl here ↦ elim (cases_lt (placed ss s) (placed order s)) [
-    | inl less ↦ subst (λ z. placed (s ∷ ss) z ≤ placed order z) (sym here) (omega (arith, placed_here s ss, less))
+    | inl less ↦ subst (λ z. placed (s ∷ ss) z ≤ placed order z) (sym here) (omega (arith, placed_of_own_thread s ss, less))
     | inr not ↦
-        let same : placed ss s ≡ placed order s = omega (arith, not, most_placed r order stuck ss is.0 s) in
+        let same : placed ss s ≡ placed order s = omega (arith, not, stuck_order_places_most r order stuck ss is.0 s) in
         absurd (stuck s record {
           there = subst (λ z. z < length (recorded_thread r s).events) same is.1.there;
-          needs = λ u j needs. omega (arith, is.1.needs u j (subst (λ z. Needs r s z u j) (sym same) needs), most_placed r order stuck ss is.0 u);
+          needs = λ u j needs. omega (arith, is.1.needs u j (subst (λ z. Needs r s z u j) (sym same) needs), stuck_order_places_most r order stuck ss is.0 u);
         })
   ]
-  | inr ne ↦ omega (arith, placed_other s t ss ne, most_placed r order stuck ss is.0 t)
+  | inr ne ↦ omega (arith, placed_of_other_thread s t ss ne, stuck_order_places_most r order stuck ss is.0 t)
 ]
 
-pub full_order : (r : Recorded) (order : List ℕ) → IsOrder r order → ((t : ℕ) → CanFollow r (placed order) t → ⊥) → IsFullOrder r order
-full_order r order is stuck = record { is = is; most = most_placed r order stuck }
+pub stuck_order_is_full : (r : Recorded) (order : List ℕ) → IsOrder r order → ((t : ℕ) → CanFollow r (placed order) t → ⊥) → IsFullOrder r order
+stuck_order_is_full r order is stuck = record { is = is; most = stuck_order_places_most r order stuck }

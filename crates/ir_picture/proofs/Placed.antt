@@ -16,28 +16,28 @@ use Rattle.ir_picture.specs.declared.event_box.EventBox.{EventBox}
 use Rattle.ir_picture.specs.declared.placed_box.Point.{Point}
 use Rattle.ir_picture.specs.declared.placed_box.PlacedBox.{PlacedBox}
 use Rattle.ir_picture.specs.declared.table.Version.{Version}
-use Rattle.ir_picture.proofs.Lists.{map_get, map_back}
-use Rattle.ir_picture.proofs.Least.{least_same, after_same, after_none, after_both, after_kept, ends_same, ends_kept, ends_before}
-use Rattle.ir_picture.proofs.FoldNeeds.{fold_needs}
-use Rattle.ir_picture.proofs.Follows.{read_needs, write_needs, answer_needs, if_true, map_some, made_later, ready_follows}
+use Rattle.ir_picture.proofs.Lists.{slice_get_of_map, slice_get_before_map}
+use Rattle.ir_picture.proofs.Least.{least_above_of_equal_sets, place_after_equal_events, place_after_no_events, place_after_union_of_events, place_after_other_box_set, ends_where_of_wider_set, ends_where_after_other_box_set, ends_where_before_other_box_set}
+use Rattle.ir_picture.proofs.FoldNeeds.{box_needs_come_from_first_event}
+use Rattle.ir_picture.proofs.Follows.{read_needs_its_maker, write_needs_maker_or_reader, event_without_entry_needs_nothing, if_else_none_is_some, option_map_is_some, made_by_of_later_version, can_follow_if_place_known}
 
 -- ---- the first place after what an event needs
 
 -- event j of thread u made version v of object o
-abbrev pub Makers : Recorded → ℕ → ℕ → ℕ → ℕ → Type 0
-Makers r o v u j = (w k : ℕ) × (v ≡ suc w) × IsWriteAt r u j o w k
+abbrev pub MakesVersion : Recorded → ℕ → ℕ → ℕ → ℕ → Type 0
+MakesVersion r o v u j = (w k : ℕ) × (v ≡ suc w) × IsWriteAt r u j o w k
 
-made_after : (r : Recorded) (boxes : List PlacedBox) (c : ℕ → ℕ) (f : ℕ → ℕ → Version) → Knows r boxes c f → (o v : ℕ) (p : Point)
-    → made_by (f o v) v ≡ Some p → ((u j : ℕ) → Makers r o v u j → j < c u) → IsAfter boxes (Makers r o v) p
-made_after r boxes c f knows o zero p made all = subst (IsAfter boxes (Makers r o 0)) (same_Some first_point p made)
-    (after_none boxes (Makers r o 0) (λ u i m. omega (arith, m.2)))
-made_after r boxes c f knows o (suc v) p made all = after_same boxes (WritesPlaced r c o v) (Makers r o (suc v)) p
+place_after_makers : (r : Recorded) (boxes : List PlacedBox) (c : ℕ → ℕ) (f : ℕ → ℕ → Version) → Knows r boxes c f → (o v : ℕ) (p : Point)
+    → made_by (f o v) v ≡ Some p → ((u j : ℕ) → MakesVersion r o v u j → j < c u) → IsAfter boxes (MakesVersion r o v) p
+place_after_makers r boxes c f knows o zero p made all = subst (IsAfter boxes (MakesVersion r o 0)) (same_Some first_point p made)
+    (place_after_no_events boxes (MakesVersion r o 0) (λ u i m. omega (arith, m.2)))
+place_after_makers r boxes c f knows o (suc v) p made all = place_after_equal_events boxes (WritesPlaced r c o v) (MakesVersion r o (suc v)) p
     (λ u i these. (v, these.1.0, refl, these.1.1))
     (λ u i m. (all u i m, (m.1, subst (λ z. IsWriteAt r u i o z m.1) (omega (arith, m.2)) m.3)))
-    (knows.made o v p (sym (made_later (f o (suc v)) v) ∙ made)).1
+    (knows.made o v p (sym (made_by_of_later_version (f o (suc v)) v) ∙ made)).1
 
-maker_need : (r : Recorded) (t i o v : ℕ) → IsEntryAt r t i o v → (u j : ℕ) → Makers r o v u j → Needs r t i u j
-maker_need r t i o v entry u j m = inl record {
+maker_is_needed_by_entry : (r : Recorded) (t i o v : ℕ) → IsEntryAt r t i o v → (u j : ℕ) → MakesVersion r o v u j → Needs r t i u j
+maker_is_needed_by_entry r t i o v entry u j m = inl record {
   object = o;
   version = m.0;
   readers = m.1;
@@ -45,39 +45,39 @@ maker_need r t i o v entry u j m = inl record {
   made = m.3;
 }
 
-pub needed_after : (r : Recorded) (boxes : List PlacedBox) (c : ℕ → ℕ) (f : ℕ → ℕ → Version) → AreCoherent r → Knows r boxes c f → (t : ℕ) (e : Event)
+pub place_after_needs : (r : Recorded) (boxes : List PlacedBox) (c : ℕ → ℕ) (f : ℕ → ℕ → Version) → AreCoherent r → Knows r boxes c f → (t : ℕ) (e : Event)
     (p : Point) → event_at r t (c t) ≡ Some e → after_needs f e ≡ Some p → IsAfter boxes (Needs r t (c t)) p
-needed_after r boxes c f coherent knows t (Answer kind value) p is after = subst (IsAfter boxes (Needs r t (c t))) (same_Some first_point p after)
-    (after_none boxes (Needs r t (c t)) (λ u j needs. answer_needs r t (c t) u j (Answer kind value) is (λ o v e. cc) (λ o v l e. cc) needs))
-needed_after r boxes c f coherent knows t (Try o) p is after = subst (IsAfter boxes (Needs r t (c t))) (same_Some first_point p after)
-    (after_none boxes (Needs r t (c t)) (λ u j needs. answer_needs r t (c t) u j (Try o) is (λ q v e. cc) (λ q v l e. cc) needs))
-needed_after r boxes c f coherent knows t (Read o v) p is after =
-    let follow = ready_follows r boxes c f coherent knows t (Read o v) p is after in
-    after_same boxes (Makers r o v) (Needs r t (c t)) p (maker_need r t (c t) o v (inl is)) (λ u j needs. read_needs r t (c t) o v u j is needs)
-    (made_after r boxes c f knows o v p after (λ u j m. follow.needs u j (maker_need r t (c t) o v (inl is) u j m)))
-needed_after r boxes c f coherent knows t (Write o v l) p is after =
-    let follow = ready_follows r boxes c f coherent knows t (Write o v l) p is after in
-    let test = if_true ((f o v).readers == l) (option_map (λ (q : Point). later_of q (f o v).left) (made_by (f o v) v)) p after in
-    let made = map_some (λ (q : Point). later_of q (f o v).left) (made_by (f o v) v) p test.1 in
+place_after_needs r boxes c f coherent knows t (Answer kind value) p is after = subst (IsAfter boxes (Needs r t (c t))) (same_Some first_point p after)
+    (place_after_no_events boxes (Needs r t (c t)) (λ u j needs. event_without_entry_needs_nothing r t (c t) u j (Answer kind value) is (λ o v e. cc) (λ o v l e. cc) needs))
+place_after_needs r boxes c f coherent knows t (Try o) p is after = subst (IsAfter boxes (Needs r t (c t))) (same_Some first_point p after)
+    (place_after_no_events boxes (Needs r t (c t)) (λ u j needs. event_without_entry_needs_nothing r t (c t) u j (Try o) is (λ q v e. cc) (λ q v l e. cc) needs))
+place_after_needs r boxes c f coherent knows t (Read o v) p is after =
+    let follow = can_follow_if_place_known r boxes c f coherent knows t (Read o v) p is after in
+    place_after_equal_events boxes (MakesVersion r o v) (Needs r t (c t)) p (maker_is_needed_by_entry r t (c t) o v (inl is)) (λ u j needs. read_needs_its_maker r t (c t) o v u j is needs)
+    (place_after_makers r boxes c f knows o v p after (λ u j m. follow.needs u j (maker_is_needed_by_entry r t (c t) o v (inl is) u j m)))
+place_after_needs r boxes c f coherent knows t (Write o v l) p is after =
+    let follow = can_follow_if_place_known r boxes c f coherent knows t (Write o v l) p is after in
+    let test = if_else_none_is_some ((f o v).readers == l) (option_map (λ (q : Point). later_of q (f o v).left) (made_by (f o v) v)) p after in
+    let made = option_map_is_some (λ (q : Point). later_of q (f o v).left) (made_by (f o v) v) p test.1 in
     subst (IsAfter boxes (Needs r t (c t))) made.2
-    (after_both boxes (Makers r o v) (ReadsPlaced r c o v) (Needs r t (c t)) made.0 (f o v).left (maker_need r t (c t) o v (inr (l, is)))
+    (place_after_union_of_events boxes (MakesVersion r o v) (ReadsPlaced r c o v) (Needs r t (c t)) made.0 (f o v).left (maker_is_needed_by_entry r t (c t) o v (inr (l, is)))
     (λ u j d. inr (record { object = o; version = v; readers = l; write = is; read = d.1 }))
-    (λ u j needs. elim (write_needs r t (c t) o v l u j is needs) [
+    (λ u j needs. elim (write_needs_maker_or_reader r t (c t) o v l u j is needs) [
       | inl m ↦ inl m
       | inr read ↦ inr (follow.needs u j needs, read)
     ])
-    (made_after r boxes c f knows o v made.0 made.1 (λ u j m. follow.needs u j (maker_need r t (c t) o v (inr (l, is)) u j m))) (knows.left o v))
+    (place_after_makers r boxes c f knows o v made.0 made.1 (λ u j m. follow.needs u j (maker_is_needed_by_entry r t (c t) o v (inr (l, is)) u j m))) (knows.left o v))
 
 -- ---- what ends before a box starts, by its events
 
 -- an event of another box has to come before box b: an earlier one of its thread, or one that it needs
-abbrev pub Before : Recorded → EventBox → ℕ → ℕ → Type 0
-Before r b u i = IsOf b.thread b.event u i ⊎ ((h : ℕ) × IsInBox b b.thread h × Needs r b.thread h u i)
+abbrev pub ComesBeforeBox : Recorded → EventBox → ℕ → ℕ → Type 0
+ComesBeforeBox r b u i = IsOf b.thread b.event u i ⊎ ((h : ℕ) × IsInBox b b.thread h × Needs r b.thread h u i)
 
-pub to_before : (r : Recorded) (boxes : List PlacedBox) (number : Point → ℕ) (b : PlacedBox) → AreBoxes r (events_of_all boxes) → (z : ℕ)
-    → EndsBefore r boxes number b z → EndsWhere boxes number (Before r b.events) z
-to_before r boxes number b are z (inl e) =
-    let box = are.each e.at e.box.events (map_get (λ (x : PlacedBox). x.events) boxes e.at e.box e.there) in
+pub ends_where_if_ends_before : (r : Recorded) (boxes : List PlacedBox) (number : Point → ℕ) (b : PlacedBox) → AreBoxes r (events_of_all boxes) → (z : ℕ)
+    → EndsBefore r boxes number b z → EndsWhere boxes number (ComesBeforeBox r b.events) z
+ends_where_if_ends_before r boxes number b are z (inl e) =
+    let box = are.each e.at e.box.events (slice_get_of_map (λ (x : PlacedBox). x.events) boxes e.at e.box e.there) in
     record {
       at = e.at;
       box = e.box;
@@ -87,7 +87,7 @@ to_before r boxes number b are z (inl e) =
       these = inl e.earlier;
       ends = e.ends;
     }
-to_before r boxes number b are z (inr e) = record {
+ends_where_if_ends_before r boxes number b are z (inr e) = record {
   at = e.at;
   box = e.box;
   event = e.needs.needed;
@@ -97,9 +97,9 @@ to_before r boxes number b are z (inr e) = record {
   ends = e.ends;
 }
 
-pub from_before : (r : Recorded) (boxes : List PlacedBox) (number : Point → ℕ) (b : PlacedBox) (z : ℕ) → EndsWhere boxes number (Before r b.events) z
+pub ends_before_if_ends_where : (r : Recorded) (boxes : List PlacedBox) (number : Point → ℕ) (b : PlacedBox) (z : ℕ) → EndsWhere boxes number (ComesBeforeBox r b.events) z
     → EndsBefore r boxes number b z
-from_before r boxes number b z e = elim e.these [
+ends_before_if_ends_where r boxes number b z e = elim e.these [
   | inl own ↦ inl (record { at = e.at; box = e.box; there = e.there; earlier = (own.0, omega (arith, own.1, e.has.from)); ends = e.ends })
   | inr needed ↦ inr (record {
     at = e.at;
@@ -110,10 +110,10 @@ from_before r boxes number b z e = elim e.these [
   })
 ]
 
-to_own : (r : Recorded) (boxes : List PlacedBox) (number : Point → ℕ) (b : PlacedBox) → AreBoxes r (events_of_all boxes) → (z : ℕ)
+ends_where_if_ends_earlier : (r : Recorded) (boxes : List PlacedBox) (number : Point → ℕ) (b : PlacedBox) → AreBoxes r (events_of_all boxes) → (z : ℕ)
     → EndsEarlier boxes number b z → EndsWhere boxes number (IsOf b.events.thread b.events.event) z
-to_own r boxes number b are z e =
-    let box = are.each e.at e.box.events (map_get (λ (x : PlacedBox). x.events) boxes e.at e.box e.there) in
+ends_where_if_ends_earlier r boxes number b are z e =
+    let box = are.each e.at e.box.events (slice_get_of_map (λ (x : PlacedBox). x.events) boxes e.at e.box e.there) in
     record {
       at = e.at;
       box = e.box;
@@ -124,9 +124,9 @@ to_own r boxes number b are z e =
       ends = e.ends;
     }
 
-from_own : (boxes : List PlacedBox) (number : Point → ℕ) (b : PlacedBox) (z : ℕ) → EndsWhere boxes number (IsOf b.events.thread b.events.event) z
+ends_earlier_if_ends_where : (boxes : List PlacedBox) (number : Point → ℕ) (b : PlacedBox) (z : ℕ) → EndsWhere boxes number (IsOf b.events.thread b.events.event) z
     → EndsEarlier boxes number b z
-from_own boxes number b z e = record {
+ends_earlier_if_ends_where boxes number b z e = record {
   at = e.at;
   box = e.box;
   there = e.there;
@@ -135,57 +135,57 @@ from_own boxes number b z e = record {
 }
 
 -- the places of a box, by events
-pub record PlacedAt (r : Recorded) (boxes : List PlacedBox) (b : PlacedBox) : Type 0 where
-  pub start : IsAfter boxes (Before r b.events) b.start
+pub record IsPlacedByEvents (r : Recorded) (boxes : List PlacedBox) (b : PlacedBox) : Type 0 where
+  pub start : IsAfter boxes (ComesBeforeBox r b.events) b.start
   pub end_x : (e : Event) → event_at r b.events.thread b.events.event ≡ Some e → b.end.x ≡ b.start.x + length_of e
   pub end_u : b.end.u ≡ b.start.u
   pub came : IsLeastAbove 1 (EndsWhere boxes (λ q. q.u) (IsOf b.events.thread b.events.event)) b.came
 
-pub to_placed : (r : Recorded) (boxes : List PlacedBox) (b : PlacedBox) → AreBoxes r (events_of_all boxes) → PlacedAt r boxes b → IsPlaced r boxes b
-to_placed r boxes b are h = record {
-  start_x = least_same 0 (EndsWhere boxes (λ q. q.x) (Before r b.events)) (EndsBefore r boxes (λ q. q.x) b) b.start.x
-      (from_before r boxes (λ q. q.x) b) (to_before r boxes (λ q. q.x) b are) h.start.x;
+pub placed_if_placed_by_events : (r : Recorded) (boxes : List PlacedBox) (b : PlacedBox) → AreBoxes r (events_of_all boxes) → IsPlacedByEvents r boxes b → IsPlaced r boxes b
+placed_if_placed_by_events r boxes b are h = record {
+  start_x = least_above_of_equal_sets 0 (EndsWhere boxes (λ q. q.x) (ComesBeforeBox r b.events)) (EndsBefore r boxes (λ q. q.x) b) b.start.x
+      (ends_before_if_ends_where r boxes (λ q. q.x) b) (ends_where_if_ends_before r boxes (λ q. q.x) b are) h.start.x;
   end_x = h.end_x;
-  start_u = least_same 1 (EndsWhere boxes (λ q. q.u) (Before r b.events)) (EndsBefore r boxes (λ q. q.u) b) b.start.u
-      (from_before r boxes (λ q. q.u) b) (to_before r boxes (λ q. q.u) b are) h.start.u;
+  start_u = least_above_of_equal_sets 1 (EndsWhere boxes (λ q. q.u) (ComesBeforeBox r b.events)) (EndsBefore r boxes (λ q. q.u) b) b.start.u
+      (ends_before_if_ends_where r boxes (λ q. q.u) b) (ends_where_if_ends_before r boxes (λ q. q.u) b are) h.start.u;
   end_u = h.end_u;
-  came = least_same 1 (EndsWhere boxes (λ q. q.u) (IsOf b.events.thread b.events.event)) (EndsEarlier boxes (λ q. q.u) b) b.came
-      (from_own boxes (λ q. q.u) b) (to_own r boxes (λ q. q.u) b are) h.came;
+  came = least_above_of_equal_sets 1 (EndsWhere boxes (λ q. q.u) (IsOf b.events.thread b.events.event)) (EndsEarlier boxes (λ q. q.u) b) b.came
+      (ends_earlier_if_ends_where boxes (λ q. q.u) b) (ends_where_if_ends_earlier r boxes (λ q. q.u) b are) h.came;
 }
 
-pub from_placed : (r : Recorded) (boxes : List PlacedBox) (b : PlacedBox) → AreBoxes r (events_of_all boxes) → IsPlaced r boxes b → PlacedAt r boxes b
-from_placed r boxes b are h = record {
+pub placed_by_events_if_placed : (r : Recorded) (boxes : List PlacedBox) (b : PlacedBox) → AreBoxes r (events_of_all boxes) → IsPlaced r boxes b → IsPlacedByEvents r boxes b
+placed_by_events_if_placed r boxes b are h = record {
   start = record {
-    x = least_same 0 (EndsBefore r boxes (λ q. q.x) b) (EndsWhere boxes (λ q. q.x) (Before r b.events)) b.start.x
-        (to_before r boxes (λ q. q.x) b are) (from_before r boxes (λ q. q.x) b) h.start_x;
-    u = least_same 1 (EndsBefore r boxes (λ q. q.u) b) (EndsWhere boxes (λ q. q.u) (Before r b.events)) b.start.u
-        (to_before r boxes (λ q. q.u) b are) (from_before r boxes (λ q. q.u) b) h.start_u;
+    x = least_above_of_equal_sets 0 (EndsBefore r boxes (λ q. q.x) b) (EndsWhere boxes (λ q. q.x) (ComesBeforeBox r b.events)) b.start.x
+        (ends_where_if_ends_before r boxes (λ q. q.x) b are) (ends_before_if_ends_where r boxes (λ q. q.x) b) h.start_x;
+    u = least_above_of_equal_sets 1 (EndsBefore r boxes (λ q. q.u) b) (EndsWhere boxes (λ q. q.u) (ComesBeforeBox r b.events)) b.start.u
+        (ends_where_if_ends_before r boxes (λ q. q.u) b are) (ends_before_if_ends_where r boxes (λ q. q.u) b) h.start_u;
   };
   end_x = h.end_x;
   end_u = h.end_u;
-  came = least_same 1 (EndsEarlier boxes (λ q. q.u) b) (EndsWhere boxes (λ q. q.u) (IsOf b.events.thread b.events.event)) b.came
-      (to_own r boxes (λ q. q.u) b are) (from_own boxes (λ q. q.u) b) h.came;
+  came = least_above_of_equal_sets 1 (EndsEarlier boxes (λ q. q.u) b) (EndsWhere boxes (λ q. q.u) (IsOf b.events.thread b.events.event)) b.came
+      (ends_where_if_ends_earlier r boxes (λ q. q.u) b are) (ends_earlier_if_ends_where boxes (λ q. q.u) b) h.came;
 }
 
 -- a box that is placed stays so where another is changed whose events are none that it comes after
-pub placed_kept : (r : Recorded) (boxes : List PlacedBox) (k : ℕ) (old new b : PlacedBox) → slice_get boxes k ≡ Some old → new.events ≡ old.events
-    → ((i : ℕ) → IsInBox old.events old.events.thread i → Before r b.events old.events.thread i → ⊥) → PlacedAt r boxes b
-    → PlacedAt r (slice_set boxes k new) b
-placed_kept r boxes k old new b at same not h = record {
-  start = after_kept boxes k old new (Before r b.events) b.start at same not h.start;
+pub placed_after_other_box_set : (r : Recorded) (boxes : List PlacedBox) (k : ℕ) (old new b : PlacedBox) → slice_get boxes k ≡ Some old → new.events ≡ old.events
+    → ((i : ℕ) → IsInBox old.events old.events.thread i → ComesBeforeBox r b.events old.events.thread i → ⊥) → IsPlacedByEvents r boxes b
+    → IsPlacedByEvents r (slice_set boxes k new) b
+placed_after_other_box_set r boxes k old new b at same not h = record {
+  start = place_after_other_box_set boxes k old new (ComesBeforeBox r b.events) b.start at same not h.start;
   end_x = h.end_x;
   end_u = h.end_u;
-  came = least_same 1 (EndsWhere boxes (λ q. q.u) (IsOf b.events.thread b.events.event))
+  came = least_above_of_equal_sets 1 (EndsWhere boxes (λ q. q.u) (IsOf b.events.thread b.events.event))
       (EndsWhere (slice_set boxes k new) (λ q. q.u) (IsOf b.events.thread b.events.event)) b.came
-      (ends_kept boxes k old new (λ q. q.u) (IsOf b.events.thread b.events.event) at (λ i has own. not i has (inl own)))
-      (ends_before boxes k old new (λ q. q.u) (IsOf b.events.thread b.events.event) at same (λ i has own. not i has (inl own))) h.came;
+      (ends_where_after_other_box_set boxes k old new (λ q. q.u) (IsOf b.events.thread b.events.event) at (λ i has own. not i has (inl own)))
+      (ends_where_before_other_box_set boxes k old new (λ q. q.u) (IsOf b.events.thread b.events.event) at same (λ i has own. not i has (inl own))) h.came;
 }
 
 -- ---- the box that is placed
 
-least_into : (from : ℕ) (A B C : ℕ → Type 0) (x y : ℕ) → ((z : ℕ) → A z → C z) → ((z : ℕ) → B z → C z) → ((z : ℕ) → C z → (z < x) ⊎ (z < y))
+least_above_of_covered_union : (from : ℕ) (A B C : ℕ → Type 0) (x y : ℕ) → ((z : ℕ) → A z → C z) → ((z : ℕ) → B z → C z) → ((z : ℕ) → C z → (z < x) ⊎ (z < y))
     → IsLeastAbove from A x → IsLeastAbove from B y → IsLeastAbove from C (max x y)
-least_into from A B C x y of_a of_b parts h k = record {
+least_above_of_covered_union from A B C x y of_a of_b parts h k = record {
   start = omega (arith, h.start);
   above = λ z c. elim (parts z c) [
     | inl less ↦ omega (arith, less)
@@ -194,32 +194,32 @@ least_into from A B C x y of_a of_b parts h k = record {
   least = λ w low all. omega (arith, h.least w low (λ z a. all z (of_a z a)), k.least w low (λ z b. all z (of_b z b)));
 }
 
-there : (es : List Event) (i : ℕ) → i < length es → (x : Event) × (slice_get es i ≡ Some x)
-there [] i less = absurd (omega (arith, less))
-there (x ∷ es) zero less = (x, refl)
-there (x ∷ es) (suc i) less = there es i (omega (arith, less))
+element_below_length_exists : (es : List Event) (i : ℕ) → i < length es → (x : Event) × (slice_get es i ≡ Some x)
+element_below_length_exists [] i less = absurd (omega (arith, less))
+element_below_length_exists (x ∷ es) zero less = (x, refl)
+element_below_length_exists (x ∷ es) (suc i) less = element_below_length_exists es i (omega (arith, less))
 
 -- a box has a first event
-pub event_there : (r : Recorded) (b : EventBox) → IsBox r b → (x : Event) × (event_at r b.thread b.event ≡ Some x)
-event_there r b box = there (recorded_thread r b.thread).events b.event (omega (arith, box.some, box.within))
+pub first_event_of_box_exists : (r : Recorded) (b : EventBox) → IsBox r b → (x : Event) × (event_at r b.thread b.event ≡ Some x)
+first_event_of_box_exists r b box = element_below_length_exists (recorded_thread r b.thread).events b.event (omega (arith, box.some, box.within))
 
 -- a box whose first event is e is placed after the earlier boxes of its thread, and after what its first event needs
-pub placed_new : (r : Recorded) (boxes : List PlacedBox) (events : EventBox) (e : Event) (free needed : Point) → AreBoxes r (events_of_all boxes)
+pub new_box_is_placed_by_events : (r : Recorded) (boxes : List PlacedBox) (events : EventBox) (e : Event) (free needed : Point) → AreBoxes r (events_of_all boxes)
     → IsBox r events → event_at r events.thread events.event ≡ Some e → IsAfter boxes (IsOf events.thread events.event) free
     → IsAfter boxes (Needs r events.thread events.event) needed
-    → ((m h : ℕ) (a : PlacedBox) → slice_get boxes m ≡ Some a → IsInBox a.events events.thread h → h < events.event → PlacedAt r boxes a)
-    → PlacedAt r boxes (box_at events e free needed)
-placed_new r boxes events e free needed are is first of_free of_needed earlier = record {
+    → ((m h : ℕ) (a : PlacedBox) → slice_get boxes m ≡ Some a → IsInBox a.events events.thread h → h < events.event → IsPlacedByEvents r boxes a)
+    → IsPlacedByEvents r boxes (box_at events e free needed)
+new_box_is_placed_by_events r boxes events e free needed are is first of_free of_needed earlier = record {
   start = record {
-    x = least_into 0 (EndsWhere boxes (λ q. q.x) (IsOf events.thread events.event)) (EndsWhere boxes (λ q. q.x) (Needs r events.thread events.event))
-        (EndsWhere boxes (λ q. q.x) (Before r events)) free.x needed.x
-        (ends_same boxes (λ q. q.x) (IsOf events.thread events.event) (Before r events) (λ u i own. inl own))
-        (ends_same boxes (λ q. q.x) (Needs r events.thread events.event) (Before r events) (λ u i needs. inr (events.event, own_first, needs)))
+    x = least_above_of_covered_union 0 (EndsWhere boxes (λ q. q.x) (IsOf events.thread events.event)) (EndsWhere boxes (λ q. q.x) (Needs r events.thread events.event))
+        (EndsWhere boxes (λ q. q.x) (ComesBeforeBox r events)) free.x needed.x
+        (ends_where_of_wider_set boxes (λ q. q.x) (IsOf events.thread events.event) (ComesBeforeBox r events) (λ u i own. inl own))
+        (ends_where_of_wider_set boxes (λ q. q.x) (Needs r events.thread events.event) (ComesBeforeBox r events) (λ u i needs. inr (events.event, own_first, needs)))
         parts_x of_free.x of_needed.x;
-    u = least_into 1 (EndsWhere boxes (λ q. q.u) (IsOf events.thread events.event)) (EndsWhere boxes (λ q. q.u) (Needs r events.thread events.event))
-        (EndsWhere boxes (λ q. q.u) (Before r events)) free.u needed.u
-        (ends_same boxes (λ q. q.u) (IsOf events.thread events.event) (Before r events) (λ u i own. inl own))
-        (ends_same boxes (λ q. q.u) (Needs r events.thread events.event) (Before r events) (λ u i needs. inr (events.event, own_first, needs)))
+    u = least_above_of_covered_union 1 (EndsWhere boxes (λ q. q.u) (IsOf events.thread events.event)) (EndsWhere boxes (λ q. q.u) (Needs r events.thread events.event))
+        (EndsWhere boxes (λ q. q.u) (ComesBeforeBox r events)) free.u needed.u
+        (ends_where_of_wider_set boxes (λ q. q.u) (IsOf events.thread events.event) (ComesBeforeBox r events) (λ u i own. inl own))
+        (ends_where_of_wider_set boxes (λ q. q.u) (Needs r events.thread events.event) (ComesBeforeBox r events) (λ u i needs. inr (events.event, own_first, needs)))
         parts_u of_free.u of_needed.u;
   };
   end_x = λ a is_a. ap (λ (x : Event). max free.x needed.x + length_of x) (same_Some e a (sym first ∙ is_a));
@@ -235,15 +235,15 @@ placed_new r boxes events e free needed are is first of_free of_needed earlier =
         → IsInBox d.events u j → u ≡ d.events.thread → (d.end.x < free.x) × (d.end.u < free.u)
     earlier_box h u j less needs m d at_d has_d thread_d =
         let home = are.all events.thread h (omega (arith, less, is.within, is.some)) in
-        let back = map_back (λ (x : PlacedBox). x.events) boxes home.number home.box home.there in
+        let back = slice_get_before_map (λ (x : PlacedBox). x.events) boxes home.number home.box home.there in
         let a : PlacedBox = back.0 in
         let has : IsInBox a.events events.thread h = subst (λ (x : EventBox). IsInBox x events.thread h) (sym back.2) home.has in
-        let at : PlacedAt r boxes a = earlier home.number h a back.1 has less in
+        let at : IsPlacedByEvents r boxes a = earlier home.number h a back.1 has less in
         let own : IsInBox a.events a.events.thread h = record { thread = refl; from = has.from; below = has.below } in
         let needs_a : Needs r a.events.thread h d.events.thread j =
         subst (λ z. Needs r z h d.events.thread j) (sym has.thread) (subst (λ z. Needs r events.thread h z j) thread_d needs) in
         let in_d : IsInBox d.events d.events.thread j = record { thread = refl; from = has_d.from; below = has_d.below } in
-        let event_a = event_there r a.events (are.each home.number a.events (map_get (λ (x : PlacedBox). x.events) boxes home.number a back.1)) in (
+        let event_a = first_event_of_box_exists r a.events (are.each home.number a.events (slice_get_of_map (λ (x : PlacedBox). x.events) boxes home.number a back.1)) in (
           omega (
             arith,
             at.start.x.above d.end.x (record { at = m; box = d; event = j; there = at_d; has = in_d; these = inr (h, own, needs_a); ends = refl }),
@@ -258,10 +258,10 @@ placed_new r boxes events e free needed are is first of_free of_needed earlier =
           ),
         )
 
-    parts_x : (z : ℕ) → EndsWhere boxes (λ q. q.x) (Before r events) z → (z < free.x) ⊎ (z < needed.x)
+    parts_x : (z : ℕ) → EndsWhere boxes (λ q. q.x) (ComesBeforeBox r events) z → (z < free.x) ⊎ (z < needed.x)
     parts_x z w = elim w.these [
       | inl own ↦ inl (of_free.x.above z (record { at = w.at; box = w.box; event = w.event; there = w.there; has = w.has; these = own; ends = w.ends }))
-      | inr n ↦ elim (fold_needs r events is (suc n.0) n.0 w.box.events.thread w.event (omega arith) n.1.from n.1.below n.2) [
+      | inr n ↦ elim (box_needs_come_from_first_event r events is (suc n.0) n.0 w.box.events.thread w.event (omega arith) n.1.from n.1.below n.2) [
         | inl needs ↦ inr (of_needed.x.above z
             (record { at = w.at; box = w.box; event = w.event; there = w.there; has = w.has; these = needs; ends = w.ends }))
         | inr old ↦ inl (omega (
@@ -272,10 +272,10 @@ placed_new r boxes events e free needed are is first of_free of_needed earlier =
       ]
     ]
 
-    parts_u : (z : ℕ) → EndsWhere boxes (λ q. q.u) (Before r events) z → (z < free.u) ⊎ (z < needed.u)
+    parts_u : (z : ℕ) → EndsWhere boxes (λ q. q.u) (ComesBeforeBox r events) z → (z < free.u) ⊎ (z < needed.u)
     parts_u z w = elim w.these [
       | inl own ↦ inl (of_free.u.above z (record { at = w.at; box = w.box; event = w.event; there = w.there; has = w.has; these = own; ends = w.ends }))
-      | inr n ↦ elim (fold_needs r events is (suc n.0) n.0 w.box.events.thread w.event (omega arith) n.1.from n.1.below n.2) [
+      | inr n ↦ elim (box_needs_come_from_first_event r events is (suc n.0) n.0 w.box.events.thread w.event (omega arith) n.1.from n.1.below n.2) [
         | inl needs ↦ inr (of_needed.u.above z
             (record { at = w.at; box = w.box; event = w.event; there = w.there; has = w.has; these = needs; ends = w.ends }))
         | inr old ↦ inl (omega (

@@ -6,8 +6,8 @@ use Rattle.std.proofs.lemmas.Nat.{mul-le}
 use Rattle.ir_log.specs.declared.event.Event.{Event}
 use Rattle.ir_thread.specs.Calls.{most_events}
 use Rattle.ir_trace.specs.Recorded.{Recorded, recorded_thread}
-use Rattle.ir_trace.proofs.CallerLemmas.{most_recorded_threads}
-use Rattle.ir_coherence.proofs.CallerLemmas.{thread_fits}
+use Rattle.ir_trace.proofs.CallerLemmas.{recorded_threads_at_most_limit}
+use Rattle.ir_coherence.proofs.CallerLemmas.{recorded_thread_at_number_is_recorded}
 use Rattle.ir_past.specs.Past.{event_at}
 use Rattle.ir_past.specs.Progress.{Fits}
 use Rattle.ir_past.specs.Answers.{AreCoherent}
@@ -21,17 +21,17 @@ use Rattle.ir_picture.specs.declared.placed_box.PlacedBox.{PlacedBox}
 use Rattle.ir_picture.specs.declared.table.Version.{Version}
 use Rattle.ir_picture.specs.declared.placing.Lane.{Lane}
 use Rattle.ir_picture.specs.declared.placing.Placing.{Placing}
-use Rattle.ir_picture.proofs.Lists.{map_get}
-use Rattle.ir_picture.proofs.Fitting.{all_fit}
-use Rattle.ir_picture.proofs.Counts.{placed_reads_few}
-use Rattle.ir_picture.proofs.Room.{left_next, near_needed, short}
-use Rattle.ir_picture.proofs.Next.{next_placed, lane_after, event_in, events_count}
+use Rattle.ir_picture.proofs.Lists.{slice_get_of_map}
+use Rattle.ir_picture.proofs.Fitting.{events_fit_objects}
+use Rattle.ir_picture.proofs.Counts.{placed_reads_within_limit}
+use Rattle.ir_picture.proofs.Room.{left_of_after_next_box, near_needed_place, event_length_at_most_one}
+use Rattle.ir_picture.proofs.Next.{being_placed_after_next_box, lane_after, event_at_of_box_event, length_of_events_in}
 
-pub box_there : (r : Recorded) (p : Placing) → IsPlacing r p → (k : ℕ) (b : PlacedBox) → slice_get p.boxes.items k ≡ Some b → IsBox r b.events
-box_there r p h k b at = h.are.boxes.each k b.events (map_get (λ (x : PlacedBox). x.events) p.boxes.items k b at)
+pub placing_box_is_box : (r : Recorded) (p : Placing) → IsPlacing r p → (k : ℕ) (b : PlacedBox) → slice_get p.boxes.items k ≡ Some b → IsBox r b.events
+placing_box_is_box r p h k b at = h.are.boxes.each k b.events (slice_get_of_map (λ (x : PlacedBox). x.events) p.boxes.items k b at)
 
 -- the parts of what is ready, by what the code reads
-pub record Reads (r : Recorded) (p : Placing) (t : ℕ) (needed : Point) (lane : Lane) (b : PlacedBox) : Type 0 where
+pub record ReadyParts (r : Recorded) (p : Placing) (t : ℕ) (needed : Point) (lane : Lane) (b : PlacedBox) : Type 0 where
   pub at : slice_get p.lanes.items t ≡ Some lane
   pub there : slice_get p.boxes.items lane.next ≡ Some b
   pub thread : b.events.thread ≡ t
@@ -39,9 +39,9 @@ pub record Reads (r : Recorded) (p : Placing) (t : ℕ) (needed : Point) (lane :
   pub first : event_at r b.events.thread b.events.event ≡ Some event
   pub after : after_needs (version_in p.table) event ≡ Some needed
 
-pub ready_lane : (r : Recorded) (p : Placing) (t : ℕ) (needed : Point) (h : IsReady r p t needed) (lane : Lane) → slice_get p.lanes.items t ≡ Some lane
-    → Reads r p t needed lane h.box
-ready_lane r p t needed h lane at = record {
+pub ready_parts_of_lane : (r : Recorded) (p : Placing) (t : ℕ) (needed : Point) (h : IsReady r p t needed) (lane : Lane) → slice_get p.lanes.items t ≡ Some lane
+    → ReadyParts r p t needed lane h.box
+ready_parts_of_lane r p t needed h lane at = record {
   at = at;
   there = subst (λ (l : Lane). slice_get p.boxes.items l.next ≡ Some h.box) (same_Some h.lane lane (sym h.next.at ∙ at)) h.next.there;
   thread = h.next.thread;
@@ -50,28 +50,28 @@ ready_lane r p t needed h lane at = record {
   after = h.after;
 }
 
-pub ready_reads : (r : Recorded) (p : Placing) (t : ℕ) (needed : Point) → IsReady r p t needed → (lane : Lane) (b : PlacedBox)
-    → slice_get p.lanes.items t ≡ Some lane → slice_get p.boxes.items lane.next ≡ Some b → Reads r p t needed lane b
-ready_reads r p t needed h lane b at there =
-    let x = ready_lane r p t needed h lane at in
-    subst (Reads r p t needed lane) (same_Some h.box b (sym x.there ∙ there)) x
+pub ready_parts_of_lane_and_box : (r : Recorded) (p : Placing) (t : ℕ) (needed : Point) → IsReady r p t needed → (lane : Lane) (b : PlacedBox)
+    → slice_get p.lanes.items t ≡ Some lane → slice_get p.boxes.items lane.next ≡ Some b → ReadyParts r p t needed lane b
+ready_parts_of_lane_and_box r p t needed h lane b at there =
+    let x = ready_parts_of_lane r p t needed h lane at in
+    subst (ReadyParts r p t needed lane) (same_Some h.box b (sym x.there ∙ there)) x
 
 -- the state after a box is placed
-pub place_next : (r : Recorded) (p new : Placing) (t : ℕ) (needed : Point) (lane : Lane) (b : PlacedBox) (e : Event) → AreCoherent r → IsPlacing r p
-    → Reads r p t needed lane b → event_at r b.events.thread b.events.event ≡ Some e
+pub placing_after_next_box : (r : Recorded) (p new : Placing) (t : ℕ) (needed : Point) (lane : Lane) (b : PlacedBox) (e : Event) → AreCoherent r → IsPlacing r p
+    → ReadyParts r p t needed lane b → event_at r b.events.thread b.events.event ≡ Some e
     → new.boxes.items ≡ slice_set p.boxes.items lane.next (box_at b.events e lane.free needed)
     → new.lanes.items ≡ slice_set p.lanes.items t (lane_after lane (box_at b.events e lane.free needed))
     → vec_len new.table.objects ≡ vec_len p.table.objects
     → ((o v : ℕ) → version_in new.table o v
     ≡ noted_all (events_in r b.events) (right_of (box_at b.events e lane.free needed).end) (version_in p.table) o v) → IsPlacing r new
-place_next r p new t needed lane b e coherent h reads first boxes lanes objects noted = record {
+placing_after_next_box r p new t needed lane b e coherent h reads first boxes lanes objects noted = record {
   recorded = h.recorded;
   objects = objects ∙ h.objects;
   are = subst (λ (f : ℕ → ℕ → Version). AreBeingPlaced r new.boxes.items new.lanes.items f) (λ i o v. sym (noted o v) i)
       (subst (λ (ls : List Lane). AreBeingPlaced r new.boxes.items ls after) (sym lanes)
       (subst (λ (bs : List PlacedBox). AreBeingPlaced r bs (slice_set p.lanes.items t (lane_after lane box)) after) (sym boxes)
       (subst (λ z. AreBeingPlaced r (slice_set p.boxes.items lane.next box) (slice_set p.lanes.items z (lane_after lane box)) after) reads.thread
-      (next_placed r p.boxes.items p.lanes.items (version_in p.table) lane b e needed coherent h.are
+      (being_placed_after_next_box r p.boxes.items p.lanes.items (version_in p.table) lane b e needed coherent h.are
       (subst (λ z. slice_get p.lanes.items z ≡ Some lane) (sym reads.thread) reads.at) reads.there first
       (subst (λ (x : Event). after_needs (version_in p.table) x ≡ Some needed) (same_Some reads.event e (sym reads.first ∙ first)) reads.after)))));
 }
@@ -84,55 +84,55 @@ place_next r p new t needed lane b e coherent h reads first boxes lanes objects 
 
 -- ---- bounds
 
-pub near_free : (r : Recorded) (p : Placing) (t : ℕ) (lane : Lane) → IsPlacing r p → slice_get p.lanes.items t ≡ Some lane
+pub free_place_within_limit : (r : Recorded) (p : Placing) (t : ℕ) (lane : Lane) → IsPlacing r p → slice_get p.lanes.items t ≡ Some lane
     → (lane.free.x ≤ 2 ^ 40) × (lane.free.u ≤ 2 ^ 40 + 1)
-near_free r p t lane h at =
+free_place_within_limit r p t lane h at =
     let near = h.are.room.lanes t lane at in
     (omega (arith, near.x, h.are.room.small), omega (arith, near.u, h.are.room.small))
 
-pub near_need : (r : Recorded) (p : Placing) (t : ℕ) (needed : Point) → IsPlacing r p → IsReady r p t needed
+pub needed_place_within_limit : (r : Recorded) (p : Placing) (t : ℕ) (needed : Point) → IsPlacing r p → IsReady r p t needed
     → (needed.x ≤ 2 ^ 40) × (needed.u ≤ 2 ^ 40 + 1)
-near_need r p t needed h ready =
-    let near = near_needed h.are.top (boxes_left p) (version_in p.table) ready.event needed h.are.room.first
+needed_place_within_limit r p t needed h ready =
+    let near = near_needed_place h.are.top (boxes_left p) (version_in p.table) ready.event needed h.are.room.first
     (λ o v. record { left = h.are.room.left o v; made = h.are.room.made o v }) ready.after in
     (omega (arith, near.x, h.are.room.small), omega (arith, near.u, h.are.room.small))
 
-few : (n m : ℕ) → n ≤ 16 → m ≤ n * most_events → m ≤ 16 * most_events
-few n m a b = omega (arith, b, mul-le n most_events 16 most_events a (omega arith))
+count_within_sixteen_threads : (n m : ℕ) → n ≤ 16 → m ≤ n * most_events → m ≤ 16 * most_events
+count_within_sixteen_threads n m a b = omega (arith, b, mul-le n most_events 16 most_events a (omega arith))
 
 -- the counts of read entries fit
-pub readers_fit : (r : Recorded) (p : Placing) (b : EventBox) → IsPlacing r p → IsBox r b → (o v : ℕ)
+pub reader_counts_fit : (r : Recorded) (p : Placing) (b : EventBox) → IsPlacing r p → IsBox r b → (o v : ℕ)
     → (version_in p.table o v).readers + length (events_in r b) < 2 ^ 32
-readers_fit r p b h is o v = omega (
+reader_counts_fit r p b h is o v = omega (
   arith,
   h.are.knows.readers o v,
-  few (length r.threads) (placed_reads r (placed h.are.order) o v) (most_recorded_threads r h.recorded)
-      (placed_reads_few r (placed h.are.order) o v h.recorded),
-  events_count r b is,
+  count_within_sixteen_threads (length r.threads) (placed_reads r (placed h.are.order) o v) (recorded_threads_at_most_limit r h.recorded)
+      (placed_reads_within_limit r (placed h.are.order) o v h.recorded),
+  length_of_events_in r b is,
   is.within,
-  (thread_fits r h.recorded b.thread is.thread).few_events,
+  (recorded_thread_at_number_is_recorded r h.recorded b.thread is.thread).few_events,
 )
 
 -- the events of a box are of objects that there are
-pub box_fits : (r : Recorded) (p : Placing) (b : EventBox) → IsPlacing r p → IsBox r b → Fits (events_in r b) (vec_len p.table.objects)
-box_fits r p b h is k o e at enters = omega (
+pub box_events_fit_objects : (r : Recorded) (p : Placing) (b : EventBox) → IsPlacing r p → IsBox r b → Fits (events_in r b) (vec_len p.table.objects)
+box_events_fit_objects r p b h is k o e at enters = omega (
   arith,
   h.objects,
-  all_fit r.profile r.objects (recorded_thread r b.thread).events (thread_fits r h.recorded b.thread is.thread).events_fit (b.event + k) o e
-      (event_in r b k e at) enters,
+  events_fit_objects r.profile r.objects (recorded_thread r b.thread).events (recorded_thread_at_number_is_recorded r h.recorded b.thread is.thread).events_fit (b.event + k) o e
+      (event_at_of_box_event r b k e at) enters,
 )
 
 -- ---- what is asked of the next box of a thread
 
-pub lane_read : (r : Recorded) (p : Placing) (t : ℕ) (lane : Lane) → IsPlacing r p → t < length r.threads → lane ≡ get_or p.lanes.items t lane
+pub lane_read_is_lane_of_thread : (r : Recorded) (p : Placing) (t : ℕ) (lane : Lane) → IsPlacing r p → t < length r.threads → lane ≡ get_or p.lanes.items t lane
     → slice_get p.lanes.items t ≡ Some lane
-lane_read r p t lane h less is = slice_get_read p.lanes.items (length p.lanes.items) t lane refl (omega (arith, less, h.are.threads)) is
+lane_read_is_lane_of_thread r p t lane h less is = slice_get_read p.lanes.items (length p.lanes.items) t lane refl (omega (arith, less, h.are.threads)) is
 
-pub found_next : (r : Recorded) (p : Placing) (t : ℕ) (lane : Lane) (boxes : List PlacedBox) (own : EventBox) (e : Event) → boxes ≡ p.boxes.items
+pub next_box_if_found : (r : Recorded) (p : Placing) (t : ℕ) (lane : Lane) (boxes : List PlacedBox) (own : EventBox) (e : Event) → boxes ≡ p.boxes.items
     → slice_get p.lanes.items t ≡ Some lane
     → ((b : PlacedBox) × (slice_get boxes lane.next ≡ Some b) × (b.events ≡ own) × (b.events.thread ≡ t))
     → event_at r own.thread own.event ≡ Some e → (b : PlacedBox) × IsNext r p.boxes.items p.lanes.items t lane b e
-found_next r p t lane boxes own e same at f first = (
+next_box_if_found r p t lane boxes own e same at f first = (
   f.0,
   record {
     at = at;
@@ -142,85 +142,85 @@ found_next r p t lane boxes own e same at f first = (
   },
 )
 
-pub found_box : (r : Recorded) (p : Placing) (t k : ℕ) (boxes : List PlacedBox) (own : EventBox) → IsPlacing r p → boxes ≡ p.boxes.items
+pub found_box_is_box : (r : Recorded) (p : Placing) (t k : ℕ) (boxes : List PlacedBox) (own : EventBox) → IsPlacing r p → boxes ≡ p.boxes.items
     → ((b : PlacedBox) × (slice_get boxes k ≡ Some b) × (b.events ≡ own) × (b.events.thread ≡ t)) → IsBox r own
-found_box r p t k boxes own h same f = subst (IsBox r) f.2
-    (box_there r p h k f.0 (subst (λ (bs : List PlacedBox). slice_get bs k ≡ Some f.0) same f.1))
+found_box_is_box r p t k boxes own h same f = subst (IsBox r) f.2
+    (placing_box_is_box r p h k f.0 (subst (λ (bs : List PlacedBox). slice_get bs k ≡ Some f.0) same f.1))
 
-pub ready_by : (r : Recorded) (p : Placing) (t : ℕ) (lane : Lane) (e : Event) (result : Option Point)
+pub ready_if_place_after_needs : (r : Recorded) (p : Placing) (t : ℕ) (lane : Lane) (e : Event) (result : Option Point)
     → ((b : PlacedBox) × IsNext r p.boxes.items p.lanes.items t lane b e) → result ≡ after_needs (version_in p.table) e
     → IfSome result (λ x. IsReady r p t x)
-ready_by r p t lane e None next is = tt
-ready_by r p t lane e (Some x) next is = record { lane = lane; box = next.0; event = e; next = next.1; after = sym is }
+ready_if_place_after_needs r p t lane e None next is = tt
+ready_if_place_after_needs r p t lane e (Some x) next is = record { lane = lane; box = next.0; event = e; next = next.1; after = sym is }
 
-pub waits_by : (r : Recorded) (p : Placing) (t : ℕ) (lane : Lane) (e : Event) (result : Option Point)
+pub waiting_if_no_place_after_needs : (r : Recorded) (p : Placing) (t : ℕ) (lane : Lane) (e : Event) (result : Option Point)
     → ((b : PlacedBox) × IsNext r p.boxes.items p.lanes.items t lane b e) → result ≡ after_needs (version_in p.table) e
     → IfNone result (IsWaiting r p t)
-waits_by r p t lane e (Some x) next is = tt
-waits_by r p t lane e None next is = λ l b x other.
+waiting_if_no_place_after_needs r p t lane e (Some x) next is = tt
+waiting_if_no_place_after_needs r p t lane e None next is = λ l b x other.
     let same_lane : lane ≡ l = same_Some lane l (sym next.1.at ∙ other.at) in
     let same_box : next.0 ≡ b = same_Some next.0 b (sym next.1.there
     ∙ subst (λ (y : Lane). slice_get p.boxes.items y.next ≡ Some b) (sym same_lane) other.there) in
     let same : e ≡ x = same_Some e x (sym next.1.first ∙ subst (λ (y : PlacedBox). event_at r t y.events.event ≡ Some x) (sym same_box) other.first) in
     subst (λ (y : Event). after_needs (version_in p.table) y ≡ None) same (sym is)
 
-pub waits_none : (r : Recorded) (p : Placing) (t : ℕ) (lane : Lane) (boxes : List PlacedBox) → boxes ≡ p.boxes.items → slice_get p.lanes.items t ≡ Some lane
+pub waiting_if_no_next_box : (r : Recorded) (p : Placing) (t : ℕ) (lane : Lane) (boxes : List PlacedBox) → boxes ≡ p.boxes.items → slice_get p.lanes.items t ≡ Some lane
     → ((b : PlacedBox) → slice_get boxes lane.next ≡ Some b → b.events.thread ≡ t → ⊥) → IsWaiting r p t
-waits_none r p t lane boxes same at none l b e next =
+waiting_if_no_next_box r p t lane boxes same at none l b e next =
     let same_lane : lane ≡ l = same_Some lane l (sym at ∙ next.at) in
     absurd (none b (subst (λ (bs : List PlacedBox). slice_get bs lane.next ≡ Some b) (sym same)
     (subst (λ (y : Lane). slice_get p.boxes.items y.next ≡ Some b) (sym same_lane) next.there)) next.thread)
 
 -- a thread that isn't there waits
-pub waits_past : (r : Recorded) (p : Placing) (t : ℕ) → IsPlacing r p → length r.threads ≤ t → IsWaiting r p t
-waits_past r p t h past l b e next = absurd (omega (arith, past, h.are.threads, slice_get_within p.lanes.items t l next.at))
+pub waiting_beyond_last_thread : (r : Recorded) (p : Placing) (t : ℕ) → IsPlacing r p → length r.threads ≤ t → IsWaiting r p t
+waiting_beyond_last_thread r p t h past l b e next = absurd (omega (arith, past, h.are.threads, slice_get_within p.lanes.items t l next.at))
 
-pub over_past : (r : Recorded) (p : Placing) (t : ℕ) → IsPlacing r p → length r.threads ≤ t → IsOver p t
-over_past r p t h past l b at there thread = omega (arith, past, h.are.threads, slice_get_within p.lanes.items t l at)
+pub over_beyond_last_thread : (r : Recorded) (p : Placing) (t : ℕ) → IsPlacing r p → length r.threads ≤ t → IsOver p t
+over_beyond_last_thread r p t h past l b at there thread = omega (arith, past, h.are.threads, slice_get_within p.lanes.items t l at)
 
-pub over_none : (p : Placing) (t : ℕ) (lane : Lane) (boxes : List PlacedBox) → boxes ≡ p.boxes.items → slice_get p.lanes.items t ≡ Some lane
+pub over_if_no_next_box : (p : Placing) (t : ℕ) (lane : Lane) (boxes : List PlacedBox) → boxes ≡ p.boxes.items → slice_get p.lanes.items t ≡ Some lane
     → ((b : PlacedBox) → slice_get boxes lane.next ≡ Some b → b.events.thread ≡ t → ⊥) → IsOver p t
-over_none p t lane boxes same at none l b at_l there thread =
+over_if_no_next_box p t lane boxes same at none l b at_l there thread =
     let same_lane : lane ≡ l = same_Some lane l (sym at ∙ at_l) in
     none b (subst (λ (bs : List PlacedBox). slice_get bs lane.next ≡ Some b) (sym same)
     (subst (λ (y : Lane). slice_get p.boxes.items y.next ≡ Some b) (sym same_lane) there)) thread
 
 -- ---- what the code reads where a thread is ready
 
-pub lane_of : (r : Recorded) (p : Placing) (t : ℕ) (needed : Point) (lane : Lane) → IsReady r p t needed → lane ≡ get_or p.lanes.items t lane
+pub lane_read_of_ready_thread : (r : Recorded) (p : Placing) (t : ℕ) (needed : Point) (lane : Lane) → IsReady r p t needed → lane ≡ get_or p.lanes.items t lane
     → slice_get p.lanes.items t ≡ Some lane
-lane_of r p t needed lane h is = slice_get_read p.lanes.items (length p.lanes.items) t lane refl (slice_get_within p.lanes.items t h.lane h.next.at) is
+lane_read_of_ready_thread r p t needed lane h is = slice_get_read p.lanes.items (length p.lanes.items) t lane refl (slice_get_within p.lanes.items t h.lane h.next.at) is
 
-pub reads_of : (r : Recorded) (p : Placing) (t : ℕ) (needed : Point) (lane : Lane) (b : PlacedBox) → IsPlacing r p → IsReady r p t needed
-    → lane ≡ get_or p.lanes.items t lane → b ≡ get_or p.boxes.items lane.next b → Reads r p t needed lane b
-reads_of r p t needed lane b h ready is_lane is_box =
-    let at = lane_of r p t needed lane ready is_lane in
-    let x = ready_lane r p t needed ready lane at in
-    ready_reads r p t needed ready lane b at
+pub ready_parts_of_values_read : (r : Recorded) (p : Placing) (t : ℕ) (needed : Point) (lane : Lane) (b : PlacedBox) → IsPlacing r p → IsReady r p t needed
+    → lane ≡ get_or p.lanes.items t lane → b ≡ get_or p.boxes.items lane.next b → ReadyParts r p t needed lane b
+ready_parts_of_values_read r p t needed lane b h ready is_lane is_box =
+    let at = lane_read_of_ready_thread r p t needed lane ready is_lane in
+    let x = ready_parts_of_lane r p t needed ready lane at in
+    ready_parts_of_lane_and_box r p t needed ready lane b at
     (slice_get_read p.boxes.items (length p.boxes.items) lane.next b refl (slice_get_within p.boxes.items lane.next ready.box x.there) is_box)
 
-pub on_ok_both : {A E : Type 0} (result : Result A E) (P Q R : Type 0) → OnOk result P → OnOk result Q → (P → Q → R) → OnOk result R
-on_ok_both (Ok x) P Q R p q f = f p q
-on_ok_both (Err e) P Q R p q f = tt
+pub on_ok_of_both_facts : {A E : Type 0} (result : Result A E) (P Q R : Type 0) → OnOk result P → OnOk result Q → (P → Q → R) → OnOk result R
+on_ok_of_both_facts (Ok x) P Q R p q f = f p q
+on_ok_of_both_facts (Err e) P Q R p q f = tt
 
 -- the end of a box isn't far
-pub near_placed : (b : EventBox) (e : Event) (free needed : Point) (box : PlacedBox) → box ≡ box_at b e free needed → free.x ≤ 2 ^ 40 → needed.x ≤ 2 ^ 40
+pub placed_box_end_within_limit : (b : EventBox) (e : Event) (free needed : Point) (box : PlacedBox) → box ≡ box_at b e free needed → free.x ≤ 2 ^ 40 → needed.x ≤ 2 ^ 40
     → free.u ≤ 2 ^ 40 + 1 → needed.u ≤ 2 ^ 40 + 1 → (box.end.x < 2 ^ 62) × (box.end.u < 2 ^ 62)
-near_placed b e free needed box is free_x needed_x free_u needed_u = (
-  omega (arith, ap (λ (x : PlacedBox). x.end.x) is, short e, free_x, needed_x),
+placed_box_end_within_limit b e free needed box is free_x needed_x free_u needed_u = (
+  omega (arith, ap (λ (x : PlacedBox). x.end.x) is, event_length_at_most_one e, free_x, needed_x),
   omega (arith, ap (λ (x : PlacedBox). x.end.u) is, free_u, needed_u),
 )
 
 -- the state after a box is placed, by what the calls return
-pub placed_state : (r : Recorded) (p new : Placing) (t : ℕ) (needed : Point) (lane : Lane) (b box : PlacedBox) (e : Event) (free : Point) (es : List Event)
-    → AreCoherent r → IsPlacing r p → Reads r p t needed lane b → event_at r b.events.thread b.events.event ≡ Some e
+pub placing_after_placed_box : (r : Recorded) (p new : Placing) (t : ℕ) (needed : Point) (lane : Lane) (b box : PlacedBox) (e : Event) (free : Point) (es : List Event)
+    → AreCoherent r → IsPlacing r p → ReadyParts r p t needed lane b → event_at r b.events.thread b.events.event ≡ Some e
     → box ≡ box_at b.events e lane.free needed → free ≡ right_of box.end → es ≡ events_in r b.events
     → new.boxes.items ≡ slice_set p.boxes.items lane.next box
     → new.lanes.items ≡ slice_set p.lanes.items t (record { next = lane.next + 1; free = free })
     → vec_len new.table.objects ≡ vec_len p.table.objects
     → ((o v : ℕ) → version_in new.table o v ≡ noted_all es free (version_in p.table) o v) → IsPlacing r new
-placed_state r p new t needed lane b box e free es coherent h reads first is_box is_free is_es boxes lanes objects noted =
-    place_next r p new t needed lane b e coherent h reads first (boxes ∙ ap (λ (x : PlacedBox). slice_set p.boxes.items lane.next x) is_box)
+placing_after_placed_box r p new t needed lane b box e free es coherent h reads first is_box is_free is_es boxes lanes objects noted =
+    placing_after_next_box r p new t needed lane b e coherent h reads first (boxes ∙ ap (λ (x : PlacedBox). slice_set p.boxes.items lane.next x) is_box)
     (lanes ∙ ap (λ (q : Point). slice_set p.lanes.items t (record { next = lane.next + 1; free = q })) now_free) objects
     (λ o v. noted o v ∙ (ap (λ (xs : List Event). noted_all xs free (version_in p.table) o v) is_es
     ∙ ap (λ (q : Point). noted_all (events_in r b.events) q (version_in p.table) o v) now_free))
@@ -228,10 +228,10 @@ placed_state r p new t needed lane b box e free es coherent h reads first is_box
     now_free : free ≡ right_of (box_at b.events e lane.free needed).end
     now_free = is_free ∙ ap (λ (x : PlacedBox). right_of x.end) is_box
 
-pub fewer_left : (r : Recorded) (p : Placing) (t : ℕ) (needed : Point) (lane : Lane) (b box : PlacedBox) (free : Point) → Reads r p t needed lane b
+pub boxes_left_falls : (r : Recorded) (p : Placing) (t : ℕ) (needed : Point) (lane : Lane) (b box : PlacedBox) (free : Point) → ReadyParts r p t needed lane b
     → left_of (slice_set p.boxes.items lane.next box) (slice_set p.lanes.items t (record { next = lane.next + 1; free = free })) < boxes_left p
-fewer_left r p t needed lane b box free reads = omega (
+boxes_left_falls r p t needed lane b box free reads = omega (
   arith,
-  left_next p.boxes.items p.lanes.items lane.next t box lane (record { next = lane.next + 1; free = free }) reads.at
+  left_of_after_next_box p.boxes.items p.lanes.items lane.next t box lane (record { next = lane.next + 1; free = free }) reads.at
       (slice_get_within p.boxes.items lane.next b reads.there) refl,
 )

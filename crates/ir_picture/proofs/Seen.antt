@@ -13,7 +13,7 @@ use Rattle.ir_past.specs.Tables.{maker_in}
 use Rattle.ir_past.specs.Answers.{AreCoherent}
 use Rattle.ir_past.specs.declared.makers.Makers.{Makers}
 use Rattle.ir_past.specs.declared.place.Place.{Place}
-use Rattle.ir_past.proofs.CallerLemmas.{of_thread}
+use Rattle.ir_past.proofs.CallerLemmas.{event_is_of_existing_thread}
 use Rattle.ir_picture.specs.Needs.{IsEntryAt, IsMakerOf}
 use Rattle.ir_picture.specs.Boxes.{IsInBox, IsBox, ReadsAgain, TriesAgain}
 use Rattle.ir_picture.specs.Boxing.{AreSomeBoxes}
@@ -23,139 +23,139 @@ use Rattle.ir_picture.specs.Seeing.{Enters, IsLastEntry, entry_noted, HoldsEntri
 use Rattle.ir_picture.specs.declared.event_box.EventBox.{EventBox}
 use Rattle.ir_picture.specs.declared.placed_box.PlacedBox.{PlacedBox}
 use Rattle.ir_picture.specs.declared.sights.Sight.{Sight}
-use Rattle.ir_picture.proofs.Lists.{or_here, or_other, map_get, push_cases, push_old, push_new}
-use Rattle.ir_picture.proofs.Follows.{one_event, one_writer}
+use Rattle.ir_picture.proofs.Lists.{get_or_after_set, get_or_after_set_elsewhere, slice_get_of_map, slice_get_after_push_cases, slice_get_after_push_earlier, slice_get_of_pushed}
+use Rattle.ir_picture.proofs.Follows.{event_at_is_unique, writer_of_version_is_unique}
 
 -- ---- entries
 
-enters_entered : (e : Event) (o v : ℕ) → Enters e o v → entered e ≡ Some o
-enters_entered e o v (inl read) = ap entered read
-enters_entered e o v (inr write) = ap entered write.1
+entered_if_enters : (e : Event) (o v : ℕ) → Enters e o v → entered e ≡ Some o
+entered_if_enters e o v (inl read) = ap entered read
+entered_if_enters e o v (inr write) = ap entered write.1
 
-enters_same : (e : Event) (o v p w : ℕ) → Enters e o v → Enters e p w → (o ≡ p) × (v ≡ w)
-enters_same e o v p w (inl a) (inl b) = let same : ◌≡◌ {A = Event} (Read o v) (Read p w) = sym a ∙ b in (cc, cc)
-enters_same e o v p w (inl a) (inr b) = absurd (let bad : ◌≡◌ {A = Event} (Read o v) (Write p w b.0) = sym a ∙ b.1 in cc)
-enters_same e o v p w (inr a) (inl b) = absurd (let bad : ◌≡◌ {A = Event} (Write o v a.0) (Read p w) = sym a.1 ∙ b in cc)
-enters_same e o v p w (inr a) (inr b) = let same : ◌≡◌ {A = Event} (Write o v a.0) (Write p w b.0) = sym a.1 ∙ b.1 in (cc, cc)
+enters_is_unique : (e : Event) (o v p w : ℕ) → Enters e o v → Enters e p w → (o ≡ p) × (v ≡ w)
+enters_is_unique e o v p w (inl a) (inl b) = let same : ◌≡◌ {A = Event} (Read o v) (Read p w) = sym a ∙ b in (cc, cc)
+enters_is_unique e o v p w (inl a) (inr b) = absurd (let bad : ◌≡◌ {A = Event} (Read o v) (Write p w b.0) = sym a ∙ b.1 in cc)
+enters_is_unique e o v p w (inr a) (inl b) = absurd (let bad : ◌≡◌ {A = Event} (Write o v a.0) (Read p w) = sym a.1 ∙ b in cc)
+enters_is_unique e o v p w (inr a) (inr b) = let same : ◌≡◌ {A = Event} (Write o v a.0) (Write p w b.0) = sym a.1 ∙ b.1 in (cc, cc)
 
-entry_of : (r : Recorded) (t i o v : ℕ) (e : Event) → event_at r t i ≡ Some e → Enters e o v → IsEntryAt r t i o v
-entry_of r t i o v e at (inl read) = inl (at ∙ ap Some read)
-entry_of r t i o v e at (inr write) = inr (write.0, at ∙ ap Some write.1)
+entry_at_if_enters : (r : Recorded) (t i o v : ℕ) (e : Event) → event_at r t i ≡ Some e → Enters e o v → IsEntryAt r t i o v
+entry_at_if_enters r t i o v e at (inl read) = inl (at ∙ ap Some read)
+entry_at_if_enters r t i o v e at (inr write) = inr (write.0, at ∙ ap Some write.1)
 
-enters_of : (r : Recorded) (t i o v : ℕ) (e : Event) → event_at r t i ≡ Some e → IsEntryAt r t i o v → Enters e o v
-enters_of r t i o v e at (inl read) = inl (one_event r t i e (Read o v) at read)
-enters_of r t i o v e at (inr write) = inr (write.0, one_event r t i e (Write o v write.0) at write.1)
+enters_if_entry_at : (r : Recorded) (t i o v : ℕ) (e : Event) → event_at r t i ≡ Some e → IsEntryAt r t i o v → Enters e o v
+enters_if_entry_at r t i o v e at (inl read) = inl (event_at_is_unique r t i e (Read o v) at read)
+enters_if_entry_at r t i o v e at (inr write) = inr (write.0, event_at_is_unique r t i e (Write o v write.0) at write.1)
 
-entry_event : (r : Recorded) (t i o v : ℕ) → IsEntryAt r t i o v → (e : Event) × (event_at r t i ≡ Some e) × Enters e o v
-entry_event r t i o v (inl read) = (Read o v, read, inl refl)
-entry_event r t i o v (inr write) = (Write o v write.0, write.1, inr (write.0, refl))
+event_of_entry_enters : (r : Recorded) (t i o v : ℕ) → IsEntryAt r t i o v → (e : Event) × (event_at r t i ≡ Some e) × Enters e o v
+event_of_entry_enters r t i o v (inl read) = (Read o v, read, inl refl)
+event_of_entry_enters r t i o v (inr write) = (Write o v write.0, write.1, inr (write.0, refl))
 
-pub one_entry : (r : Recorded) (t i o v p w : ℕ) → IsEntryAt r t i o v → IsEntryAt r t i p w → (o ≡ p) × (v ≡ w)
-one_entry r t i o v p w a b =
-    let x = entry_event r t i o v a in
-    enters_same x.0 o v p w x.2 (enters_of r t i p w x.0 x.1 b)
+pub entry_at_is_unique : (r : Recorded) (t i o v p w : ℕ) → IsEntryAt r t i o v → IsEntryAt r t i p w → (o ≡ p) × (v ≡ w)
+entry_at_is_unique r t i o v p w a b =
+    let x = event_of_entry_enters r t i o v a in
+    enters_is_unique x.0 o v p w x.2 (enters_if_entry_at r t i p w x.0 x.1 b)
 
 -- ---- the last entries of a thread
 
-none_noted : (n o : ℕ) → entry_noted (replicate n None) o ≡ None
-none_noted zero o = refl
-none_noted (suc n) zero = refl
-none_noted (suc n) (suc o) = none_noted n o
+entry_noted_in_empty_table : (n o : ℕ) → entry_noted (replicate n None) o ≡ None
+entry_noted_in_empty_table zero o = refl
+entry_noted_in_empty_table (suc n) zero = refl
+entry_noted_in_empty_table (suc n) (suc o) = entry_noted_in_empty_table n o
 
-pub no_entries : (r : Recorded) (t n : ℕ) → HoldsEntries r t 0 (replicate n None)
-no_entries r t n = record {
-  found = λ o v is. absurd (none-some v (sym (none_noted n o) ∙ is));
+pub holds_entries_at_start : (r : Recorded) (t n : ℕ) → HoldsEntries r t 0 (replicate n None)
+holds_entries_at_start r t n = record {
+  found = λ o v is. absurd (none-some v (sym (entry_noted_in_empty_table n o) ∙ is));
   all = λ o i v p. absurd (omega (arith, p.before));
 }
 
-last_more : (r : Recorded) (t n o i v : ℕ) (e : Event) → event_at r t n ≡ Some e → (entered e ≡ Some o → ⊥) → IsLastEntry r t n o i v
+last_entry_step : (r : Recorded) (t n o i v : ℕ) (e : Event) → event_at r t n ≡ Some e → (entered e ≡ Some o → ⊥) → IsLastEntry r t n o i v
     → IsLastEntry r t (n + 1) o i v
-last_more r t n o i v e at ne p = record {
+last_entry_step r t n o i v e at ne p = record {
   before = omega (arith, p.before);
   entry = p.entry;
   alone = λ k f after below is enters. elim (cases_lt k n) [
     | inl less ↦ p.alone k f after less is enters
     | inr not ↦
         let here : k ≡ n = omega (arith, below, not) in
-        let same : f ≡ e = one_event r t n f e (subst (λ z. event_at r t z ≡ Some f) here is) at in
+        let same : f ≡ e = event_at_is_unique r t n f e (subst (λ z. event_at r t z ≡ Some f) here is) at in
         ne (ap entered (sym same) ∙ enters)
   ];
 }
 
-last_less : (r : Recorded) (t n o i v : ℕ) (e : Event) → event_at r t n ≡ Some e → (entered e ≡ Some o → ⊥) → IsLastEntry r t (n + 1) o i v
+last_entry_step_back : (r : Recorded) (t n o i v : ℕ) (e : Event) → event_at r t n ≡ Some e → (entered e ≡ Some o → ⊥) → IsLastEntry r t (n + 1) o i v
     → IsLastEntry r t n o i v
-last_less r t n o i v e at ne p = elim (cases_lt i n) [
+last_entry_step_back r t n o i v e at ne p = elim (cases_lt i n) [
   | inl less ↦ record { before = less; entry = p.entry; alone = λ k f after below is enters. p.alone k f after (omega (arith, below)) is enters }
   | inr not ↦
       let here : i ≡ n = omega (arith, p.before, not) in
-      let enters = enters_of r t n o v e at (subst (λ z. IsEntryAt r t z o v) here p.entry) in
-      absurd (ne (enters_entered e o v enters))
+      let enters = enters_if_entry_at r t n o v e at (subst (λ z. IsEntryAt r t z o v) here p.entry) in
+      absurd (ne (entered_if_enters e o v enters))
 ]
 
-last_here : (r : Recorded) (t n o i v : ℕ) (e : Event) → event_at r t n ≡ Some e → entered e ≡ Some o → IsLastEntry r t (n + 1) o i v → Enters e o v
-last_here r t n o i v e at enters p = elim (cases_lt i n) [
+last_entry_is_entering_event : (r : Recorded) (t n o i v : ℕ) (e : Event) → event_at r t n ≡ Some e → entered e ≡ Some o → IsLastEntry r t (n + 1) o i v → Enters e o v
+last_entry_is_entering_event r t n o i v e at enters p = elim (cases_lt i n) [
   | inl less ↦ absurd (p.alone n e less (omega arith) at enters)
   | inr not ↦
       let here : i ≡ n = omega (arith, p.before, not) in
-      enters_of r t n o v e at (subst (λ z. IsEntryAt r t z o v) here p.entry)
+      enters_if_entry_at r t n o v e at (subst (λ z. IsEntryAt r t z o v) here p.entry)
 ]
 
 -- an event that is no entry
-pub entries_quiet : (r : Recorded) (t n : ℕ) (table : List (Option ℕ)) (e : Event) → event_at r t n ≡ Some e → entered e ≡ None
+pub holds_entries_after_other_event : (r : Recorded) (t n : ℕ) (table : List (Option ℕ)) (e : Event) → event_at r t n ≡ Some e → entered e ≡ None
     → HoldsEntries r t n table → HoldsEntries r t (n + 1) table
-entries_quiet r t n table e at none h = record {
-  found = λ o v is. let p = h.found o v is in (p.0, last_more r t n o p.0 v e at (λ some. none-some o (sym none ∙ some)) p.1);
-  all = λ o i v p. h.all o i v (last_less r t n o i v e at (λ some. none-some o (sym none ∙ some)) p);
+holds_entries_after_other_event r t n table e at none h = record {
+  found = λ o v is. let p = h.found o v is in (p.0, last_entry_step r t n o p.0 v e at (λ some. none-some o (sym none ∙ some)) p.1);
+  all = λ o i v p. h.all o i v (last_entry_step_back r t n o i v e at (λ some. none-some o (sym none ∙ some)) p);
 }
 
 -- an entry
-pub entries_more : (r : Recorded) (t n p v : ℕ) (table : List (Option ℕ)) (e : Event) → event_at r t n ≡ Some e → Enters e p v → p < length table
+pub holds_entries_after_entry : (r : Recorded) (t n p v : ℕ) (table : List (Option ℕ)) (e : Event) → event_at r t n ≡ Some e → Enters e p v → p < length table
     → HoldsEntries r t n table → HoldsEntries r t (n + 1) (slice_set table p (Some v))
-entries_more r t n p v table e at enters within h = record {
+holds_entries_after_entry r t n p v table e at enters within h = record {
   found = λ o w is. elim (cases_eq p o) [
     | inl here ↦ (
       n,
       subst (λ z. IsLastEntry r t (n + 1) z n w) here (subst (λ z. IsLastEntry r t (n + 1) p n z)
-          (same_Some v w (sym (or_here table p (Some v) None within) ∙ subst (λ z. entry_noted (slice_set table p (Some v)) z ≡ Some w) (sym here) is)) now_last),
+          (same_Some v w (sym (get_or_after_set table p (Some v) None within) ∙ subst (λ z. entry_noted (slice_set table p (Some v)) z ≡ Some w) (sym here) is)) now_last),
     )
     | inr ne ↦
-        let q = h.found o w (sym (or_other table p o (Some v) None ne) ∙ is) in
-        (q.0, last_more r t n o q.0 w e at (other o ne) q.1)
+        let q = h.found o w (sym (get_or_after_set_elsewhere table p o (Some v) None ne) ∙ is) in
+        (q.0, last_entry_step r t n o q.0 w e at (other o ne) q.1)
   ];
   all = λ o i w q. elim (cases_eq p o) [
     | inl here ↦
-        let same = enters_same e p v o w enters (last_here r t n o i w e at (enters_entered e p v enters ∙ ap Some here) q) in
-        subst (λ z. entry_noted (slice_set table p (Some v)) z ≡ Some w) here (or_here table p (Some v) None within ∙ ap Some same.1)
-    | inr ne ↦ or_other table p o (Some v) None ne ∙ h.all o i w (last_less r t n o i w e at (other o ne) q)
+        let same = enters_is_unique e p v o w enters (last_entry_is_entering_event r t n o i w e at (entered_if_enters e p v enters ∙ ap Some here) q) in
+        subst (λ z. entry_noted (slice_set table p (Some v)) z ≡ Some w) here (get_or_after_set table p (Some v) None within ∙ ap Some same.1)
+    | inr ne ↦ get_or_after_set_elsewhere table p o (Some v) None ne ∙ h.all o i w (last_entry_step_back r t n o i w e at (other o ne) q)
   ];
 }
   where
     now_last : IsLastEntry r t (n + 1) p n v
-    now_last = record { before = omega arith; entry = entry_of r t n p v e at enters; alone = λ k f after below is some. omega (arith, after, below) }
+    now_last = record { before = omega arith; entry = entry_at_if_enters r t n p v e at enters; alone = λ k f after below is some. omega (arith, after, below) }
 
     other : (o : ℕ) → (p ≡ o → ⊥) → entered e ≡ Some o → ⊥
-    other o ne some = ne (same_Some p o (sym (enters_entered e p v enters) ∙ some))
+    other o ne some = ne (same_Some p o (sym (entered_if_enters e p v enters) ∙ some))
 
 -- ---- what is new
 
-enters_this : (e : Event) (o : ℕ) → (entered e ≡ Some o) ⊎ (entered e ≡ Some o → ⊥)
-enters_this (Answer kind value) o = inr (λ e. none-some o e)
-enters_this (Read p v) o = elim (cases_eq p o) [
+enters_object_or_not : (e : Event) (o : ℕ) → (entered e ≡ Some o) ⊎ (entered e ≡ Some o → ⊥)
+enters_object_or_not (Answer kind value) o = inr (λ e. none-some o e)
+enters_object_or_not (Read p v) o = elim (cases_eq p o) [
   | inl same ↦ inl (ap Some same)
   | inr ne ↦ inr (λ e. ne (same_Some p o e))
 ]
-enters_this (Write p v l) o = elim (cases_eq p o) [
+enters_object_or_not (Write p v l) o = elim (cases_eq p o) [
   | inl same ↦ inl (ap Some same)
   | inr ne ↦ inr (λ e. ne (same_Some p o e))
 ]
-enters_this (Try p) o = inr (λ e. none-some o e)
+enters_object_or_not (Try p) o = inr (λ e. none-some o e)
 
 -- an entry of an object between two events, or none
-between : (r : Recorded) (t h n o : ℕ) → n ≤ length (recorded_thread r t).events
+entry_between_or_none : (r : Recorded) (t h n o : ℕ) → n ≤ length (recorded_thread r t).events
     → ((k : ℕ) × (e : Event) × (h < k) × (k < n) × (event_at r t k ≡ Some e) × (entered e ≡ Some o))
     ⊎ ((k : ℕ) (e : Event) → h < k → k < n → event_at r t k ≡ Some e → entered e ≡ Some o → ⊥)
-between r t h zero o within = inr (λ k e after below is enters. omega (arith, below))
-between r t h (suc n) o within = elim (between r t h n o (omega (arith, within))) [
+entry_between_or_none r t h zero o within = inr (λ k e after below is enters. omega (arith, below))
+entry_between_or_none r t h (suc n) o within = elim (entry_between_or_none r t h n o (omega (arith, within))) [
   | inl found ↦ inl (found.0, found.1, found.2, omega (arith, found.3), found.4, found.5)
   | inr none ↦ at_last none (event_there n (omega (arith, within)))
 ]
@@ -173,118 +173,118 @@ between r t h (suc n) o within = elim (between r t h n o (omega (arith, within))
         → ((k : ℕ) × (e : Event) × (h < k) × (k < suc n) × (event_at r t k ≡ Some e) × (entered e ≡ Some o))
         ⊎ ((k : ℕ) (e : Event) → h < k → k < suc n → event_at r t k ≡ Some e → entered e ≡ Some o → ⊥)
     at_last none last = elim (cases_lt h n) [
-      | inl less ↦ elim (enters_this last.0 o) [
+      | inl less ↦ elim (enters_object_or_not last.0 o) [
         | inl enters ↦ inl (n, last.0, less, omega arith, last.1, enters)
         | inr not ↦ inr (λ k e after below is enters. elim (cases_lt k n) [
           | inl old ↦ none k e after old is enters
           | inr past ↦
               let here : k ≡ n = omega (arith, below, past) in
-              not (ap entered (one_event r t n last.0 e last.1 (subst (λ z. event_at r t z ≡ Some e) here is)) ∙ enters)
+              not (ap entered (event_at_is_unique r t n last.0 e last.1 (subst (λ z. event_at r t z ≡ Some e) here is)) ∙ enters)
         ])
       ]
       | inr past ↦ inr (λ k e after below is enters. omega (arith, after, below, past))
     ]
 
-pub sees_new : (r : Recorded) (t n o v : ℕ) (table : List (Option ℕ)) (e : Event) → event_at r t n ≡ Some e → Enters e o v → HoldsEntries r t n table
+pub sees_new_unless_noted : (r : Recorded) (t n o v : ℕ) (table : List (Option ℕ)) (e : Event) → event_at r t n ≡ Some e → Enters e o v → HoldsEntries r t n table
     → (entry_noted table o ≡ Some v → ⊥) → SeesNew r t n o v
-sees_new r t n o v table e at enters h not = record {
-  entry = entry_of r t n o v e at enters;
-  new = λ i less entry. elim (between r t i n o (omega (arith, slice_get_within (recorded_thread r t).events n e at))) [
+sees_new_unless_noted r t n o v table e at enters h not = record {
+  entry = entry_at_if_enters r t n o v e at enters;
+  new = λ i less entry. elim (entry_between_or_none r t i n o (omega (arith, slice_get_within (recorded_thread r t).events n e at))) [
     | inl found ↦ found
     | inr none ↦ absurd (not (h.all o i v (record { before = less; entry = entry; alone = none })))
   ];
 }
 
-pub not_new : (r : Recorded) (t n o v : ℕ) (table : List (Option ℕ)) (e : Event) → event_at r t n ≡ Some e → Enters e o v → HoldsEntries r t n table
+pub sees_nothing_new_if_noted : (r : Recorded) (t n o v : ℕ) (table : List (Option ℕ)) (e : Event) → event_at r t n ≡ Some e → Enters e o v → HoldsEntries r t n table
     → entry_noted table o ≡ Some v → (p w : ℕ) → SeesNew r t n p w → ⊥
-not_new r t n o v table e at enters h noted p w sees =
-    let same = one_entry r t n p w o v sees.entry (entry_of r t n o v e at enters) in
+sees_nothing_new_if_noted r t n o v table e at enters h noted p w sees =
+    let same = entry_at_is_unique r t n p w o v sees.entry (entry_at_if_enters r t n o v e at enters) in
     let last = h.found o v noted in
     let k = sees.new last.0 last.1.before (subst (λ z. IsEntryAt r t last.0 z w) (sym same.0)
     (subst (λ z. IsEntryAt r t last.0 o z) (sym same.1) last.1.entry)) in
     last.1.alone k.0 k.1 k.2 k.3 k.4 (k.5 ∙ ap Some same.0)
 
-pub none_new : (r : Recorded) (t n : ℕ) (e : Event) → event_at r t n ≡ Some e → entered e ≡ None → (o v : ℕ) → SeesNew r t n o v → ⊥
-none_new r t n e at none o v sees = none-some o (sym none ∙ enters_entered e o v (enters_of r t n o v e at sees.entry))
+pub sees_nothing_new_without_entry : (r : Recorded) (t n : ℕ) (e : Event) → event_at r t n ≡ Some e → entered e ≡ None → (o v : ℕ) → SeesNew r t n o v → ⊥
+sees_nothing_new_without_entry r t n e at none o v sees = none-some o (sym none ∙ entered_if_enters e o v (enters_if_entry_at r t n o v e at sees.entry))
 
 -- ---- makers
 
-pub maker_found : (r : Recorded) (t i o w u j : ℕ) (m : Makers) (p : Place) → Makes r (length r.threads) 0 m → SeesNew r t i o (suc w)
+pub maker_in_table_is_maker : (r : Recorded) (t i o w u j : ℕ) (m : Makers) (p : Place) → Makes r (length r.threads) 0 m → SeesNew r t i o (suc w)
     → maker_in m o w ≡ Some p → IsMakerOf r t i p.thread p.event
-maker_found r t i o w u j m p makes sees is =
+maker_in_table_is_maker r t i o w u j m p makes sees is =
     let made = makes.sound o w p is in
     record { object = o; version = w; readers = made.0; entry = sees.entry; made = made.1 }
 
-pub no_maker : (r : Recorded) (t i o w : ℕ) (m : Makers) → Makes r (length r.threads) 0 m → SeesNew r t i o (suc w) → maker_in m o w ≡ None
+pub no_maker_unless_in_table : (r : Recorded) (t i o w : ℕ) (m : Makers) → Makes r (length r.threads) 0 m → SeesNew r t i o (suc w) → maker_in m o w ≡ None
     → (u j : ℕ) → IsMakerOf r t i u j → ⊥
-no_maker r t i o w m makes sees none u j made =
-    let same = one_entry r t i made.object (suc made.version) o (suc w) made.entry sees.entry in
+no_maker_unless_in_table r t i o w m makes sees none u j made =
+    let same = entry_at_is_unique r t i made.object (suc made.version) o (suc w) made.entry sees.entry in
     let version : made.version ≡ w = omega (arith, same.1) in
     let write : IsWriteAt r u j o w made.readers = subst (λ z. IsWriteAt r u j z w made.readers) same.0
     (subst (λ z. IsWriteAt r u j made.object z made.readers) version made.made) in
-    makes.noted u j o w made.readers write (inl (of_thread r u j (Write o w made.readers) write)) none
+    makes.noted u j o w made.readers write (inl (event_is_of_existing_thread r u j (Write o w made.readers) write)) none
 
-pub first_unmade : (r : Recorded) (t i o : ℕ) → SeesNew r t i o 0 → (u j : ℕ) → IsMakerOf r t i u j → ⊥
-first_unmade r t i o sees u j made =
-    let same = one_entry r t i made.object (suc made.version) o 0 made.entry sees.entry in
+pub first_version_has_no_maker : (r : Recorded) (t i o : ℕ) → SeesNew r t i o 0 → (u j : ℕ) → IsMakerOf r t i u j → ⊥
+first_version_has_no_maker r t i o sees u j made =
+    let same = entry_at_is_unique r t i made.object (suc made.version) o 0 made.entry sees.entry in
     omega (arith, same.1)
 
-pub one_maker : (r : Recorded) → AreCoherent r → (t i u j x y : ℕ) → IsMakerOf r t i u j → IsMakerOf r t i x y → (u ≡ x) × (j ≡ y)
-one_maker r coherent t i u j x y a b =
-    let same = one_entry r t i a.object (suc a.version) b.object (suc b.version) a.entry b.entry in
+pub maker_is_unique : (r : Recorded) → AreCoherent r → (t i u j x y : ℕ) → IsMakerOf r t i u j → IsMakerOf r t i x y → (u ≡ x) × (j ≡ y)
+maker_is_unique r coherent t i u j x y a b =
+    let same = entry_at_is_unique r t i a.object (suc a.version) b.object (suc b.version) a.entry b.entry in
     let version : a.version ≡ b.version = omega (arith, same.1) in
-    one_writer r coherent u j x y b.object b.version a.readers b.readers
+    writer_of_version_is_unique r coherent u j x y b.object b.version a.readers b.readers
     (subst (λ z. IsWriteAt r u j z b.version a.readers) same.0 (subst (λ z. IsWriteAt r u j a.object z a.readers) version a.made)) b.made
 
 -- ---- boxes
 
 -- an event of a box that isn't its first repeats something
-repeats_in : (r : Recorded) (b : EventBox) (i : ℕ) → IsBox r b → IsInBox b b.thread i → (b.event ≡ i → ⊥)
+later_box_event_repeats : (r : Recorded) (b : EventBox) (i : ℕ) → IsBox r b → IsInBox b b.thread i → (b.event ≡ i → ⊥)
     → ReadsAgain (recorded_thread r b.thread).events i ⊎ TriesAgain (recorded_thread r b.thread).events i
-repeats_in r b zero is has ne = absurd (ne (omega (arith, has.from)))
-repeats_in r b (suc i) is has ne = elim (is.folds i (omega (arith, has.from, ne)) has.below).repeats [
+later_box_event_repeats r b zero is has ne = absurd (ne (omega (arith, has.from)))
+later_box_event_repeats r b (suc i) is has ne = elim (is.folds i (omega (arith, has.from, ne)) has.below).repeats [
   | inl reads ↦ inl reads.1
   | inr tries ↦ inr tries.1
 ]
 
 -- a write entry is the first event of its box
-pub write_first : (r : Recorded) (b : EventBox) (t i o v l : ℕ) → IsBox r b → IsInBox b t i → IsWriteAt r t i o v l → b.event ≡ i
-write_first r b t i o v l is has write = elim (cases_eq b.event i) [
+pub write_is_first_of_box : (r : Recorded) (b : EventBox) (t i o v l : ℕ) → IsBox r b → IsInBox b t i → IsWriteAt r t i o v l → b.event ≡ i
+write_is_first_of_box r b t i o v l is has write = elim (cases_eq b.event i) [
   | inl same ↦ same
-  | inr ne ↦ absurd (elim (repeats_in r b i is (record { thread = refl; from = has.from; below = has.below }) ne) [
+  | inr ne ↦ absurd (elim (later_box_event_repeats r b i is (record { thread = refl; from = has.from; below = has.below }) ne) [
     | inl again ↦
         let bad : ◌≡◌ {A = Event} (Read again.object again.version) (Write o v l) =
-        one_event r b.thread i (Read again.object again.version) (Write o v l) again.read
+        event_at_is_unique r b.thread i (Read again.object again.version) (Write o v l) again.read
         (subst (λ z. IsWriteAt r z i o v l) (sym has.thread) write) in
         cc
     | inr again ↦
-        let bad : ◌≡◌ {A = Event} (Try again.object) (Write o v l) = one_event r b.thread i (Try again.object) (Write o v l) again.«try»
+        let bad : ◌≡◌ {A = Event} (Try again.object) (Write o v l) = event_at_is_unique r b.thread i (Try again.object) (Write o v l) again.«try»
         (subst (λ z. IsWriteAt r z i o v l) (sym has.thread) write) in
         cc
   ])
 ]
 
 -- and so is an event that sees something new
-pub new_first : (r : Recorded) (b : EventBox) (t i o v : ℕ) → IsBox r b → IsInBox b t i → SeesNew r t i o v → b.event ≡ i
-new_first r b t i o v is has sees = elim (cases_eq b.event i) [
+pub seeing_event_is_first_of_box : (r : Recorded) (b : EventBox) (t i o v : ℕ) → IsBox r b → IsInBox b t i → SeesNew r t i o v → b.event ≡ i
+seeing_event_is_first_of_box r b t i o v is has sees = elim (cases_eq b.event i) [
   | inl same ↦ same
-  | inr ne ↦ absurd (elim (repeats_in r b i is (record { thread = refl; from = has.from; below = has.below }) ne) [
+  | inr ne ↦ absurd (elim (later_box_event_repeats r b i is (record { thread = refl; from = has.from; below = has.below }) ne) [
     | inl again ↦
         let here : SeesNew r b.thread i o v = subst (λ z. SeesNew r z i o v) (sym has.thread) sees in
-        let same = one_entry r b.thread i again.object again.version o v (inl again.read) here.entry in
+        let same = entry_at_is_unique r b.thread i again.object again.version o v (inl again.read) here.entry in
         let k = here.new again.before again.earlier (subst (λ z. IsEntryAt r b.thread again.before z v) same.0
         (subst (λ z. IsEntryAt r b.thread again.before again.object z) same.1 (inl again.same))) in
         again.alone k.0 k.1 k.2 k.3 k.4 (k.5 ∙ ap Some (sym same.0))
     | inr again ↦
         let here : SeesNew r b.thread i o v = subst (λ z. SeesNew r z i o v) (sym has.thread) sees in
-        none_new r b.thread i (Try again.object) again.«try» refl o v here
+        sees_nothing_new_without_entry r b.thread i (Try again.object) again.«try» refl o v here
   ])
 ]
 
 -- one box has an event
-pub same_box : (r : Recorded) (boxes : List PlacedBox) (k m t i : ℕ) (a b : PlacedBox) → AreSomeBoxes r (events_of_all boxes) → slice_get boxes k ≡ Some a
+pub box_of_event_is_unique : (r : Recorded) (boxes : List PlacedBox) (k m t i : ℕ) (a b : PlacedBox) → AreSomeBoxes r (events_of_all boxes) → slice_get boxes k ≡ Some a
     → slice_get boxes m ≡ Some b → IsInBox a.events t i → IsInBox b.events t i → a ≡ b
-same_box r boxes k m t i a b some at_k at_m in_a in_b = elim (cases_lt k m) [
+box_of_event_is_unique r boxes k m t i a b some at_k at_m in_a in_b = elim (cases_lt k m) [
   | inl less ↦ absurd (apart_two k m a b less at_k at_m in_a in_b)
   | inr not ↦ elim (cases_lt m k) [
     | inl more ↦ absurd (apart_two m k b a more at_m at_k in_b in_a)
@@ -296,39 +296,39 @@ same_box r boxes k m t i a b some at_k at_m in_a in_b = elim (cases_lt k m) [
   where
     apart_two : (x y : ℕ) (c d : PlacedBox) → x < y → slice_get boxes x ≡ Some c → slice_get boxes y ≡ Some d → IsInBox c.events t i
         → IsInBox d.events t i → ⊥
-    apart_two x y c d less at_x at_y in_c in_d = elim (some.apart x y c.events d.events less (map_get (λ (z : PlacedBox). z.events) boxes x c at_x)
-        (map_get (λ (z : PlacedBox). z.events) boxes y d at_y)) [
+    apart_two x y c d less at_x at_y in_c in_d = elim (some.apart x y c.events d.events less (slice_get_of_map (λ (z : PlacedBox). z.events) boxes x c at_x)
+        (slice_get_of_map (λ (z : PlacedBox). z.events) boxes y d at_y)) [
           | inl lower ↦ omega (arith, lower, in_c.thread, in_d.thread)
           | inr by ↦ omega (arith, by.1, in_c.below, in_d.from)
         ]
 
-pub box_is : (r : Recorded) (boxes : List PlacedBox) (k : ℕ) (b : PlacedBox) → AreSomeBoxes r (events_of_all boxes) → slice_get boxes k ≡ Some b
+pub listed_box_is_box : (r : Recorded) (boxes : List PlacedBox) (k : ℕ) (b : PlacedBox) → AreSomeBoxes r (events_of_all boxes) → slice_get boxes k ≡ Some b
     → IsBox r b.events
-box_is r boxes k b some at = some.each k b.events (map_get (λ (z : PlacedBox). z.events) boxes k b at)
+listed_box_is_box r boxes k b some at = some.each k b.events (slice_get_of_map (λ (z : PlacedBox). z.events) boxes k b at)
 
 -- a box has its first event
-pub has_first : (r : Recorded) (boxes : List PlacedBox) (k t i : ℕ) (b : PlacedBox) → AreSomeBoxes r (events_of_all boxes) → slice_get boxes k ≡ Some b
+pub box_has_its_first_event : (r : Recorded) (boxes : List PlacedBox) (k t i : ℕ) (b : PlacedBox) → AreSomeBoxes r (events_of_all boxes) → slice_get boxes k ≡ Some b
     → b.events.thread ≡ t → b.events.event ≡ i → IsInBox b.events t i
-has_first r boxes k t i b some at thread event = record {
+box_has_its_first_event r boxes k t i b some at thread event = record {
   thread = thread;
   from = omega (arith, event);
-  below = omega (arith, event, (box_is r boxes k b some at).some);
+  below = omega (arith, event, (listed_box_is_box r boxes k b some at).some);
 }
 
 -- ---- sights
 
 -- one sight is of a box
-pub one_sight : (r : Recorded) (boxes : List PlacedBox) (t i : ℕ) (s z : Sight) → AreCoherent r → AreSomeBoxes r (events_of_all boxes)
+pub sight_of_event_is_unique : (r : Recorded) (boxes : List PlacedBox) (t i : ℕ) (s z : Sight) → AreCoherent r → AreSomeBoxes r (events_of_all boxes)
     → SeesAt r boxes t i s → SeesAt r boxes t i z → s ≡ z
-one_sight r boxes t i s z coherent some a b =
-    let seer : s.seer ≡ z.seer = same_box r boxes a.sight.to b.sight.to t i s.seer z.seer some a.sight.seer b.sight.seer
-    (has_first r boxes a.sight.to t i s.seer some a.sight.seer a.thread a.event)
-    (has_first r boxes b.sight.to t i z.seer some b.sight.seer b.thread b.event) in
-    let same = one_maker r coherent t i s.maker.events.thread s.maker.events.event z.maker.events.thread z.maker.events.event (made s a) (made z b) in
-    let maker : s.maker ≡ z.maker = same_box r boxes a.sight.from b.sight.from z.maker.events.thread z.maker.events.event s.maker z.maker some a.sight.maker
-    b.sight.maker (has_first r boxes a.sight.from z.maker.events.thread z.maker.events.event s.maker some a.sight.maker same.0 same.1)
-    (has_first r boxes b.sight.from z.maker.events.thread z.maker.events.event z.maker some b.sight.maker refl refl) in
-    let object : s.object ≡ z.object = (one_entry r t i s.object a.sight.version z.object b.sight.version (entry s a) (entry z b)).0 in
+sight_of_event_is_unique r boxes t i s z coherent some a b =
+    let seer : s.seer ≡ z.seer = box_of_event_is_unique r boxes a.sight.to b.sight.to t i s.seer z.seer some a.sight.seer b.sight.seer
+    (box_has_its_first_event r boxes a.sight.to t i s.seer some a.sight.seer a.thread a.event)
+    (box_has_its_first_event r boxes b.sight.to t i z.seer some b.sight.seer b.thread b.event) in
+    let same = maker_is_unique r coherent t i s.maker.events.thread s.maker.events.event z.maker.events.thread z.maker.events.event (made s a) (made z b) in
+    let maker : s.maker ≡ z.maker = box_of_event_is_unique r boxes a.sight.from b.sight.from z.maker.events.thread z.maker.events.event s.maker z.maker some a.sight.maker
+    b.sight.maker (box_has_its_first_event r boxes a.sight.from z.maker.events.thread z.maker.events.event s.maker some a.sight.maker same.0 same.1)
+    (box_has_its_first_event r boxes b.sight.from z.maker.events.thread z.maker.events.event z.maker some b.sight.maker refl refl) in
+    let object : s.object ≡ z.object = (entry_at_is_unique r t i s.object a.sight.version z.object b.sight.version (entry s a) (entry z b)).0 in
     λ k. record { object = object k; maker = maker k; seer = seer k }
   where
     made : (x : Sight) → SeesAt r boxes t i x → IsMakerOf r t i x.maker.events.thread x.maker.events.event
@@ -340,11 +340,11 @@ one_sight r boxes t i s z coherent some a b =
         (subst (λ n. IsEntryAt r x.seer.events.thread n x.object h.sight.version) h.event h.sight.sees.entry)
 
 -- a sight by its parts
-pub sight_by : (r : Recorded) (boxes : List PlacedBox) (t i o v k m : ℕ) (p : Place) (maker seer : PlacedBox) → AreSomeBoxes r (events_of_all boxes)
+pub sight_from_parts : (r : Recorded) (boxes : List PlacedBox) (t i o v k m : ℕ) (p : Place) (maker seer : PlacedBox) → AreSomeBoxes r (events_of_all boxes)
     → SeesNew r t i o v → IsMakerOf r t i p.thread p.event → (p.thread ≡ t → ⊥) → slice_get boxes k ≡ Some maker
     → IsInBox maker.events p.thread p.event → slice_get boxes m ≡ Some seer → IsInBox seer.events t i
     → SeesAt r boxes t i (record { object = o; maker = maker; seer = seer })
-sight_by r boxes t i o v k m p maker seer some sees made ne at_k in_k at_m in_m = record {
+sight_from_parts r boxes t i o v k m p maker seer some sees made ne at_k in_k at_m in_m = record {
   sight = record {
     version = v;
     sees = subst (λ n. SeesNew r n seer.events.event o v) (sym in_m.thread) (subst (λ n. SeesNew r t n o v) (sym first_seer) sees);
@@ -362,104 +362,104 @@ sight_by r boxes t i o v k m p maker seer some sees made ne at_k in_k at_m in_m 
 }
   where
     first_seer : seer.events.event ≡ i
-    first_seer = new_first r seer.events t i o v (box_is r boxes m seer some at_m) in_m sees
+    first_seer = seeing_event_is_first_of_box r seer.events t i o v (listed_box_is_box r boxes m seer some at_m) in_m sees
 
     first_maker : maker.events.event ≡ p.event
-    first_maker = write_first r maker.events p.thread p.event made.object made.version made.readers (box_is r boxes k maker some at_k) in_k made.made
+    first_maker = write_is_first_of_box r maker.events p.thread p.event made.object made.version made.readers (listed_box_is_box r boxes k maker some at_k) in_k made.made
 
 -- what a sight at an event says of its maker
-pub sight_made : (r : Recorded) (boxes : List PlacedBox) (t i : ℕ) (s : Sight) → SeesAt r boxes t i s
+pub maker_of_sight : (r : Recorded) (boxes : List PlacedBox) (t i : ℕ) (s : Sight) → SeesAt r boxes t i s
     → IsMakerOf r t i s.maker.events.thread s.maker.events.event
-sight_made r boxes t i s h = subst (λ n. IsMakerOf r n i s.maker.events.thread s.maker.events.event) h.thread
+maker_of_sight r boxes t i s h = subst (λ n. IsMakerOf r n i s.maker.events.thread s.maker.events.event) h.thread
     (subst (λ n. IsMakerOf r s.seer.events.thread n s.maker.events.thread s.maker.events.event) h.event h.sight.made)
 
 -- none where the maker is of the same thread, or has no box, or the event has none
-pub sight_own : (r : Recorded) (boxes : List PlacedBox) (t i : ℕ) (p : Place) (s : Sight) → AreCoherent r → IsMakerOf r t i p.thread p.event → p.thread ≡ t
+pub no_sight_of_own_maker : (r : Recorded) (boxes : List PlacedBox) (t i : ℕ) (p : Place) (s : Sight) → AreCoherent r → IsMakerOf r t i p.thread p.event → p.thread ≡ t
     → SeesAt r boxes t i s → ⊥
-sight_own r boxes t i p s coherent made own h =
-    let same = one_maker r coherent t i s.maker.events.thread s.maker.events.event p.thread p.event (sight_made r boxes t i s h) made in
+no_sight_of_own_maker r boxes t i p s coherent made own h =
+    let same = maker_is_unique r coherent t i s.maker.events.thread s.maker.events.event p.thread p.event (maker_of_sight r boxes t i s h) made in
     h.sight.others (same.0 ∙ (own ∙ sym h.thread))
 
-pub sight_unmade : (r : Recorded) (boxes : List PlacedBox) (t i : ℕ) (p : Place) (s : Sight) → AreCoherent r → AreSomeBoxes r (events_of_all boxes)
+pub no_sight_without_maker_box : (r : Recorded) (boxes : List PlacedBox) (t i : ℕ) (p : Place) (s : Sight) → AreCoherent r → AreSomeBoxes r (events_of_all boxes)
     → IsMakerOf r t i p.thread p.event → ((k : ℕ) (b : PlacedBox) → slice_get boxes k ≡ Some b → IsInBox b.events p.thread p.event → ⊥)
     → SeesAt r boxes t i s → ⊥
-sight_unmade r boxes t i p s coherent some made none h =
-    let same = one_maker r coherent t i s.maker.events.thread s.maker.events.event p.thread p.event (sight_made r boxes t i s h) made in
-    none h.sight.from s.maker h.sight.maker (has_first r boxes h.sight.from p.thread p.event s.maker some h.sight.maker same.0 same.1)
+no_sight_without_maker_box r boxes t i p s coherent some made none h =
+    let same = maker_is_unique r coherent t i s.maker.events.thread s.maker.events.event p.thread p.event (maker_of_sight r boxes t i s h) made in
+    none h.sight.from s.maker h.sight.maker (box_has_its_first_event r boxes h.sight.from p.thread p.event s.maker some h.sight.maker same.0 same.1)
 
-pub sight_unseen : (r : Recorded) (boxes : List PlacedBox) (t i : ℕ) (s : Sight) → AreSomeBoxes r (events_of_all boxes)
+pub no_sight_without_seer_box : (r : Recorded) (boxes : List PlacedBox) (t i : ℕ) (s : Sight) → AreSomeBoxes r (events_of_all boxes)
     → ((k : ℕ) (b : PlacedBox) → slice_get boxes k ≡ Some b → IsInBox b.events t i → ⊥) → SeesAt r boxes t i s → ⊥
-sight_unseen r boxes t i s some none h =
-    none h.sight.to s.seer h.sight.seer (has_first r boxes h.sight.to t i s.seer some h.sight.seer h.thread h.event)
+no_sight_without_seer_box r boxes t i s some none h =
+    none h.sight.to s.seer h.sight.seer (box_has_its_first_event r boxes h.sight.to t i s.seer some h.sight.seer h.thread h.event)
 
 -- none where nothing is new
-pub sight_old : (r : Recorded) (boxes : List PlacedBox) (t i : ℕ) (s : Sight) → ((o v : ℕ) → SeesNew r t i o v → ⊥) → SeesAt r boxes t i s → ⊥
-sight_old r boxes t i s none h = none s.object h.sight.version (subst (λ n. SeesNew r n i s.object h.sight.version) h.thread
+pub no_sight_if_nothing_new : (r : Recorded) (boxes : List PlacedBox) (t i : ℕ) (s : Sight) → ((o v : ℕ) → SeesNew r t i o v → ⊥) → SeesAt r boxes t i s → ⊥
+no_sight_if_nothing_new r boxes t i s none h = none s.object h.sight.version (subst (λ n. SeesNew r n i s.object h.sight.version) h.thread
     (subst (λ n. SeesNew r s.seer.events.thread n s.object h.sight.version) h.event h.sight.sees))
 
 -- ---- all sights
 
-before_step : (u j t n : ℕ) → IsBefore u j t n → IsBefore u j t (n + 1)
-before_step u j t n (inl less) = inl less
-before_step u j t n (inr here) = inr (here.0, omega (arith, here.1))
+before_next_event : (u j t n : ℕ) → IsBefore u j t n → IsBefore u j t (n + 1)
+before_next_event u j t n (inl less) = inl less
+before_next_event u j t n (inr here) = inr (here.0, omega (arith, here.1))
 
-before_cases : (u j t n : ℕ) → IsBefore u j t (n + 1) → IsBefore u j t n ⊎ ((u ≡ t) × (j ≡ n))
-before_cases u j t n (inl less) = inl (inl less)
-before_cases u j t n (inr here) = elim (cases_lt j n) [
+before_next_event_cases : (u j t n : ℕ) → IsBefore u j t (n + 1) → IsBefore u j t n ⊎ ((u ≡ t) × (j ≡ n))
+before_next_event_cases u j t n (inl less) = inl (inl less)
+before_next_event_cases u j t n (inr here) = elim (cases_lt j n) [
   | inl less ↦ inl (inr (here.0, less))
   | inr not ↦ inr (here.0, omega (arith, here.1, not))
 ]
 
-none_before : (u j : ℕ) → IsBefore u j 0 0 → ⊥
-none_before u j (inl less) = omega (arith, less)
-none_before u j (inr here) = omega (arith, here.1)
+nothing_before_first_event : (u j : ℕ) → IsBefore u j 0 0 → ⊥
+nothing_before_first_event u j (inl less) = omega (arith, less)
+nothing_before_first_event u j (inr here) = omega (arith, here.1)
 
-pub no_sights : (r : Recorded) (boxes : List PlacedBox) → SightsBefore r boxes 0 0 []
-no_sights r boxes = record {
+pub sights_before_first_event : (r : Recorded) (boxes : List PlacedBox) → SightsBefore r boxes 0 0 []
+sights_before_first_event r boxes = record {
   each = λ k s is. absurd (none-some s is);
   before = λ k s is. absurd (none-some s is);
-  all = λ s is b. absurd (none_before s.seer.events.thread s.seer.events.event b);
+  all = λ s is b. absurd (nothing_before_first_event s.seer.events.thread s.seer.events.event b);
   rising = λ k m s z less is other. absurd (none-some s is);
 }
 
-pub sights_same : (r : Recorded) (boxes : List PlacedBox) (t n : ℕ) (sights : List Sight) → ((s : Sight) → SeesAt r boxes t n s → ⊥)
+pub sights_before_step_without_sight : (r : Recorded) (boxes : List PlacedBox) (t n : ℕ) (sights : List Sight) → ((s : Sight) → SeesAt r boxes t n s → ⊥)
     → SightsBefore r boxes t n sights → SightsBefore r boxes t (n + 1) sights
-sights_same r boxes t n sights none h = record {
+sights_before_step_without_sight r boxes t n sights none h = record {
   each = h.each;
-  before = λ k s is. before_step s.seer.events.thread s.seer.events.event t n (h.before k s is);
-  all = λ s is b. elim (before_cases s.seer.events.thread s.seer.events.event t n b) [
+  before = λ k s is. before_next_event s.seer.events.thread s.seer.events.event t n (h.before k s is);
+  all = λ s is b. elim (before_next_event_cases s.seer.events.thread s.seer.events.event t n b) [
     | inl less ↦ h.all s is less
     | inr here ↦ absurd (none s (record { sight = is; thread = here.0; event = here.1 }))
   ];
   rising = h.rising;
 }
 
-pub sights_more : (r : Recorded) (boxes : List PlacedBox) (t n : ℕ) (sights : List Sight) (new : Sight) → AreCoherent r
+pub sights_before_step_with_sight : (r : Recorded) (boxes : List PlacedBox) (t n : ℕ) (sights : List Sight) (new : Sight) → AreCoherent r
     → AreSomeBoxes r (events_of_all boxes) → SeesAt r boxes t n new → SightsBefore r boxes t n sights
     → SightsBefore r boxes t (n + 1) (sights ++ new ∷ [])
-sights_more r boxes t n sights new coherent some sees h = record {
-  each = λ k s is. elim (push_cases sights new s k is) [
+sights_before_step_with_sight r boxes t n sights new coherent some sees h = record {
+  each = λ k s is. elim (slice_get_after_push_cases sights new s k is) [
     | inl old ↦ h.each k s old
     | inr now ↦ subst (IsSight r boxes) now.1 sees.sight
   ];
-  before = λ k s is. elim (push_cases sights new s k is) [
-    | inl old ↦ before_step s.seer.events.thread s.seer.events.event t n (h.before k s old)
+  before = λ k s is. elim (slice_get_after_push_cases sights new s k is) [
+    | inl old ↦ before_next_event s.seer.events.thread s.seer.events.event t n (h.before k s old)
     | inr now ↦ subst (λ (x : Sight). IsBefore x.seer.events.thread x.seer.events.event t (n + 1)) now.1 (inr (sees.thread, omega (arith, sees.event)))
   ];
-  all = λ s is b. elim (before_cases s.seer.events.thread s.seer.events.event t n b) [
-    | inl less ↦ let old = h.all s is less in (old.0, push_old sights new s old.0 old.1)
+  all = λ s is b. elim (before_next_event_cases s.seer.events.thread s.seer.events.event t n b) [
+    | inl less ↦ let old = h.all s is less in (old.0, slice_get_after_push_earlier sights new s old.0 old.1)
     | inr here ↦ (
       length sights,
-      push_new sights new
-          ∙ ap Some (one_sight r boxes t n new s coherent some sees (record { sight = is; thread = here.0; event = here.1 })),
+      slice_get_of_pushed sights new
+          ∙ ap Some (sight_of_event_is_unique r boxes t n new s coherent some sees (record { sight = is; thread = here.0; event = here.1 })),
     )
   ];
-  rising = λ k m s z less first second. elim (push_cases sights new z m second) [
-    | inl old ↦ elim (push_cases sights new s k first) [
+  rising = λ k m s z less first second. elim (slice_get_after_push_cases sights new z m second) [
+    | inl old ↦ elim (slice_get_after_push_cases sights new s k first) [
       | inl both ↦ h.rising k m s z less both old
       | inr now ↦ absurd (omega (arith, less, now.0, slice_get_within sights m z old))
     ]
-    | inr now ↦ elim (push_cases sights new s k first) [
+    | inr now ↦ elim (slice_get_after_push_cases sights new s k first) [
       | inl old ↦ subst (λ (x : Sight). IsBefore s.seer.events.thread s.seer.events.event x.seer.events.thread x.seer.events.event) now.1
           (subst (λ u. IsBefore s.seer.events.thread s.seer.events.event u new.seer.events.event) (sym sees.thread)
           (subst (IsBefore s.seer.events.thread s.seer.events.event t) (sym sees.event) (h.before k s old)))
@@ -468,9 +468,9 @@ sights_more r boxes t n sights new coherent some sees h = record {
   ];
 }
 
-pub sights_thread : (r : Recorded) (boxes : List PlacedBox) (t n : ℕ) (sights : List Sight) → length (recorded_thread r t).events ≤ n
+pub sights_before_next_thread : (r : Recorded) (boxes : List PlacedBox) (t n : ℕ) (sights : List Sight) → length (recorded_thread r t).events ≤ n
     → SightsBefore r boxes t n sights → SightsBefore r boxes (t + 1) 0 sights
-sights_thread r boxes t n sights all h = record {
+sights_before_next_thread r boxes t n sights all h = record {
   each = h.each;
   before = λ k s is. elim (h.before k s is) [
     | inl less ↦ inl (omega (arith, less))
@@ -485,16 +485,16 @@ sights_thread r boxes t n sights all h = record {
   where
     entry_within : (s : Sight) → IsSight r boxes s → s.seer.events.event < length (recorded_thread r s.seer.events.thread).events
     entry_within s is =
-        let e = entry_event r s.seer.events.thread s.seer.events.event s.object is.version is.sees.entry in
+        let e = event_of_entry_enters r s.seer.events.thread s.seer.events.event s.object is.version is.sees.entry in
         slice_get_within (recorded_thread r s.seer.events.thread).events s.seer.events.event e.0 e.1
 
     below : (u j : ℕ) → (u ≡ t → ⊥) → IsBefore u j (t + 1) 0 → u < t
     below u j ne (inl less) = omega (arith, less, ne)
     below u j ne (inr here) = absurd (omega (arith, here.1))
 
-pub sights_all : (r : Recorded) (boxes : List PlacedBox) (n : ℕ) (sights : List Sight) → length r.threads ≤ n → SightsBefore r boxes n 0 sights
+pub are_sights_if_before_end : (r : Recorded) (boxes : List PlacedBox) (n : ℕ) (sights : List Sight) → length r.threads ≤ n → SightsBefore r boxes n 0 sights
     → AreSights r boxes sights
-sights_all r boxes n sights all h = record {
+are_sights_if_before_end r boxes n sights all h = record {
   each = h.each;
   all = λ s is. h.all s is (inl (thread_there s is));
   rising = h.rising;
@@ -502,32 +502,32 @@ sights_all r boxes n sights all h = record {
   where
     thread_there : (s : Sight) → IsSight r boxes s → s.seer.events.thread < n
     thread_there s is =
-        let e = entry_event r s.seer.events.thread s.seer.events.event s.object is.version is.sees.entry in
-        omega (arith, all, of_thread r s.seer.events.thread s.seer.events.event e.0 e.1)
+        let e = event_of_entry_enters r s.seer.events.thread s.seer.events.event s.object is.version is.sees.entry in
+        omega (arith, all, event_is_of_existing_thread r s.seer.events.thread s.seer.events.event e.0 e.1)
 
 -- ---- limits
 
-pub entry_fits : (r : Recorded) (t n o v : ℕ) (e : Event) (objects : ℕ) → event_at r t n ≡ Some e → Enters e o v
+pub object_of_entry_fits : (r : Recorded) (t n o v : ℕ) (e : Event) (objects : ℕ) → event_at r t n ≡ Some e → Enters e o v
     → Fits (recorded_thread r t).events objects → o < objects
-entry_fits r t n o v e objects at enters fits = fits n o e at (enters_entered e o v enters)
+object_of_entry_fits r t n o v e objects at enters fits = fits n o e at (entered_if_enters e o v enters)
 
 -- what is not the first version
-pub sees_later : (r : Recorded) (t i o v : ℕ) → (v ≡ 0 → ⊥) → SeesNew r t i o v → SeesNew r t i o (suc (v - 1))
-sees_later r t i o v ne sees =
+pub sees_new_of_later_version : (r : Recorded) (t i o v : ℕ) → (v ≡ 0 → ⊥) → SeesNew r t i o v → SeesNew r t i o (suc (v - 1))
+sees_new_of_later_version r t i o v ne sees =
     let same : v ≡ suc (v - 1) = omega (arith, ne) in
     subst (SeesNew r t i o) same sees
 
-pub if_none : {A : Type 0} (o : Option A) (P : Type 0) → P → IfNone o P
-if_none None P p = p
-if_none (Some x) P p = tt
+pub if_none_from_fact : {A : Type 0} (o : Option A) (P : Type 0) → P → IfNone o P
+if_none_from_fact None P p = p
+if_none_from_fact (Some x) P p = tt
 
 -- what was found of a version that isn't the first
-pub made_some : (r : Recorded) (t i o v : ℕ) (m : Makers) (result : Option Place) → Makes r (length r.threads) 0 m → SeesNew r t i o v → (v ≡ 0 → ⊥)
+pub found_maker_is_maker : (r : Recorded) (t i o v : ℕ) (m : Makers) (result : Option Place) → Makes r (length r.threads) 0 m → SeesNew r t i o v → (v ≡ 0 → ⊥)
     → result ≡ maker_in m o (v - 1) → IfSome result (λ p. IsMakerOf r t i p.thread p.event)
-made_some r t i o v m None makes sees ne is = tt
-made_some r t i o v m (Some p) makes sees ne is = maker_found r t i o (v - 1) p.thread p.event m p makes (sees_later r t i o v ne sees) (sym is)
+found_maker_is_maker r t i o v m None makes sees ne is = tt
+found_maker_is_maker r t i o v m (Some p) makes sees ne is = maker_in_table_is_maker r t i o (v - 1) p.thread p.event m p makes (sees_new_of_later_version r t i o v ne sees) (sym is)
 
-pub made_none : (r : Recorded) (t i o v : ℕ) (m : Makers) (result : Option Place) → Makes r (length r.threads) 0 m → SeesNew r t i o v → (v ≡ 0 → ⊥)
+pub no_maker_if_none_found : (r : Recorded) (t i o v : ℕ) (m : Makers) (result : Option Place) → Makes r (length r.threads) 0 m → SeesNew r t i o v → (v ≡ 0 → ⊥)
     → result ≡ maker_in m o (v - 1) → IfNone result ((u j : ℕ) → IsMakerOf r t i u j → ⊥)
-made_none r t i o v m (Some p) makes sees ne is = tt
-made_none r t i o v m None makes sees ne is = no_maker r t i o (v - 1) m makes (sees_later r t i o v ne sees) (sym is)
+no_maker_if_none_found r t i o v m (Some p) makes sees ne is = tt
+no_maker_if_none_found r t i o v m None makes sees ne is = no_maker_unless_in_table r t i o (v - 1) m makes (sees_new_of_later_version r t i o v ne sees) (sym is)

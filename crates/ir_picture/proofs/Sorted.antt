@@ -11,10 +11,10 @@ use Rattle.ir_picture.specs.Shown.{is_in, has_box, begins_by}
 use Rattle.ir_picture.specs.declared.event_box.EventBox.{EventBox}
 use Rattle.ir_picture.specs.declared.placed_box.PlacedBox.{PlacedBox}
 use Rattle.ir_picture.specs.declared.placing.Lane.{Lane}
-use Rattle.ir_picture.proofs.Lists.{map_get, push_cases}
+use Rattle.ir_picture.proofs.Lists.{slice_get_of_map, slice_get_after_push_cases}
 
-pub threads_rise : (boxes : List EventBox) → AreApart boxes → IsNonDecreasingBy (λ (b : EventBox). b.thread) boxes
-threads_rise boxes apart i j d le less = elim (cases_eq i j) [
+pub threads_of_boxes_rise : (boxes : List EventBox) → AreApart boxes → IsNonDecreasingBy (λ (b : EventBox). b.thread) boxes
+threads_of_boxes_rise boxes apart i j d le less = elim (cases_eq i j) [
   | inl same ↦ omega (arith, ap (λ k. (get_or boxes k d).thread) same)
   | inr ne ↦ elim (apart i j (get_or boxes i d) (get_or boxes j d) (omega (arith, le, ne)) (slice_get-get_or boxes i d (omega (arith, le, less)))
       (slice_get-get_or boxes j d less)) [
@@ -23,9 +23,9 @@ threads_rise boxes apart i j d le less = elim (cases_eq i j) [
       ]
 ]
 
-pub cut_tested : (boxes : List EventBox) (t i : ℕ)
+pub partition_point_is_cut : (boxes : List EventBox) (t i : ℕ)
     → IsPartitionPoint (λ (b : EventBox). ltb b.thread t ≡ true) (λ b. ltb b.thread t ≡ false) boxes i → IsCut boxes t 0 i
-cut_tested boxes t i h = record {
+partition_point_is_cut boxes t i h = record {
   before = λ m b at less. inl (subst (λ (x : EventBox). x.thread < t) (get_or_from_slice_get boxes m b b at)
       (ltb-true (get_or boxes m b).thread t (h.0 m b (omega arith) less)));
   after = λ m b at from. after_by b (subst (λ (x : EventBox). t ≤ x.thread) (get_or_from_slice_get boxes m b b at)
@@ -44,30 +44,30 @@ pub bool_cases : (b : Bool) → (b ≡ true) ⊎ (b ≡ false)
 bool_cases true = inl refl
 bool_cases false = inr refl
 
-or_left : (a b : Bool) → a ≡ true → (a || b) ≡ true
-or_left true b e = refl
-or_left false b e = absurd (let bad : false ≡ true = e in cc)
+or_true_from_left : (a b : Bool) → a ≡ true → (a || b) ≡ true
+or_true_from_left true b e = refl
+or_true_from_left false b e = absurd (let bad : false ≡ true = e in cc)
 
-or_right : (a b : Bool) → b ≡ true → (a || b) ≡ true
-or_right true b e = refl
-or_right false b e = e
+or_true_from_right : (a b : Bool) → b ≡ true → (a || b) ≡ true
+or_true_from_right true b e = refl
+or_true_from_right false b e = e
 
-or_parts : (a b : Bool) → (a || b) ≡ true → (a ≡ true) ⊎ (b ≡ true)
-or_parts true b e = inl refl
-or_parts false b e = inr e
+or_true_cases : (a b : Bool) → (a || b) ≡ true → (a ≡ true) ⊎ (b ≡ true)
+or_true_cases true b e = inl refl
+or_true_cases false b e = inr e
 
-and_both : (a b : Bool) → a ≡ true → b ≡ true → (a && b) ≡ true
-and_both true b e f = f
-and_both false b e f = e
+and_true_from_both : (a b : Bool) → a ≡ true → b ≡ true → (a && b) ≡ true
+and_true_from_both true b e f = f
+and_true_from_both false b e f = e
 
-le_true : (a b : ℕ) → a ≤ b → nat_le a b ≡ true
-le_true a b h = elim (bool_cases (nat_le a b)) [
+nat_le_true_if_at_most : (a b : ℕ) → a ≤ b → nat_le a b ≡ true
+nat_le_true_if_at_most a b h = elim (bool_cases (nat_le a b)) [
   | inl e ↦ e
   | inr e ↦ absurd (omega (arith, h, leb-false a b e))
 ]
 
-lt_true : (a b : ℕ) → a < b → nat_lt a b ≡ true
-lt_true a b h = elim (bool_cases (nat_lt a b)) [
+nat_lt_true_if_less : (a b : ℕ) → a < b → nat_lt a b ≡ true
+nat_lt_true_if_less a b h = elim (bool_cases (nat_lt a b)) [
   | inl e ↦ e
   | inr e ↦ absurd (omega (arith, h, ltb-false a b e))
 ]
@@ -76,29 +76,29 @@ lt_true a b h = elim (bool_cases (nat_lt a b)) [
 BeginsBy : EventBox → ℕ → ℕ → Type 0
 BeginsBy b t i = (b.thread < t) ⊎ ((b.thread ≡ t) × (b.event ≤ i))
 
-begins_true : (b : EventBox) (t i : ℕ) → BeginsBy b t i → begins_by t i b ≡ true
+begins_by_true_if_begins : (b : EventBox) (t i : ℕ) → BeginsBy b t i → begins_by t i b ≡ true
 unfolding BeginsBy
-begins_true b t i (inl less) = or_left (nat_lt b.thread t) ((b.thread == t) && nat_le b.event i) (lt_true b.thread t less)
-begins_true b t i (inr here) = or_right (nat_lt b.thread t) ((b.thread == t) && nat_le b.event i)
-    (and_both (b.thread == t) (nat_le b.event i) (eq-eqb b.thread t here.0) (le_true b.event i here.1))
+begins_by_true_if_begins b t i (inl less) = or_true_from_left (nat_lt b.thread t) ((b.thread == t) && nat_le b.event i) (nat_lt_true_if_less b.thread t less)
+begins_by_true_if_begins b t i (inr here) = or_true_from_right (nat_lt b.thread t) ((b.thread == t) && nat_le b.event i)
+    (and_true_from_both (b.thread == t) (nat_le b.event i) (eq-eqb b.thread t here.0) (nat_le_true_if_at_most b.event i here.1))
 
-true_begins : (b : EventBox) (t i : ℕ) → begins_by t i b ≡ true → BeginsBy b t i
+begins_if_begins_by_true : (b : EventBox) (t i : ℕ) → begins_by t i b ≡ true → BeginsBy b t i
 unfolding BeginsBy
-true_begins b t i e = elim (or_parts (nat_lt b.thread t) ((b.thread == t) && nat_le b.event i) e) [
+begins_if_begins_by_true b t i e = elim (or_true_cases (nat_lt b.thread t) ((b.thread == t) && nat_le b.event i) e) [
   | inl less ↦ inl (ltb-true b.thread t less)
   | inr here ↦
       let parts = and_parts (b.thread == t) (nat_le b.event i) here in
       inr (eqb-true b.thread t parts.0, leb-true b.event i parts.1)
 ]
 
-pub in_true : (b : PlacedBox) (t i : ℕ) → IsInBox b.events t i → is_in t i b ≡ true
-in_true b t i has = and_both (b.events.thread == t) (nat_le b.events.event i && nat_lt i (b.events.event + b.events.count))
+pub is_in_true_if_in_box : (b : PlacedBox) (t i : ℕ) → IsInBox b.events t i → is_in t i b ≡ true
+is_in_true_if_in_box b t i has = and_true_from_both (b.events.thread == t) (nat_le b.events.event i && nat_lt i (b.events.event + b.events.count))
     (eq-eqb b.events.thread t has.thread)
-    (and_both (nat_le b.events.event i) (nat_lt i (b.events.event + b.events.count)) (le_true b.events.event i has.from)
-    (lt_true i (b.events.event + b.events.count) has.below))
+    (and_true_from_both (nat_le b.events.event i) (nat_lt i (b.events.event + b.events.count)) (nat_le_true_if_at_most b.events.event i has.from)
+    (nat_lt_true_if_less i (b.events.event + b.events.count) has.below))
 
-pub true_in : (b : PlacedBox) (t i : ℕ) → is_in t i b ≡ true → IsInBox b.events t i
-true_in b t i e =
+pub in_box_if_is_in_true : (b : PlacedBox) (t i : ℕ) → is_in t i b ≡ true → IsInBox b.events t i
+in_box_if_is_in_true b t i e =
     let parts = and_parts (b.events.thread == t) (nat_le b.events.event i && nat_lt i (b.events.event + b.events.count)) e in
     let ends = and_parts (nat_le b.events.event i) (nat_lt i (b.events.event + b.events.count)) parts.1 in
     record {
@@ -108,16 +108,16 @@ true_in b t i e =
     }
 
 -- of two boxes the earlier begins by an event where the later does
-pub begins_parted : (boxes : List PlacedBox) (t i : ℕ) → AreApart (events_of_all boxes) → IsPartitionedBy (λ (b : PlacedBox). begins_by t i b.events) boxes
+pub boxes_partitioned_by_begin : (boxes : List PlacedBox) (t i : ℕ) → AreApart (events_of_all boxes) → IsPartitionedBy (λ (b : PlacedBox). begins_by t i b.events) boxes
 unfolding BeginsBy
-begins_parted boxes t i apart k m d le less is = elim (cases_eq k m) [
+boxes_partitioned_by_begin boxes t i apart k m d le less is = elim (cases_eq k m) [
   | inl same ↦ subst (λ n. begins_by t i (get_or boxes n d).events ≡ true) (sym same) is
-  | inr ne ↦ begins_true (get_or boxes k d).events t i
+  | inr ne ↦ begins_by_true_if_begins (get_or boxes k d).events t i
       (earlier (get_or boxes k d).events (get_or boxes m d).events
       (apart k m (get_or boxes k d).events (get_or boxes m d).events (omega (arith, le, ne))
-      (map_get (λ (x : PlacedBox). x.events) boxes k (get_or boxes k d) (slice_get-get_or boxes k d (omega (arith, le, less))))
-      (map_get (λ (x : PlacedBox). x.events) boxes m (get_or boxes m d) (slice_get-get_or boxes m d less)))
-      (true_begins (get_or boxes m d).events t i is))
+      (slice_get_of_map (λ (x : PlacedBox). x.events) boxes k (get_or boxes k d) (slice_get-get_or boxes k d (omega (arith, le, less))))
+      (slice_get_of_map (λ (x : PlacedBox). x.events) boxes m (get_or boxes m d) (slice_get-get_or boxes m d less)))
+      (begins_if_begins_by_true (get_or boxes m d).events t i is))
 ]
   where
     earlier : (a b : EventBox) → EndsBy a b.thread b.event → BeginsBy b t i → BeginsBy a t i
@@ -126,60 +126,60 @@ begins_parted boxes t i apart k m d le less is = elim (cases_eq k m) [
     earlier a b (inr by) (inl lower) = inl (omega (arith, by.0, lower))
     earlier a b (inr by) (inr here) = inr (by.0 ∙ here.0, omega (arith, by.1, here.1))
 
-not_between : (b a : EventBox) (t i : ℕ) → IsInBox b t i → EndsBy b a.thread a.event → BeginsBy a t i → ⊥
+later_box_begins_after_event : (b a : EventBox) (t i : ℕ) → IsInBox b t i → EndsBy b a.thread a.event → BeginsBy a t i → ⊥
 unfolding BeginsBy
-not_between b a t i has (inl less) (inl lower) = omega (arith, less, lower, has.thread)
-not_between b a t i has (inl less) (inr here) = omega (arith, less, here.0, has.thread)
-not_between b a t i has (inr by) (inl lower) = omega (arith, by.0, lower, has.thread)
-not_between b a t i has (inr by) (inr here) = omega (arith, by.1, here.1, has.below)
+later_box_begins_after_event b a t i has (inl less) (inl lower) = omega (arith, less, lower, has.thread)
+later_box_begins_after_event b a t i has (inl less) (inr here) = omega (arith, less, here.0, has.thread)
+later_box_begins_after_event b a t i has (inr by) (inl lower) = omega (arith, by.0, lower, has.thread)
+later_box_begins_after_event b a t i has (inr by) (inr here) = omega (arith, by.1, here.1, has.below)
 
-pub false_true : (c : Bool) → c ≡ true → c ≡ false → ⊥
-false_true c e f = let bad : true ≡ false = sym e ∙ f in cc
+pub true_is_not_false : (c : Bool) → c ≡ true → c ≡ false → ⊥
+true_is_not_false c e f = let bad : true ≡ false = sym e ∙ f in cc
 
 -- where n boxes begin by an event, it can only be in the last of these
-pub only_last : (boxes : List PlacedBox) (t i n : ℕ) → AreApart (events_of_all boxes) → n ≤ length boxes
+pub box_of_event_is_last_begun : (boxes : List PlacedBox) (t i n : ℕ) → AreApart (events_of_all boxes) → n ≤ length boxes
     → IsPartitionPoint (λ (b : PlacedBox). begins_by t i b.events ≡ true) (λ b. begins_by t i b.events ≡ false) boxes n
     → (m : ℕ) (b : PlacedBox) → slice_get boxes m ≡ Some b → IsInBox b.events t i → m + 1 ≡ n
 unfolding BeginsBy
-only_last boxes t i n apart bound point m b at has = elim (cases_lt m n) [
+box_of_event_is_last_begun boxes t i n apart bound point m b at has = elim (cases_lt m n) [
   | inl less ↦ elim (cases_eq (m + 1) n) [
     | inl same ↦ same
     | inr ne ↦
         let inside : m + 1 < length boxes = omega (arith, less, ne, bound) in
         let at_next = slice_get-get_or boxes (m + 1) b inside in
-        absurd (not_between b.events (get_or boxes (m + 1) b).events t i has
-        (apart m (m + 1) b.events (get_or boxes (m + 1) b).events (omega arith) (map_get (λ (x : PlacedBox). x.events) boxes m b at)
-        (map_get (λ (x : PlacedBox). x.events) boxes (m + 1) (get_or boxes (m + 1) b) at_next))
-        (true_begins (get_or boxes (m + 1) b).events t i (point.0 (m + 1) b (omega arith) (omega (arith, less, ne)))))
+        absurd (later_box_begins_after_event b.events (get_or boxes (m + 1) b).events t i has
+        (apart m (m + 1) b.events (get_or boxes (m + 1) b).events (omega arith) (slice_get_of_map (λ (x : PlacedBox). x.events) boxes m b at)
+        (slice_get_of_map (λ (x : PlacedBox). x.events) boxes (m + 1) (get_or boxes (m + 1) b) at_next))
+        (begins_if_begins_by_true (get_or boxes (m + 1) b).events t i (point.0 (m + 1) b (omega arith) (omega (arith, less, ne)))))
   ]
-  | inr not ↦ absurd (false_true (begins_by t i b.events) (begins_true b.events t i (inr (has.thread, has.from)))
+  | inr not ↦ absurd (true_is_not_false (begins_by t i b.events) (begins_by_true_if_begins b.events t i (inr (has.thread, has.from)))
       (subst (λ (x : PlacedBox). begins_by t i x.events ≡ false) (get_or_from_slice_get boxes m b b at)
       (point.1 m b (omega (arith, not)) (slice_get_within boxes m b at))))
 ]
 
 -- ---- whether an event is in a box
 
-pub has_true : (boxes : List PlacedBox) (t i k : ℕ) (b : PlacedBox) → slice_get boxes k ≡ Some b → IsInBox b.events t i → has_box boxes t i ≡ true
+pub has_box_true_if_in_box : (boxes : List PlacedBox) (t i k : ℕ) (b : PlacedBox) → slice_get boxes k ≡ Some b → IsInBox b.events t i → has_box boxes t i ≡ true
 unfolding has_box
-has_true [] t i k b at has = absurd (none-some b at)
-has_true (x ∷ xs) t i zero b at has = or_left (is_in t i x) (has_box xs t i)
-    (subst (λ (y : PlacedBox). is_in t i y ≡ true) (sym (same_Some x b at)) (in_true b t i has))
-has_true (x ∷ xs) t i (suc k) b at has = or_right (is_in t i x) (has_box xs t i) (has_true xs t i k b at has)
+has_box_true_if_in_box [] t i k b at has = absurd (none-some b at)
+has_box_true_if_in_box (x ∷ xs) t i zero b at has = or_true_from_left (is_in t i x) (has_box xs t i)
+    (subst (λ (y : PlacedBox). is_in t i y ≡ true) (sym (same_Some x b at)) (is_in_true_if_in_box b t i has))
+has_box_true_if_in_box (x ∷ xs) t i (suc k) b at has = or_true_from_right (is_in t i x) (has_box xs t i) (has_box_true_if_in_box xs t i k b at has)
 
-pub true_has : (boxes : List PlacedBox) (t i : ℕ) → has_box boxes t i ≡ true → (k : ℕ) × (b : PlacedBox) × (slice_get boxes k ≡ Some b) × IsInBox b.events t i
+pub in_box_if_has_box_true : (boxes : List PlacedBox) (t i : ℕ) → has_box boxes t i ≡ true → (k : ℕ) × (b : PlacedBox) × (slice_get boxes k ≡ Some b) × IsInBox b.events t i
 unfolding has_box
-true_has [] t i e = absurd (let bad : false ≡ true = e in cc)
-true_has (x ∷ xs) t i e = elim (or_parts (is_in t i x) (has_box xs t i) e) [
-  | inl here ↦ (0, x, refl, true_in x t i here)
-  | inr rest ↦ let r = true_has xs t i rest in (suc r.0, r.1, r.2, r.3)
+in_box_if_has_box_true [] t i e = absurd (let bad : false ≡ true = e in cc)
+in_box_if_has_box_true (x ∷ xs) t i e = elim (or_true_cases (is_in t i x) (has_box xs t i) e) [
+  | inl here ↦ (0, x, refl, in_box_if_is_in_true x t i here)
+  | inr rest ↦ let r = in_box_if_has_box_true xs t i rest in (suc r.0, r.1, r.2, r.3)
 ]
 
 -- ---- lanes with no box placed
 
-pub lanes_more : (boxes : List EventBox) (lanes : List Lane) (new : Lane) (t : ℕ) → length lanes ≡ t → new.free ≡ first_point → IsCut boxes t 0 new.next
+pub lanes_at_start_after_push : (boxes : List EventBox) (lanes : List Lane) (new : Lane) (t : ℕ) → length lanes ≡ t → new.free ≡ first_point → IsCut boxes t 0 new.next
     → ((u : ℕ) (l : Lane) → slice_get lanes u ≡ Some l → (l.free ≡ first_point) × IsCut boxes u 0 l.next)
     → (u : ℕ) (l : Lane) → slice_get (lanes ++ new ∷ []) u ≡ Some l → (l.free ≡ first_point) × IsCut boxes u 0 l.next
-lanes_more boxes lanes new t long free cut all u l is = elim (push_cases lanes new l u is) [
+lanes_at_start_after_push boxes lanes new t long free cut all u l is = elim (slice_get_after_push_cases lanes new l u is) [
   | inl old ↦ all u l old
   | inr now ↦ subst (λ (x : Lane). (x.free ≡ first_point) × IsCut boxes u 0 x.next) now.1
       (free, subst (λ z. IsCut boxes z 0 new.next) (sym (now.0 ∙ long)) cut)

@@ -11,20 +11,20 @@ use Rattle.ir_past.specs.declared.stale_write.StaleWrite.{StaleWrite}
 use Rattle.ir_picture.specs.Chrome.{read_of}
 use Rattle.ir_picture.specs.Progress.{comes_before}
 
-less_tells : (a b : ℕ) → ((ltb a b ≡ true) × (a < b)) ⊎ ((ltb a b ≡ false) × (a < b → ⊥))
-less_tells a b = by (ltb a b) refl
+ltb_tells_less : (a b : ℕ) → ((ltb a b ≡ true) × (a < b)) ⊎ ((ltb a b ≡ false) × (a < b → ⊥))
+ltb_tells_less a b = by (ltb a b) refl
   where
     by : (x : Bool) → ltb a b ≡ x → ((ltb a b ≡ true) × (a < b)) ⊎ ((ltb a b ≡ false) × (a < b → ⊥))
     by true is = inl (is, ltb-true a b is)
     by false is = inr (is, λ less. true≢false (sym (lt-ltb a b less) ∙ is))
 
 -- the flag tells which comes first
-told : (t i : ℕ) (x : StaleWrite) → ((comes_before t i x ≡ true) × IsBefore x.thread x.event t i)
+comes_before_tells_before : (t i : ℕ) (x : StaleWrite) → ((comes_before t i x ≡ true) × IsBefore x.thread x.event t i)
     ⊎ ((comes_before t i x ≡ false) × (IsBefore x.thread x.event t i → ⊥))
-told t i x = elim (less_tells x.thread t) [
+comes_before_tells_before t i x = elim (ltb_tells_less x.thread t) [
   | inl holds ↦ inl (ap (λ z. z || (eqb x.thread t && ltb x.event i)) holds.0, inl holds.1)
   | inr fails ↦ elim (eqb_tells x.thread t) [
-    | inl same ↦ elim (less_tells x.event i) [
+    | inl same ↦ elim (ltb_tells_less x.event i) [
       | inl less ↦ inl (
         ap (λ z. z || (eqb x.thread t && ltb x.event i)) fails.0 ∙ ap (λ z. z && ltb x.event i) same.0 ∙ less.0,
         inr (same.1, less.1),
@@ -45,66 +45,66 @@ told t i x = elim (less_tells x.thread t) [
     neither (inl a) f g = f a
     neither (inr b) f g = g b
 
-pub before_is : (t i : ℕ) (x : StaleWrite) → comes_before t i x ≡ true → IsBefore x.thread x.event t i
-before_is t i x is = elim (told t i x) [
+pub before_if_comes_before : (t i : ℕ) (x : StaleWrite) → comes_before t i x ≡ true → IsBefore x.thread x.event t i
+before_if_comes_before t i x is = elim (comes_before_tells_before t i x) [
   | inl holds ↦ holds.1
   | inr fails ↦ absurd (false≢true (sym fails.0 ∙ is))
 ]
 
-pub not_before : (t i : ℕ) (x : StaleWrite) → comes_before t i x ≡ false → IsBefore x.thread x.event t i → ⊥
-not_before t i x is = elim (told t i x) [
+pub not_before_unless_comes_before : (t i : ℕ) (x : StaleWrite) → comes_before t i x ≡ false → IsBefore x.thread x.event t i → ⊥
+not_before_unless_comes_before t i x is = elim (comes_before_tells_before t i x) [
   | inl holds ↦ absurd (true≢false (sym holds.0 ∙ is))
   | inr fails ↦ fails.1
 ]
 
-is_before : (t i : ℕ) (x : StaleWrite) → IsBefore x.thread x.event t i → comes_before t i x ≡ true
-is_before t i x before = elim (told t i x) [
+comes_before_if_before : (t i : ℕ) (x : StaleWrite) → IsBefore x.thread x.event t i → comes_before t i x ≡ true
+comes_before_if_before t i x before = elim (comes_before_tells_before t i x) [
   | inl holds ↦ holds.0
   | inr fails ↦ absurd (fails.1 before)
 ]
 
-before_trans : (a b c d e f : ℕ) → IsBefore a b c d → IsBefore c d e f → IsBefore a b e f
-before_trans a b c d e f (inl x) (inl y) = inl (omega (arith, x, y))
-before_trans a b c d e f (inl x) (inr y) = let same = y.0 in inl (omega (arith, x, same))
-before_trans a b c d e f (inr x) (inl y) = let same = x.0 in inl (omega (arith, same, y))
-before_trans a b c d e f (inr x) (inr y) =
+before_transitive : (a b c d e f : ℕ) → IsBefore a b c d → IsBefore c d e f → IsBefore a b e f
+before_transitive a b c d e f (inl x) (inl y) = inl (omega (arith, x, y))
+before_transitive a b c d e f (inl x) (inr y) = let same = y.0 in inl (omega (arith, x, same))
+before_transitive a b c d e f (inr x) (inl y) = let same = x.0 in inl (omega (arith, same, y))
+before_transitive a b c d e f (inr x) (inr y) =
     let one = x.0 in let two = y.0 in let less = x.1 in let more = y.1 in inr (omega (arith, one, two), omega (arith, less, more))
 
-before_not : (a b : ℕ) → IsBefore a b a b → ⊥
-before_not a b (inl x) = omega (arith, x)
-before_not a b (inr x) = let less = x.1 in omega (arith, less)
+before_irreflexive : (a b : ℕ) → IsBefore a b a b → ⊥
+before_irreflexive a b (inl x) = omega (arith, x)
+before_irreflexive a b (inr x) = let less = x.1 in omega (arith, less)
 
 -- those that come before an event are the first
-pub parted : (t i : ℕ) (xs : List StaleWrite) → IsRising xs → IsPartitionedBy (comes_before t i) xs
-parted t i xs rising a b d at within is = elim (cases_lt a b) [
-  | inl less ↦ is_before t i (get_or xs a d)
-      (before_trans (get_or xs a d).thread (get_or xs a d).event (get_or xs b d).thread (get_or xs b d).event t i
+pub stale_writes_partitioned_by_event : (t i : ℕ) (xs : List StaleWrite) → IsRising xs → IsPartitionedBy (comes_before t i) xs
+stale_writes_partitioned_by_event t i xs rising a b d at within is = elim (cases_lt a b) [
+  | inl less ↦ comes_before_if_before t i (get_or xs a d)
+      (before_transitive (get_or xs a d).thread (get_or xs a d).event (get_or xs b d).thread (get_or xs b d).event t i
       (rising a b (get_or xs a d) (get_or xs b d) less (slice_get-get_or xs a d (omega (arith, less, within))) (slice_get-get_or xs b d within))
-      (before_is t i (get_or xs b d) is))
+      (before_if_comes_before t i (get_or xs b d) is))
   | inr not ↦ let same : b ≡ a = omega (arith, at, not) in subst (λ n. comes_before t i (get_or xs n d) ≡ true) same is
 ]
 
-pub first_before : (t i n : ℕ) (xs : List StaleWrite)
+pub before_below_partition_point : (t i n : ℕ) (xs : List StaleWrite)
     → IsPartitionPoint (λ (x : StaleWrite). comes_before t i x ≡ true) (λ x. comes_before t i x ≡ false) xs n → (k : ℕ) (x : StaleWrite) → k < n
     → slice_get xs k ≡ Some x → IsBefore x.thread x.event t i
-first_before t i n xs point k x less at = before_is t i x
+before_below_partition_point t i n xs point k x less at = before_if_comes_before t i x
     (subst (λ z. comes_before t i z ≡ true) (get_or_from_slice_get xs k x x at) (point.0 k x (omega arith) less))
 
-pub rest_not : (t i n : ℕ) (xs : List StaleWrite)
+pub not_before_from_partition_point : (t i n : ℕ) (xs : List StaleWrite)
     → IsPartitionPoint (λ (x : StaleWrite). comes_before t i x ≡ true) (λ x. comes_before t i x ≡ false) xs n → (k : ℕ) (x : StaleWrite) → n ≤ k
     → slice_get xs k ≡ Some x → IsBefore x.thread x.event t i → ⊥
-rest_not t i n xs point k x more at = not_before t i x
+not_before_from_partition_point t i n xs point k x more at = not_before_unless_comes_before t i x
     (subst (λ z. comes_before t i z ≡ false) (get_or_from_slice_get xs k x x at) (point.1 k x more (slice_get_within xs k x at)))
 
 -- ---- what is read
 
 -- a stale write is at event i of thread t
-abbrev IsAt : StaleWrite → ℕ → ℕ → Type 0
-IsAt x t i = (x.thread ≡ t) × (x.event ≡ i)
+abbrev IsStaleWriteAt : StaleWrite → ℕ → ℕ → Type 0
+IsStaleWriteAt x t i = (x.thread ≡ t) × (x.event ≡ i)
 
-flag_told : (x : StaleWrite) (t i : ℕ) → (((x.thread == t) && (x.event == i)) ≡ true × IsAt x t i)
-    ⊎ ((((x.thread == t) && (x.event == i)) ≡ false) × (IsAt x t i → ⊥))
-flag_told x t i = elim (eqb_tells x.thread t) [
+event_test_tells_place : (x : StaleWrite) (t i : ℕ) → (((x.thread == t) && (x.event == i)) ≡ true × IsStaleWriteAt x t i)
+    ⊎ ((((x.thread == t) && (x.event == i)) ≡ false) × (IsStaleWriteAt x t i → ⊥))
+event_test_tells_place x t i = elim (eqb_tells x.thread t) [
   | inl same ↦ elim (eqb_tells x.event i) [
     | inl here ↦ inl (ap (λ z. z && eqb x.event i) same.0 ∙ here.0, (same.1, here.1))
     | inr fails ↦ inr (ap (λ z. z && eqb x.event i) same.0 ∙ fails.0, λ p. fails.1 p.1)
@@ -112,69 +112,69 @@ flag_told x t i = elim (eqb_tells x.thread t) [
   | inr other ↦ inr (ap (λ z. z && eqb x.event i) other.0, λ p. other.1 p.0)
 ]
 
-read_here : (x : StaleWrite) (xs : List StaleWrite) (t i : ℕ) → IsAt x t i → read_of (x ∷ xs) t i ≡ Some x.read
+read_of_cons_if_matching : (x : StaleWrite) (xs : List StaleWrite) (t i : ℕ) → IsStaleWriteAt x t i → read_of (x ∷ xs) t i ≡ Some x.read
 unfolding read_of
-read_here x xs t i at = elim (flag_told x t i) [
+read_of_cons_if_matching x xs t i at = elim (event_test_tells_place x t i) [
   | inl holds ↦ ap (λ (z : Bool). if z then Some x.read else read_of xs t i) holds.0
   | inr fails ↦ absurd (fails.1 at)
 ]
 
-read_later : (x : StaleWrite) (xs : List StaleWrite) (t i : ℕ) → (IsAt x t i → ⊥) → read_of (x ∷ xs) t i ≡ read_of xs t i
+read_of_cons_unless_matching : (x : StaleWrite) (xs : List StaleWrite) (t i : ℕ) → (IsStaleWriteAt x t i → ⊥) → read_of (x ∷ xs) t i ≡ read_of xs t i
 unfolding read_of
-read_later x xs t i not = elim (flag_told x t i) [
+read_of_cons_unless_matching x xs t i not = elim (event_test_tells_place x t i) [
   | inl holds ↦ absurd (not holds.1)
   | inr fails ↦ ap (λ (z : Bool). if z then Some x.read else read_of xs t i) fails.0
 ]
 
-none_at : (xs : List StaleWrite) (t i : ℕ) → ((k : ℕ) (x : StaleWrite) → slice_get xs k ≡ Some x → IsAt x t i → ⊥) → read_of xs t i ≡ None
+read_of_none_matching : (xs : List StaleWrite) (t i : ℕ) → ((k : ℕ) (x : StaleWrite) → slice_get xs k ≡ Some x → IsStaleWriteAt x t i → ⊥) → read_of xs t i ≡ None
 unfolding read_of
-none_at [] t i none = refl
-none_at (x ∷ xs) t i none = read_later x xs t i (none 0 x refl) ∙ none_at xs t i (λ k y at. none (suc k) y at)
+read_of_none_matching [] t i none = refl
+read_of_none_matching (x ∷ xs) t i none = read_of_cons_unless_matching x xs t i (none 0 x refl) ∙ read_of_none_matching xs t i (λ k y at. none (suc k) y at)
 
-found_at : (xs : List StaleWrite) (k t i : ℕ) (x : StaleWrite) → slice_get xs k ≡ Some x → IsAt x t i
-    → ((j : ℕ) (y : StaleWrite) → j < k → slice_get xs j ≡ Some y → IsAt y t i → ⊥) → read_of xs t i ≡ Some x.read
-found_at [] k t i x at is first = absurd (none-some x at)
-found_at (y ∷ xs) zero t i x at is first =
+read_of_first_matching : (xs : List StaleWrite) (k t i : ℕ) (x : StaleWrite) → slice_get xs k ≡ Some x → IsStaleWriteAt x t i
+    → ((j : ℕ) (y : StaleWrite) → j < k → slice_get xs j ≡ Some y → IsStaleWriteAt y t i → ⊥) → read_of xs t i ≡ Some x.read
+read_of_first_matching [] k t i x at is first = absurd (none-some x at)
+read_of_first_matching (y ∷ xs) zero t i x at is first =
     let same : x ≡ y = same_Some x y (sym at) in
     subst (λ (z : StaleWrite). read_of (y ∷ xs) t i ≡ Some z.read) (sym same)
-    (read_here y xs t i (subst (λ (z : StaleWrite). IsAt z t i) same is))
-found_at (y ∷ xs) (suc k) t i x at is first = read_later y xs t i (first 0 y (omega arith) refl)
-    ∙ found_at xs k t i x at is (λ j z less there. first (suc j) z (omega (arith, less)) there)
+    (read_of_cons_if_matching y xs t i (subst (λ (z : StaleWrite). IsStaleWriteAt z t i) same is))
+read_of_first_matching (y ∷ xs) (suc k) t i x at is first = read_of_cons_unless_matching y xs t i (first 0 y (omega arith) refl)
+    ∙ read_of_first_matching xs k t i x at is (λ j z less there. first (suc j) z (omega (arith, less)) there)
 
-at_not : (x : StaleWrite) (t i : ℕ) → IsAt x t i → IsBefore x.thread x.event t i → ⊥
-at_not x t i at before = before_not t i (subst (λ n. IsBefore n i t i) at.0 (subst (λ n. IsBefore x.thread n t i) at.1 before))
+matching_write_is_not_before : (x : StaleWrite) (t i : ℕ) → IsStaleWriteAt x t i → IsBefore x.thread x.event t i → ⊥
+matching_write_is_not_before x t i at before = before_irreflexive t i (subst (λ n. IsBefore n i t i) at.0 (subst (λ n. IsBefore x.thread n t i) at.1 before))
 
 -- n of these come before event i of thread t
-pub record IsCount (xs : List StaleWrite) (t i n : ℕ) : Type 0 where
+pub record IsCountBefore (xs : List StaleWrite) (t i n : ℕ) : Type 0 where
   pub before : (k : ℕ) (x : StaleWrite) → k < n → slice_get xs k ≡ Some x → IsBefore x.thread x.event t i
   pub rest : (k : ℕ) (x : StaleWrite) → n ≤ k → slice_get xs k ≡ Some x → IsBefore x.thread x.event t i → ⊥
 
 -- it is what the next one of them read, if that is of the event
-pub read_next : (xs : List StaleWrite) (t i n : ℕ) (x : StaleWrite) → IsRising xs → IsCount xs t i n → slice_get xs n ≡ Some x
+pub read_of_next_stale_write : (xs : List StaleWrite) (t i n : ℕ) (x : StaleWrite) → IsRising xs → IsCountBefore xs t i n → slice_get xs n ≡ Some x
     → read_of xs t i ≡ read_of (x ∷ []) t i
-read_next xs t i n x rising counts at = elim (flag_told x t i) [
-  | inl here ↦ found_at xs n t i x at here.1 (λ j y less there is. at_not y t i is (counts.before j y less there))
-      ∙ sym (read_here x [] t i here.1)
-  | inr other ↦ none_at xs t i (no_later other.1) ∙ sym (none_at (x ∷ []) t i (only other.1))
+read_of_next_stale_write xs t i n x rising counts at = elim (event_test_tells_place x t i) [
+  | inl here ↦ read_of_first_matching xs n t i x at here.1 (λ j y less there is. matching_write_is_not_before y t i is (counts.before j y less there))
+      ∙ sym (read_of_cons_if_matching x [] t i here.1)
+  | inr other ↦ read_of_none_matching xs t i (no_later other.1) ∙ sym (read_of_none_matching (x ∷ []) t i (only other.1))
 ]
   where
-    no_later : (IsAt x t i → ⊥) → (k : ℕ) (y : StaleWrite) → slice_get xs k ≡ Some y → IsAt y t i → ⊥
+    no_later : (IsStaleWriteAt x t i → ⊥) → (k : ℕ) (y : StaleWrite) → slice_get xs k ≡ Some y → IsStaleWriteAt y t i → ⊥
     no_later not k y there is = elim (cases_lt k n) [
-      | inl less ↦ at_not y t i is (counts.before k y less there)
+      | inl less ↦ matching_write_is_not_before y t i is (counts.before k y less there)
       | inr past ↦ elim (cases_eq k n) [
-        | inl same ↦ not (subst (λ (z : StaleWrite). IsAt z t i) (same_Some y x (sym there ∙ ap (λ z. slice_get xs z) same ∙ at)) is)
+        | inl same ↦ not (subst (λ (z : StaleWrite). IsStaleWriteAt z t i) (same_Some y x (sym there ∙ ap (λ z. slice_get xs z) same ∙ at)) is)
         | inr ne ↦ counts.rest n x (omega arith) at
             (subst (λ m. IsBefore x.thread x.event m i) is.0 (subst (λ m. IsBefore x.thread x.event y.thread m) is.1
             (rising n k x y (omega (arith, past, ne)) at there)))
       ]
     ]
 
-    only : (IsAt x t i → ⊥) → (k : ℕ) (y : StaleWrite) → slice_get (x ∷ []) k ≡ Some y → IsAt y t i → ⊥
-    only not zero y there is = not (subst (λ (z : StaleWrite). IsAt z t i) (sym (same_Some x y there)) is)
+    only : (IsStaleWriteAt x t i → ⊥) → (k : ℕ) (y : StaleWrite) → slice_get (x ∷ []) k ≡ Some y → IsStaleWriteAt y t i → ⊥
+    only not zero y there is = not (subst (λ (z : StaleWrite). IsStaleWriteAt z t i) (sym (same_Some x y there)) is)
     only not (suc k) y there is = none-some y there
 
 -- there is none
-pub read_past : (xs : List StaleWrite) (t i n : ℕ) → IsCount xs t i n → length xs ≤ n → read_of xs t i ≡ None
-read_past xs t i n counts all = none_at xs t i (λ k y there is.
+pub read_of_past_end : (xs : List StaleWrite) (t i n : ℕ) → IsCountBefore xs t i n → length xs ≤ n → read_of xs t i ≡ None
+read_of_past_end xs t i n counts all = read_of_none_matching xs t i (λ k y there is.
     let within = slice_get_within xs k y there in
-    at_not y t i is (counts.before k y (omega (arith, within, all)) there))
+    matching_write_is_not_before y t i is (counts.before k y (omega (arith, within, all)) there))

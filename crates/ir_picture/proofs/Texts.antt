@@ -13,36 +13,36 @@ use Rattle.ir_picture.specs.declared.placed_box.PlacedBox.{PlacedBox}
 use Rattle.ir_picture.specs.declared.sights.Sight.{Sight}
 
 -- of what is left to put, the first text was put
-pub put : (so_far line left more text new : List ℕ) → so_far ++ left ≡ text → left ≡ line ++ more → new ≡ so_far ++ line → new ++ more ≡ text
-put so_far line left more text new e first made =
+pub text_split_after_put : (so_far line left more text new : List ℕ) → so_far ++ left ≡ text → left ≡ line ++ more → new ≡ so_far ++ line → new ++ more ≡ text
+text_split_after_put so_far line left more text new e first made =
     ap (λ (x : List ℕ). x ++ more) made ∙ append_assoc so_far line more ∙ ap (λ (x : List ℕ). so_far ++ x) (sym first) ∙ e
 
 -- the same of two texts
-pub put_two : (so_far one two left more text mid new : List ℕ) → so_far ++ left ≡ text → left ≡ one ++ (two ++ more) → mid ≡ so_far ++ one
+pub text_split_after_two_puts : (so_far one two left more text mid new : List ℕ) → so_far ++ left ≡ text → left ≡ one ++ (two ++ more) → mid ≡ so_far ++ one
     → new ≡ mid ++ two → new ++ more ≡ text
-put_two so_far one two left more text mid new e first made last =
-    put mid two (two ++ more) more text new (put so_far one left (two ++ more) text mid e first made) refl last
+text_split_after_two_puts so_far one two left more text mid new e first made last =
+    text_split_after_put mid two (two ++ more) more text new (text_split_after_put so_far one left (two ++ more) text mid e first made) refl last
 
 -- nothing is left to put
-pub all_put : (so_far left text : List ℕ) → so_far ++ left ≡ text → left ≡ [] → so_far ≡ text
-all_put so_far left text e none = sym (append-nil so_far) ∙ ap (λ (x : List ℕ). so_far ++ x) (sym none) ∙ e
+pub text_is_put_if_nothing_left : (so_far left text : List ℕ) → so_far ++ left ≡ text → left ≡ [] → so_far ≡ text
+text_is_put_if_nothing_left so_far left text e none = sym (append-nil so_far) ∙ ap (λ (x : List ℕ). so_far ++ x) (sym none) ∙ e
 
 -- ---- texts that are put one after the other
 
-pub three_put : (old a b c one two three : List ℕ) → one ≡ old ++ a → two ≡ one ++ b → three ≡ two ++ c → three ≡ old ++ (a ++ (b ++ c))
-three_put old a b c one two three x y z = z ∙ ap (λ (w : List ℕ). w ++ c) (y ∙ ap (λ (w : List ℕ). w ++ b) x)
+pub append_of_three_texts : (old a b c one two three : List ℕ) → one ≡ old ++ a → two ≡ one ++ b → three ≡ two ++ c → three ≡ old ++ (a ++ (b ++ c))
+append_of_three_texts old a b c one two three x y z = z ∙ ap (λ (w : List ℕ). w ++ c) (y ∙ ap (λ (w : List ℕ). w ++ b) x)
     ∙ append_assoc (old ++ a) b c ∙ append_assoc old a (b ++ c)
 
-pub four_put : (old a b c d one two three four : List ℕ) → one ≡ old ++ a → two ≡ one ++ b → three ≡ two ++ c → four ≡ three ++ d
+pub append_of_four_texts : (old a b c d one two three four : List ℕ) → one ≡ old ++ a → two ≡ one ++ b → three ≡ two ++ c → four ≡ three ++ d
     → four ≡ old ++ (a ++ (b ++ (c ++ d)))
-four_put old a b c d one two three four x y z w = w ∙ ap (λ (v : List ℕ). v ++ d) (three_put old a b c one two three x y z)
+append_of_four_texts old a b c d one two three four x y z w = w ∙ ap (λ (v : List ℕ). v ++ d) (append_of_three_texts old a b c one two three x y z)
     ∙ append_assoc old (a ++ (b ++ c)) d
     ∙ ap (λ (v : List ℕ). old ++ v) (append_assoc a (b ++ c) d ∙ ap (λ (v : List ℕ). a ++ v) (append_assoc b c d))
 
-pub five_put : (old a b c d e one two three four five : List ℕ) → one ≡ old ++ a → two ≡ one ++ b → three ≡ two ++ c → four ≡ three ++ d
+pub append_of_five_texts : (old a b c d e one two three four five : List ℕ) → one ≡ old ++ a → two ≡ one ++ b → three ≡ two ++ c → four ≡ three ++ d
     → five ≡ four ++ e → five ≡ old ++ (a ++ (b ++ (c ++ (d ++ e))))
-five_put old a b c d e one two three four five x y z w v =
-    four_put old a b c (d ++ e) one two three five x y z (v ∙ ap (λ (u : List ℕ). u ++ e) w ∙ append_assoc three d e)
+append_of_five_texts old a b c d e one two three four five x y z w v =
+    append_of_four_texts old a b c (d ++ e) one two three five x y z (v ∙ ap (λ (u : List ℕ). u ++ e) w ∙ append_assoc three d e)
 
 -- ---- texts with a comma between
 
@@ -51,48 +51,48 @@ abbrev pub comma_after : List (List ℕ) → List ℕ
 comma_after [] = []
 comma_after (x ∷ xs) = codes ","
 
-pub joined_more : (xs : List (List ℕ)) (y : List ℕ) → with_commas (xs ++ y ∷ []) ≡ with_commas xs ++ (comma_after xs ++ y)
+pub with_commas_of_push : (xs : List (List ℕ)) (y : List ℕ) → with_commas (xs ++ y ∷ []) ≡ with_commas xs ++ (comma_after xs ++ y)
 unfolding with_commas
-joined_more [] y = refl
-joined_more (x ∷ []) y = refl
-joined_more (x ∷ z ∷ zs) y =
-    ap (λ (w : List ℕ). x ++ (codes "," ++ w)) (joined_more (z ∷ zs) y)
+with_commas_of_push [] y = refl
+with_commas_of_push (x ∷ []) y = refl
+with_commas_of_push (x ∷ z ∷ zs) y =
+    ap (λ (w : List ℕ). x ++ (codes "," ++ w)) (with_commas_of_push (z ∷ zs) y)
     ∙ sym (append_assoc x (codes "," ++ with_commas (z ∷ zs)) (codes "," ++ y)
     ∙ ap (λ (w : List ℕ). x ++ w) (append_assoc (codes ",") (with_commas (z ∷ zs)) (codes "," ++ y)))
 
-pub comma_more : (xs : List (List ℕ)) (y : List ℕ) → comma_after (xs ++ y ∷ []) ≡ codes ","
-comma_more [] y = refl
-comma_more (x ∷ xs) y = refl
+pub comma_after_push : (xs : List (List ℕ)) (y : List ℕ) → comma_after (xs ++ y ∷ []) ≡ codes ","
+comma_after_push [] y = refl
+comma_after_push (x ∷ xs) y = refl
 
 -- ---- rows
 
-row_next : {A : Type 0} (row : A → List ℕ) (k n : ℕ) (xs : List A) (x : A) → n < length xs
+rows_from_of_drop : {A : Type 0} (row : A → List ℕ) (k n : ℕ) (xs : List A) (x : A) → n < length xs
     → rows_from row k (drop n xs) ≡ row_start k ++ (row (get_or xs n x) ++ rows_from row (suc k) (drop (n + 1) xs))
 unfolding rows_from
-row_next row k n xs x some = at_drop_more (rows_from row k) xs n x some
+rows_from_of_drop row k n xs x some = at_drop_more (rows_from row k) xs n x some
 
 -- the next row comes first in what is left
-pub next_row : {A : Type 0} (row : A → List ℕ) (n : ℕ) (xs : List A) (x : A) (start line : List ℕ) → n < length xs → start ≡ row_start n
+pub rows_begin_with_next_row : {A : Type 0} (row : A → List ℕ) (n : ℕ) (xs : List A) (x : A) (start line : List ℕ) → n < length xs → start ≡ row_start n
     → line ≡ row (get_or xs n x) → rows_from row n (drop n xs) ≡ start ++ (line ++ rows_from row (n + 1) (drop (n + 1) xs))
-next_row {A} row n xs x start line some begins same = row_next row n n xs x some
+rows_begin_with_next_row {A} row n xs x start line some begins same = rows_from_of_drop row n n xs x some
     ∙ ap (λ (z : List ℕ). z ++ (row (get_or xs n x) ++ rows_from row (suc n) (drop (n + 1) xs))) (sym begins)
     ∙ ap (λ (z : List ℕ). start ++ (z ++ rows_from row (suc n) (drop (n + 1) xs))) (sym same)
     ∙ (let on : suc n ≡ n + 1 = omega arith in ap (λ k. start ++ (line ++ rows_from row k (drop (n + 1) xs))) on)
 
-pub no_row : {A : Type 0} (row : A → List ℕ) (k n : ℕ) (xs : List A) → length xs ≤ n → rows_from row k (drop n xs) ≡ []
+pub rows_from_past_end : {A : Type 0} (row : A → List ℕ) (k n : ℕ) (xs : List A) → length xs ≤ n → rows_from row k (drop n xs) ≡ []
 unfolding rows_from
-no_row row k n xs all = at_drop_all (rows_from row k) xs n all
+rows_from_past_end row k n xs all = at_drop_all (rows_from row k) xs n all
 
 -- the same as one line
-pub next_line : {A : Type 0} (row : A → List ℕ) (n : ℕ) (xs : List A) (x : A) → n < length xs
+pub rows_begin_with_next_line : {A : Type 0} (row : A → List ℕ) (n : ℕ) (xs : List A) (x : A) → n < length xs
     → rows_from row n (drop n xs) ≡ (row_start n ++ row (get_or xs n x)) ++ rows_from row (n + 1) (drop (n + 1) xs)
-next_line row n xs x some = next_row row n xs x (row_start n) (row (get_or xs n x)) some refl refl
+rows_begin_with_next_line row n xs x some = rows_begin_with_next_row row n xs x (row_start n) (row (get_or xs n x)) some refl refl
     ∙ sym (append_assoc (row_start n) (row (get_or xs n x)) (rows_from row (n + 1) (drop (n + 1) xs)))
 
 -- the row of a box was put, its last numbers behind the others
-pub row_put : (old : List ℕ) (es : List Event) (b : PlacedBox) (last one two three : List ℕ) → one ≡ old ++ box_start es b → two ≡ one ++ last
+pub row_with_after_puts : (old : List ℕ) (es : List Event) (b : PlacedBox) (last one two three : List ℕ) → one ≡ old ++ box_start es b → two ≡ one ++ last
     → three ≡ two ++ codes "]" → three ≡ old ++ row_with es b last
-row_put old es b last one two three x y z = three_put old (box_start es b) last (codes "]") one two three x y z
+row_with_after_puts old es b last one two three x y z = append_of_three_texts old (box_start es b) last (codes "]") one two three x y z
     ∙ ap (λ (w : List ℕ). old ++ (codes "[" ++ w)) (regroup (decimal b.events.thread) (comma b.events.event) (comma b.events.count) (first_numbers es)
     (place_numbers b) (last ++ codes "]"))
   where
@@ -101,90 +101,90 @@ row_put old es b last one two three x y z = three_put old (box_start es b) last 
 
 -- ---- the rows of threads
 
-thread_next : (k n : ℕ) (ts : List RecordedThread) (ps : List Point) (t : RecordedThread) (p : Point) → n < length ts → length ps ≡ length ts
+thread_rows_of_drop : (k n : ℕ) (ts : List RecordedThread) (ps : List Point) (t : RecordedThread) (p : Point) → n < length ts → length ps ≡ length ts
     → thread_rows k (drop n ts) (drop n ps)
     ≡ row_start k ++ (thread_row (get_or ts n t) (get_or ps n p) ++ thread_rows (suc k) (drop (n + 1) ts) (drop (n + 1) ps))
 unfolding thread_rows
-thread_next k n ts ps t p some same =
+thread_rows_of_drop k n ts ps t p some same =
     at_drop_more (λ (x : List RecordedThread). thread_rows k x (drop n ps)) ts n t some
     ∙ at_drop_more (λ (y : List Point). thread_rows k (get_or ts n t ∷ drop (n + 1) ts) y) ps n p (omega (arith, some, same))
 
 -- the next thread's row comes first in what is left
-pub next_thread : (n : ℕ) (ts : List RecordedThread) (ps : List Point) (t : RecordedThread) (p : Point) (start line : List ℕ) → n < length ts
+pub thread_rows_begin_with_next : (n : ℕ) (ts : List RecordedThread) (ps : List Point) (t : RecordedThread) (p : Point) (start line : List ℕ) → n < length ts
     → length ps ≡ length ts → start ≡ row_start n → line ≡ thread_row (get_or ts n t) (get_or ps n p)
     → thread_rows n (drop n ts) (drop n ps) ≡ start ++ (line ++ thread_rows (n + 1) (drop (n + 1) ts) (drop (n + 1) ps))
-next_thread n ts ps t p start line some all begins same = thread_next n n ts ps t p some all
+thread_rows_begin_with_next n ts ps t p start line some all begins same = thread_rows_of_drop n n ts ps t p some all
     ∙ ap (λ (z : List ℕ). z ++ (thread_row (get_or ts n t) (get_or ps n p) ++ thread_rows (suc n) (drop (n + 1) ts) (drop (n + 1) ps))) (sym begins)
     ∙ ap (λ (z : List ℕ). start ++ (z ++ thread_rows (suc n) (drop (n + 1) ts) (drop (n + 1) ps))) (sym same)
     ∙ (let on : suc n ≡ n + 1 = omega arith in ap (λ k. start ++ (line ++ thread_rows k (drop (n + 1) ts) (drop (n + 1) ps))) on)
 
-pub no_thread : (k n : ℕ) (ts : List RecordedThread) (ps : List Point) → length ts ≤ n → length ps ≡ length ts
+pub thread_rows_past_end : (k n : ℕ) (ts : List RecordedThread) (ps : List Point) → length ts ≤ n → length ps ≡ length ts
     → thread_rows k (drop n ts) (drop n ps) ≡ []
 unfolding thread_rows
-no_thread k n ts ps all same = at_drop_all (λ (x : List RecordedThread). thread_rows k x (drop n ps)) ts n all
+thread_rows_past_end k n ts ps all same = at_drop_all (λ (x : List RecordedThread). thread_rows k x (drop n ps)) ts n all
     ∙ at_drop_all (λ (y : List Point). thread_rows k [] y) ps n (omega (arith, all, same))
 
 -- ---- arrows
 
-arrow_next : (k n : ℕ) (xs : List Sight) (x : Sight) → n < length xs
+all_arrows_of_drop : (k n : ℕ) (xs : List Sight) (x : Sight) → n < length xs
     → all_arrows k (drop n xs) ≡ arrow_lines k (get_or xs n x) ++ all_arrows (suc k) (drop (n + 1) xs)
 unfolding all_arrows
-arrow_next k n xs x some = at_drop_more (all_arrows k) xs n x some
+all_arrows_of_drop k n xs x some = at_drop_more (all_arrows k) xs n x some
 
 -- the next arrow's lines come first in what is left
-pub next_arrow : (n : ℕ) (xs : List Sight) (x : Sight) (line : List ℕ) → n < length xs → line ≡ arrow_lines n (get_or xs n x)
+pub all_arrows_begin_with_next : (n : ℕ) (xs : List Sight) (x : Sight) (line : List ℕ) → n < length xs → line ≡ arrow_lines n (get_or xs n x)
     → all_arrows n (drop n xs) ≡ line ++ all_arrows (n + 1) (drop (n + 1) xs)
-next_arrow n xs x line some same = arrow_next n n xs x some
+all_arrows_begin_with_next n xs x line some same = all_arrows_of_drop n n xs x some
     ∙ ap (λ (z : List ℕ). z ++ all_arrows (suc n) (drop (n + 1) xs)) (sym same)
     ∙ (let on : suc n ≡ n + 1 = omega arith in ap (λ k. line ++ all_arrows k (drop (n + 1) xs)) on)
 
-pub no_arrow : (k n : ℕ) (xs : List Sight) → length xs ≤ n → all_arrows k (drop n xs) ≡ []
+pub all_arrows_past_end : (k n : ℕ) (xs : List Sight) → length xs ≤ n → all_arrows k (drop n xs) ≡ []
 unfolding all_arrows
-no_arrow k n xs all = at_drop_all (all_arrows k) xs n all
+all_arrows_past_end k n xs all = at_drop_all (all_arrows k) xs n all
 
 -- ---- the lines of threads, for other viewers
 
-pub threads_more : (t : ℕ) (so_far text own new : List ℕ) → text ≡ so_far ++ all_threads t → own ≡ thread_lines t → new ≡ text ++ own
+pub all_threads_step : (t : ℕ) (so_far text own new : List ℕ) → text ≡ so_far ++ all_threads t → own ≡ thread_lines t → new ≡ text ++ own
     → new ≡ so_far ++ all_threads (t + 1)
 unfolding all_threads
-threads_more t so_far text own new h same made = made ∙ ap (λ (x : List ℕ). x ++ own) h ∙ append_assoc so_far (all_threads t) own
+all_threads_step t so_far text own new h same made = made ∙ ap (λ (x : List ℕ). x ++ own) h ∙ append_assoc so_far (all_threads t) own
     ∙ ap (λ (x : List ℕ). so_far ++ (all_threads t ++ x)) same
     ∙ (let on : suc t ≡ t + 1 = omega arith in ap (λ n. so_far ++ all_threads n) on)
 
-pub no_threads : (so_far : List ℕ) → so_far ≡ so_far ++ all_threads 0
+pub all_threads_of_none : (so_far : List ℕ) → so_far ≡ so_far ++ all_threads 0
 unfolding all_threads
-no_threads so_far = sym (append-nil so_far)
+all_threads_of_none so_far = sym (append-nil so_far)
 
 -- ---- lines
 
 -- the text of the next element comes first in what is left
-pub next_mapped : {A : Type 0} (f : A → List ℕ) (n : ℕ) (xs : List A) (x : A) (line : List ℕ) → n < length xs → line ≡ f (get_or xs n x)
+pub flat_map_of_drop : {A : Type 0} (f : A → List ℕ) (n : ℕ) (xs : List A) (x : A) (line : List ℕ) → n < length xs → line ≡ f (get_or xs n x)
     → flat_map f (drop n xs) ≡ line ++ flat_map f (drop (n + 1) xs)
-next_mapped f n xs x line some same = at_drop_more (flat_map f) xs n x some ∙ ap (λ (z : List ℕ). z ++ flat_map f (drop (n + 1) xs)) (sym same)
+flat_map_of_drop f n xs x line some same = at_drop_more (flat_map f) xs n x some ∙ ap (λ (z : List ℕ). z ++ flat_map f (drop (n + 1) xs)) (sym same)
 
-pub none_mapped : {A : Type 0} (f : A → List ℕ) (n : ℕ) (xs : List A) → length xs ≤ n → flat_map f (drop n xs) ≡ []
-none_mapped f n xs all = at_drop_all (flat_map f) xs n all
+pub flat_map_past_end : {A : Type 0} (f : A → List ℕ) (n : ℕ) (xs : List A) → length xs ≤ n → flat_map f (drop n xs) ≡ []
+flat_map_past_end f n xs all = at_drop_all (flat_map f) xs n all
 
 -- ---- data in a frame
 
 -- its four parts
-pub data_parts : (a b c d before head after : List ℕ) → a ≡ before ++ head → d ≡ after → ((a ++ b) ++ c) ++ d ≡ before ++ ((head ++ (b ++ c)) ++ after)
-data_parts a b c d before head after begins ends = ap (λ (x : List ℕ). ((x ++ b) ++ c) ++ d) begins ∙ regroup before head b c d
+pub four_parts_of_framed_data : (a b c d before head after : List ℕ) → a ≡ before ++ head → d ≡ after → ((a ++ b) ++ c) ++ d ≡ before ++ ((head ++ (b ++ c)) ++ after)
+four_parts_of_framed_data a b c d before head after begins ends = ap (λ (x : List ℕ). ((x ++ b) ++ c) ++ d) begins ∙ regroup before head b c d
     ∙ ap (λ (x : List ℕ). before ++ ((head ++ (b ++ c)) ++ x)) ends
   where
     regroup : (p h b c d : List ℕ) → (((p ++ h) ++ b) ++ c) ++ d ≡ p ++ ((h ++ (b ++ c)) ++ d)
     regroup p h b c d = simp append_assoc
 
 -- with its end
-pub data_whole : (start threads name boxes end middle stale last : List ℕ)
+pub data_parts_with_end : (start threads name boxes end middle stale last : List ℕ)
     → ((start ++ (threads ++ name)) ++ (boxes ++ ((end ++ middle) ++ stale))) ++ (end ++ last)
     ≡ start ++ (threads ++ ((name ++ (boxes ++ end)) ++ ((middle ++ (stale ++ end)) ++ last)))
-data_whole start threads name boxes end middle stale last = simp append_assoc
+data_parts_with_end start threads name boxes end middle stale last = simp append_assoc
 
 -- and a text after it
-pub data_then : (start threads boxes stale end last : List ℕ)
+pub data_parts_before_last_text : (start threads boxes stale end last : List ℕ)
     → start ++ (threads ++ (boxes ++ (stale ++ (end ++ last)))) ≡ (start ++ (threads ++ (boxes ++ (stale ++ end)))) ++ last
-data_then start threads boxes stale end last = sym (regroup start threads boxes stale end last)
+data_parts_before_last_text start threads boxes stale end last = sym (regroup start threads boxes stale end last)
   where
     regroup : (a b c d e f : List ℕ) → (a ++ (b ++ (c ++ (d ++ e)))) ++ f ≡ a ++ (b ++ (c ++ (d ++ (e ++ f))))
     regroup a b c d e f = simp append_assoc
@@ -192,10 +192,10 @@ data_then start threads boxes stale end last = sym (regroup start threads boxes 
 -- ---- the events for other viewers
 
 -- their four parts
-pub chrome_parts : (r : Recorded) (p : Picture) (sights : List Sight) (n : ℕ) (first last : List ℕ) (boxes : List PlacedBox) (stale : List StaleWrite)
+pub four_parts_of_chrome_text : (r : Recorded) (p : Picture) (sights : List Sight) (n : ℕ) (first last : List ℕ) (boxes : List PlacedBox) (stale : List StaleWrite)
     → first ≡ chrome_start n → n ≡ length r.threads → boxes ≡ p.boxes.items → stale ≡ p.stale.items → last ≡ chrome_end
     → ((first ++ flat_map (box_line r stale) boxes) ++ all_arrows 0 sights) ++ last ≡ chrome_text r p sights
-chrome_parts r p sights n first last boxes stale begins count same_boxes same_stale ends =
+four_parts_of_chrome_text r p sights n first last boxes stale begins count same_boxes same_stale ends =
     append_assoc (first ++ flat_map (box_line r stale) boxes) (all_arrows 0 sights) last
     ∙ append_assoc first (flat_map (box_line r stale) boxes) (all_arrows 0 sights ++ last)
     ∙ ap (λ (x : List ℕ). x ++ (flat_map (box_line r stale) boxes ++ (all_arrows 0 sights ++ last))) (begins ∙ ap chrome_start count)

@@ -9,103 +9,103 @@ use Rattle.ir_runs.specs.declared.access.Access.TheVariants.{Reading, Writing}
 use Rattle.ir_runs.specs.Run.{act, State, Step, Can, after, label, IsRun, log}
 use Rattle.ir_runs.specs.Bounds.{IsStart}
 use Rattle.ir_runs.specs.Cuts.{At}
-use Rattle.ir_runs.proofs.CallerLemmas.{upd_same, Good, stays_good, start_good}
+use Rattle.ir_runs.proofs.CallerLemmas.{upd_at_own_place, StateInvariant, state_invariant_after_step, state_invariant_at_start}
 use Rattle.ir_thread.specs.Instance.{thread_machine}
 use Rattle.ir_thread.specs.State as thread
-use Rattle.ir_thread.proofs.CallerLemmas.{lawful}
+use Rattle.ir_thread.proofs.CallerLemmas.{thread_machine_is_lawful}
 use Rattle.ir_log.specs.Logging.{label_of}
 use Rattle.ir_log.specs.declared.event.Event.{Event}
 use Rattle.ir_log.specs.declared.event.Event.TheVariants as variant
 use Rattle.ir_trace.specs.Recorded.{Recorded, recorded_thread}
 use Rattle.ir_past.specs.Past.{event_at}
 use Rattle.ir_past.specs.Returning.{leaves_one}
-use Rattle.ir_past.proofs.CallerLemmas.{at_label, Enters, log_own, log_other, object_after, object_stays, entering, exit_inside, entry_inside, own_step, other_step}
+use Rattle.ir_past.proofs.CallerLemmas.{at_of_mapped_label, Enters, log_of_own_step, log_of_other_step, target_object_after_step, other_object_after_step, act_emitting_entry_is_entering, exiting_thread_is_inside, entering_thread_is_not_inside, own_step_keeps_object_or_exits, other_step_on_version_and_inside}
 use Rattle.ir_picture.specs.Needs.{IsEntryAt, Needs, placed, CanFollow, IsOrder, HasNoCircle}
 
 -- ---- versions only grow
 
-acted_grows : (q : Act) (t : ℕ) (b : Object) → b.version ≤ (acted q t b).version
-acted_grows Silent t b = omega arith
-acted_grows (Result k x) t b = omega arith
-acted_grows (Entry o a x) t b = omega arith
-acted_grows (Refusal o) t b = omega arith
-acted_grows (Exit o Reading) t b = omega arith
-acted_grows (Exit o Writing) t b = let more : b.version ≤ suc b.version = omega arith in more
-acted_grows (Load o i) t b = omega arith
-acted_grows (Store o i x) t b = omega arith
-acted_grows Never t b = omega arith
+act_does_not_lower_version : (q : Act) (t : ℕ) (b : Object) → b.version ≤ (acted q t b).version
+act_does_not_lower_version Silent t b = omega arith
+act_does_not_lower_version (Result k x) t b = omega arith
+act_does_not_lower_version (Entry o a x) t b = omega arith
+act_does_not_lower_version (Refusal o) t b = omega arith
+act_does_not_lower_version (Exit o Reading) t b = omega arith
+act_does_not_lower_version (Exit o Writing) t b = let more : b.version ≤ suc b.version = omega arith in more
+act_does_not_lower_version (Load o i) t b = omega arith
+act_does_not_lower_version (Store o i x) t b = omega arith
+act_does_not_lower_version Never t b = omega arith
 
-grows : {T : Type 0} (m : Machine T) (s : State T) (e : Step) (o : ℕ) → (s.objects o).version ≤ ((after m s e).objects o).version
-grows m s e o = elim (cases_eq (target (act m s e)) o) [
+step_does_not_lower_version : {T : Type 0} (m : Machine T) (s : State T) (e : Step) (o : ℕ) → (s.objects o).version ≤ ((after m s e).objects o).version
+step_does_not_lower_version m s e o = elim (cases_eq (target (act m s e)) o) [
   | inl here ↦ subst (λ z. (s.objects z).version ≤ ((after m s e).objects z).version) here
-      (let same = ap (λ (b : Object). b.version) (object_after m s e) in
-      let more = acted_grows (act m s e) e.0 (s.objects (target (act m s e))) in omega (arith, same, more))
-  | inr ne ↦ let same = ap (λ (b : Object). b.version) (object_stays m s e o (λ z. ne (sym z))) in omega (arith, same)
+      (let same = ap (λ (b : Object). b.version) (target_object_after_step m s e) in
+      let more = act_does_not_lower_version (act m s e) e.0 (s.objects (target (act m s e))) in omega (arith, same, more))
+  | inr ne ↦ let same = ap (λ (b : Object). b.version) (other_object_after_step m s e o (λ z. ne (sym z))) in omega (arith, same)
 ]
 
 -- ---- labels of a log
 
 -- a label is at the head of what is logged, or behind it
-head_or_tail : (k : Label) (ks : List Label) (n : ℕ) (x : Label) → At (logged k ks) n x → (k ≡ x) ⊎ ((i : ℕ) × At ks i x)
-head_or_tail Quiet ks n x at = inr (n, at)
-head_or_tail (Answer c v) ks zero x at = inl at
-head_or_tail (Answer c v) ks (suc n) x at = inr (n, at)
-head_or_tail (In p a v l) ks zero x at = inl at
-head_or_tail (In p a v l) ks (suc n) x at = inr (n, at)
-head_or_tail (Refused p) ks zero x at = inl at
-head_or_tail (Refused p) ks (suc n) x at = inr (n, at)
-head_or_tail (Out p a v) ks n x at = inr (n, at)
+logged_label_is_head_or_tail : (k : Label) (ks : List Label) (n : ℕ) (x : Label) → At (logged k ks) n x → (k ≡ x) ⊎ ((i : ℕ) × At ks i x)
+logged_label_is_head_or_tail Quiet ks n x at = inr (n, at)
+logged_label_is_head_or_tail (Answer c v) ks zero x at = inl at
+logged_label_is_head_or_tail (Answer c v) ks (suc n) x at = inr (n, at)
+logged_label_is_head_or_tail (In p a v l) ks zero x at = inl at
+logged_label_is_head_or_tail (In p a v l) ks (suc n) x at = inr (n, at)
+logged_label_is_head_or_tail (Refused p) ks zero x at = inl at
+logged_label_is_head_or_tail (Refused p) ks (suc n) x at = inr (n, at)
+logged_label_is_head_or_tail (Out p a v) ks n x at = inr (n, at)
 
 -- the version that an entry finds is the object's
-found : {T : Type 0} (m : Machine T) (s : State T) (e : Step) (o : ℕ) (a : Access) (v l : ℕ) → label m s e ≡ In o a v l → (s.objects o).version ≡ v
-found m s e o a v l is =
-    let h = entering (act m s e) (s.objects (target (act m s e))) o a v l is in
+entry_label_finds_object_version : {T : Type 0} (m : Machine T) (s : State T) (e : Step) (o : ℕ) (a : Access) (v l : ℕ) → label m s e ≡ In o a v l → (s.objects o).version ≡ v
+entry_label_finds_object_version m s e o a v l is =
+    let h = act_emitting_entry_is_entering (act m s e) (s.objects (target (act m s e))) o a v l is in
     ap (λ z. (s.objects (target z)).version) (sym h.does) ∙ h.version
 
 -- no later write entry is at a version below the object's
-never_made : {T : Type 0} (m : Machine T) (s : State T) (run : List Step) (o v u n l : ℕ) → v < (s.objects o).version
+no_later_write_below_version : {T : Type 0} (m : Machine T) (s : State T) (run : List Step) (o v u n l : ℕ) → v < (s.objects o).version
     → At (log m s run u) n (In o Writing v l) → ⊥
-never_made m s [] o v u n l less at = at
-never_made m s (e ∷ run) o v u n l less at = elim (cases_eq e.0 u) [
-  | inl own ↦ elim (head_or_tail (label m s e) (log m (after m s e) run u) n (In o Writing v l)
-      (subst (λ (ks : List Label). At ks n (In o Writing v l)) (log_own m s e run u own) at)) [
-        | inl head ↦ let same = found m s e o Writing v l head in omega (arith, less, same)
-        | inr tail ↦ never_made m (after m s e) run o v u tail.0 l (let more = grows m s e o in omega (arith, less, more)) tail.1
+no_later_write_below_version m s [] o v u n l less at = at
+no_later_write_below_version m s (e ∷ run) o v u n l less at = elim (cases_eq e.0 u) [
+  | inl own ↦ elim (logged_label_is_head_or_tail (label m s e) (log m (after m s e) run u) n (In o Writing v l)
+      (subst (λ (ks : List Label). At ks n (In o Writing v l)) (log_of_own_step m s e run u own) at)) [
+        | inl head ↦ let same = entry_label_finds_object_version m s e o Writing v l head in omega (arith, less, same)
+        | inr tail ↦ no_later_write_below_version m (after m s e) run o v u tail.0 l (let more = step_does_not_lower_version m s e o in omega (arith, less, more)) tail.1
       ]
-  | inr other ↦ never_made m (after m s e) run o v u n l (let more = grows m s e o in omega (arith, less, more))
-      (subst (λ (ks : List Label). At ks n (In o Writing v l)) (log_other m s e run u other) at)
+  | inr other ↦ no_later_write_below_version m (after m s e) run o v u n l (let more = step_does_not_lower_version m s e o in omega (arith, less, more))
+      (subst (λ (ks : List Label). At ks n (In o Writing v l)) (log_of_other_step m s e run u other) at)
 ]
 
 -- ---- a version that is written over is read no more
 
 -- the object is past version v, or at it with thread t inside for writing
-abbrev IsOver : ℕ → ℕ → Object → Type 0
-IsOver v t b = (v < b.version) ⊎ ((b.version ≡ v) × (b.inside t ≡ Some Writing))
+abbrev IsWrittenOver : ℕ → ℕ → Object → Type 0
+IsWrittenOver v t b = (v < b.version) ⊎ ((b.version ≡ v) × (b.inside t ≡ Some Writing))
 
-enters_cases : (k : Label) (o : ℕ) → ((a : Access) × (v l : ℕ) × (k ≡ In o a v l)) ⊎ (Enters o k → ⊥)
-enters_cases Quiet o = inr (λ z. z)
-enters_cases (Answer c x) o = inr (λ z. z)
-enters_cases (In p a v l) o = elim (cases_eq p o) [
+label_enters_or_not : (k : Label) (o : ℕ) → ((a : Access) × (v l : ℕ) × (k ≡ In o a v l)) ⊎ (Enters o k → ⊥)
+label_enters_or_not Quiet o = inr (λ z. z)
+label_enters_or_not (Answer c x) o = inr (λ z. z)
+label_enters_or_not (In p a v l) o = elim (cases_eq p o) [
   | inl same ↦ inl (a, v, l, ap (λ z. In z a v l) same)
   | inr ne ↦ inr ne
 ]
-enters_cases (Refused p) o = inr (λ z. z)
-enters_cases (Out p a v) o = inr (λ z. z)
+label_enters_or_not (Refused p) o = inr (λ z. z)
+label_enters_or_not (Out p a v) o = inr (λ z. z)
 
-over_stays : {T : Type 0} (m : Machine T) → IsLawful m → (s : State T) → Good m s → (e : Step) (o v t : ℕ) → IsOver v t (s.objects o)
-    → IsOver v t ((after m s e).objects o)
-over_stays m law s good e o v t (inl less) = inl (let more = grows m s e o in omega (arith, less, more))
-over_stays m law s good e o v t (inr is) = elim (cases_eq e.0 t) [
-  | inl own ↦ elim (enters_cases (label m s e) o) [
-    | inl entry ↦ let h = entering (act m s e) (s.objects (target (act m s e))) o entry.0 entry.1 entry.2 entry.3 in
-        absurd (none-some Writing (sym (subst (λ z. (s.objects o).inside z ≡ None) own (entry_inside m law s good e o entry.0 h.answer h.does)) ∙ is.1))
-    | inr none ↦ elim (own_step m s e t o own none) [
+written_over_stays : {T : Type 0} (m : Machine T) → IsLawful m → (s : State T) → StateInvariant m s → (e : Step) (o v t : ℕ) → IsWrittenOver v t (s.objects o)
+    → IsWrittenOver v t ((after m s e).objects o)
+written_over_stays m law s good e o v t (inl less) = inl (let more = step_does_not_lower_version m s e o in omega (arith, less, more))
+written_over_stays m law s good e o v t (inr is) = elim (cases_eq e.0 t) [
+  | inl own ↦ elim (label_enters_or_not (label m s e) o) [
+    | inl entry ↦ let h = act_emitting_entry_is_entering (act m s e) (s.objects (target (act m s e))) o entry.0 entry.1 entry.2 entry.3 in
+        absurd (none-some Writing (sym (subst (λ z. (s.objects o).inside z ≡ None) own (entering_thread_is_not_inside m law s good e o entry.0 h.answer h.does)) ∙ is.1))
+    | inr none ↦ elim (own_step_keeps_object_or_exits m s e t o own none) [
       | inl same ↦ inr (same.0 ∙ is.0, same.1 ∙ is.1)
       | inr exit ↦ inl (left exit.0 exit.1 (same_Some exit.0 Writing
-          (sym (subst (λ z. (s.objects o).inside z ≡ Some exit.0) own (exit_inside m law s good e o exit.0 exit.1)) ∙ is.1)))
+          (sym (subst (λ z. (s.objects o).inside z ≡ Some exit.0) own (exiting_thread_is_inside m law s good e o exit.0 exit.1)) ∙ is.1)))
     ]
   ]
-  | inr other ↦ let step = other_step m s e t o other in
+  | inr other ↦ let step = other_step_on_version_and_inside m s e t o other in
       elim (cases_eq (leaves_one t o e.0 (label m s e)) 0) [
         | inl none ↦ inr ((let same = step.0 in let before = is.0 in omega (arith, same, before, none)), step.1 ∙ is.1)
         | inr some ↦ inl (let same = step.0 in let before = is.0 in omega (arith, same, before, some))
@@ -116,81 +116,81 @@ over_stays m law s good e o v t (inr is) = elim (cases_eq e.0 t) [
     left a does same =
         let here : act m s e ≡ Exit o Writing = does ∙ ap (Exit o) same in
         let object : (after m s e).objects o ≡ acted (Exit o Writing) e.0 (s.objects o) =
-        subst (λ q. (after m s e).objects (target q) ≡ acted q e.0 (s.objects (target q))) here (object_after m s e) in
+        subst (λ q. (after m s e).objects (target q) ≡ acted q e.0 (s.objects (target q))) here (target_object_after_step m s e) in
         let version : ((after m s e).objects o).version ≡ suc (s.objects o).version = ap (λ (b : Object). b.version) object in
         let before = is.0 in
         omega (arith, version, before)
 
-never_read : {T : Type 0} (m : Machine T) → IsLawful m → (s : State T) → Good m s → (run : List Step) → IsRun m s run → (o v t u n : ℕ)
-    → IsOver v t (s.objects o) → At (log m s run u) n (In o Reading v 0) → ⊥
-never_read m law s good [] ok o v t u n over at = at
-never_read m law s good (e ∷ run) ok o v t u n over at = elim (cases_eq e.0 u) [
-  | inl own ↦ elim (head_or_tail (label m s e) (log m (after m s e) run u) n (In o Reading v 0)
-      (subst (λ (ks : List Label). At ks n (In o Reading v 0)) (log_own m s e run u own) at)) [
+no_later_read_of_written_over : {T : Type 0} (m : Machine T) → IsLawful m → (s : State T) → StateInvariant m s → (run : List Step) → IsRun m s run → (o v t u n : ℕ)
+    → IsWrittenOver v t (s.objects o) → At (log m s run u) n (In o Reading v 0) → ⊥
+no_later_read_of_written_over m law s good [] ok o v t u n over at = at
+no_later_read_of_written_over m law s good (e ∷ run) ok o v t u n over at = elim (cases_eq e.0 u) [
+  | inl own ↦ elim (logged_label_is_head_or_tail (label m s e) (log m (after m s e) run u) n (In o Reading v 0)
+      (subst (λ (ks : List Label). At ks n (In o Reading v 0)) (log_of_own_step m s e run u own) at)) [
         | inl head ↦ by head over
-        | inr tail ↦ never_read m law (after m s e) (stays_good m law s good e ok.0) run ok.1 o v t u tail.0 (over_stays m law s good e o v t over) tail.1
+        | inr tail ↦ no_later_read_of_written_over m law (after m s e) (state_invariant_after_step m law s good e ok.0) run ok.1 o v t u tail.0 (written_over_stays m law s good e o v t over) tail.1
       ]
-  | inr other ↦ never_read m law (after m s e) (stays_good m law s good e ok.0) run ok.1 o v t u n (over_stays m law s good e o v t over)
-      (subst (λ (ks : List Label). At ks n (In o Reading v 0)) (log_other m s e run u other) at)
+  | inr other ↦ no_later_read_of_written_over m law (after m s e) (state_invariant_after_step m law s good e ok.0) run ok.1 o v t u n (written_over_stays m law s good e o v t over)
+      (subst (λ (ks : List Label). At ks n (In o Reading v 0)) (log_of_other_step m s e run u other) at)
 ]
   where
-    by : label m s e ≡ In o Reading v 0 → IsOver v t (s.objects o) → ⊥
-    by head (inl less) = let same = found m s e o Reading v 0 head in omega (arith, less, same)
+    by : label m s e ≡ In o Reading v 0 → IsWrittenOver v t (s.objects o) → ⊥
+    by head (inl less) = let same = entry_label_finds_object_version m s e o Reading v 0 head in omega (arith, less, same)
     by head (inr is) =
-        let h = entering (act m s e) (s.objects (target (act m s e))) o Reading v 0 head in
+        let h = act_emitting_entry_is_entering (act m s e) (s.objects (target (act m s e))) o Reading v 0 head in
         subst (λ q. Admits m q (s.objects (target q))) h.does ok.0 t is.1
 
 -- behind a write entry the version that it found is read no more
-over_behind : {T : Type 0} (m : Machine T) (s : State T) (e : Step) (o v l : ℕ) → label m s e ≡ In o Writing v l
-    → IsOver v e.0 ((after m s e).objects o)
-over_behind m s e o v l is =
-    let h = entering (act m s e) (s.objects (target (act m s e))) o Writing v l is in
+written_over_after_write_entry : {T : Type 0} (m : Machine T) (s : State T) (e : Step) (o v l : ℕ) → label m s e ≡ In o Writing v l
+    → IsWrittenOver v e.0 ((after m s e).objects o)
+written_over_after_write_entry m s e o v l is =
+    let h = act_emitting_entry_is_entering (act m s e) (s.objects (target (act m s e))) o Writing v l is in
     let object : (after m s e).objects o ≡ acted (Entry o Writing h.answer) e.0 (s.objects o) =
-    subst (λ q. (after m s e).objects (target q) ≡ acted q e.0 (s.objects (target q))) h.does (object_after m s e) in
+    subst (λ q. (after m s e).objects (target q) ≡ acted q e.0 (s.objects (target q))) h.does (target_object_after_step m s e) in
     inr (
-      ap (λ (b : Object). b.version) object ∙ found m s e o Writing v l is,
-      ap (λ (b : Object). b.inside e.0) object ∙ upd_same (s.objects o).inside e.0 (Some Writing),
+      ap (λ (b : Object). b.version) object ∙ entry_label_finds_object_version m s e o Writing v l is,
+      ap (λ (b : Object). b.inside e.0) object ∙ upd_at_own_place (s.objects o).inside e.0 (Some Writing),
     )
 
 -- ---- what is left of a log
 
-at_drop : {A : Type 0} (xs : List A) (k n : ℕ) (x : A) → At (drop k xs) n x → At xs (k + n) x
-at_drop xs zero n x at = let same : n ≡ 0 + n = omega arith in subst (λ z. At xs z x) same at
-at_drop [] (suc k) n x at = absurd at
-at_drop (y ∷ ys) (suc k) n x at =
-    let same : suc (k + n) ≡ suc k + n = omega arith in subst (λ z. At (y ∷ ys) z x) same (at_drop ys k n x at)
+at_place_before_drop : {A : Type 0} (xs : List A) (k n : ℕ) (x : A) → At (drop k xs) n x → At xs (k + n) x
+at_place_before_drop xs zero n x at = let same : n ≡ 0 + n = omega arith in subst (λ z. At xs z x) same at
+at_place_before_drop [] (suc k) n x at = absurd at
+at_place_before_drop (y ∷ ys) (suc k) n x at =
+    let same : suc (k + n) ≡ suc k + n = omega arith in subst (λ z. At (y ∷ ys) z x) same (at_place_before_drop ys k n x at)
 
-drop_at : {A : Type 0} (xs : List A) (k n : ℕ) (x : A) → At xs (k + n) x → At (drop k xs) n x
-drop_at xs zero n x at = let same : 0 + n ≡ n = omega arith in subst (λ z. At xs z x) same at
-drop_at [] (suc k) n x at = absurd at
-drop_at (y ∷ ys) (suc k) n x at =
-    drop_at ys k n x (let same : suc k + n ≡ suc (k + n) = omega arith in subst (λ z. At (y ∷ ys) z x) same at)
+at_place_after_drop : {A : Type 0} (xs : List A) (k n : ℕ) (x : A) → At xs (k + n) x → At (drop k xs) n x
+at_place_after_drop xs zero n x at = let same : 0 + n ≡ n = omega arith in subst (λ z. At xs z x) same at
+at_place_after_drop [] (suc k) n x at = absurd at
+at_place_after_drop (y ∷ ys) (suc k) n x at =
+    at_place_after_drop ys k n x (let same : suc k + n ≡ suc (k + n) = omega arith in subst (λ z. At (y ∷ ys) z x) same at)
 
-one_at : {A : Type 0} (xs : List A) (n : ℕ) (x y : A) → At xs n x → At xs n y → x ≡ y
-one_at [] n x y a b = absurd a
-one_at (z ∷ zs) zero x y a b = sym a ∙ b
-one_at (z ∷ zs) (suc n) x y a b = one_at zs n x y a b
+at_place_is_unique : {A : Type 0} (xs : List A) (n : ℕ) (x y : A) → At xs n x → At xs n y → x ≡ y
+at_place_is_unique [] n x y a b = absurd a
+at_place_is_unique (z ∷ zs) zero x y a b = sym a ∙ b
+at_place_is_unique (z ∷ zs) (suc n) x y a b = at_place_is_unique zs n x y a b
 
-drop_more : {A : Type 0} (xs ys : List A) (k : ℕ) (x : A) → drop k xs ≡ x ∷ ys → drop (suc k) xs ≡ ys
-drop_more [] ys zero x is = absurd (cc is)
-drop_more [] ys (suc k) x is = absurd (cc is)
-drop_more (z ∷ zs) ys zero x is = let same : zs ≡ ys = cc is in same
-drop_more (z ∷ zs) ys (suc k) x is = drop_more zs ys k x is
+drop_of_next : {A : Type 0} (xs ys : List A) (k : ℕ) (x : A) → drop k xs ≡ x ∷ ys → drop (suc k) xs ≡ ys
+drop_of_next [] ys zero x is = absurd (cc is)
+drop_of_next [] ys (suc k) x is = absurd (cc is)
+drop_of_next (z ∷ zs) ys zero x is = let same : zs ≡ ys = cc is in same
+drop_of_next (z ∷ zs) ys (suc k) x is = drop_of_next zs ys k x is
 
-drop_within : {A : Type 0} (xs ys : List A) (k : ℕ) (x : A) → drop k xs ≡ x ∷ ys → k < length xs
-drop_within [] ys zero x is = absurd (cc is)
-drop_within [] ys (suc k) x is = absurd (cc is)
-drop_within (z ∷ zs) ys zero x is = omega arith
-drop_within (z ∷ zs) ys (suc k) x is = let less = drop_within zs ys k x is in omega (arith, less)
+drop_of_cons_is_within : {A : Type 0} (xs ys : List A) (k : ℕ) (x : A) → drop k xs ≡ x ∷ ys → k < length xs
+drop_of_cons_is_within [] ys zero x is = absurd (cc is)
+drop_of_cons_is_within [] ys (suc k) x is = absurd (cc is)
+drop_of_cons_is_within (z ∷ zs) ys zero x is = omega arith
+drop_of_cons_is_within (z ∷ zs) ys (suc k) x is = let less = drop_of_cons_is_within zs ys k x is in omega (arith, less)
 
-drop_all : {A : Type 0} (xs : List A) (k : ℕ) → drop k xs ≡ [] → length xs ≤ k
-drop_all [] k is = omega arith
-drop_all (z ∷ zs) zero is = absurd (cc is)
-drop_all (z ∷ zs) (suc k) is = let less = drop_all zs k is in omega (arith, less)
+drop_of_empty_is_past_end : {A : Type 0} (xs : List A) (k : ℕ) → drop k xs ≡ [] → length xs ≤ k
+drop_of_empty_is_past_end [] k is = omega arith
+drop_of_empty_is_past_end (z ∷ zs) zero is = absurd (cc is)
+drop_of_empty_is_past_end (z ∷ zs) (suc k) is = let less = drop_of_empty_is_past_end zs k is in omega (arith, less)
 
-map_size : (es : List Event) → length (map label_of es) ≡ length es
-map_size [] = refl
-map_size (e ∷ es) = ap suc (map_size es)
+length_of_mapped_events : (es : List Event) → length (map label_of es) ≡ length es
+length_of_mapped_events [] = refl
+length_of_mapped_events (e ∷ es) = ap suc (length_of_mapped_events es)
 
 -- the labels of thread t
 abbrev labels : Recorded → ℕ → List Label
@@ -205,44 +205,44 @@ record IsUnrolled {T : Type 0} (m : Machine T) (s : State T) (run : List Step) (
   pub within : (t : ℕ) → placed order t ≤ length (recorded_thread r t).events
 
 -- nothing is logged, or the label
-logged_cases : (k : Label) → ((ks : List Label) → logged k ks ≡ ks) ⊎ ((ks : List Label) → logged k ks ≡ k ∷ ks)
-logged_cases Quiet = inl (λ ks. refl)
-logged_cases (Answer c x) = inr (λ ks. refl)
-logged_cases (In p a v l) = inr (λ ks. refl)
-logged_cases (Refused p) = inr (λ ks. refl)
-logged_cases (Out p a v) = inl (λ ks. refl)
+logged_adds_label_or_nothing : (k : Label) → ((ks : List Label) → logged k ks ≡ ks) ⊎ ((ks : List Label) → logged k ks ≡ k ∷ ks)
+logged_adds_label_or_nothing Quiet = inl (λ ks. refl)
+logged_adds_label_or_nothing (Answer c x) = inr (λ ks. refl)
+logged_adds_label_or_nothing (In p a v l) = inr (λ ks. refl)
+logged_adds_label_or_nothing (Refused p) = inr (λ ks. refl)
+logged_adds_label_or_nothing (Out p a v) = inl (λ ks. refl)
 
 -- a step that logs nothing
-unrolled_quiet : {T : Type 0} (m : Machine T) (s : State T) (e : Step) (run : List Step) (r : Recorded) (order : List ℕ)
+unrolled_after_silent_step : {T : Type 0} (m : Machine T) (s : State T) (e : Step) (run : List Step) (r : Recorded) (order : List ℕ)
     → ((ks : List Label) → logged (label m s e) ks ≡ ks) → IsUnrolled m s (e ∷ run) r order → IsUnrolled m (after m s e) run r order
-unrolled_quiet m s e run r order quiet h = record { is = h.is; left = left; within = h.within }
+unrolled_after_silent_step m s e run r order quiet h = record { is = h.is; left = left; within = h.within }
   where
     left : (t : ℕ) → drop (placed order t) (labels r t) ≡ log m (after m s e) run t
     left t = h.left t ∙ elim (cases_eq e.0 t) [
-      | inl own ↦ log_own m s e run t own ∙ quiet (log m (after m s e) run t)
-      | inr other ↦ log_other m s e run t other
+      | inl own ↦ log_of_own_step m s e run t own ∙ quiet (log m (after m s e) run t)
+      | inr other ↦ log_of_other_step m s e run t other
     ]
 
 -- the next event of a step's thread is logged as the step's label, and all that it needs is placed
-next_follows : {T : Type 0} (m : Machine T) → IsLawful m → (s : State T) → Good m s → (e : Step) → Can m s e → (run : List Step)
+thread_can_follow_logging_step : {T : Type 0} (m : Machine T) → IsLawful m → (s : State T) → StateInvariant m s → (e : Step) → Can m s e → (run : List Step)
     → IsRun m (after m s e) run → (r : Recorded) (order : List ℕ) → ((ks : List Label) → logged (label m s e) ks ≡ label m s e ∷ ks)
     → IsUnrolled m s (e ∷ run) r order → CanFollow r (placed order) e.0
-next_follows m law s good e can run ok r order logs h = record { there = there; needs = needs }
+thread_can_follow_logging_step m law s good e can run ok r order logs h = record { there = there; needs = needs }
   where
     left : drop (placed order e.0) (labels r e.0) ≡ label m s e ∷ log m (after m s e) run e.0
-    left = h.left e.0 ∙ log_own m s e run e.0 refl ∙ logs (log m (after m s e) run e.0)
+    left = h.left e.0 ∙ log_of_own_step m s e run e.0 refl ∙ logs (log m (after m s e) run e.0)
 
     there : placed order e.0 < length (recorded_thread r e.0).events
-    there = let less = drop_within (labels r e.0) (log m (after m s e) run e.0) (placed order e.0) (label m s e) left in
-        let size = map_size (recorded_thread r e.0).events in omega (arith, less, size)
+    there = let less = drop_of_cons_is_within (labels r e.0) (log m (after m s e) run e.0) (placed order e.0) (label m s e) left in
+        let size = length_of_mapped_events (recorded_thread r e.0).events in omega (arith, less, size)
 
     -- the label of the next event
     is_label : (ev : Event) → event_at r e.0 (placed order e.0) ≡ Some ev → label m s e ≡ label_of ev
-    is_label ev at = one_at (labels r e.0) (placed order e.0) (label m s e) (label_of ev)
+    is_label ev at = at_place_is_unique (labels r e.0) (placed order e.0) (label m s e) (label_of ev)
         (let same : placed order e.0 + 0 ≡ placed order e.0 = omega arith in
-        subst (λ z. At (labels r e.0) z (label m s e)) same (at_drop (labels r e.0) (placed order e.0) 0 (label m s e)
+        subst (λ z. At (labels r e.0) z (label m s e)) same (at_place_before_drop (labels r e.0) (placed order e.0) 0 (label m s e)
         (subst (λ (ks : List Label). At ks 0 (label m s e)) (sym left) refl)))
-        (at_label (recorded_thread r e.0).events (placed order e.0) ev at)
+        (at_of_mapped_label (recorded_thread r e.0).events (placed order e.0) ev at)
 
     -- an event that isn't placed is logged by this step or a later one
     later : (u j : ℕ) (ev : Event) → event_at r u j ≡ Some ev → placed order u ≤ j
@@ -251,28 +251,28 @@ next_follows m law s good e can run ok r order logs h = record { there = there; 
         let d : ℕ = j - placed order u in
         let same : j ≡ placed order u + d = omega (arith, past) in
         let here = subst (λ (ks : List Label). At ks d (label_of ev)) (h.left u)
-        (drop_at (labels r u) (placed order u) d (label_of ev) (subst (λ z. At (labels r u) z (label_of ev)) same
-        (at_label (recorded_thread r u).events j ev at))) in
+        (at_place_after_drop (labels r u) (placed order u) d (label_of ev) (subst (λ z. At (labels r u) z (label_of ev)) same
+        (at_of_mapped_label (recorded_thread r u).events j ev at))) in
         elim (cases_eq e.0 u) [
-          | inl own ↦ head_or_tail (label m s e) (log m (after m s e) run u) d (label_of ev)
-              (subst (λ (ks : List Label). At ks d (label_of ev)) (log_own m s e run u own) here)
-          | inr other ↦ inr (d, subst (λ (ks : List Label). At ks d (label_of ev)) (log_other m s e run u other) here)
+          | inl own ↦ logged_label_is_head_or_tail (label m s e) (log m (after m s e) run u) d (label_of ev)
+              (subst (λ (ks : List Label). At ks d (label_of ev)) (log_of_own_step m s e run u own) here)
+          | inr other ↦ inr (d, subst (λ (ks : List Label). At ks d (label_of ev)) (log_of_other_step m s e run u other) here)
         ]
 
     -- the step enters at a version whose maker is later: it can't be
     made : (o v l : ℕ) (a : Access) (x : ℕ) → label m s e ≡ In o a (suc v) x
         → (u : ℕ) → (label m s e ≡ In o Writing v l) ⊎ ((n : ℕ) × At (log m (after m s e) run u) n (In o Writing v l)) → ⊥
     made o v l a x is u (inl head) =
-        let one = found m s e o a (suc v) x is in let two = found m s e o Writing v l head in omega (arith, one, two)
-    made o v l a x is u (inr tail) = never_made m (after m s e) run o v u tail.0 l
-        (let one = found m s e o a (suc v) x is in let more = grows m s e o in omega (arith, one, more)) tail.1
+        let one = entry_label_finds_object_version m s e o a (suc v) x is in let two = entry_label_finds_object_version m s e o Writing v l head in omega (arith, one, two)
+    made o v l a x is u (inr tail) = no_later_write_below_version m (after m s e) run o v u tail.0 l
+        (let one = entry_label_finds_object_version m s e o a (suc v) x is in let more = step_does_not_lower_version m s e o in omega (arith, one, more)) tail.1
 
     read : (o v l : ℕ) → label m s e ≡ In o Writing v l
         → (u : ℕ) → (label m s e ≡ In o Reading v 0) ⊎ ((n : ℕ) × At (log m (after m s e) run u) n (In o Reading v 0)) → ⊥
     read o v l is u (inl head) = let same : In o Writing v l ≡ In o Reading v 0 = sym is ∙ head in
         let access : Writing ≡ Reading = cc same in cc access
-    read o v l is u (inr tail) = never_read m law (after m s e) (stays_good m law s good e can) run ok o v e.0 u tail.0
-        (over_behind m s e o v l is) tail.1
+    read o v l is u (inr tail) = no_later_read_of_written_over m law (after m s e) (state_invariant_after_step m law s good e can) run ok o v e.0 u tail.0
+        (written_over_after_write_entry m s e o v l is) tail.1
 
     entry_label : (o v : ℕ) → IsEntryAt r e.0 (placed order e.0) o v → (a : Access) × (x : ℕ) × (label m s e ≡ In o a v x)
     entry_label o v (inl is) = (Reading, 0, is_label (variant.Read o v) is)
@@ -295,10 +295,10 @@ next_follows m law s good e can run ok r order logs h = record { there = there; 
     ]
 
 -- a step that logs its thread's next event
-unrolled_more : {T : Type 0} (m : Machine T) (s : State T) (e : Step) (run : List Step) (r : Recorded) (order : List ℕ)
+unrolled_after_logging_step : {T : Type 0} (m : Machine T) (s : State T) (e : Step) (run : List Step) (r : Recorded) (order : List ℕ)
     → ((ks : List Label) → logged (label m s e) ks ≡ label m s e ∷ ks) → IsUnrolled m s (e ∷ run) r order → CanFollow r (placed order) e.0
     → IsUnrolled m (after m s e) run r (e.0 ∷ order)
-unrolled_more m s e run r order logs h follows = record { is = (h.is, follows); left = left; within = within }
+unrolled_after_logging_step m s e run r order logs h follows = record { is = (h.is, follows); left = left; within = within }
   where
     own_count : (t : ℕ) → e.0 ≡ t → placed (e.0 ∷ order) t ≡ suc (placed order t)
     own_count t own = let one : cond (eqb e.0 t) 1 0 ≡ 1 = ap {B = ℕ} (λ (c : Bool). cond c 1 0) (eq-eqb e.0 t own) in omega (arith, one)
@@ -309,9 +309,9 @@ unrolled_more m s e run r order logs h follows = record { is = (h.is, follows); 
     left : (t : ℕ) → drop (placed (e.0 ∷ order) t) (labels r t) ≡ log m (after m s e) run t
     left t = elim (cases_eq e.0 t) [
       | inl own ↦ ap (λ k. drop k (labels r t)) (own_count t own)
-          ∙ drop_more (labels r t) (log m (after m s e) run t) (placed order t) (label m s e)
-          (h.left t ∙ log_own m s e run t own ∙ logs (log m (after m s e) run t))
-      | inr other ↦ ap (λ k. drop k (labels r t)) (other_count t other) ∙ h.left t ∙ log_other m s e run t other
+          ∙ drop_of_next (labels r t) (log m (after m s e) run t) (placed order t) (label m s e)
+          (h.left t ∙ log_of_own_step m s e run t own ∙ logs (log m (after m s e) run t))
+      | inr other ↦ ap (λ k. drop k (labels r t)) (other_count t other) ∙ h.left t ∙ log_of_other_step m s e run t other
     ]
 
     within : (t : ℕ) → placed (e.0 ∷ order) t ≤ length (recorded_thread r t).events
@@ -321,21 +321,21 @@ unrolled_more m s e run r order logs h follows = record { is = (h.is, follows); 
       | inr other ↦ let count = other_count t other in let before = h.within t in omega (arith, count, before)
     ]
 
-unroll : {T : Type 0} (m : Machine T) → IsLawful m → (s : State T) → Good m s → (run : List Step) → IsRun m s run → (r : Recorded) (order : List ℕ)
+unrolled_run_has_no_circle : {T : Type 0} (m : Machine T) → IsLawful m → (s : State T) → StateInvariant m s → (run : List Step) → IsRun m s run → (r : Recorded) (order : List ℕ)
     → IsUnrolled m s run r order → HasNoCircle r
-unroll m law s good [] ok r order h = (order, h.is, all)
+unrolled_run_has_no_circle m law s good [] ok r order h = (order, h.is, all)
   where
     all : (t : ℕ) → placed order t ≡ length (recorded_thread r t).events
-    all t = let past = drop_all (labels r t) (placed order t) (h.left t) in
-        let size = map_size (recorded_thread r t).events in let within = h.within t in omega (arith, past, size, within)
-unroll m law s good (e ∷ run) ok r order h = elim (logged_cases (label m s e)) [
-  | inl quiet ↦ unroll m law (after m s e) (stays_good m law s good e ok.0) run ok.1 r order (unrolled_quiet m s e run r order quiet h)
-  | inr logs ↦ unroll m law (after m s e) (stays_good m law s good e ok.0) run ok.1 r (e.0 ∷ order)
-      (unrolled_more m s e run r order logs h (next_follows m law s good e ok.0 run ok.1 r order logs h))
+    all t = let past = drop_of_empty_is_past_end (labels r t) (placed order t) (h.left t) in
+        let size = length_of_mapped_events (recorded_thread r t).events in let within = h.within t in omega (arith, past, size, within)
+unrolled_run_has_no_circle m law s good (e ∷ run) ok r order h = elim (logged_adds_label_or_nothing (label m s e)) [
+  | inl quiet ↦ unrolled_run_has_no_circle m law (after m s e) (state_invariant_after_step m law s good e ok.0) run ok.1 r order (unrolled_after_silent_step m s e run r order quiet h)
+  | inr logs ↦ unrolled_run_has_no_circle m law (after m s e) (state_invariant_after_step m law s good e ok.0) run ok.1 r (e.0 ∷ order)
+      (unrolled_after_logging_step m s e run r order logs h (thread_can_follow_logging_step m law s good e ok.0 run ok.1 r order logs h))
 ]
 
-pub no_circle : (code : List ℕ) (s : State thread.State) → IsStart (thread_machine code) s → (run : List Step) → IsRun (thread_machine code) s run
+pub run_has_no_circle : (code : List ℕ) (s : State thread.ThreadState) → IsStart (thread_machine code) s → (run : List Step) → IsRun (thread_machine code) s run
     → (r : Recorded) → ((t : ℕ) → log (thread_machine code) s run t ≡ map label_of (recorded_thread r t).events) → HasNoCircle r
-no_circle code s start run ok r logs =
-    unroll (thread_machine code) (lawful code) s (start_good (thread_machine code) s start) run ok r []
+run_has_no_circle code s start run ok r logs =
+    unrolled_run_has_no_circle (thread_machine code) (thread_machine_is_lawful code) s (state_invariant_at_start (thread_machine code) s start) run ok r []
     (record { is = tt; left = λ t. sym (logs t); within = λ t. omega arith })

@@ -10,5 +10,5 @@ use Rattle.ir_picture.specs.Needs.{HasNoCircle}
 
 -- the law: a trace whose logs are those of a run of threads of any code has no circle, since the run logs each event after all that it needs
 abbrev pub RunsHaveNoCircle : Type 0
-RunsHaveNoCircle = (code : List ℕ) (s : State thread.State) → IsStart (thread_machine code) s → (run : List Step) → IsRun (thread_machine code) s run
+RunsHaveNoCircle = (code : List ℕ) (s : State thread.ThreadState) → IsStart (thread_machine code) s → (run : List Step) → IsRun (thread_machine code) s run
     → (r : Recorded) → ((t : ℕ) → log (thread_machine code) s run t ≡ map label_of (recorded_thread r t).events) → HasNoCircle r

@@ -6,25 +6,25 @@ use Rattle.ir_runs.specs.Run.{events}
 use Rattle.ir_log.specs.Logging.{label_of}
 use Rattle.ir_trace.specs.Recorded.{Recorded, RecordedThread, recorded_thread, absent}
 use Rattle.ir_fit.specs.Fit.{FittedTrace, HasRun}
-use Rattle.ir_fit.proofs.CallerLemmas.{starts}
+use Rattle.ir_fit.proofs.CallerLemmas.{guest_start_is_start}
 use Rattle.ir_cut.specs.Positions.{start_of}
-use Rattle.ir_cut.proofs.CallerLemmas.{no_trail}
+use Rattle.ir_cut.proofs.CallerLemmas.{no_trail_of_missing_thread}
 use Rattle.ir_picture.specs.Needs.{HasNoCircle, IsCircleAt, placed}
-use Rattle.ir_picture.proofs.CallerLemmas.{no_circle}
+use Rattle.ir_picture.proofs.CallerLemmas.{run_has_no_circle}
 
-pub run_no_circle : (f : FittedTrace) → HasRun f → HasNoCircle f.recorded
-run_no_circle f h =
+pub run_trace_has_no_circle : (f : FittedTrace) → HasRun f → HasNoCircle f.recorded
+run_trace_has_no_circle f h =
     let size : length f.recorded.threads ≡ length f.guest.entries = h.whole.0.threads in
-    no_circle f.guest.code (start_of f) (starts f.guest f.recorded.budget f.recorded.profile) h.run h.whole.1.runs f.recorded
+    run_has_no_circle f.guest.code (start_of f) (guest_start_is_start f.guest f.recorded.budget f.recorded.profile) h.run h.whole.1.runs f.recorded
     (λ t. elim (cases_lt t (length f.guest.entries)) [
       | inl l ↦ h.whole.1.logs t l
-      | inr past ↦ ap events (no_trail f h.run h.whole t past)
+      | inr past ↦ ap events (no_trail_of_missing_thread f h.run h.whole t past)
           ∙ ap (λ (x : RecordedThread). map label_of x.events) (sym (get_or_past f.recorded.threads t absent (omega (arith, past, size))))
     ])
 
 -- so no event of it needs itself
-pub not_both : (r : Recorded) (t e : ℕ) → HasNoCircle r → IsCircleAt r t e → ⊥
-not_both r t e none circle =
+pub no_circle_at_event : (r : Recorded) (t e : ℕ) → HasNoCircle r → IsCircleAt r t e → ⊥
+no_circle_at_event r t e none circle =
     let most = circle.full.most none.0 none.1 t in
     let all : placed none.0 t ≡ length (recorded_thread r t).events = none.2 t in
     let next = circle.next in

@@ -16,9 +16,9 @@ use Rattle.ir_picture.specs.Progress.{data_head, stale_head, AreBoxesOf, IsOf}
 use Rattle.ir_picture.specs.declared.asked.Around.{Around}
 use Rattle.ir_picture.specs.declared.placed_box.Point.{Point}
 use Rattle.ir_picture.specs.declared.placed_box.PlacedBox.{PlacedBox}
-use Rattle.ir_picture.proofs.CallerLemmas.{data_parts, data_whole, data_then, picture_is_of}
+use Rattle.ir_picture.proofs.CallerLemmas.{four_parts_of_framed_data, data_parts_with_end, data_parts_before_last_text, picture_is_of_trace}
 use Rattle.ir_picture_run.specs.Resting.{resting_writes, writes_of}
-use Rattle.ir_picture_run.proofs.Kept.{kept_rise}
+use Rattle.ir_picture_run.proofs.Kept.{kept_writes_are_rising}
 use Rattle.ir_picture.specs.Answers.{page_head, page_tail, IsThere, IsPicture}
 use Rattle.ir_picture.specs.Numbers.{rows_from, listed, data_start, thread_list}
 use Rattle.ir_picture.specs.declared.asked.Form.TheVariants as form
@@ -33,22 +33,22 @@ use Rattle.ir_picture_run.specs.Answers.{IsRunPicture, IsForm, IsRunAnswer, IsVi
 use Rattle.ir_picture_run.specs.declared.resting.Resting.{Resting}
 
 -- the answer about a run is one about its bytes
-pub is_view : (asked : Asked) (f : FittedTrace) (s : ExitStatus) (text image trace : List ℕ) → IsFit image trace f → IsThere f.recorded asked.around
+pub run_answer_is_view_answer : (asked : Asked) (f : FittedTrace) (s : ExitStatus) (text image trace : List ℕ) → IsFit image trace f → IsThere f.recorded asked.around
     → IsRunAnswer asked f s text → IsViewAnswer asked image trace s text
-is_view asked f s text image trace fits there answer = inl (record { fitted = f; fits = fits; there = there; answer = answer })
+run_answer_is_view_answer asked f s text image trace fits there answer = inl (record { fitted = f; fits = fits; there = there; answer = answer })
 
 -- a form of its picture is one
-pub run_answer : (asked : Asked) (f : FittedTrace) (s : ExitStatus) (text : List ℕ) (p : Picture) (kept : List Resting)
+pub picture_form_is_run_answer : (asked : Asked) (f : FittedTrace) (s : ExitStatus) (text : List ℕ) (p : Picture) (kept : List Resting)
     → IsRunPicture f asked.around p kept → IsForm asked.form f asked.around p kept s text → IsRunAnswer asked f s text
-run_answer asked f s text p kept drawn is = record { picture = p; kept = kept; drawn = drawn; form = is }
+picture_form_is_run_answer asked f s text p kept drawn is = record { picture = p; kept = kept; drawn = drawn; form = is }
 
 -- the picture of the trace with the stale writes that rest on their reads
-pub run_picture : (f : FittedTrace) (near : Option Around) (p q : Picture) (rows : List StaleWrite) (rests : List (Option Rest)) (kept : List Resting)
+pub resting_picture_is_run_picture : (f : FittedTrace) (near : Option Around) (p q : Picture) (rows : List StaleWrite) (rests : List (Option Rest)) (kept : List Resting)
     → IsPicture f.recorded near p → AreStaleWrites f.recorded rows → AreRests f rows rests → kept ≡ resting_writes p.boxes.items rows rests
     → q.boxes.items ≡ p.boxes.items → q.ends.items ≡ p.ends.items → q.stale.items ≡ writes_of kept
     → IsRunPicture f near q kept × IsOf f.recorded q
-run_picture f near p q rows rests kept is are found same boxes ends stale =
-    let o = picture_is_of f.recorded near p is in (
+resting_picture_is_run_picture f near p q rows rests kept is are found same boxes ends stale =
+    let o = picture_is_of_trace f.recorded near p is in (
       record {
         all = is.all;
         placed = subst (λ (es : List Point). ArePlaced f.recorded is.all es) (sym ends) is.placed;
@@ -64,48 +64,48 @@ run_picture f near p q rows rests kept is are found same boxes ends stale =
         boxes = subst (λ (bs : List PlacedBox). AreBoxesOf f.recorded bs) (sym boxes) o.boxes;
         some = subst (λ (bs : List PlacedBox). AreSomeBoxes f.recorded (events_of_all bs)) (sym boxes) o.some;
         ends = ap (λ (es : List Point). length es) ends ∙ o.ends;
-        stale = subst IsRising (sym (stale ∙ ap writes_of same)) (kept_rise p.boxes.items rows rests (length rows) are.rising);
+        stale = subst IsRising (sym (stale ∙ ap writes_of same)) (kept_writes_are_rising p.boxes.items rows rests (length rows) are.rising);
       },
     )
 
 -- ---- data in a frame
 
 -- its four parts
-pub framed_parts : (f : FittedTrace) (near : Option Around) (p : Picture) (drawn : List Drawn) (kept : List Resting) (first a d before after : List ℕ)
+pub framed_parts_are_data_rows : (f : FittedTrace) (near : Option Around) (p : Picture) (drawn : List Drawn) (kept : List Resting) (first a d before after : List ℕ)
     (r : Recorded) (ends : List Point) → a ≡ first ++ data_head true r near ends → first ≡ before → r ≡ f.recorded → ends ≡ p.ends.items → d ≡ after
     → ((a ++ rows_from (drawn_row f) 0 drawn) ++ (stale_head ++ rows_from resting_row 0 kept)) ++ d ≡ before ++ (data_rows f near p drawn kept ++ after)
-framed_parts f near p drawn kept first a d before after r ends begins same_first same same_ends closes =
-    data_parts a (rows_from (drawn_row f) 0 drawn) (stale_head ++ rows_from resting_row 0 kept) d before (data_head true f.recorded near p.ends.items) after
+framed_parts_are_data_rows f near p drawn kept first a d before after r ends begins same_first same same_ends closes =
+    four_parts_of_framed_data a (rows_from (drawn_row f) 0 drawn) (stale_head ++ rows_from resting_row 0 kept) d before (data_head true f.recorded near p.ends.items) after
     (begins ∙ (λ i. same_first i ++ data_head true (same i) near (same_ends i))) closes
 
 -- the data with its end, and a text after it
-pub data_framed : (f : FittedTrace) (near : Option Around) (p : Picture) (drawn : List Drawn) (kept : List Resting) (last : List ℕ)
+pub ended_data_rows_are_text : (f : FittedTrace) (near : Option Around) (p : Picture) (drawn : List Drawn) (kept : List Resting) (last : List ℕ)
     → data_rows f near p drawn kept ++ (codes "\n]}" ++ last) ≡ data_text f near p drawn kept ++ last
-data_framed f near p drawn kept last =
-    data_whole (data_start true f.recorded near) (thread_list f.recorded p.ends.items) (codes ",\"boxes\":[") (rows_from (drawn_row f) 0 drawn)
+ended_data_rows_are_text f near p drawn kept last =
+    data_parts_with_end (data_start true f.recorded near) (thread_list f.recorded p.ends.items) (codes ",\"boxes\":[") (rows_from (drawn_row f) 0 drawn)
     (codes "\n]") (codes ",\"stale\":[") (rows_from resting_row 0 kept) (codes "}" ++ last)
-    ∙ data_then (data_start true f.recorded near) (thread_list f.recorded p.ends.items) (listed (codes ",\"boxes\":[") (drawn_row f) drawn)
+    ∙ data_parts_before_last_text (data_start true f.recorded near) (thread_list f.recorded p.ends.items) (listed (codes ",\"boxes\":[") (drawn_row f) drawn)
     (listed (codes ",\"stale\":[") resting_row kept) (codes "}") last
 
 -- in a frame of its own it is the data of the picture
-pub is_data : (f : FittedTrace) (near : Option Around) (p : Picture) (drawn : List Drawn) (kept : List Resting) (before after : List ℕ)
+pub framed_rows_are_data_form : (f : FittedTrace) (near : Option Around) (p : Picture) (drawn : List Drawn) (kept : List Resting) (before after : List ℕ)
     → AreDrawn f p.boxes.items drawn → before ≡ [] → after ≡ codes "\n]}\n"
     → IsForm form.Data f near p kept status.Done (before ++ (data_rows f near p drawn kept ++ after))
-is_data f near p drawn kept before after are none ends = (
+framed_rows_are_data_form f near p drawn kept before after are none ends = (
   refl,
   (
     data_text f near p drawn kept,
     record { drawn = drawn; are = are; lines = refl },
     ap (λ (x : List ℕ). x ++ (data_rows f near p drawn kept ++ after)) none ∙ ap (λ (x : List ℕ). data_rows f near p drawn kept ++ x) ends
-        ∙ data_framed f near p drawn kept (10 ∷ []),
+        ∙ ended_data_rows_are_text f near p drawn kept (10 ∷ []),
   ),
 )
 
 -- in that of a page it is the page of the picture
-pub is_page : (f : FittedTrace) (near : Option Around) (p : Picture) (drawn : List Drawn) (kept : List Resting) (before after : List ℕ)
+pub framed_rows_are_page_form : (f : FittedTrace) (near : Option Around) (p : Picture) (drawn : List Drawn) (kept : List Resting) (before after : List ℕ)
     → AreDrawn f p.boxes.items drawn → length p.boxes.items ≤ MOST_BOXES → before ≡ page_head → after ≡ codes "\n]}" ++ page_tail
     → IsForm form.Page f near p kept status.Done (before ++ (data_rows f near p drawn kept ++ after))
-is_page f near p drawn kept before after are fits begins ends = inl (
+framed_rows_are_page_form f near p drawn kept before after are fits begins ends = inl (
   fits,
   refl,
   record {
@@ -113,6 +113,6 @@ is_page f near p drawn kept before after are fits begins ends = inl (
     is = record { drawn = drawn; are = are; lines = refl };
     lines = ap (λ (x : List ℕ). x ++ (data_rows f near p drawn kept ++ after)) begins
         ∙ ap (λ (x : List ℕ). page_head ++ (data_rows f near p drawn kept ++ x)) ends
-        ∙ ap (λ (x : List ℕ). page_head ++ x) (data_framed f near p drawn kept page_tail);
+        ∙ ap (λ (x : List ℕ). page_head ++ x) (ended_data_rows_are_text f near p drawn kept page_tail);
   },
 )

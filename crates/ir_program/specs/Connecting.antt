@@ -1,7 +1,7 @@
 -- What a connection of gdb leaves of its reader and its writer, and of where faults are reported.
 use Rattle.std.specs.Prelude.{◌≡◌, ℕ, true, false, List, IfSome, Result, Ok, Err}
 use Rattle.std.specs.Io.KnownBytes.{Appends}
-use Rattle.ir_stream.specs.Answers.{Reads, AppendsPrefix}
+use Rattle.ir_stream.specs.Answers.{ReadsUpTo, AppendsPrefix}
 use Rattle.ir_debug.specs.Session.{most_input, IfRefused}
 use Rattle.ir_debug.specs.declared.ended.Ended.{Ended}
 use Rattle.ir_debug.specs.declared.ended.SessionErr.{SessionErr}
@@ -15,7 +15,7 @@ pub record Led (image trace : List ℕ) (result : Result Ended SessionErr) (read
   pub reads : reader.failed ≡ false
   pub writes : writer.failed ≡ false
   pub known : IfSome reader.before (Connected image trace result writer.before writer.after)
-  pub served : Reads most_input reader.before reader.after (Connected image trace result writer.before writer.after)
+  pub served : ReadsUpTo most_input reader.before reader.after (Connected image trace result writer.before writer.after)
 
 -- these lines were announced, or a part of them where that has failed
 abbrev pub TookOrFailed : Writer → List ℕ → Type 0
@@ -34,7 +34,7 @@ pub record Closed (image trace : List ℕ) (ended : Ended) (reader : Reader) (wr
 abbrev pub Stopped : List ℕ → List ℕ → SessionErr → Reader → Writer → Type 0 → Type 0
 Stopped image trace session.NoMem reader writer untouched = untouched
 Stopped image trace session.Read reader writer untouched = (reader.failed ≡ true) × (writer.failed ≡ false)
-    × Reads most_input reader.before reader.after (AnsweredWhole image trace writer.before writer.after)
+    × ReadsUpTo most_input reader.before reader.after (AnsweredWhole image trace writer.before writer.after)
 Stopped image trace session.Write reader writer untouched = (reader.failed ≡ false) × (writer.failed ≡ true)
-    × Reads most_input reader.before reader.after (AnsweredInPart image trace writer.before writer.after)
+    × ReadsUpTo most_input reader.before reader.after (AnsweredInPart image trace writer.before writer.after)
 Stopped image trace session.TooLong reader writer untouched = Led image trace (Err session.TooLong) reader writer

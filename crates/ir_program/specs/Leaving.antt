@@ -1,6 +1,6 @@
 -- What a bundled session leaves of its reader and its writer.
 use Rattle.std.specs.Prelude.{◌≡◌, ◌⊎◌, ℕ, true, false, List, Option, IfSome, Result, Err, None}
-use Rattle.ir_stream.specs.Answers.{Reads}
+use Rattle.ir_stream.specs.Answers.{ReadsUpTo}
 use Rattle.ir_debug.specs.Session.{Session, AnsweredWhole, AnsweredInPart, most_input}
 use Rattle.ir_debug.specs.declared.ended.Ended.{Ended}
 use Rattle.ir_debug.specs.declared.ended.SessionErr.{SessionErr}
@@ -19,7 +19,7 @@ pub record Serves (old new : Option (List ℕ)) (P : List ℕ → List ℕ → L
   pub after_trace : Option (List ℕ)
   pub image_line : TakesBytes old after_image image
   pub trace_line : TakesBytes after_image after_trace trace
-  pub commands : Reads most_input after_trace new (P image trace)
+  pub commands : ReadsUpTo most_input after_trace new (P image trace)
 
 -- their session came to this result, and wrote these bytes
 abbrev pub Came : Result Ended SessionErr → Option (List ℕ) → Option (List ℕ) → List ℕ → List ℕ → List ℕ → Type 0
@@ -58,15 +58,15 @@ pub record Ends (image trace : List ℕ) (result : Result Ended SessionErr) (rea
   pub reads : reader.failed ≡ false
   pub writes : writer.failed ≡ false
   pub known : IfSome reader.before (Session image trace most_input result writer.before writer.after)
-  pub served : Reads most_input reader.before reader.after (Session image trace most_input result writer.before writer.after)
+  pub served : ReadsUpTo most_input reader.before reader.after (Session image trace most_input result writer.before writer.after)
 
 -- what a fault of their session leaves, the last being that reader and writer are as they were
 abbrev pub Stops : List ℕ → List ℕ → SessionErr → Reader → Writer → Type 0 → Type 0
 Stops image trace session.NoMem reader writer same = same
 Stops image trace session.Read reader writer same = (reader.failed ≡ true) × (writer.failed ≡ false)
-    × Reads most_input reader.before reader.after (AnsweredWhole image trace writer.before writer.after)
+    × ReadsUpTo most_input reader.before reader.after (AnsweredWhole image trace writer.before writer.after)
 Stops image trace session.Write reader writer same = (reader.failed ≡ false) × (writer.failed ≡ true)
-    × Reads most_input reader.before reader.after (AnsweredInPart image trace reader.after writer.before writer.after)
+    × ReadsUpTo most_input reader.before reader.after (AnsweredInPart image trace reader.after writer.before writer.after)
 Stops image trace session.TooLong reader writer same = Ends image trace (Err session.TooLong) reader writer
 
 -- the fault that is reported

@@ -7,7 +7,7 @@ use crate::kept_outputs::{KeptOutputs, no_outputs};
 use ir_image_run::asm_run;
 use ir_log::Event;
 use ir_object::OpenGate;
-use ir_record_run::{ParsedImage, RecordPlan, record_run};
+use ir_record_run::{ParsedImage, RecordFiles, RecordPlan, Recording, record_run};
 use ir_runs::EnvKind;
 use ir_thread::Profile;
 use ir_trace::{Trace, read_trace};
@@ -209,26 +209,24 @@ pub fn recorded<R: Threads + Wait + Sync + Clock + AllocGlobal>(
     image: &[u8],
     how: How<'_>,
 ) -> Run {
-    let mut trace = empty_page(rt, 7, how.trace_calls);
-    let mut outputs = no_outputs(rt, how.output_calls);
+    let mut files = RecordFiles {
+        trace: empty_page(rt, 7, how.trace_calls),
+        outputs: no_outputs(rt, how.output_calls),
+    };
     let mut out = empty_page(rt, 7, how.out_calls);
     let mut faults = empty_page(rt, 7, ENDLESS);
-    let recorded = record_run(
-        rt,
-        &OpenGate,
-        &ParsedImage::new(rt.alloc(), image),
-        &RecordPlan {
+    let recording = Recording {
+        image: &ParsedImage::new(rt.alloc(), image),
+        plan: &RecordPlan {
             order: how.order,
             budget: how.budget as u64,
             random: how.random,
             input: how.input,
             profile: how.profile,
         },
-        &mut trace,
-        &mut outputs,
-        &mut out,
-        &mut faults,
-    );
+    };
+    let recorded = record_run(rt, &OpenGate, &recording, &mut files, &mut out, &mut faults);
+    let RecordFiles { trace, outputs } = files;
     Run {
         status: match recorded {
             Ok(_) => 0,

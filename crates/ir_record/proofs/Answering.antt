@@ -6,29 +6,29 @@ use Rattle.ir_thread.specs.Instance.{shared_ask, is_result}
 use Rattle.ir_runs.specs.Machine.{act_of, target, emitted, Admits, Answer}
 use Rattle.ir_thread.specs.declared.ask.Ask.TheVariants.{Env}
 use Rattle.ir_runs.specs.declared.env_kind.EnvKind.{EnvKind}
-use Rattle.ir_thread.proofs.CallerLemmas.{ask_permits}
+use Rattle.ir_thread.proofs.CallerLemmas.{ask_of_permitted}
 use Rattle.ir_flat.specs.Flat.{Flat, thread_of, tables, machine, IsFlat}
 use Rattle.ir_runs.specs.Run.{Can, after}
-use Rattle.ir_flat.proofs.CallerLemmas.{added}
+use Rattle.ir_flat.proofs.CallerLemmas.{events_added_by}
 use Rattle.ir_log.specs.Logged.{Logged}
 use Rattle.ir_log.specs.declared.event.Event.TheVariants as event
 use Rattle.ir_record.specs.Progress.{TookIf, IsTape, log_at, labels_at}
 use Rattle.ir_record.specs.Worlds.{answers_at, Answered}
-use Rattle.ir_record.proofs.Steps.{took_one, no_try}
-use Rattle.ir_record.proofs.Running.{flat_few}
-use Rattle.ir_record.proofs.Logs.{tape_pushed, labels_pushed, labels_other, result_fits}
+use Rattle.ir_record.proofs.Steps.{turn_taken_by_step, ask_not_try_enters_if_free}
+use Rattle.ir_record.proofs.Running.{hold_few_objects_if_flat}
+use Rattle.ir_record.proofs.Logs.{tape_after_event_pushed, labels_after_event_pushed, labels_of_other_thread_after_set, result_if_is_result_true}
 
 -- there is the step
-pub answer_can : (f : Flat) (t value : ℕ) (kind : EnvKind) → ask_of f.code (thread_of f t) ≡ Env kind → is_result kind value ≡ true
+pub environment_call_can_step : (f : Flat) (t value : ℕ) (kind : EnvKind) → ask_of f.code (thread_of f t) ≡ Env kind → is_result kind value ≡ true
     → Can (machine f) (tables f) (t, value)
-answer_can f t value kind is fits = subst (λ q. Admits (machine f) (act_of (shared_ask q) value)
+environment_call_can_step f t value kind is fits = subst (λ q. Admits (machine f) (act_of (shared_ask q) value)
     ((tables f).objects (target (act_of (shared_ask q) value)))) (sym is) fits
 
-pub answer_room : (f : Flat) (t : ℕ) (kind : EnvKind) → ask_of f.code (thread_of f t) ≡ Env kind → (thread_of f t).events < most_events
-answer_room f t kind is = (subst (Permits (thread_of f t)) is (ask_permits f.code (thread_of f t))).1
+pub room_to_log_answer : (f : Flat) (t : ℕ) (kind : EnvKind) → ask_of f.code (thread_of f t) ≡ Env kind → (thread_of f t).events < most_events
+room_to_log_answer f t kind is = (subst (Permits (thread_of f t)) is (ask_of_permitted f.code (thread_of f t))).1
 
 -- an answer was logged, and it is its world's
-pub record Answering (f g : Flat) (logs more : List Logged) (t value : ℕ) (kind : EnvKind) : Type 0 where
+pub record AnswerLogged (f g : Flat) (logs more : List Logged) (t value : ℕ) (kind : EnvKind) : Type 0 where
   pub tape : IsTape f logs
   pub flat : IsFlat f
   pub below : t < length f.threads
@@ -42,30 +42,30 @@ pub record Answering (f g : Flat) (logs more : List Logged) (t value : ℕ) (kin
   pub pushed : new ≡ record (log_at logs t) { events = (log_at logs t).events ++ event.Answer kind value ∷ [] }
   pub logged : more ≡ set logs t new
 
-pub answer_tape : (f g : Flat) (logs more : List Logged) (t value : ℕ) (kind : EnvKind) → Answering f g logs more t value kind
+pub tape_after_answer : (f g : Flat) (logs more : List Logged) (t value : ℕ) (kind : EnvKind) → AnswerLogged f g logs more t value kind
     → IsTape g more
-answer_tape f g logs more t value kind a =
-    subst (IsTape g) (sym a.logged) (tape_pushed f g logs t value (event.Answer kind value) a.new a.tape a.below a.taken a.threads a.objects
-    (ap added a.asked) (result_fits kind value a.fits) a.pushed)
+tape_after_answer f g logs more t value kind a =
+    subst (IsTape g) (sym a.logged) (tape_after_event_pushed f g logs t value (event.Answer kind value) a.new a.tape a.below a.taken a.threads a.objects
+    (ap events_added_by a.asked) (result_if_is_result_true kind value a.fits) a.pushed)
 
-pub answer_took : (f g : Flat) (logs more : List Logged) (t value : ℕ) (kind : EnvKind) → Answering f g logs more t value kind
+pub turn_taken_by_answer : (f g : Flat) (logs more : List Logged) (t value : ℕ) (kind : EnvKind) → AnswerLogged f g logs more t value kind
     → (answers given : List (List Answered)) → t < length answers → given ≡ set answers t (answers_at answers t ++ (kind, value) ∷ [])
     → TookIf true (t ∷ []) (record { flat = f; logs = logs; answers = answers }) (record { flat = g; logs = more; answers = given })
-answer_took f g logs more t value kind a answers given l e =
-    took_one t value (Answer kind value) (record { flat = f; logs = logs; answers = answers })
+turn_taken_by_answer f g logs more t value kind a answers given l e =
+    turn_taken_by_step t value (Answer kind value) (record { flat = f; logs = logs; answers = answers })
     (record { flat = g; logs = more; answers = given }) (record {
       below = a.below;
-      few = flat_few f a.flat;
-      can = answer_can f t value kind a.asked a.fits;
-      enters = no_try f t value (Env kind) a.asked (λ o e. cc e);
+      few = hold_few_objects_if_flat f a.flat;
+      can = environment_call_can_step f t value kind a.asked a.fits;
+      enters = ask_not_try_enters_if_free f t value (Env kind) a.asked (λ o e. cc e);
       taken = a.taken;
       code = a.code;
       threads = a.threads;
       objects = a.objects;
       emits = ap (λ q. emitted (act_of (shared_ask q) value) ((tables f).objects (target (act_of (shared_ask q) value)))) a.asked;
       own_log = subst (λ z. labels_at z t ≡ labels_at logs t ++ Answer kind value ∷ []) (sym a.logged)
-          (labels_pushed logs t (event.Answer kind value) a.new (omega (arith, a.below, a.tape.one_each)) a.pushed);
+          (labels_after_event_pushed logs t (event.Answer kind value) a.new (omega (arith, a.below, a.tape.one_each)) a.pushed);
       own_answers = ap (λ z. answers_at z t) e ∙ get_or-set_same answers t (answers_at answers t ++ (kind, value) ∷ []) [] l;
-      other_logs = λ u ne. subst (λ z. labels_at z u ≡ labels_at logs u) (sym a.logged) (labels_other logs t u a.new ne);
+      other_logs = λ u ne. subst (λ z. labels_at z u ≡ labels_at logs u) (sym a.logged) (labels_of_other_thread_after_set logs t u a.new ne);
       other_answers = λ u ne. ap (λ z. answers_at z u) e ∙ get_or-set_other answers t u (answers_at answers t ++ (kind, value) ∷ []) [] ne;
     })

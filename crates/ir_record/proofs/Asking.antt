@@ -5,37 +5,37 @@ use Rattle.std.proofs.lemmas.List.{get_or-map, map-set, length-map}
 use Rattle.ir_record.specs.Worlds.{Answered, NoneFailed, IsFirstFailed, answers_at}
 
 -- a world that is asked has not failed
-pub works_at : {W : Type 0} (broken : W → Bool) (worlds : List W) (t : ℕ) (w : W) → NoneFailed (map broken worlds) → t < length worlds
+pub asked_world_has_not_failed : {W : Type 0} (broken : W → Bool) (worlds : List W) (t : ℕ) (w : W) → NoneFailed (map broken worlds) → t < length worlds
     → w ≡ get_or worlds t w → broken w ≡ false
-works_at broken worlds t w works l e = ap broken e ∙ sym (get_or-map broken worlds t w false l) ∙ works t
+asked_world_has_not_failed broken worlds t w works l e = ap broken e ∙ sym (get_or-map broken worlds t w false l) ∙ works t
 
-pub gained_at : {W : Type 0} (answers : W → List Answered) (worlds : List W) (t : ℕ) (w new : W) (given : Answered) → t < length worlds
+pub answers_after_world_set : {W : Type 0} (answers : W → List Answered) (worlds : List W) (t : ℕ) (w new : W) (given : Answered) → t < length worlds
     → w ≡ get_or worlds t w → answers new ≡ answers w ++ given ∷ []
     → map answers (set worlds t new) ≡ set (map answers worlds) t (answers_at (map answers worlds) t ++ given ∷ [])
-gained_at answers worlds t w new given l e h =
+answers_after_world_set answers worlds t w new given l e h =
     map-set answers worlds t new ∙ ap (set (map answers worlds) t)
     (h ∙ ap (λ z. z ++ given ∷ []) (ap answers e ∙ sym (get_or-map answers worlds t w [] l)))
 
-pub still_works : {W : Type 0} (broken : W → Bool) (worlds : List W) (t : ℕ) (new : W) → NoneFailed (map broken worlds) → t < length worlds
+pub none_failed_after_world_set : {W : Type 0} (broken : W → Bool) (worlds : List W) (t : ℕ) (new : W) → NoneFailed (map broken worlds) → t < length worlds
     → broken new ≡ false → NoneFailed (map broken (set worlds t new))
-still_works broken worlds t new works l h u = subst (λ z. get_or z u false ≡ false) (sym (map-set broken worlds t new))
+none_failed_after_world_set broken worlds t new works l h u = subst (λ z. get_or z u false ≡ false) (sym (map-set broken worlds t new))
     (elim (cases_eq u t) [
       | inl e ↦ ap (λ z. get_or (set (map broken worlds) t (broken new)) z false) e
           ∙ get_or-set_same (map broken worlds) t (broken new) false (let n = length-map worlds broken in omega (arith, n, l)) ∙ h
       | inr ne ↦ get_or-set_other (map broken worlds) t u (broken new) false ne ∙ works u
     ])
 
-pub first_failed : {W : Type 0} (broken : W → Bool) (worlds : List W) (t : ℕ) (new : W) → NoneFailed (map broken worlds) → t < length worlds
+pub set_world_is_first_failed : {W : Type 0} (broken : W → Bool) (worlds : List W) (t : ℕ) (new : W) → NoneFailed (map broken worlds) → t < length worlds
     → broken new ≡ true → IsFirstFailed (map broken (set worlds t new)) t
-first_failed broken worlds t new works l h = subst (λ z. IsFirstFailed z t) (sym (map-set broken worlds t new)) (
+set_world_is_first_failed broken worlds t new works l h = subst (λ z. IsFirstFailed z t) (sym (map-set broken worlds t new)) (
   get_or-set_same (map broken worlds) t (broken new) false (let n = length-map worlds broken in omega (arith, n, l)) ∙ h,
   λ u below. get_or-set_other (map broken worlds) t u (broken new) false (λ e. omega (arith, e, below)) ∙ works u,
 )
 
 -- one world more that has not failed
-pub one_more_works : {W : Type 0} (broken : W → Bool) (worlds new : List W) (w : W) → NoneFailed (map broken worlds) → new ≡ worlds ++ w
+pub none_failed_with_world_added : {W : Type 0} (broken : W → Bool) (worlds new : List W) (w : W) → NoneFailed (map broken worlds) → new ≡ worlds ++ w
     ∷ [] → broken w ≡ false → NoneFailed (map broken new)
-one_more_works {W} broken worlds new w works e h t = ap (λ z. get_or (map broken z) t false) e ∙ go worlds t (works t)
+none_failed_with_world_added {W} broken worlds new w works e h t = ap (λ z. get_or (map broken z) t false) e ∙ go worlds t (works t)
   where
     go : (xs : List W) (t : ℕ) → get_or (map broken xs) t false ≡ false → get_or (map broken (xs ++ w ∷ [])) t false ≡ false
     go [] zero k = h
@@ -43,13 +43,13 @@ one_more_works {W} broken worlds new w works e h t = ap (λ z. get_or (map broke
     go (x ∷ xs) zero k = k
     go (x ∷ xs) (suc t) k = go xs t k
 
-pub one_more_long : {W : Type 0} (worlds new : List W) (w : W) (n : ℕ) → length worlds ≡ n → new ≡ worlds ++ w ∷ [] → length new ≡ n + 1
-one_more_long worlds new w n h e = let k = length-append worlds (w ∷ []) in let m : length new ≡ length (worlds ++ w ∷ []) =
+pub length_with_world_added : {W : Type 0} (worlds new : List W) (w : W) (n : ℕ) → length worlds ≡ n → new ≡ worlds ++ w ∷ [] → length new ≡ n + 1
+length_with_world_added worlds new w n h e = let k = length-append worlds (w ∷ []) in let m : length new ≡ length (worlds ++ w ∷ []) =
     ap (λ xs. length xs) e in omega (arith, h, k, m)
 
 -- a world that is as before, seen by a function
-pub same_at : {W B : Type 0} (f : W → B) (worlds : List W) (t : ℕ) (w new : W) → w ≡ get_or worlds t w → f new ≡ f w
+pub map_after_alike_set : {W B : Type 0} (f : W → B) (worlds : List W) (t : ℕ) (w new : W) → w ≡ get_or worlds t w → f new ≡ f w
     → map f (set worlds t new) ≡ map f worlds
-same_at f [] t w new e h = refl
-same_at f (x ∷ worlds) zero w new e h = ap (λ z. z ∷ map f worlds) (h ∙ ap f e)
-same_at f (x ∷ worlds) (suc t) w new e h = ap (λ z. f x ∷ z) (same_at f worlds t w new e h)
+map_after_alike_set f [] t w new e h = refl
+map_after_alike_set f (x ∷ worlds) zero w new e h = ap (λ z. z ∷ map f worlds) (h ∙ ap f e)
+map_after_alike_set f (x ∷ worlds) (suc t) w new e h = ap (λ z. f x ∷ z) (map_after_alike_set f worlds t w new e h)

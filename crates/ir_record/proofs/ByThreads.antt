@@ -19,8 +19,8 @@ use Rattle.ir_thread.specs.State as thread
 use Rattle.ir_thread.specs.declared.ask.Ask.TheVariants as ask
 use Rattle.ir_object.specs.Cell.{Cell}
 use Rattle.ir_object.specs.Order.{Shared, of_thread, order_labels, IsAllowed}
-use Rattle.ir_object.proofs.CallerLemmas.{allowed, none_beyond}
-use Rattle.ir_image.proofs.CallerLemmas.{padded_at}
+use Rattle.ir_object.proofs.CallerLemmas.{legal_order_is_allowed, no_steps_of_missing_thread}
+use Rattle.ir_image.proofs.CallerLemmas.{element_of_padded}
 use Rattle.ir_crew.specs.Ends.{AreTracks, IsEnd}
 use Rattle.ir_crew.specs.Plays.{M}
 use Rattle.ir_crew.specs.Rule.{View, IsTrack, start_objects}
@@ -28,7 +28,7 @@ use Rattle.ir_flat.specs.Flat.{Flat, thread_of, cell_of, tables, idle, empty, st
 use Rattle.ir_runs.specs.Run.{State, Step, events, log}
 use Rattle.ir_flat.specs.Splice.{shared_steps, splice}
 use Rattle.ir_flat.specs.Lone.{MayRun, alone_after, alone_trail}
-use Rattle.ir_flat.proofs.CallerLemmas.{cells_length, fields_at, words_at, start_none, start_idle, spliced}
+use Rattle.ir_flat.proofs.CallerLemmas.{length_of_start_cells, start_cell_has_zero_fields, start_cell_has_first_words, no_thread_inside_at_start, guest_start_is_idle, splice_is_run_with_trails}
 use Rattle.ir_log.specs.Logged.{Logged}
 use Rattle.ir_log.specs.Logging as logging
 use Rattle.ir_trace.specs.Recorded.{Recorded, absent}
@@ -41,49 +41,49 @@ use Rattle.ir_record.proofs.Telling.{StandAtEnd, emitted_there, printed_there, a
 
 -- ---- the start
 
-thread_at : (g : Guest) (budget : ℕ) (profile : Profile) (from n t : ℕ) → t < n
+start_thread_at_place : (g : Guest) (budget : ℕ) (profile : Profile) (from n t : ℕ) → t < n
     → get_or (start_threads g budget profile from n) t idle ≡ thread.start_state g (from + t) budget profile
-thread_at g budget profile from zero t l = absurd (omega arith)
-thread_at g budget profile from (suc n) zero l = ap (λ z. thread.start_state g z budget profile) (let e : from ≡ from + 0 = omega arith in e)
-thread_at g budget profile from (suc n) (suc t) l = thread_at g budget profile (suc from) n t (omega (arith, l))
+start_thread_at_place g budget profile from zero t l = absurd (omega arith)
+start_thread_at_place g budget profile from (suc n) zero l = ap (λ z. thread.start_state g z budget profile) (let e : from ≡ from + 0 = omega arith in e)
+start_thread_at_place g budget profile from (suc n) (suc t) l = start_thread_at_place g budget profile (suc from) n t (omega (arith, l))
     ∙ ap (λ z. thread.start_state g z budget profile) (let e : suc from + t ≡ from + suc t = omega arith in e)
 
 -- an object that the guest doesn't have has no words
-past_words : (form : ImageForm) (words o : ℕ) → words % (limits_of form).words ≡ 0 → words / (limits_of form).words ≤ o
+words_end_before_missing_object : (form : ImageForm) (words o : ℕ) → words % (limits_of form).words ≡ 0 → words / (limits_of form).words ≤ o
     → words ≤ (limits_of form).words * o
-past_words Small words o whole past = omega (arith, whole, past)
-past_words Large words o whole past = omega (arith, whole, past)
+words_end_before_missing_object Small words o whole past = omega (arith, whole, past)
+words_end_before_missing_object Large words o whole past = omega (arith, whole, past)
 
-drop_all : (k : ℕ) (ws : List ℕ) → length ws ≤ k → drop k ws ≡ []
-drop_all zero [] l = refl
-drop_all zero (w ∷ ws) l = absurd (omega (arith, l))
-drop_all (suc k) [] l = refl
-drop_all (suc k) (w ∷ ws) l = drop_all k ws (omega (arith, l))
+drop_past_length_is_empty : (k : ℕ) (ws : List ℕ) → length ws ≤ k → drop k ws ≡ []
+drop_past_length_is_empty zero [] l = refl
+drop_past_length_is_empty zero (w ∷ ws) l = absurd (omega (arith, l))
+drop_past_length_is_empty (suc k) [] l = refl
+drop_past_length_is_empty (suc k) (w ∷ ws) l = drop_past_length_is_empty k ws (omega (arith, l))
 
-take_nil : (k : ℕ) → take {A = ℕ} k [] ≡ []
-take_nil zero = refl
-take_nil (suc k) = refl
+take_of_empty : (k : ℕ) → take {A = ℕ} k [] ≡ []
+take_of_empty zero = refl
+take_of_empty (suc k) = refl
 
-none_past : (g : Guest) (o j : ℕ) → IsGuest g → object_count g ≤ o → get_or (first_words g o) j 0 ≡ 0
-none_past g o j guest past = padded_at (take (object_words g) (drop (object_words g * o) g.words)) j
+missing_object_has_zero_words : (g : Guest) (o j : ℕ) → IsGuest g → object_count g ≤ o → get_or (first_words g o) j 0 ≡ 0
+missing_object_has_zero_words g o j guest past = element_of_padded (take (object_words g) (drop (object_words g * o) g.words)) j
     ∙ ap (λ ws. get_or (take (object_words g) ws) j 0)
-    (drop_all (object_words g * o) g.words (past_words g.form (length g.words) o guest.whole_objects past))
-    ∙ ap (λ ws. get_or ws j 0) (take_nil (object_words g))
+    (drop_past_length_is_empty (object_words g * o) g.words (words_end_before_missing_object g.form (length g.words) o guest.whole_objects past))
+    ∙ ap (λ ws. get_or ws j 0) (take_of_empty (object_words g))
 
-objects_same : (g : Guest) (budget : ℕ) (profile : Profile) → IsGuest g → (tables (start_flat g budget profile)).objects ≡ start_objects g
-objects_same g budget profile guest = fun_ext (λ o. λ i. record {
-  version = ap (λ f. f.version) (fields_at g 0 (object_count g) o) i;
-  left = ap (λ f. f.left) (fields_at g 0 (object_count g) o) i;
-  inside = fun_ext (λ t. start_none g budget profile o t) i;
+start_tables_have_start_objects : (g : Guest) (budget : ℕ) (profile : Profile) → IsGuest g → (tables (start_flat g budget profile)).objects ≡ start_objects g
+start_tables_have_start_objects g budget profile guest = fun_ext (λ o. λ i. record {
+  version = ap (λ f. f.version) (start_cell_has_zero_fields g 0 (object_count g) o) i;
+  left = ap (λ f. f.left) (start_cell_has_zero_fields g 0 (object_count g) o) i;
+  inside = fun_ext (λ t. no_thread_inside_at_start g budget profile o t) i;
   words = fun_ext (contents o) i;
 })
   where
     contents : (o j : ℕ) → get_or (cell_of (start_flat g budget profile) o).words j 0 ≡ get_or (first_words g o) j 0
     contents o j = elim (cases_lt o (object_count g)) [
-      | inl l ↦ ap (λ ws. get_or ws j 0) (words_at g 0 (object_count g) o l ∙ ap (first_words g) (let e : 0 + o ≡ o = omega arith in e))
+      | inl l ↦ ap (λ ws. get_or ws j 0) (start_cell_has_first_words g 0 (object_count g) o l ∙ ap (first_words g) (let e : 0 + o ≡ o = omega arith in e))
       | inr past ↦ ap (λ c. get_or c.words j 0) (get_or_past (start_cells g 0 (object_count g)) o empty
-          (let n = cells_length g 0 (object_count g) in omega (arith, n, past)))
-          ∙ sym (none_past g o j guest past)
+          (let n = length_of_start_cells g 0 (object_count g) in omega (arith, n, past)))
+          ∙ sym (missing_object_has_zero_words g o j guest past)
     ]
 
 -- ---- the workers at the end
@@ -99,29 +99,29 @@ abbrev pub tracks_of : List Work → View
 tracks_of [] = []
 tracks_of (w ∷ ws) = w.me.0 ++ tracks_of ws
 
-tracks_left : (g : Guest) (es : List (ℕ × Shared)) (v w : View) → AreTracks g es (v ++ w) → AreTracks g es v
-tracks_left g es [] w h = tt
-tracks_left g es (k ∷ v) w h = (h.0, tracks_left g es v w h.1)
+left_view_has_tracks : (g : Guest) (es : List (ℕ × Shared)) (v w : View) → AreTracks g es (v ++ w) → AreTracks g es v
+left_view_has_tracks g es [] w h = tt
+left_view_has_tracks g es (k ∷ v) w h = (h.0, left_view_has_tracks g es v w h.1)
 
-tracks_right : (g : Guest) (es : List (ℕ × Shared)) (v w : View) → AreTracks g es (v ++ w) → AreTracks g es w
-tracks_right g es [] w h = h
-tracks_right g es (k ∷ v) w h = tracks_right g es v w h.1
+right_view_has_tracks : (g : Guest) (es : List (ℕ × Shared)) (v w : View) → AreTracks g es (v ++ w) → AreTracks g es w
+right_view_has_tracks g es [] w h = h
+right_view_has_tracks g es (k ∷ v) w h = right_view_has_tracks g es v w h.1
 
-tracks_at : (g : Guest) (es : List (ℕ × Shared)) (ws : List Work) (t : ℕ) → t < length ws → AreTracks g es (tracks_of ws)
+worker_view_has_tracks : (g : Guest) (es : List (ℕ × Shared)) (ws : List Work) (t : ℕ) → t < length ws → AreTracks g es (tracks_of ws)
     → AreTracks g es (work_at ws t).me.0
-tracks_at g es [] t l h = absurd (omega arith)
-tracks_at g es (w ∷ ws) zero l h = tracks_left g es w.me.0 (tracks_of ws) h
-tracks_at g es (w ∷ ws) (suc t) l h = tracks_at g es ws t (omega (arith, l)) (tracks_right g es w.me.0 (tracks_of ws) h)
+worker_view_has_tracks g es [] t l h = absurd (omega arith)
+worker_view_has_tracks g es (w ∷ ws) zero l h = left_view_has_tracks g es w.me.0 (tracks_of ws) h
+worker_view_has_tracks g es (w ∷ ws) (suc t) l h = worker_view_has_tracks g es ws t (omega (arith, l)) (right_view_has_tracks g es w.me.0 (tracks_of ws) h)
 
 -- what the workers of all threads have done
-pub record AllOver (g : Guest) (budget : ℕ) (profile : Profile) (before : List (List Answered)) (ws : List Work) : Type 0 where
+pub record AllWorkDone (g : Guest) (budget : ℕ) (profile : Profile) (before : List (List Answered)) (ws : List Work) : Type 0 where
   pub guest : IsGuest g
   pub size : length ws ≡ length g.entries
   pub working : (t : ℕ) → t < length g.entries → IsWorking g budget profile t (answers_at before t) (work_at ws t)
   pub done : (t : ℕ) → t < length g.entries → ask_of g.code (work_at ws t).thread ≡ ask.Done
 
 -- the part of thread t in an order of all object steps
-record Part (g : Guest) (budget : ℕ) (profile : Profile) (ws : List Work) (es : List (ℕ × Shared)) (t : ℕ) : Type 0 where
+record ThreadPart (g : Guest) (budget : ℕ) (profile : Profile) (ws : List Work) (es : List (ℕ × Shared)) (t : ℕ) : Type 0 where
   replies : List ℕ
   may : MayRun (thread_machine g.code) (thread_of (start_flat g budget profile) t) replies
   steps_are : shared_steps (thread_machine g.code) (thread_of (start_flat g budget profile) t) replies ≡ of_thread t es
@@ -133,17 +133,17 @@ record Part (g : Guest) (budget : ℕ) (profile : Profile) (ws : List Work) (es 
       (of_thread t (order_labels (start_objects g) es))) ≡ map logging.label_of (work_at ws t).log.events
 
 module _ {g : Guest} {budget : ℕ} {profile : Profile} {before : List (List Answered)} {ws : List Work} {v : View} {objects : List Cell}
-    (over : AllOver g budget profile before ws) (e : IsEnd g v objects) (view : v ≡ tracks_of ws) where
-  part : (t : ℕ) → Part g budget profile ws e.steps t
+    (over : AllWorkDone g budget profile before ws) (e : IsEnd g v objects) (view : v ≡ tracks_of ws) where
+  part : (t : ℕ) → ThreadPart g budget profile ws e.steps t
   part t = elim (cases_lt t (length g.entries)) [
     | inl l ↦
         let i = over.working t l in
         let x0 : thread_of (start_flat g budget profile) t ≡ thread.start_state g t budget profile =
-        thread_at g budget profile 0 (length g.entries) t l
+        start_thread_at_place g budget profile 0 (length g.entries) t l
         ∙ ap (λ z. thread.start_state g z budget profile) (let z : 0 + t ≡ t = omega arith in z) in
         let track : IsTrack (length g.entries) (start_objects g) e.steps (record { thread = t; steps = i.track }) =
         (subst (AreTracks g e.steps) (ap (λ (z : M). z.0) i.view)
-        (tracks_at g e.steps ws t (let n = over.size in omega (arith, n, l)) (subst (AreTracks g e.steps) view e.tracks))).0 in
+        (worker_view_has_tracks g e.steps ws t (let n = over.size in omega (arith, n, l)) (subst (AreTracks g e.steps) view e.tracks))).0 in
         let m = thread_machine g.code in
         let w = i.worked in
         record {
@@ -160,9 +160,9 @@ module _ {g : Guest} {budget : ℕ} {profile : Profile} {before : List (List Ans
     | inr past ↦ record {
       replies = [];
       may = tt;
-      steps_are = sym (none_beyond (thread_machine g.code) (length g.entries) (object_count g) (start_objects g) e.steps e.legal t past);
+      steps_are = sym (no_steps_of_missing_thread (thread_machine g.code) (length g.entries) (object_count g) (start_objects g) e.steps e.legal t past);
       none = λ _. refl;
-      done = start_idle g budget profile t past;
+      done = guest_start_is_idle g budget profile t past;
       threads_are = λ l. absurd (omega (arith, past, l));
       logged = λ l. absurd (omega (arith, past, l));
     }
@@ -175,16 +175,16 @@ module _ {g : Guest} {budget : ℕ} {profile : Profile} {before : List (List Ans
       → (outputs : List (List ℕ)) → outputs ≡ map (λ w. w.thread.output) ws → (answers : List (List Answered))
       → answers ≡ map (λ w. w.answers) ws → IsRecordingOfSome g budget profile before trace outputs answers
   recorded_of trace counted limit same_profile all traces outputs printed answers given =
-      let m : Machine thread.State = thread_machine g.code in
+      let m : Machine thread.ThreadState = thread_machine g.code in
       let f : Flat = start_flat g budget profile in
-      let s : State thread.State = tables f in
+      let s : State thread.ThreadState = tables f in
       let rs : ℕ → List ℕ = λ t. (part t).replies in
-      let same : s.objects ≡ start_objects g = objects_same g budget profile over.guest in
+      let same : s.objects ≡ start_objects g = start_tables_have_start_objects g budget profile over.guest in
       let run : List Step = splice m s.now rs (length g.entries) e.steps in
-      let k = spliced m s.now s.objects rs (length g.entries) e.steps (λ t l. (part t).none l) (λ t. (part t).may)
+      let k = splice_is_run_with_trails m s.now s.objects rs (length g.entries) e.steps (λ t l. (part t).none l) (λ t. (part t).may)
       (λ t. (part t).steps_are) (subst (λ z. IsAllowed m z e.steps) (sym same)
-      (allowed m (length g.entries) (object_count g) (start_objects g) e.steps e.legal)) in
-      let now : ℕ → thread.State = λ t. (work_at ws t).thread in
+      (legal_order_is_allowed m (length g.entries) (object_count g) (start_objects g) e.steps e.legal)) in
+      let now : ℕ → thread.ThreadState = λ t. (work_at ws t).thread in
       let logs : ℕ → Logged = λ t. (work_at ws t).log in
       let emitted : ℕ → List Answered = λ t. (work_at ws t).answers in
       let own_log : (t : ℕ) → t < length g.entries → map logging.label_of (logs t).events ≡ log m s run t = λ t l.

@@ -13,7 +13,7 @@ use Rattle.ir_thread.specs.State.{held_at}
 use Rattle.ir_thread.specs.Instance.{thread_machine}
 use Rattle.ir_thread.specs.State as thread
 use Rattle.ir_thread.specs.declared.ask.Ask.TheVariants as ask
-use Rattle.ir_thread.proofs.CallerLemmas.{ask_permits}
+use Rattle.ir_thread.proofs.CallerLemmas.{ask_of_permitted}
 use Rattle.ir_crew.specs.Plays.{M}
 use Rattle.ir_log.specs.Logged.{Logged}
 use Rattle.ir_trace.specs.Recorded.{RecordedThread, absent}
@@ -24,19 +24,19 @@ use Rattle.ir_record.specs.Threads.{IsNew, AreNew, IsOver, AreTraces, HasRoom, I
 use Rattle.ir_record.specs.Working.{Work, work_of, IsWorking, IsReadyWorker, RanToEnd}
 use Rattle.ir_record.specs.declared.room.Room.{Room}
 use Rattle.ir_record.specs.declared.worker.Worker.{Worker}
-use Rattle.ir_record.proofs.ByThreads.{AllOver, work_at, tracks_of}
-use Rattle.ir_record.proofs.Working.{worked_starts, answers_alone}
+use Rattle.ir_record.proofs.ByThreads.{AllWorkDone, work_at, tracks_of}
+use Rattle.ir_record.proofs.Working.{worked_by_no_replies, answers_ignore_object_labels}
 
 -- ---- before the first step
 
-new_working : {W : Type 0} (answers : W → List Answered) (g : Guest) (budget : ℕ) (profile : Profile) (t : ℕ) (id : TableId) (w : Worker W) → IsNew g budget profile id t w
+new_worker_is_working : {W : Type 0} (answers : W → List Answered) (g : Guest) (budget : ℕ) (profile : Profile) (t : ℕ) (id : TableId) (w : Worker W) → IsNew g budget profile id t w
     → IsWorking g budget profile t (answers w.world) (work_of answers w)
-new_working answers g budget profile t id w new = record {
+new_worker_is_working answers g budget profile t id w new = record {
   track = [];
   view = new.me;
-  worked = subst (λ (z : thread.State × Logged). Rattle.ir_record.specs.Working.Worked (thread_machine g.code)
+  worked = subst (λ (z : thread.ThreadState × Logged). Rattle.ir_record.specs.Working.Worked (thread_machine g.code)
       (thread.start_state g t budget profile) z.0 [] [] (map Rattle.ir_log.specs.Logging.label_of z.1.events))
-      (λ i. (sym new.thread i, sym new.log i)) (worked_starts (thread_machine g.code) (thread.start_state g t budget profile));
+      (λ i. (sym new.thread i, sym new.log i)) (worked_by_no_replies (thread_machine g.code) (thread.start_state g t budget profile));
   held = λ o. sym (ap (λ x. held_at x.held o) new.thread ∙ none o);
   places = ap (λ x. length x.held) new.thread ∙ length-replicate (object_count g) None;
   profile_is = ap (λ x. x.profile) new.thread;
@@ -56,21 +56,21 @@ new_working answers g budget profile t id w new = record {
         go (suc n) zero = refl
         go (suc n) (suc o) = go n o
 
-pub ready : {W : Type 0} (answers : W → List Answered) (broken : W → Bool) (g : Guest) (budget : ℕ) (profile : Profile) (t : ℕ) (id : TableId) (ws : List (Worker W))
+pub new_workers_are_ready : {W : Type 0} (answers : W → List Answered) (broken : W → Bool) (g : Guest) (budget : ℕ) (profile : Profile) (t : ℕ) (id : TableId) (ws : List (Worker W))
     (worlds : List W) → AreNew g budget profile id t ws → map (λ w. w.world) ws ≡ worlds → NoneFailed (map broken worlds)
     → (k : ℕ) (d : Worker W) → k < length ws → IsReadyWorker answers broken g id g.code (get_or ws k d)
-ready answers broken g budget profile t id [] worlds new e works k d l = absurd (omega arith)
-ready answers broken g budget profile t id (w ∷ ws) worlds new e works zero d l = record {
+new_workers_are_ready answers broken g budget profile t id [] worlds new e works k d l = absurd (omega arith)
+new_workers_are_ready answers broken g budget profile t id (w ∷ ws) worlds new e works zero d l = record {
   seated = record {
     seat = new.0.table;
     same_code = refl;
     worker =
-        (budget, profile, t, answers w.world, new_working answers g budget profile t id w new.0);
+        (budget, profile, t, answers w.world, new_worker_is_working answers g budget profile t id w new.0);
   };
   works = ap (λ z. get_or (map broken z) 0 false) e ∙ works 0;
 }
-ready answers broken g budget profile t id (w ∷ ws) worlds new e works (suc k) d l =
-    ready answers broken g budget profile (suc t) id ws (map (λ z. z.world) ws) new.1
+new_workers_are_ready answers broken g budget profile t id (w ∷ ws) worlds new e works (suc k) d l =
+    new_workers_are_ready answers broken g budget profile (suc t) id ws (map (λ z. z.world) ws) new.1
     refl (λ u. ap (λ z. get_or (map broken z) (suc u) false) e ∙ works (suc u)) k d (omega (arith, l))
 
 -- ---- after the last
@@ -79,11 +79,11 @@ pub map_map : {A B C : Type 0} (f : B → C) (h : A → B) (xs : List A) → map
 map_map f h [] = refl
 map_map f h (x ∷ xs) = ap (λ z. f (h x) ∷ z) (map_map f h xs)
 
-ran_size : {A : Type 0} (P : A → A → Type 0) (xs ys : List A) → Pairs P xs ys → length ys ≡ length xs
-ran_size P [] [] p = refl
-ran_size P [] (y ∷ ys) p = absurd p
-ran_size P (x ∷ xs) [] p = absurd p
-ran_size P (x ∷ xs) (y ∷ ys) p = ap suc (ran_size P xs ys p.1)
+pairs_have_same_length : {A : Type 0} (P : A → A → Type 0) (xs ys : List A) → Pairs P xs ys → length ys ≡ length xs
+pairs_have_same_length P [] [] p = refl
+pairs_have_same_length P [] (y ∷ ys) p = absurd p
+pairs_have_same_length P (x ∷ xs) [] p = absurd p
+pairs_have_same_length P (x ∷ xs) (y ∷ ys) p = ap suc (pairs_have_same_length P xs ys p.1)
 
 -- no world has failed
 abbrev pub NoneBroken : {W : Type 0} → (W → Bool) → List (Worker W) → Type 0
@@ -101,7 +101,7 @@ module _ {W O : Type 0} (answers : W → List Answered) (broken : W → Bool) (o
   at_end t (v ∷ vs) [] new p k l works = absurd p
   at_end t (v ∷ vs) (w ∷ ws) new p zero l works = (
     subst (λ z. IsWorking g budget profile z (answers v.world) (work_of answers w)) (let e : t ≡ t + 0 = omega arith in e)
-        ((p.0.stays works).still budget profile t (answers v.world) (new_working answers g budget profile t id v new.0)),
+        ((p.0.stays works).still budget profile t (answers v.world) (new_worker_is_working answers g budget profile t id v new.0)),
     p.0.done works,
   )
   at_end t (v ∷ vs) (w ∷ ws) new p (suc k) l works =
@@ -118,7 +118,7 @@ module _ {W O : Type 0} (answers : W → List Answered) (broken : W → Bool) (o
   seats_end t [] (w ∷ ws) new p works = absurd p
   seats_end t (v ∷ vs) [] new p works = tt
   seats_end t (v ∷ vs) (w ∷ ws) new p works =
-      let i = (p.0.stays (works 0)).still budget profile t (answers v.world) (new_working answers g budget profile t id v new.0) in (
+      let i = (p.0.stays (works 0)).still budget profile t (answers v.world) (new_worker_is_working answers g budget profile t id v new.0) in (
         record { table = (p.0.stays (works 0)).seat ∙ new.0.table; empty = ap (λ (z : M). z.1) i.view },
         seats_end (suc t) vs ws new.1 p.1
             (λ u. works (suc u)),
@@ -130,9 +130,9 @@ module _ {W O : Type 0} (answers : W → List Answered) (broken : W → Bool) (o
   over_end objects t [] (w ∷ ws) n new p works = absurd p
   over_end objects t (v ∷ vs) [] n new p works = tt
   over_end objects t (v ∷ vs) (w ∷ ws) n new p works =
-      let i = (p.0.stays (works 0)).still budget profile t (answers v.world) (new_working answers g budget profile t id v new.0) in (
+      let i = (p.0.stays (works 0)).still budget profile t (answers v.world) (new_worker_is_working answers g budget profile t id v new.0) in (
         record {
-          ended = (subst (Permits w.thread) (p.0.done (works 0)) (ask_permits g.code w.thread)).0;
+          ended = (subst (Permits w.thread) (p.0.done (works 0)) (ask_of_permitted g.code w.thread)).0;
           events_fit = subst (λ z. AllByRecursion (Rattle.ir_trace.specs.Within.IsEvent profile z) w.log.events) (sym n) i.events_fit;
         },
         over_end objects (suc t) vs ws n new.1 p.1 (λ u. works (suc u)),
@@ -150,7 +150,7 @@ module _ {W O : Type 0} (answers : W → List Answered) (broken : W → Bool) (o
       let h = p.0.worked failed in (
         h.last,
         subst (λ z. IsWorking g budget profile z (answers v.world) h.last) (let e : t ≡ t + 0 = omega arith in e)
-            (h.still budget profile t (answers v.world) (new_working answers g budget profile t id v new.0)),
+            (h.still budget profile t (answers v.world) (new_worker_is_working answers g budget profile t id v new.0)),
         h.asks,
         h.no_more,
       )
@@ -169,11 +169,11 @@ module _ {W O : Type 0} (answers : W → List Answered) (broken : W → Bool) (o
   origins_end (v ∷ vs) [] p = absurd p
   origins_end (v ∷ vs) (w ∷ ws) p = λ i. p.0.same_origin i ∷ origins_end vs ws p.1 i
 
-answers_of : {W : Type 0} (answers : W → List Answered) (ws : List (Worker W)) (t : ℕ)
+answers_at_are_of_work : {W : Type 0} (answers : W → List Answered) (ws : List (Worker W)) (t : ℕ)
     → answers_at (map answers (map (λ w. w.world) ws)) t ≡ (work_at (map (work_of answers) ws) t).answers
-answers_of answers [] t = refl
-answers_of answers (w ∷ ws) zero = refl
-answers_of answers (w ∷ ws) (suc t) = answers_of answers ws t
+answers_at_are_of_work answers [] t = refl
+answers_at_are_of_work answers (w ∷ ws) zero = refl
+answers_at_are_of_work answers (w ∷ ws) (suc t) = answers_at_are_of_work answers ws t
 
 -- the workers of a guest with these worlds, before their first step and after their last
 pub record HaveRun {W O : Type 0} (answers : W → List Answered) (broken : W → Bool) (origin : W → O) (g : Guest) (budget : ℕ)
@@ -187,7 +187,7 @@ module _ {W O : Type 0} {answers : W → List Answered} {broken : W → Bool} {o
     {profile : Profile} {id : TableId} {worlds : List W} {vs ws : List (Worker W)}
     (ran : HaveRun answers broken origin g budget profile id worlds vs ws) where
   same_count : length ws ≡ length vs
-  same_count = ran_size (RanToEnd answers broken origin g) vs ws ran.pairs
+  same_count = pairs_have_same_length (RanToEnd answers broken origin g) vs ws ran.pairs
 
   pub threads_there : length ws ≡ length g.entries
   threads_there = same_count ∙ sym (length-map vs (λ w. w.world)) ∙ ap (λ z. length z) ran.same ∙ ran.each
@@ -217,7 +217,7 @@ module _ {W O : Type 0} {answers : W → List Answered} {broken : W → Bool} {o
         r.1,
       )
 
-  pub all_over : IsGuest g → NoneBroken broken ws → AllOver g budget profile (map answers worlds) (map (work_of answers) ws)
+  pub all_over : IsGuest g → NoneBroken broken ws → AllWorkDone g budget profile (map answers worlds) (map (work_of answers) ws)
   all_over guest works = record {
     guest = guest;
     size = length-map ws (work_of answers) ∙ threads_there;
@@ -255,7 +255,7 @@ module _ {W O : Type 0} {answers : W → List Answered} {broken : W → Bool} {o
         asks = λ f. ((asks f).0, ap (ask_of g.code) w.now ∙ (asks f).1);
         answered = e ∙ i.answered ∙ ap (λ z. answers_at (map answers worlds) t ++ z)
             (ap answers_in (sym w.logged)
-            ∙ answers_alone (thread_machine g.code) (thread.start_state g t budget profile) w.replies i.track);
+            ∙ answers_ignore_object_labels (thread_machine g.code) (thread.start_state g t budget profile) w.replies i.track);
       }
 
   pub each_there : EachWentOn answers broken g budget profile worlds (map (λ w. w.world) ws)
@@ -266,20 +266,20 @@ module _ {W O : Type 0} {answers : W → List Answered} {broken : W → Bool} {o
           (answers_at (map answers (map (λ w. w.world) ws)) t)
       by false e =
           let r = end_of t l (ap (λ z. get_or z t false) (sym (map_map broken (λ w. w.world) ws)) ∙ e) in
-          went_on t (work_at (map (work_of answers) ws) t) _ _ r.0 (λ f. r.1) (λ f. absurd (cc (e, f))) (answers_of answers ws t)
+          went_on t (work_at (map (work_of answers) ws) t) _ _ r.0 (λ f. r.1) (λ f. absurd (cc (e, f))) (answers_at_are_of_work answers ws t)
       by true e =
           let r = stop_of t l (ap (λ z. get_or z t false) (sym (map_map broken (λ w. w.world) ws)) ∙ e) in
           went_on t r.0 _ _ r.1 (λ f. absurd (cc (e, f))) (λ f. r.2) r.3
 
-pub views_tracks : {W : Type 0} (answers : W → List Answered) (ws : List (Worker W))
+pub views_are_tracks_of_work : {W : Type 0} (answers : W → List Answered) (ws : List (Worker W))
     → views_of (map (λ w. w.seat) ws) ≡ tracks_of (map (work_of answers) ws)
-views_tracks answers [] = refl
-views_tracks answers (w ∷ ws) = ap (λ z. w.seat.me.0 ++ z) (views_tracks answers ws)
+views_are_tracks_of_work answers [] = refl
+views_are_tracks_of_work answers (w ∷ ws) = ap (λ z. w.seat.me.0 ++ z) (views_are_tracks_of_work answers ws)
 
-pub traces_at : {W : Type 0} (answers : W → List Answered) (ws : List (Worker W)) (rs : List RecordedThread) → AreTraces ws rs → (t : ℕ)
+pub trace_at_worker_place : {W : Type 0} (answers : W → List Answered) (ws : List (Worker W)) (rs : List RecordedThread) → AreTraces ws rs → (t : ℕ)
     → t < length ws → IsThreadTrace (work_at (map (work_of answers) ws) t).thread (work_at (map (work_of answers) ws) t).log
     (get_or rs t absent)
-traces_at answers [] rs h t l = absurd (omega arith)
-traces_at answers (w ∷ ws) [] h t l = absurd h
-traces_at answers (w ∷ ws) (r ∷ rs) h zero l = h.0
-traces_at answers (w ∷ ws) (r ∷ rs) h (suc t) l = traces_at answers ws rs h.1 t (omega (arith, l))
+trace_at_worker_place answers [] rs h t l = absurd (omega arith)
+trace_at_worker_place answers (w ∷ ws) [] h t l = absurd h
+trace_at_worker_place answers (w ∷ ws) (r ∷ rs) h zero l = h.0
+trace_at_worker_place answers (w ∷ ws) (r ∷ rs) h (suc t) l = trace_at_worker_place answers ws rs h.1 t (omega (arith, l))

@@ -12,12 +12,12 @@ use Rattle.ir_thread.specs.Permitted.{Permits}
 use Rattle.ir_thread.specs.Instance.{shared_ask, thread_machine}
 use Rattle.ir_runs.specs.Machine as machine
 use Rattle.ir_thread.specs.State as thread
-use Rattle.ir_thread.proofs.CallerLemmas.{ask_permits}
+use Rattle.ir_thread.proofs.CallerLemmas.{ask_of_permitted}
 use Rattle.ir_runs.specs.Machine.{Admits, target}
 use Rattle.ir_flat.specs.Flat.{Flat, thread_of, tables, machine, idle, start_flat, start_threads}
 use Rattle.ir_runs.specs.Run.{State, Step, asked, Can, IsRun, end, log, IsDone}
-use Rattle.ir_flat.proofs.CallerLemmas.{fresh, threads_length, cells_length, nothing_is_stuck, start_idle, really_done}
-use Rattle.ir_runs.proofs.CallerLemmas.{run_idle, turns_run}
+use Rattle.ir_flat.proofs.CallerLemmas.{start_thread_is_fresh, length_of_start_threads, length_of_start_cells, nothing_is_stuck, guest_start_is_idle, shared_done_is_done}
+use Rattle.ir_runs.proofs.CallerLemmas.{idle_after_run, turns_are_run}
 use Rattle.ir_log.specs.Logged.{Logged}
 use Rattle.ir_log.specs.Logging.{label_of}
 use Rattle.ir_trace.specs.Recorded.{Recorded}
@@ -26,8 +26,8 @@ use Rattle.ir_record.specs.Gathered.{AreThreadTraces}
 use Rattle.ir_runs.specs.InOrder.{HasNone, rounds}
 use Rattle.ir_record.specs.Progress.{Progress, Took, IsReady, log_at, no_log}
 use Rattle.ir_record.specs.Worlds.{answers_at, Answered, NoneFailed}
-use Rattle.ir_record.specs.Recording.{IsRecording}
-use Rattle.ir_record.proofs.Profiles.{run_profile, start_profile}
+use Rattle.ir_record.specs.Recording.{IsRecordingInOrder}
+use Rattle.ir_record.proofs.Profiles.{profile_after_run, profile_of_start_thread}
 use Rattle.ir_record.proofs.Telling.{StandAtEnd, emitted_there, printed_there, answered_there}
 
 -- ---- the start
@@ -40,11 +40,11 @@ new_log = record { events = []; room = most_events }
 abbrev pub start : Guest → ℕ → Profile → List (List Answered) → Progress
 start guest budget profile answers = record { flat = start_flat guest budget profile; logs = replicate (length guest.entries) new_log; answers = answers }
 
-pub start_ready : (guest : Guest) (budget : ℕ) (profile : Profile) (answers : List (List Answered)) (failed : List Bool) → length answers ≡ length guest.entries
+pub recording_start_is_ready : (guest : Guest) (budget : ℕ) (profile : Profile) (answers : List (List Answered)) (failed : List Bool) → length answers ≡ length guest.entries
     → NoneFailed failed → IsReady (start guest budget profile answers) failed
-start_ready guest budget profile answers failed size works =
+recording_start_is_ready guest budget profile answers failed size works =
     let n : length (start_threads guest budget profile 0 (length guest.entries)) ≡ length guest.entries =
-    threads_length guest budget profile 0 (length guest.entries) in
+    length_of_start_threads guest budget profile 0 (length guest.entries) in
     let own : (t : ℕ) → t < length (start_threads guest budget profile 0 (length guest.entries))
     → log_at (replicate (length guest.entries) new_log) t ≡ new_log =
     λ t l. get_or-replicate (length guest.entries) t new_log no_log (omega (arith, l, n)) in
@@ -52,7 +52,7 @@ start_ready guest budget profile answers failed size works =
       tape = record {
         one_each = length-replicate (length guest.entries) new_log ∙ sym n;
         rooms = λ t l. ap (λ z. z.room) (own t l);
-        counts = λ t l. ap (λ z. length z.events) (own t l) ∙ sym (fresh guest budget profile 0 (length guest.entries) t).events;
+        counts = λ t l. ap (λ z. length z.events) (own t l) ∙ sym (start_thread_is_fresh guest budget profile 0 (length guest.entries) t).events;
         events_fit = λ t l. subst (λ z. AllByRecursion (IsEvent (thread_of (start_flat guest budget profile) t).profile
             (length (start_flat guest budget profile).objects)) z.events) (sym (own t l)) tt;
       };
@@ -62,24 +62,24 @@ start_ready guest budget profile answers failed size works =
 
 -- ---- the end
 
-done_or : (q : machine.Ask) → (q ≡ machine.Done) ⊎ (q ≢ machine.Done)
-done_or machine.Private = inr (λ e. cc e)
-done_or (machine.Env k) = inr (λ e. cc e)
-done_or (machine.Enter o a) = inr (λ e. cc e)
-done_or (machine.Try o) = inr (λ e. cc e)
-done_or (machine.Leave o a) = inr (λ e. cc e)
-done_or (machine.Get o i) = inr (λ e. cc e)
-done_or (machine.Put o i w) = inr (λ e. cc e)
-done_or machine.Done = inl refl
+done_is_decidable : (q : machine.Ask) → (q ≡ machine.Done) ⊎ (q ≢ machine.Done)
+done_is_decidable machine.Private = inr (λ e. cc e)
+done_is_decidable (machine.Env k) = inr (λ e. cc e)
+done_is_decidable (machine.Enter o a) = inr (λ e. cc e)
+done_is_decidable (machine.Try o) = inr (λ e. cc e)
+done_is_decidable (machine.Leave o a) = inr (λ e. cc e)
+done_is_decidable (machine.Get o i) = inr (λ e. cc e)
+done_is_decidable (machine.Put o i w) = inr (λ e. cc e)
+done_is_decidable machine.Done = inl refl
 
 -- where none of the guest's threads has a step, all threads are done
-all_done : (guest : Guest) (budget : ℕ) (profile : Profile) (run : List Step) → IsRun (thread_machine guest.code) (tables (start_flat guest budget profile)) run
+done_if_no_thread_has_step : (guest : Guest) (budget : ℕ) (profile : Profile) (run : List Step) → IsRun (thread_machine guest.code) (tables (start_flat guest budget profile)) run
     → ((t : ℕ) → t < length guest.entries → HasNone (thread_machine guest.code)
     (end (thread_machine guest.code) (tables (start_flat guest budget profile)) run) t)
     → IsDone (thread_machine guest.code) (end (thread_machine guest.code) (tables (start_flat guest budget profile)) run)
-all_done guest budget profile run ok none t =
-    let s : State thread.State = end (thread_machine guest.code) (tables (start_flat guest budget profile)) run in
-    elim (done_or (asked (thread_machine guest.code) s t)) [
+done_if_no_thread_has_step guest budget profile run ok none t =
+    let s : State thread.ThreadState = end (thread_machine guest.code) (tables (start_flat guest budget profile)) run in
+    elim (done_is_decidable (asked (thread_machine guest.code) s t)) [
       | inl e ↦ e
       | inr ne ↦ absurd (stuck (nothing_is_stuck guest budget profile run ok t ne))
     ]
@@ -89,53 +89,53 @@ all_done guest budget profile run ok none t =
       | inl l ↦ none step.0 l 0 step.1
       | inr past ↦ subst (λ q. Admits (thread_machine guest.code) (machine.act_of q 0)
           ((end (thread_machine guest.code) (tables (start_flat guest budget profile)) run).objects (target (machine.act_of q 0))))
-          (run_idle (thread_machine guest.code) (tables (start_flat guest budget profile)) (length guest.entries) (start_idle guest budget profile) run ok
+          (idle_after_run (thread_machine guest.code) (tables (start_flat guest budget profile)) (length guest.entries) (guest_start_is_idle guest budget profile) run ok
           step.0 past) step.1
     ]
 
 -- a thread that is done has ended
-has_ended : (code : List ℕ) (x : thread.State) → shared_ask (ask_of code x) ≡ machine.Done → x.ended ≢ None
-has_ended code x e = (subst (Permits x) (really_done (ask_of code x) e) (ask_permits code x)).0
+done_thread_has_ended : (code : List ℕ) (x : thread.ThreadState) → shared_ask (ask_of code x) ≡ machine.Done → x.ended ≢ None
+done_thread_has_ended code x e = (subst (Permits x) (shared_done_is_done (ask_of code x) e) (ask_of_permitted code x)).0
 
 -- ---- the whole recording
 
 -- a recording at its end: turns by the order, and rounds, until no thread has a step
-pub record Over (guest : Guest) (budget : ℕ) (profile : Profile) (order : List ℕ) (before : List (List Answered)) (b : Progress) : Type 0 where
+pub record RecordingOver (guest : Guest) (budget : ℕ) (profile : Profile) (order : List ℕ) (before : List (List Answered)) (b : Progress) : Type 0 where
   pub count : ℕ
   pub took : Took (order ++ rounds (length guest.entries) count) (start guest budget profile before) b
   pub none : (t : ℕ) → t < length b.flat.threads → HasNone (machine b.flat) (tables b.flat) t
 
 module _ {guest : Guest} {budget : ℕ} {profile : Profile} {order : List ℕ} {before : List (List Answered)} {b : Progress}
-    (o : Over guest budget profile order before b) where
+    (o : RecordingOver guest budget profile order before b) where
   pub threads_there : length b.flat.threads ≡ length guest.entries
-  threads_there = o.took.threads ∙ threads_length guest budget profile 0 (length guest.entries)
+  threads_there = o.took.threads ∙ length_of_start_threads guest budget profile 0 (length guest.entries)
 
   pub objects_there : length b.flat.objects ≡ object_count guest
-  objects_there = o.took.objects ∙ cells_length guest 0 (object_count guest)
+  objects_there = o.took.objects ∙ length_of_start_cells guest 0 (object_count guest)
 
   pub profiles_there : (t : ℕ) → t < length b.flat.threads → (thread_of b.flat t).profile ≡ profile
   profiles_there t l =
-      ap (λ s. (s.now t).profile) o.took.ends ∙ run_profile guest.code (tables (start_flat guest budget profile)) o.took.run t
-      ∙ start_profile guest budget profile 0 (length guest.entries) t (let n = threads_there in omega (arith, l, n))
+      ap (λ s. (s.now t).profile) o.took.ends ∙ profile_after_run guest.code (tables (start_flat guest budget profile)) o.took.run t
+      ∙ profile_of_start_thread guest budget profile 0 (length guest.entries) t (let n = threads_there in omega (arith, l, n))
 
   run_of_it : IsRun (thread_machine guest.code) (tables (start_flat guest budget profile)) o.took.run
-  run_of_it = turns_run (thread_machine guest.code) (tables (start_flat guest budget profile))
+  run_of_it = turns_are_run (thread_machine guest.code) (tables (start_flat guest budget profile))
       (order ++ rounds (length guest.entries) o.count) o.took.run o.took.turns
 
   done_there : IsDone (thread_machine guest.code) (end (thread_machine guest.code) (tables (start_flat guest budget profile)) o.took.run)
-  done_there = all_done guest budget profile o.took.run run_of_it
+  done_there = done_if_no_thread_has_step guest budget profile o.took.run run_of_it
       (λ t l. subst (λ s. HasNone (thread_machine guest.code) s t) o.took.ends
       (subst (λ c. HasNone (thread_machine c) (tables b.flat) t) o.took.code
       (o.none t (let n = threads_there in omega (arith, l, n)))))
 
   pub ended_there : (t : ℕ) → (thread_of b.flat t).ended ≢ None
-  ended_there t = has_ended guest.code (thread_of b.flat t) (ap (λ s. shared_ask (ask_of guest.code (s.now t))) o.took.ends ∙ done_there t)
+  ended_there t = done_thread_has_ended guest.code (thread_of b.flat t) (ap (λ s. shared_ask (ask_of guest.code (s.now t))) o.took.ends ∙ done_there t)
 
   -- what is at hand at its end
   at_end : StandAtEnd guest budget profile o.took.run before (thread_of b.flat) (log_at b.logs) (answers_at b.answers)
   at_end =
       let n : length (start_threads guest budget profile 0 (length guest.entries)) ≡ length guest.entries =
-      threads_length guest budget profile 0 (length guest.entries) in
+      length_of_start_threads guest budget profile 0 (length guest.entries) in
       let f0 : Flat = start_flat guest budget profile in
       record {
         runs = run_of_it;
@@ -150,7 +150,7 @@ module _ {guest : Guest} {budget : ℕ} {profile : Profile} {order : List ℕ} {
       → (trace : Recorded) → trace.objects ≡ length b.flat.objects → trace.budget ≡ budget → trace.profile ≡ profile
       → AreThreadTraces b.flat b.logs trace.threads
       → (outputs : List (List ℕ)) → outputs ≡ map (λ x. x.output) b.flat.threads
-      → (answers : List (List Answered)) → answers ≡ b.answers → IsRecording guest budget profile order before trace outputs answers
+      → (answers : List (List Answered)) → answers ≡ b.answers → IsRecordingInOrder guest budget profile order before trace outputs answers
   recorded_there failed ready trace objects limit same traces outputs printed answers given =
       let n : length b.flat.threads ≡ length guest.entries = threads_there in
       let logs : length b.logs ≡ length guest.entries = ready.tape.one_each ∙ n in
@@ -170,25 +170,25 @@ module _ {guest : Guest} {budget : ℕ} {profile : Profile} {order : List ℕ} {
       }
 
 -- the recording that was made is one before the first step
-pub started : (guest : Guest) (budget : ℕ) (profile : Profile) (answers : List (List Answered)) {f : Flat} {logs : List Logged}
+pub made_recording_is_start : (guest : Guest) (budget : ℕ) (profile : Profile) (answers : List (List Answered)) {f : Flat} {logs : List Logged}
     → f ≡ start_flat guest budget profile → logs ≡ replicate (length guest.entries) new_log
     → ◌≡◌ {A = Progress} (record { flat = f; logs = logs; answers = answers }) (start guest budget profile answers)
-started guest budget profile answers p q = λ i. record { flat = p i; logs = q i; answers = answers }
+made_recording_is_start guest budget profile answers p q = λ i. record { flat = p i; logs = q i; answers = answers }
 
-pub over_from : {guest : Guest} {budget : ℕ} {profile : Profile} {order : List ℕ} {before : List (List Answered)}
+pub recording_over_from_rounds : {guest : Guest} {budget : ℕ} {profile : Profile} {order : List ℕ} {before : List (List Answered)}
     {f : Flat} {logs : List Logged} {b : Progress} → f ≡ start_flat guest budget profile → logs ≡ replicate (length guest.entries) new_log
     → ((count : ℕ) × Took (order ++ rounds (length f.threads) count) (record { flat = f; logs = logs; answers = before }) b)
-    → ((t : ℕ) → t < length b.flat.threads → HasNone (machine b.flat) (tables b.flat) t) → Over guest budget profile order before b
-over_from {guest} {budget} {profile} {order} {before} {f} {logs} {b} p q k none = record {
+    → ((t : ℕ) → t < length b.flat.threads → HasNone (machine b.flat) (tables b.flat) t) → RecordingOver guest budget profile order before b
+recording_over_from_rounds {guest} {budget} {profile} {order} {before} {f} {logs} {b} p q k none = record {
   count = k.0;
   took = subst (λ n. Took (order ++ rounds n k.0) (start guest budget profile before) b)
-      (ap (λ z. length z.threads) p ∙ threads_length guest budget profile 0 (length guest.entries))
-      (subst (λ z. Took (order ++ rounds (length f.threads) k.0) z b) (started guest budget profile before p q) k.1);
+      (ap (λ z. length z.threads) p ∙ length_of_start_threads guest budget profile 0 (length guest.entries))
+      (subst (λ z. Took (order ++ rounds (length f.threads) k.0) z b) (made_recording_is_start guest budget profile before p q) k.1);
   none = none;
 }
 
-pub mapped_twice : {A B C : Type 0} (f : B → C) (h : A → B) (xs : List A) (ys : List B) → map h xs ≡ ys → map (λ x. f (h x)) xs ≡ map f ys
-mapped_twice {A} {B} {C} f h xs ys e = twice xs ∙ ap (map f) e
+pub map_of_composition : {A B C : Type 0} (f : B → C) (h : A → B) (xs : List A) (ys : List B) → map h xs ≡ ys → map (λ x. f (h x)) xs ≡ map f ys
+map_of_composition {A} {B} {C} f h xs ys e = twice xs ∙ ap (map f) e
   where
     twice : (zs : List A) → map (λ x. f (h x)) zs ≡ map f (map h zs)
     twice [] = refl

@@ -8,21 +8,21 @@ use Rattle.ir_flat.specs.Flat.{Flat, thread_of, idle}
 use Rattle.ir_log.specs.Logged.{Logged}
 use Rattle.ir_trace.specs.Recorded.{RecordedThread, absent}
 use Rattle.ir_record.specs.Gathered.{IsThreadTrace, AreThreadTraces}
-use Rattle.ir_record.proofs.Logs.{map_append}
+use Rattle.ir_record.proofs.Logs.{map_of_append_item}
 use Rattle.ir_record.specs.Progress.{log_at, no_log}
 
 -- the next of a list
-pub next_of : {A : Type 0} (before rest whole : List A) (x d : A) → before ++ x ∷ rest ≡ whole → get_or whole (length before) d ≡ x
-next_of before rest whole x d e = ap (λ z. get_or z (length before) d) (sym e) ∙ get_or-append_seam before x rest d
+pub get_or_at_split : {A : Type 0} (before rest whole : List A) (x d : A) → before ++ x ∷ rest ≡ whole → get_or whole (length before) d ≡ x
+get_or_at_split before rest whole x d e = ap (λ z. get_or z (length before) d) (sym e) ∙ get_or-append_seam before x rest d
 
-pub next_below : {A : Type 0} (before rest whole : List A) (x : A) → before ++ x ∷ rest ≡ whole → length before < length whole
-next_below before rest whole x e = let n = length-append before (x ∷ rest) in let m : length (before ++ x ∷ rest) ≡ length whole =
+pub split_place_below_length : {A : Type 0} (before rest whole : List A) (x : A) → before ++ x ∷ rest ≡ whole → length before < length whole
+split_place_below_length before rest whole x e = let n = length-append before (x ∷ rest) in let m : length (before ++ x ∷ rest) ≡ length whole =
     ap (λ z. length z) e in omega (arith, n, m)
 
 -- one thread more
-pub gathered_more : (f : Flat) (before : List Logged) (x : Logged) (rs : List RecordedThread) (r : RecordedThread)
+pub thread_traces_with_one_added : (f : Flat) (before : List Logged) (x : Logged) (rs : List RecordedThread) (r : RecordedThread)
     → AreThreadTraces f before rs → IsThreadTrace (thread_of f (length rs)) x r → AreThreadTraces f (before ++ x ∷ []) (rs ++ r ∷ [])
-gathered_more f before x rs r was new =
+thread_traces_with_one_added f before x rs r was new =
     let n = length-append before (x ∷ []) in
     let m = length-append rs (r ∷ []) in
     record {
@@ -44,37 +44,37 @@ gathered_more f before x rs r was new =
     }
 
 -- the thread that was read
-pub thread_found : (f : Flat) (threads : List thread.State) (t : ℕ) (x : thread.State) → threads ≡ f.threads → t < length f.threads
+pub found_thread_is_thread_of : (f : Flat) (threads : List thread.ThreadState) (t : ℕ) (x : thread.ThreadState) → threads ≡ f.threads → t < length f.threads
     → x ≡ get_or threads t x → x ≡ thread_of f t
-thread_found f threads t x same l e = e ∙ ap (λ z. get_or z t x) same ∙ get_or_default f.threads t x idle l
+found_thread_is_thread_of f threads t x same l e = e ∙ ap (λ z. get_or z t x) same ∙ get_or_default f.threads t x idle l
 
 -- one item more of a list that is taken from the prefix
-pub moved_on : {A : Type 0} (before items rest whole : List A) (x : A) → before ++ items ≡ whole → items ≡ x ∷ rest
+pub split_moves_past_item : {A : Type 0} (before items rest whole : List A) (x : A) → before ++ items ≡ whole → items ≡ x ∷ rest
     → (before ++ x ∷ []) ++ rest ≡ whole
-moved_on before items rest whole x h e = append_assoc before (x ∷ []) rest ∙ ap (λ z. before ++ z) (sym e) ∙ h
+split_moves_past_item before items rest whole x h e = append_assoc before (x ∷ []) rest ∙ ap (λ z. before ++ z) (sym e) ∙ h
 
-pub size_on : {A : Type 0} (items rest : List A) (x : A) (len less : ℕ) → len ≡ length items → items ≡ x ∷ rest → less + 1 ≡ len
+pub length_of_rest_is_one_less : {A : Type 0} (items rest : List A) (x : A) (len less : ℕ) → len ≡ length items → items ≡ x ∷ rest → less + 1 ≡ len
     → less ≡ length rest
-size_on items rest x len less h e one = let n : length items ≡ suc (length rest) = ap (λ z. length z) e in omega (arith, h, n, one)
+length_of_rest_is_one_less items rest x len less h e one = let n : length items ≡ suc (length rest) = ap (λ z. length z) e in omega (arith, h, n, one)
 
 -- a list, seen by a function, with one item more
-pub mapped_more : {A B : Type 0} (f : A → B) (xs new : List A) (x : A) (ys : List B) → new ≡ xs ++ x ∷ [] → map f xs ≡ ys
+pub map_with_item_added : {A B : Type 0} (f : A → B) (xs new : List A) (x : A) (ys : List B) → new ≡ xs ++ x ∷ [] → map f xs ≡ ys
     → map f new ≡ ys ++ f x ∷ []
-mapped_more f xs new x ys e h = ap (map f) e ∙ map_append f xs x ∙ ap (λ z. z ++ f x ∷ []) h
+map_with_item_added f xs new x ys e h = ap (map f) e ∙ map_of_append_item f xs x ∙ ap (λ z. z ++ f x ∷ []) h
 
-take_one : {A : Type 0} (xs : List A) (i : ℕ) (x d : A) → i < length xs → get_or xs i d ≡ x → take i xs ++ x ∷ [] ≡ take (suc i) xs
-take_one [] i x d l e = absurd (omega arith)
-take_one (y ∷ xs) zero x d l e = ap (λ z. z ∷ []) (sym e)
-take_one (y ∷ xs) (suc i) x d l e = ap (λ z. y ∷ z) (take_one xs i x d (omega arith) e)
+take_with_next_item : {A : Type 0} (xs : List A) (i : ℕ) (x d : A) → i < length xs → get_or xs i d ≡ x → take i xs ++ x ∷ [] ≡ take (suc i) xs
+take_with_next_item [] i x d l e = absurd (omega arith)
+take_with_next_item (y ∷ xs) zero x d l e = ap (λ z. z ∷ []) (sym e)
+take_with_next_item (y ∷ xs) (suc i) x d l e = ap (λ z. y ∷ z) (take_with_next_item xs i x d (omega arith) e)
 
 -- the prefix of a list, seen by a function, with one item more
-pub taken_more : {A B C : Type 0} (f : A → B) (h : C → B) (xs new : List A) (x : A) (whole : List C) (c : C) → new ≡ xs ++ x ∷ []
+pub mapped_prefix_with_item_added : {A B C : Type 0} (f : A → B) (h : C → B) (xs new : List A) (x : A) (whole : List C) (c : C) → new ≡ xs ++ x ∷ []
     → map f xs ≡ take (length xs) (map h whole) → length xs < length whole → c ≡ get_or whole (length xs) c → f x ≡ h c
     → map f new ≡ take (length new) (map h whole)
-taken_more f h xs new x whole c e was l is same =
+mapped_prefix_with_item_added f h xs new x whole c e was l is same =
     let n : length new ≡ suc (length xs) = ap (λ z. length z) e ∙ length-append xs (x ∷ [])
     ∙ (let k : length xs + 1 ≡ suc (length xs) = omega arith in k) in
-    mapped_more f xs new x (take (length xs) (map h whole)) e was
-    ∙ take_one (map h whole) (length xs) (f x) (f x) (let m = length-map whole h in omega (arith, m, l))
+    map_with_item_added f xs new x (take (length xs) (map h whole)) e was
+    ∙ take_with_next_item (map h whole) (length xs) (f x) (f x) (let m = length-map whole h in omega (arith, m, l))
     (get_or-map h whole (length xs) c (f x) l ∙ ap h (sym is) ∙ sym same)
     ∙ ap (λ k. take k (map h whole)) (sym n)

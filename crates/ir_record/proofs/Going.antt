@@ -14,37 +14,37 @@ use Rattle.ir_record.specs.Ahead.{lead, IsAhead, all_ahead, NoneAhead, Went, Wen
 use Rattle.ir_runs.specs.InOrder.{HasNone, EntersIfFree, InTurn, rounds}
 use Rattle.ir_record.specs.Progress.{Progress, Took, TookIf, all_left, labels_at}
 use Rattle.ir_record.specs.Worlds.{answers_at, answers_in}
-use Rattle.ir_record.proofs.Joining.{range_more, rounds_more, some_run, some_after, none_in_turn}
-use Rattle.ir_record.proofs.Leading.{can_alone, quiet_alone, spent, can_there, enters_there, alone_enters, none_there, label_there, stepped, gone_ahead, level, caught_up}
-use Rattle.ir_record.proofs.Running.{flat_few}
-use Rattle.ir_record.proofs.Steps.{answers_append}
-use Rattle.ir_record.proofs.Tally.{alone_less}
+use Rattle.ir_record.proofs.Joining.{range_with_last_number, rounds_with_round_added, append_non_empty_by_first, append_non_empty_by_second, no_step_in_empty_turns}
+use Rattle.ir_record.proofs.Leading.{private_step_can_be_taken, private_step_is_quiet, ahead_after_lead_is_spent, can_step_if_can_later, enters_if_free_if_later_does, private_step_enters_if_free, no_step_if_none_later, label_same_as_later, ahead_after_step_of_both, ahead_by_private_steps, state_is_ahead_by_nothing, state_ahead_by_nothing_is_same}
+use Rattle.ir_record.proofs.Running.{hold_few_objects_if_flat}
+use Rattle.ir_record.proofs.Steps.{answers_in_append}
+use Rattle.ir_record.proofs.Tally.{steps_of_thread_leave_all_fewer}
 
 -- ---- how many steps all are ahead
 
-pub one_set : (xs : List ℕ) (t k : ℕ) → t < length xs → all_ahead (set xs t k) + lead xs t ≡ all_ahead xs + k
-one_set [] t k l = absurd (omega (arith, l))
-one_set (x ∷ xs) zero k l = omega arith
-one_set (x ∷ xs) (suc t) k l = let rest = one_set xs t k (omega (arith, l)) in omega (arith, rest)
+pub all_ahead_after_set : (xs : List ℕ) (t k : ℕ) → t < length xs → all_ahead (set xs t k) + lead xs t ≡ all_ahead xs + k
+all_ahead_after_set [] t k l = absurd (omega (arith, l))
+all_ahead_after_set (x ∷ xs) zero k l = omega arith
+all_ahead_after_set (x ∷ xs) (suc t) k l = let rest = all_ahead_after_set xs t k (omega (arith, l)) in omega (arith, rest)
 
 -- a place that is read, whatever the default is
-pub at_lead : (xs : List ℕ) (t v : ℕ) → t < length xs → v ≡ get_or xs t v → lead xs t ≡ v
-at_lead [] t v l is = absurd (omega (arith, l))
-at_lead (x ∷ xs) zero v l is = sym is
-at_lead (x ∷ xs) (suc t) v l is = at_lead xs t v (omega (arith, l)) is
+pub lead_is_read_value : (xs : List ℕ) (t v : ℕ) → t < length xs → v ≡ get_or xs t v → lead xs t ≡ v
+lead_is_read_value [] t v l is = absurd (omega (arith, l))
+lead_is_read_value (x ∷ xs) zero v l is = sym is
+lead_is_read_value (x ∷ xs) (suc t) v l is = lead_is_read_value xs t v (omega (arith, l)) is
 
 -- ---- what one step logs
 
-quiet_log : {T : Type 0} (m : Machine T) (s : State T) (t r u : ℕ) → label m s (t, r) ≡ Quiet → log m s ((t, r) ∷ []) u ≡ []
-quiet_log m s t r u is = ap (λ k. events (join_if (eqb u t) (s.now u, k) [])) is ∙ none (eqb u t)
+log_of_quiet_step_is_empty : {T : Type 0} (m : Machine T) (s : State T) (t r u : ℕ) → label m s (t, r) ≡ Quiet → log m s ((t, r) ∷ []) u ≡ []
+log_of_quiet_step_is_empty m s t r u is = ap (λ k. events (join_if (eqb u t) (s.now u, k) [])) is ∙ none (eqb u t)
   where
     none : (b : Bool) → events (join_if b (s.now u, Quiet) []) ≡ []
     none true = refl
     none false = refl
 
-same_log : {T : Type 0} (m : Machine T) (s later : State T) (t r u : ℕ) → label m later (t, r) ≡ label m s (t, r)
+log_same_if_label_same : {T : Type 0} (m : Machine T) (s later : State T) (t r u : ℕ) → label m later (t, r) ≡ label m s (t, r)
     → log m later ((t, r) ∷ []) u ≡ log m s ((t, r) ∷ []) u
-same_log m s later t r u is = by_case (eqb u t)
+log_same_if_label_same m s later t r u is = by_case (eqb u t)
   where
     by_case : (b : Bool) → events (join_if b (later.now u, label m later (t, r)) []) ≡ events (join_if b (s.now u, label m s (t, r)) [])
     by_case true = ap (λ k. events ((later.now u, k) ∷ [])) is
@@ -53,58 +53,58 @@ same_log m s later t r u is = by_case (eqb u t)
 -- ---- one turn
 
 -- a thread that is ahead has already taken its step
-pub turn_spent : (s : State thread.State) (a : Progress) (c : List ℕ) (t k : ℕ) → t < length c → lead c t ≡ suc k
+pub turn_of_thread_ahead_is_spent : (s : State thread.ThreadState) (a : Progress) (c : List ℕ) (t k : ℕ) → t < length c → lead c t ≡ suc k
     → IsAhead (machine a.flat) c s (tables a.flat) → WentIf true (t ∷ []) s a c a (set c t k)
-turn_spent s a c t k l is h =
+turn_of_thread_ahead_is_spent s a c t k l is h =
     let private = h.each t 0 (omega (arith, is)) in
     let quiet : (u : ℕ) → log (machine a.flat) s ((t, 0) ∷ []) u ≡ [] =
-    λ u. quiet_log (machine a.flat) s t 0 u (quiet_alone (machine a.flat) s t private) in
+    λ u. log_of_quiet_step_is_empty (machine a.flat) s t 0 u (private_step_is_quiet (machine a.flat) s t private) in
     record {
       went = record {
         run = (t, 0) ∷ [];
-        turns = inr (0, [], refl, can_alone (machine a.flat) s t private, alone_enters (machine a.flat) s t private, refl);
-        ahead = spent (machine a.flat) c s (tables a.flat) t k l is h;
+        turns = inr (0, [], refl, private_step_can_be_taken (machine a.flat) s t private, private_step_enters_if_free (machine a.flat) s t private, refl);
+        ahead = ahead_after_lead_is_spent (machine a.flat) c s (tables a.flat) t k l is h;
         code = refl;
         threads = refl;
         objects = refl;
         logs = λ u below. sym (append-nil (labels_at a.logs u)) ∙ ap (λ z. labels_at a.logs u ++ z) (sym (quiet u));
         answers = λ u below. sym (append-nil (answers_at a.answers u)) ∙ ap (λ z. answers_at a.answers u ++ answers_in z) (sym (quiet u));
-        fewer = let less = one_set c t k l in omega (arith, less, is);
+        fewer = let less = all_ahead_after_set c t k l in omega (arith, less, is);
       };
       some = λ e. (let one : 0 < suc zero = omega arith in one);
       none = λ e. absurd cc;
     }
 
 -- a turn in which nothing is taken
-no_turn : {T : Type 0} (m : Machine T) (s : State T) (t : ℕ) (run : List Step) → InTurn m s (t ∷ []) run → run ≡ [] → HasNone m s t
-no_turn m s t run (inl none) z = none.0
-no_turn m s t run (inr some) z = absurd (cc (some.2, z))
+empty_turn_has_no_step : {T : Type 0} (m : Machine T) (s : State T) (t : ℕ) (run : List Step) → InTurn m s (t ∷ []) run → run ≡ [] → HasNone m s t
+empty_turn_has_no_step m s t run (inl none) z = none.0
+empty_turn_has_no_step m s t run (inr some) z = absurd (cc (some.2, z))
 
-pub nothing_changes : (a b : Progress) (t : ℕ) (moved : Bool) → moved ≡ false → TookIf moved (t ∷ []) a b → tables b.flat ≡ tables a.flat
-nothing_changes a b t moved e k = k.took.ends ∙ ap (end (machine a.flat) (tables a.flat)) (k.none e)
+pub passed_turn_changes_nothing : (a b : Progress) (t : ℕ) (moved : Bool) → moved ≡ false → TookIf moved (t ∷ []) a b → tables b.flat ≡ tables a.flat
+passed_turn_changes_nothing a b t moved e k = k.took.ends ∙ ap (end (machine a.flat) (tables a.flat)) (k.none e)
 
-pub has_none : (a b : Progress) (t : ℕ) (moved : Bool) → moved ≡ false → TookIf moved (t ∷ []) a b
+pub no_step_after_passed_turn : (a b : Progress) (t : ℕ) (moved : Bool) → moved ≡ false → TookIf moved (t ∷ []) a b
     → HasNone (machine b.flat) (tables b.flat) t
-has_none a b t moved e k =
+no_step_after_passed_turn a b t moved e k =
     let before : HasNone (machine a.flat) (tables a.flat) t =
-    no_turn (machine a.flat) (tables a.flat) t k.took.run k.took.turns (k.none e) in
-    subst (λ s. HasNone (machine b.flat) s t) (sym (nothing_changes a b t moved e k))
+    empty_turn_has_no_step (machine a.flat) (tables a.flat) t k.took.run k.took.turns (k.none e) in
+    subst (λ s. HasNone (machine b.flat) s t) (sym (passed_turn_changes_nothing a b t moved e k))
     (subst (λ code. HasNone (thread_machine code) (tables a.flat) t) (sym k.took.code) before)
 
 -- a thread that is not ahead has no step
-pub turn_stays : (s : State thread.State) (a b : Progress) (c : List ℕ) (t : ℕ) (moved : Bool) → moved ≡ false → lead c t ≡ 0
+pub turn_of_thread_without_step : (s : State thread.ThreadState) (a b : Progress) (c : List ℕ) (t : ℕ) (moved : Bool) → moved ≡ false → lead c t ≡ 0
     → IsAhead (machine a.flat) c s (tables a.flat) → TookIf moved (t ∷ []) a b → WentIf false (t ∷ []) s a c b c
-turn_stays s a b c t moved e is h k =
+turn_of_thread_without_step s a b c t moved e is h k =
     let none : k.took.run ≡ [] = k.none e in
     record {
       went = record {
         run = [];
         turns = inl (
-          none_there (machine a.flat) c s (tables a.flat) t is h
-              (no_turn (machine a.flat) (tables a.flat) t k.took.run k.took.turns none),
+          no_step_if_none_later (machine a.flat) c s (tables a.flat) t is h
+              (empty_turn_has_no_step (machine a.flat) (tables a.flat) t k.took.run k.took.turns none),
           refl,
         );
-        ahead = subst (IsAhead (machine a.flat) c s) (sym (nothing_changes a b t moved e k)) h;
+        ahead = subst (IsAhead (machine a.flat) c s) (sym (passed_turn_changes_nothing a b t moved e k)) h;
         code = k.took.code;
         threads = k.took.threads;
         objects = k.took.objects;
@@ -118,10 +118,10 @@ turn_stays s a b c t moved e is h k =
     }
 
 -- its step, and private steps after it
-pub turn_steps : (s : State thread.State) (a b : Progress) (g : Flat) (c : List ℕ) (t k : ℕ) → t < length c → t < length a.flat.threads
+pub turn_with_private_steps_after : (s : State thread.ThreadState) (a b : Progress) (g : Flat) (c : List ℕ) (t k : ℕ) → t < length c → t < length a.flat.threads
     → IsFlat b.flat → lead c t ≡ 0 → IsAhead (machine a.flat) c s (tables a.flat) → TookIf true (t ∷ []) a b
     → WentAlone b.flat g t k → WentIf true (t ∷ []) s a c (record b { flat = g }) (set c t k)
-turn_steps s a b g c t k l below flat is h took w = by_turn took.took.turns
+turn_with_private_steps_after s a b g c t k l below flat is h took w = by_turn took.took.turns
   where
     here : (r : ℕ) (rest : List Step) → took.took.run ≡ (t, r) ∷ rest → Can (machine a.flat) (tables a.flat) (t, r)
         → EntersIfFree (machine a.flat) (tables a.flat) (t, r) → rest ≡ []
@@ -132,9 +132,9 @@ turn_steps s a b g c t k l below flat is h took w = by_turn took.took.turns
         let is_after : tables b.flat ≡ after m (tables a.flat) (t, r) = took.took.ends ∙ ap (end m (tables a.flat)) one in
         let same_machine : machine b.flat ≡ m = ap thread_machine took.took.code in
         let h' : IsAhead m c (after m s (t, r)) (tables b.flat) =
-        subst (IsAhead m c (after m s (t, r))) (sym is_after) (stepped m c s (tables a.flat) t r is h) in
+        subst (IsAhead m c (after m s (t, r))) (sym is_after) (ahead_after_step_of_both m c s (tables a.flat) t r is h) in
         let emitted : (u : ℕ) → log m (tables a.flat) took.took.run u ≡ log m s ((t, r) ∷ []) u = λ u. ap (λ z. log m (tables a.flat) z u) one
-        ∙ same_log m s (tables a.flat) t r u (label_there m c s (tables a.flat) t r is h) in
+        ∙ log_same_if_label_same m s (tables a.flat) t r u (label_same_as_later m c s (tables a.flat) t r is h) in
         record {
           went = record {
             run = (t, r) ∷ [];
@@ -142,13 +142,13 @@ turn_steps s a b g c t k l below flat is h took w = by_turn took.took.turns
               r,
               [],
               refl,
-              can_there m c s (tables a.flat) t r is h can,
-              enters_there m c s (tables a.flat) t r is h enters,
+              can_step_if_can_later m c s (tables a.flat) t r is h can,
+              enters_if_free_if_later_does m c s (tables a.flat) t r is h enters,
               refl,
             );
             ahead = subst (IsAhead m (set c t k) (after m s (t, r)))
                 (sym (w.ends ∙ ap (λ n. end n (tables b.flat) (replicate k (t, 0))) same_machine))
-                (gone_ahead m c (after m s (t, r)) (tables b.flat) t k l is h'
+                (ahead_by_private_steps m c (after m s (t, r)) (tables b.flat) t k l is h'
                 (λ j less. subst (λ n. n.ask ((end n (tables b.flat) (replicate j (t, 0))).now t) ≡ Private) same_machine
                 (ap shared_ask (w.each j less))));
             code = w.code ∙ took.took.code;
@@ -160,10 +160,10 @@ turn_steps s a b g c t k l below flat is h took w = by_turn took.took.turns
                 let n : ℕ = length a.flat.threads in
                 let first = took.took.fewer in
                 let size : length took.took.run ≡ 1 = ap length one in
-                let alone_fewer = alone_less b.flat.code n t k (tables b.flat) (flat_few b.flat flat) below w.runs in
+                let alone_fewer = steps_of_thread_leave_all_fewer b.flat.code n t k (tables b.flat) (hold_few_objects_if_flat b.flat flat) below w.runs in
                 let ended : all_left n (tables g).now ≡ all_left n (end (machine b.flat) (tables b.flat) (replicate k (t, 0))).now =
                 ap (λ z. all_left n z.now) w.ends in
-                let lead_set = one_set c t k l in
+                let lead_set = all_ahead_after_set c t k l in
                 omega (arith, first, size, alone_fewer, ended, lead_set, is);
           };
           some = λ e. (let one : 0 < suc zero = omega arith in one);
@@ -177,15 +177,15 @@ turn_steps s a b g c t k l below flat is h took w = by_turn took.took.turns
     by_turn (inr some) = here some.0 some.1 some.2 some.3 some.4 some.5
 
 -- t numbers and the next one
-pub range_last : (t : ℕ) → range_with_len 0 t ++ t ∷ [] ≡ range_with_len 0 (t + 1)
-range_last t = ap (λ k. range_with_len 0 t ++ k ∷ []) (let e : t ≡ 0 + t = omega arith in e) ∙ range_more 0 t
+pub range_from_zero_with_last : (t : ℕ) → range_with_len 0 t ++ t ∷ [] ≡ range_with_len 0 (t + 1)
+range_from_zero_with_last t = ap (λ k. range_with_len 0 t ++ k ∷ []) (let e : t ≡ 0 + t = omega arith in e) ∙ range_with_last_number 0 t
     ∙ ap (range_with_len 0) (let e : suc t ≡ t + 1 = omega arith in e)
 
 -- ---- turns one after the other
 
-unfoldable pub went_nothing : (s : State thread.State) (a : Progress) (c : List ℕ) → IsAhead (machine a.flat) c s (tables a.flat)
+unfoldable pub went_without_turns : (s : State thread.ThreadState) (a : Progress) (c : List ℕ) → IsAhead (machine a.flat) c s (tables a.flat)
     → Went [] s a c a c
-went_nothing s a c h = record {
+went_without_turns s a c h = record {
   run = [];
   turns = refl;
   ahead = h;
@@ -198,18 +198,18 @@ went_nothing s a c h = record {
 }
 
 -- where the first turns lead, by the machine on which they begin
-abbrev pub reached : {order : List ℕ} {s : State thread.State} {a b : Progress} {c d : List ℕ} → Went order s a c b d → State thread.State
+abbrev pub reached : {order : List ℕ} {s : State thread.ThreadState} {a b : Progress} {c d : List ℕ} → Went order s a c b d → State thread.ThreadState
 reached {order} {s} {a} p = end (machine a.flat) s p.run
 
 -- they are ahead of it on the machine that they lead to
-pub ahead_there : (order : List ℕ) (s : State thread.State) (a b : Progress) (c d : List ℕ) (p : Went order s a c b d)
+pub ahead_of_reached_state : (order : List ℕ) (s : State thread.ThreadState) (a b : Progress) (c d : List ℕ) (p : Went order s a c b d)
     → IsAhead (machine b.flat) d (reached p) (tables b.flat)
-ahead_there order s a b c d p = subst (λ k. IsAhead (thread_machine k) d (end (machine a.flat) s p.run) (tables b.flat)) (sym p.code)
+ahead_of_reached_state order s a b c d p = subst (λ k. IsAhead (thread_machine k) d (end (machine a.flat) s p.run) (tables b.flat)) (sym p.code)
     p.ahead
 
-unfoldable pub went_both : (order more : List ℕ) (s : State thread.State) (a b e : Progress) (c d f : List ℕ) (p : Went order s a c b d)
+unfoldable pub went_through_both_orders : (order more : List ℕ) (s : State thread.ThreadState) (a b e : Progress) (c d f : List ℕ) (p : Went order s a c b d)
     → Went more (reached p) b d e f → Went (order ++ more) s a c e f
-went_both order more s a b e c d f p q =
+went_through_both_orders order more s a b e c d f p q =
     let there : (u : ℕ) → log (machine b.flat) (reached p) q.run u ≡ log (machine a.flat) (reached p) q.run u =
     λ u. ap (λ k. log (thread_machine k) (reached p) q.run u) p.code in
     let logs_of : (u : ℕ) → log (machine a.flat) s (p.run ++ q.run) u ≡ log (machine a.flat) s p.run u ++ log (machine b.flat) (reached p)
@@ -232,7 +232,7 @@ went_both order more s a b e c d f p q =
           ∙ append_assoc (answers_at a.answers u) (answers_in (log (machine a.flat) s p.run u))
           (answers_in (log (machine b.flat) (reached p) q.run u))
           ∙ ap (λ z. answers_at a.answers u ++ z)
-          (sym (answers_append (log (machine a.flat) s p.run u) (log (machine b.flat) (reached p) q.run u))
+          (sym (answers_in_append (log (machine a.flat) s p.run u) (log (machine b.flat) (reached p) q.run u))
           ∙ ap answers_in (sym (logs_of u)));
       fewer = let more_left = subst (λ n. all_left n (tables e.flat).now + all_ahead f + length q.run ≤ all_left n (tables b.flat).now +
           all_ahead d) p.threads q.fewer in
@@ -242,51 +242,51 @@ went_both order more s a b e c d f p q =
     }
 
 -- no turn of no thread
-pub still : (s : State thread.State) (a : Progress) (c : List ℕ) → IsAhead (machine a.flat) c s (tables a.flat) → WentIf false [] s a c a c
-unfolding went_nothing
-still s a c h = record { went = went_nothing s a c h; some = λ e. absurd cc; none = λ e. (refl, refl, tt) }
+pub no_turns_take_no_step : (s : State thread.ThreadState) (a : Progress) (c : List ℕ) → IsAhead (machine a.flat) c s (tables a.flat) → WentIf false [] s a c a c
+unfolding went_without_turns
+no_turns_take_no_step s a c h = record { went = went_without_turns s a c h; some = λ e. absurd cc; none = λ e. (refl, refl, tt) }
 
-none_append : (order more ahead : List ℕ) → NoneAhead order ahead → NoneAhead more ahead → NoneAhead (order ++ more) ahead
-none_append [] more ahead h g = g
-none_append (t ∷ order) more ahead h g = (h.0, none_append order more ahead h.1 g)
+none_ahead_of_append : (order more ahead : List ℕ) → NoneAhead order ahead → NoneAhead more ahead → NoneAhead (order ++ more) ahead
+none_ahead_of_append [] more ahead h g = g
+none_ahead_of_append (t ∷ order) more ahead h g = (h.0, none_ahead_of_append order more ahead h.1 g)
 
 -- turns, and one that takes a step
-pub still_moved : (moved : Bool) (order more : List ℕ) (s : State thread.State) (a b e : Progress) (c d f : List ℕ)
+pub turns_then_turn_with_step : (moved : Bool) (order more : List ℕ) (s : State thread.ThreadState) (a b e : Progress) (c d f : List ℕ)
     (p : WentIf moved order s a c b d) → WentIf true more (reached p.went) b d e f → WentIf true (order ++ more) s a c e f
-unfolding went_both
-still_moved moved order more s a b e c d f p q = record {
-  went = went_both order more s a b e c d f p.went q.went;
-  some = λ _. some_after p.went.run q.went.run (q.some refl);
+unfolding went_through_both_orders
+turns_then_turn_with_step moved order more s a b e c d f p q = record {
+  went = went_through_both_orders order more s a b e c d f p.went q.went;
+  some = λ _. append_non_empty_by_second p.went.run q.went.run (q.some refl);
   none = λ m. absurd cc;
 }
 
 -- turns, and one that takes none
-pub still_stayed : (moved : Bool) (order more : List ℕ) (s : State thread.State) (a b e : Progress) (c d f : List ℕ)
+pub turns_then_turn_without_step : (moved : Bool) (order more : List ℕ) (s : State thread.ThreadState) (a b e : Progress) (c d f : List ℕ)
     (p : WentIf moved order s a c b d) → WentIf false more (reached p.went) b d e f → WentIf moved (order ++ more) s a c e f
-unfolding went_both
-still_stayed moved order more s a b e c d f p q = record {
-  went = went_both order more s a b e c d f p.went q.went;
-  some = λ m. some_run p.went.run q.went.run (p.some m);
+unfolding went_through_both_orders
+turns_then_turn_without_step moved order more s a b e c d f p q = record {
+  went = went_through_both_orders order more s a b e c d f p.went q.went;
+  some = λ m. append_non_empty_by_first p.went.run q.went.run (p.some m);
   none = λ m.
       let first = p.none m in
       let last = q.none refl in (
         ap (λ z. z ++ q.went.run) first.0 ∙ last.0,
         last.1
             ∙ first.1,
-        none_append order more c first.2 (subst (NoneAhead more) first.1 last.2),
+        none_ahead_of_append order more c first.2 (subst (NoneAhead more) first.1 last.2),
       );
 }
 
 -- one turn more of a round
-pub turn_more : (was now stepped : Bool) (t : ℕ) (s : State thread.State) (a b e : Progress) (c d f : List ℕ)
-    (p : WentIf was (range_with_len 0 t) s a c b d) → WentIf stepped (t ∷ []) (reached p.went) b d e f → (stepped ≡ true → now ≡ true)
-    → (stepped ≡ false → now ≡ was) → WentIf now (range_with_len 0 (t + 1)) s a c e f
-turn_more was now true t s a b e c d f p q taken same =
+pub round_with_turn_added : (was now ahead_after_step_of_both : Bool) (t : ℕ) (s : State thread.ThreadState) (a b e : Progress) (c d f : List ℕ)
+    (p : WentIf was (range_with_len 0 t) s a c b d) → WentIf ahead_after_step_of_both (t ∷ []) (reached p.went) b d e f → (ahead_after_step_of_both ≡ true → now ≡ true)
+    → (ahead_after_step_of_both ≡ false → now ≡ was) → WentIf now (range_with_len 0 (t + 1)) s a c e f
+round_with_turn_added was now true t s a b e c d f p q taken same =
     subst (λ z. WentIf z (range_with_len 0 (t + 1)) s a c e f) (sym (taken refl))
-    (subst (λ order. WentIf true order s a c e f) (range_last t) (still_moved was (range_with_len 0 t) (t ∷ []) s a b e c d f p q))
-turn_more was now false t s a b e c d f p q taken same =
+    (subst (λ order. WentIf true order s a c e f) (range_from_zero_with_last t) (turns_then_turn_with_step was (range_with_len 0 t) (t ∷ []) s a b e c d f p q))
+round_with_turn_added was now false t s a b e c d f p q taken same =
     subst (λ z. WentIf z (range_with_len 0 (t + 1)) s a c e f) (sym (same refl))
-    (subst (λ order. WentIf was order s a c e f) (range_last t) (still_stayed was (range_with_len 0 t) (t ∷ []) s a b e c d f p q))
+    (subst (λ order. WentIf was order s a c e f) (range_from_zero_with_last t) (turns_then_turn_without_step was (range_with_len 0 t) (t ∷ []) s a b e c d f p q))
 
 -- ---- rounds
 
@@ -294,50 +294,50 @@ turn_more was now false t s a b e c d f p q taken same =
 abbrev pub Rounding : ℕ → Progress → Progress → List ℕ → Type 0
 Rounding n a b ahead = (count : ℕ) × Went (rounds n count) (tables a.flat) a (replicate n 0) b ahead
 
-no_lead : (n t : ℕ) → lead (replicate n 0) t ≡ 0
-no_lead n t = elim (cases_lt t n) [
+lead_of_zeros_is_zero : (n t : ℕ) → lead (replicate n 0) t ≡ 0
+lead_of_zeros_is_zero n t = elim (cases_lt t n) [
   | inl l ↦ get_or-replicate n t 0 0 l
   | inr past ↦ get_or_past (replicate n 0) t 0
       (let size : length (replicate n 0) ≡ n = length-replicate {A = ℕ} n 0 in omega (arith, size, past))
 ]
 
-nothing_ahead : (n : ℕ) → all_ahead (replicate n 0) ≡ 0
-nothing_ahead zero = refl
-nothing_ahead (suc n) = let rest = nothing_ahead n in omega (arith, rest)
+all_ahead_of_zeros_is_zero : (n : ℕ) → all_ahead (replicate n 0) ≡ 0
+all_ahead_of_zeros_is_zero zero = refl
+all_ahead_of_zeros_is_zero (suc n) = let rest = all_ahead_of_zeros_is_zero n in omega (arith, rest)
 
-pub first_round : (n : ℕ) (a : Progress) → Rounding n a a (replicate n 0)
-first_round n a = (0, went_nothing (tables a.flat) a (replicate n 0) (level (machine a.flat) (replicate n 0) (tables a.flat) (no_lead n)))
+pub no_rounds_change_nothing : (n : ℕ) (a : Progress) → Rounding n a a (replicate n 0)
+no_rounds_change_nothing n a = (0, went_without_turns (tables a.flat) a (replicate n 0) (state_is_ahead_by_nothing (machine a.flat) (replicate n 0) (tables a.flat) (lead_of_zeros_is_zero n)))
 
-none_in : (from n : ℕ) (ahead : List ℕ) → NoneAhead (range_with_len from n) ahead → (t : ℕ) → from ≤ t → t < from + n → lead ahead t ≡ 0
-none_in from zero ahead h t low high = absurd (omega (arith, low, high))
-none_in from (suc n) ahead h t low high = elim (cases_eq t from) [
+lead_zero_if_none_ahead : (from n : ℕ) (ahead : List ℕ) → NoneAhead (range_with_len from n) ahead → (t : ℕ) → from ≤ t → t < from + n → lead ahead t ≡ 0
+lead_zero_if_none_ahead from zero ahead h t low high = absurd (omega (arith, low, high))
+lead_zero_if_none_ahead from (suc n) ahead h t low high = elim (cases_eq t from) [
   | inl e ↦ ap (lead ahead) e ∙ h.0
-  | inr ne ↦ none_in (from + 1) n ahead h.1 t (omega (arith, low, ne)) (omega (arith, high))
+  | inr ne ↦ lead_zero_if_none_ahead (from + 1) n ahead h.1 t (omega (arith, low, ne)) (omega (arith, high))
 ]
 
 -- rounds, and one more, which takes a step if moved
-pub record Rounded (moved : Bool) (a b e : Progress) (d f : List ℕ) : Type 0 where
+pub record OneMoreRound (moved : Bool) (a b e : Progress) (d f : List ℕ) : Type 0 where
   pub first : Rounding (length a.flat.threads) a b d
   pub places : length d ≡ length b.flat.threads
   pub next : WentIf moved (range_with_len 0 (length a.flat.threads)) (reached first.1) b d e f
 
 -- the round that was taken leads on from where the rounds before it lead
-pub rounded : {moved : Bool} {a b e : Progress} {d f : List ℕ} → Rounding (length a.flat.threads) a b d → length d ≡ length b.flat.threads
-    → ((s : State thread.State) → IsAhead (machine b.flat) d s (tables b.flat)
-    → WentIf moved (range_with_len 0 (length b.flat.threads)) s b d e f) → Rounded moved a b e d f
-rounded {moved} {a} {b} {e} {d} {f} p places q = record {
+pub one_more_round_after_rounds : {moved : Bool} {a b e : Progress} {d f : List ℕ} → Rounding (length a.flat.threads) a b d → length d ≡ length b.flat.threads
+    → ((s : State thread.ThreadState) → IsAhead (machine b.flat) d s (tables b.flat)
+    → WentIf moved (range_with_len 0 (length b.flat.threads)) s b d e f) → OneMoreRound moved a b e d f
+one_more_round_after_rounds {moved} {a} {b} {e} {d} {f} p places q = record {
   first = p;
   places = places;
   next = subst (λ n. WentIf moved (range_with_len 0 n) (reached p.1) b d e f) p.1.threads (q (reached p.1)
-      (ahead_there (rounds (length a.flat.threads) p.0) (tables a.flat) a b (replicate (length a.flat.threads) 0) d p.1));
+      (ahead_of_reached_state (rounds (length a.flat.threads) p.0) (tables a.flat) a b (replicate (length a.flat.threads) 0) d p.1));
 }
 
-module _ {moved : Bool} {a b e : Progress} {d f : List ℕ} (r : Rounded moved a b e d f) where
+module _ {moved : Bool} {a b e : Progress} {d f : List ℕ} (r : OneMoreRound moved a b e d f) where
   pub round_more : Rounding (length a.flat.threads) a e f
   round_more = (
     suc r.first.0,
-    subst (λ order. Went order (tables a.flat) a (replicate (length a.flat.threads) 0) e f) (rounds_more (length a.flat.threads) r.first.0)
-        (went_both (rounds (length a.flat.threads) r.first.0) (range_with_len 0 (length a.flat.threads)) (tables a.flat) a b e
+    subst (λ order. Went order (tables a.flat) a (replicate (length a.flat.threads) 0) e f) (rounds_with_round_added (length a.flat.threads) r.first.0)
+        (went_through_both_orders (rounds (length a.flat.threads) r.first.0) (range_with_len 0 (length a.flat.threads)) (tables a.flat) a b e
         (replicate (length a.flat.threads) 0) d f r.first.1 r.next.went),
   )
 
@@ -347,7 +347,7 @@ module _ {moved : Bool} {a b e : Progress} {d f : List ℕ} (r : Rounded moved a
       let h = r.next.none is in
       let size : length d ≡ length a.flat.threads = r.places ∙ r.first.1.threads in
       ap (λ z. lead z t) h.1 ∙ elim (cases_lt t (length a.flat.threads)) [
-        | inl l ↦ none_in 0 (length a.flat.threads) d h.2 t (omega arith) (omega (arith, l))
+        | inl l ↦ lead_zero_if_none_ahead 0 (length a.flat.threads) d h.2 t (omega arith) (omega (arith, l))
         | inr past ↦ get_or_past d t 0 (omega (arith, size, past))
       ]
 
@@ -359,13 +359,13 @@ module _ {moved : Bool} {a b e : Progress} {d f : List ℕ} (r : Rounded moved a
         record {
           run = p.1.run;
           turns = p.1.turns;
-          ends = caught_up (machine a.flat) f (reached p.1) (tables e.flat) (none_ahead is) p.1.ahead;
+          ends = state_ahead_by_nothing_is_same (machine a.flat) f (reached p.1) (tables e.flat) (none_ahead is) p.1.ahead;
           code = p.1.code;
           threads = p.1.threads;
           objects = p.1.objects;
           logs = p.1.logs;
           answers = p.1.answers;
-          fewer = let less = p.1.fewer in let zeros = nothing_ahead (length a.flat.threads) in omega (arith, less, zeros);
+          fewer = let less = p.1.fewer in let zeros = all_ahead_of_zeros_is_zero (length a.flat.threads) in omega (arith, less, zeros);
         },
       )
 
@@ -373,14 +373,14 @@ module _ {moved : Bool} {a b e : Progress} {d f : List ℕ} (r : Rounded moved a
   pub all_over : moved ≡ false → (t : ℕ) → t < length e.flat.threads → HasNone (machine e.flat) (tables e.flat) t
   all_over is t l =
       let n : ℕ = length a.flat.threads in
-      let s : State thread.State = reached r.first.1 in
+      let s : State thread.ThreadState = reached r.first.1 in
       let w = r.next.went in
       let nothing = (r.next.none is).0 in
       let nobody : InTurn (machine b.flat) s (range_with_len 0 n) [] =
       subst (InTurn (machine b.flat) s (range_with_len 0 n)) nothing w.turns in
       let there : HasNone (machine b.flat) s t =
-      none_in_turn (machine b.flat) s 0 n nobody t (omega arith) (omega (arith, l, w.threads, r.first.1.threads)) in
-      let same : tables e.flat ≡ s = caught_up (machine b.flat) f (reached w) (tables e.flat) (none_ahead is) w.ahead
+      no_step_in_empty_turns (machine b.flat) s 0 n nobody t (omega arith) (omega (arith, l, w.threads, r.first.1.threads)) in
+      let same : tables e.flat ≡ s = state_ahead_by_nothing_is_same (machine b.flat) f (reached w) (tables e.flat) (none_ahead is) w.ahead
       ∙ ap (end (machine b.flat) s) nothing in
       subst (λ z. HasNone (machine e.flat) z t) (sym same) (subst (λ k. HasNone (thread_machine k) s t) (sym w.code) there)
 

@@ -7,42 +7,42 @@ use Rattle.ir_runs.specs.Run.{State}
 use Rattle.ir_runs.specs.InOrder.{HasNone, InTurn, rounds}
 use Rattle.ir_record.specs.Progress.{Progress, Took, IsReady, IsTape}
 
-pub some_run : {X : Type 0} (xs ys : List X) → 0 < length xs → 0 < length (xs ++ ys)
-some_run xs ys l = let n = length-append xs ys in omega (arith, n, l)
+pub append_non_empty_by_first : {X : Type 0} (xs ys : List X) → 0 < length xs → 0 < length (xs ++ ys)
+append_non_empty_by_first xs ys l = let n = length-append xs ys in omega (arith, n, l)
 
-pub some_after : {X : Type 0} (xs ys : List X) → 0 < length ys → 0 < length (xs ++ ys)
-some_after xs ys l = let n = length-append xs ys in omega (arith, n, l)
+pub append_non_empty_by_second : {X : Type 0} (xs ys : List X) → 0 < length ys → 0 < length (xs ++ ys)
+append_non_empty_by_second xs ys l = let n = length-append xs ys in omega (arith, n, l)
 
 -- n numbers and the next one
-pub range_more : (from n : ℕ) → range_with_len from n ++ (from + n) ∷ [] ≡ range_with_len from (suc n)
-range_more from zero = ap (λ k. k ∷ []) (let e : from + 0 ≡ from = omega arith in e)
-range_more from (suc n) = ap (λ xs. from ∷ xs)
-    (ap (λ k. range_with_len (from + 1) n ++ k ∷ []) (let e : from + suc n ≡ from + 1 + n = omega arith in e) ∙ range_more (from + 1) n)
+pub range_with_last_number : (from n : ℕ) → range_with_len from n ++ (from + n) ∷ [] ≡ range_with_len from (suc n)
+range_with_last_number from zero = ap (λ k. k ∷ []) (let e : from + 0 ≡ from = omega arith in e)
+range_with_last_number from (suc n) = ap (λ xs. from ∷ xs)
+    (ap (λ k. range_with_len (from + 1) n ++ k ∷ []) (let e : from + suc n ≡ from + 1 + n = omega arith in e) ∙ range_with_last_number (from + 1) n)
 
 -- turns in which no thread takes a step
-pub none_in_turn : {T : Type 0} (m : Machine T) (s : State T) (from n : ℕ) → InTurn m s (range_with_len from n) [] → (t : ℕ) → from ≤ t
+pub no_step_in_empty_turns : {T : Type 0} (m : Machine T) (s : State T) (from n : ℕ) → InTurn m s (range_with_len from n) [] → (t : ℕ) → from ≤ t
     → t < from + n → HasNone m s t
-none_in_turn m s from zero h t low high = absurd (omega arith)
-none_in_turn m s from (suc n) (inl none) t low high = elim (cases_eq t from) [
+no_step_in_empty_turns m s from zero h t low high = absurd (omega arith)
+no_step_in_empty_turns m s from (suc n) (inl none) t low high = elim (cases_eq t from) [
   | inl e ↦ subst (HasNone m s) (sym e) none.0
-  | inr ne ↦ none_in_turn m s (from + 1) n none.1 t (omega (arith, low, ne)) (omega (arith, high))
+  | inr ne ↦ no_step_in_empty_turns m s (from + 1) n none.1 t (omega (arith, low, ne)) (omega (arith, high))
 ]
-none_in_turn m s from (suc n) (inr some) t low high = absurd (cc some.2)
+no_step_in_empty_turns m s from (suc n) (inr some) t low high = absurd (cc some.2)
 
 -- rounds, and a round more
-pub rounds_more : (n count : ℕ) → rounds n count ++ range_with_len 0 n ≡ rounds n (suc count)
-rounds_more n zero = sym (append-nil (range_with_len 0 n))
-rounds_more n (suc count) = append_assoc (range_with_len 0 n) (rounds n count) (range_with_len 0 n)
-    ∙ ap (λ z. range_with_len 0 n ++ z) (rounds_more n count)
+pub rounds_with_round_added : (n count : ℕ) → rounds n count ++ range_with_len 0 n ≡ rounds n (suc count)
+rounds_with_round_added n zero = sym (append-nil (range_with_len 0 n))
+rounds_with_round_added n (suc count) = append_assoc (range_with_len 0 n) (rounds n count) (range_with_len 0 n)
+    ∙ ap (λ z. range_with_len 0 n ++ z) (rounds_with_round_added n count)
 
-pub rounds_both : (n first more : ℕ) → rounds n first ++ rounds n more ≡ rounds n (first + more)
-rounds_both n zero more = ap (rounds n) (let e : more ≡ 0 + more = omega arith in e)
-rounds_both n (suc first) more = append_assoc (range_with_len 0 n) (rounds n first) (rounds n more)
-    ∙ ap (λ z. range_with_len 0 n ++ z) (rounds_both n first more)
+pub rounds_add_up : (n first more : ℕ) → rounds n first ++ rounds n more ≡ rounds n (first + more)
+rounds_add_up n zero more = ap (rounds n) (let e : more ≡ 0 + more = omega arith in e)
+rounds_add_up n (suc first) more = append_assoc (range_with_len 0 n) (rounds n first) (rounds n more)
+    ∙ ap (λ z. range_with_len 0 n ++ z) (rounds_add_up n first more)
     ∙ ap (rounds n) (let e : suc (first + more) ≡ suc first + more = omega arith in e)
 
 -- what holds before turns holds after them
-pub ready_after : (order : List ℕ) (a b : Progress) (was : List Bool) → IsReady a was → Took order a b → IsTape b.flat b.logs
+pub ready_after_turns : (order : List ℕ) (a b : Progress) (was : List Bool) → IsReady a was → Took order a b → IsTape b.flat b.logs
     → b.answers ≡ a.answers → IsReady b was
-ready_after order a b was ready took tape same =
+ready_after_turns order a b was ready took tape same =
     record { tape = tape; worlds = ap (λ xs. length xs) same ∙ ready.worlds ∙ sym took.threads; works = ready.works }

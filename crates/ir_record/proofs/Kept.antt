@@ -11,35 +11,35 @@ use Rattle.ir_runs.specs.Machine.{Machine}
 use Rattle.ir_runs.specs.Run.{State, Step, end}
 use Rattle.ir_record.specs.Ahead.{AreAsks}
 use Rattle.ir_record.specs.Progress.{Progress, TookIf}
-use Rattle.ir_record.proofs.Leading.{other_thread, other_end}
+use Rattle.ir_record.proofs.Leading.{thread_after_step_of_other, other_thread_after_repeated_steps}
 
 -- a place that is read, whatever the default is
-pub at_ask : (xs : List Ask) (t : ℕ) (v : Ask) → t < length xs → v ≡ get_or xs t v → get_or xs t Done ≡ v
-at_ask [] t v l is = absurd (omega (arith, l))
-at_ask (x ∷ xs) zero v l is = sym is
-at_ask (x ∷ xs) (suc t) v l is = at_ask xs t v (omega (arith, l)) is
+pub kept_ask_is_read_value : (xs : List Ask) (t : ℕ) (v : Ask) → t < length xs → v ≡ get_or xs t v → get_or xs t Done ≡ v
+kept_ask_is_read_value [] t v l is = absurd (omega (arith, l))
+kept_ask_is_read_value (x ∷ xs) zero v l is = sym is
+kept_ask_is_read_value (x ∷ xs) (suc t) v l is = kept_ask_is_read_value xs t v (omega (arith, l)) is
 
 -- the asks of the first threads, and one more
-pub one_asked : (asks : List Ask) (f : Flat) (t : ℕ) (v : Ask) → t < length asks → v ≡ ask_of f.code (thread_of f t)
+pub asks_with_one_set : (asks : List Ask) (f : Flat) (t : ℕ) (v : Ask) → t < length asks → v ≡ ask_of f.code (thread_of f t)
     → ((u : ℕ) → u < t → get_or asks u Done ≡ ask_of f.code (thread_of f u)) → (u : ℕ) → u < t + 1
     → get_or (set asks t v) u Done ≡ ask_of f.code (thread_of f u)
-one_asked asks f t v below is before u l = elim (cases_eq u t) [
+asks_with_one_set asks f t v below is before u l = elim (cases_eq u t) [
   | inl e ↦ subst (λ z. get_or (set asks t v) z Done ≡ ask_of f.code (thread_of f z)) (sym e) (get_or-set_same asks t v Done below ∙ is)
   | inr ne ↦ get_or-set_other asks t u v Done ne ∙ before u (omega (arith, l, ne))
 ]
 
 -- a turn of thread t moves no other thread
-other_turn : {T : Type 0} (m : Machine T) (s : State T) (t u : ℕ) (run : List Step) → u ≢ t → InTurn m s (t ∷ []) run
+turn_keeps_other_threads : {T : Type 0} (m : Machine T) (s : State T) (t u : ℕ) (run : List Step) → u ≢ t → InTurn m s (t ∷ []) run
     → (end m s run).now u ≡ s.now u
-other_turn m s t u run ne (inl none) = ap (λ z. (end m s z).now u) none.1
-other_turn m s t u run ne (inr some) = ap (λ z. (end m s z).now u) (some.2 ∙ ap (λ z. (t, some.0) ∷ z) some.5)
-    ∙ other_thread m s t some.0 u ne
+turn_keeps_other_threads m s t u run ne (inl none) = ap (λ z. (end m s z).now u) none.1
+turn_keeps_other_threads m s t u run ne (inr some) = ap (λ z. (end m s z).now u) (some.2 ∙ ap (λ z. (t, some.0) ∷ z) some.5)
+    ∙ thread_after_step_of_other m s t some.0 u ne
 
 -- thread t takes its turn and private steps after it, and what it asks then is kept
-pub asks_on : (asks : List Ask) (a b : Progress) (g : Flat) (t k : ℕ) (v : Ask) (moved : Bool) → t < length a.flat.threads
+pub asks_kept_after_turn : (asks : List Ask) (a b : Progress) (g : Flat) (t k : ℕ) (v : Ask) (moved : Bool) → t < length a.flat.threads
     → AreAsks asks a.flat → IsFlat g → TookIf moved (t ∷ []) a b → WentAlone b.flat g t k → v ≡ ask_of g.code (thread_of g t)
     → AreAsks (set asks t v) g
-asks_on asks a b g t k v moved below kept flat took w is = record {
+asks_kept_after_turn asks a b g t k v moved below kept flat took w is = record {
   flat = flat;
   places = length-set asks t v ∙ kept.places ∙ sym (w.threads ∙ took.took.threads);
   asked = λ u l. elim (cases_eq u t) [
@@ -50,7 +50,7 @@ asks_on asks a b g t k v moved below kept flat took w is = record {
 }
   where
     same : (u : ℕ) → u ≢ t → ask_of g.code (thread_of g u) ≡ ask_of a.flat.code (thread_of a.flat u)
-    same u ne = ap (λ s. ask_of g.code (s.now u)) w.ends ∙ ap (ask_of g.code) (other_end (machine b.flat) t k u ne (tables b.flat))
+    same u ne = ap (λ s. ask_of g.code (s.now u)) w.ends ∙ ap (ask_of g.code) (other_thread_after_repeated_steps (machine b.flat) t k u ne (tables b.flat))
         ∙ ap (λ s. ask_of g.code (s.now u)) took.took.ends
-        ∙ ap (ask_of g.code) (other_turn (machine a.flat) (tables a.flat) t u took.took.run ne took.took.turns)
+        ∙ ap (ask_of g.code) (turn_keeps_other_threads (machine a.flat) (tables a.flat) t u took.took.run ne took.took.turns)
         ∙ ap (λ code. ask_of code (thread_of a.flat u)) (w.code ∙ took.took.code)

@@ -11,74 +11,74 @@ use Rattle.ir_thread.specs.declared.ask.Ask.{Ask}
 use Rattle.ir_thread.specs.declared.ask.Ask.TheVariants.{Private, Env, Enter, Try, Leave, Get, Put, Print, End, Done}
 use Rattle.ir_thread.specs.declared.ask.Reply.{Reply}
 use Rattle.ir_thread.specs.declared.end.End as end
-use Rattle.ir_thread.proofs.CallerLemmas.{one_fewer, count_le_length}
-use Rattle.ir_runs.proofs.CallerLemmas.{upd_same, upd_other}
+use Rattle.ir_thread.proofs.CallerLemmas.{held_count_after_leave, held_count_at_most_length}
+use Rattle.ir_runs.proofs.CallerLemmas.{upd_at_own_place, upd_at_other_place}
 use Rattle.ir_record.specs.Progress.{steps_left, all_left}
 
 -- a step of a thread that has not ended and continues
-goes : (ended : Option end.End) (x y : thread.State) → x.ended ≡ None → x.steps < x.budget → y.ended ≡ x.ended → y.budget ≡ x.budget
+continuing_step_leaves_fewer : (ended : Option end.End) (x y : thread.ThreadState) → x.ended ≡ None → x.steps < x.budget → y.ended ≡ x.ended → y.budget ≡ x.budget
     → y.steps ≡ x.steps + 1 → steps_left y.ended y + 1 ≤ steps_left x.ended x
-goes ended x y lives less same budget steps =
+continuing_step_leaves_fewer ended x y lives less same budget steps =
     let own : steps_left x.ended x ≡ most_closing + (x.budget - x.steps) = ap (λ e. steps_left e x) lives in
     let new : steps_left y.ended y ≡ most_closing + (y.budget - y.steps) = ap (λ e. steps_left e y) (same ∙ lives) in
     omega (arith, own, new, less, budget, steps)
 
-leaves : (ended : Option end.End) (x y : thread.State) (object : ℕ) → x.ended ≡ ended → (x.ended ≡ None → x.steps < x.budget)
+leave_step_leaves_fewer : (ended : Option end.End) (x y : thread.ThreadState) (object : ℕ) → x.ended ≡ ended → (x.ended ≡ None → x.steps < x.budget)
     → y.ended ≡ x.ended → y.budget ≡ x.budget → y.steps ≡ x.steps + 1 → held_count x.held ≡ suc (held_count y.held)
     → steps_left y.ended y + 1 ≤ steps_left x.ended x
-leaves None x y object is less same budget steps fewer = goes None x y is (less is) same budget steps
-leaves (Some e) x y object is less same budget steps fewer =
+leave_step_leaves_fewer None x y object is less same budget steps fewer = continuing_step_leaves_fewer None x y is (less is) same budget steps
+leave_step_leaves_fewer (Some e) x y object is less same budget steps fewer =
     let own : steps_left x.ended x ≡ held_count x.held = ap (λ z. steps_left z x) is in
     let new : steps_left y.ended y ≡ held_count y.held = ap (λ z. steps_left z y) (same ∙ is) in
     omega (arith, own, new, fewer)
 
-some_access : {A : Type 0} (x : Option A) (a : A) → x ≡ Some a → x ≢ None
-some_access x a e n = cc (e, n)
+some_is_not_none : {A : Type 0} (x : Option A) (a : A) → x ≡ Some a → x ≢ None
+some_is_not_none x a e n = cc (e, n)
 
 -- each step leaves its thread fewer
-pub one_less : (code : List ℕ) (x : thread.State) (q : Ask) (r : Reply) → length x.held ≤ most_objects → Permits x q → q ≢ Done
+pub each_step_leaves_fewer : (code : List ℕ) (x : thread.ThreadState) (q : Ask) (r : Reply) → length x.held ≤ most_objects → Permits x q → q ≢ Done
     → steps_left (after_ask code x q r).ended (after_ask code x q r) + 1 ≤ steps_left x.ended x
-one_less code x Private r few p ne = goes x.ended x (after_ask code x Private r) p.lives p.has_budget refl refl refl
-one_less code x (Env kind) r few p ne = goes x.ended x (after_ask code x (Env kind) r) p.0.lives p.0.has_budget refl refl refl
-one_less code x (Enter object access) r few p ne =
-    goes x.ended x (after_ask code x (Enter object access) r) p.0.lives p.0.has_budget refl refl refl
-one_less code x (Try object) r few p ne = goes x.ended x (after_ask code x (Try object) r) p.0.lives p.0.has_budget refl refl refl
-one_less code x (Leave object access) r few p ne =
-    leaves x.ended x (after_ask code x (Leave object access) r) object refl p.0
-    refl refl refl (one_fewer x.held object p.1 (some_access (held_at x.held object) access p.2))
-one_less code x (Get object index) r few p ne =
-    goes x.ended x (after_ask code x (Get object index) r) p.0.lives p.0.has_budget refl refl refl
-one_less code x (Put object index value) r few p ne =
-    goes x.ended x (after_ask code x (Put object index value) r) p.0.lives p.0.has_budget refl refl refl
-one_less code x Print r few p ne = goes x.ended x (after_ask code x Print r) p.0.lives p.0.has_budget refl refl refl
-one_less code x (End e) r few p ne =
+each_step_leaves_fewer code x Private r few p ne = continuing_step_leaves_fewer x.ended x (after_ask code x Private r) p.lives p.has_budget refl refl refl
+each_step_leaves_fewer code x (Env kind) r few p ne = continuing_step_leaves_fewer x.ended x (after_ask code x (Env kind) r) p.0.lives p.0.has_budget refl refl refl
+each_step_leaves_fewer code x (Enter object access) r few p ne =
+    continuing_step_leaves_fewer x.ended x (after_ask code x (Enter object access) r) p.0.lives p.0.has_budget refl refl refl
+each_step_leaves_fewer code x (Try object) r few p ne = continuing_step_leaves_fewer x.ended x (after_ask code x (Try object) r) p.0.lives p.0.has_budget refl refl refl
+each_step_leaves_fewer code x (Leave object access) r few p ne =
+    leave_step_leaves_fewer x.ended x (after_ask code x (Leave object access) r) object refl p.0
+    refl refl refl (held_count_after_leave x.held object p.1 (some_is_not_none (held_at x.held object) access p.2))
+each_step_leaves_fewer code x (Get object index) r few p ne =
+    continuing_step_leaves_fewer x.ended x (after_ask code x (Get object index) r) p.0.lives p.0.has_budget refl refl refl
+each_step_leaves_fewer code x (Put object index value) r few p ne =
+    continuing_step_leaves_fewer x.ended x (after_ask code x (Put object index value) r) p.0.lives p.0.has_budget refl refl refl
+each_step_leaves_fewer code x Print r few p ne = continuing_step_leaves_fewer x.ended x (after_ask code x Print r) p.0.lives p.0.has_budget refl refl refl
+each_step_leaves_fewer code x (End e) r few p ne =
     let own : steps_left x.ended x ≡ most_closing + (x.budget - x.steps) = ap (λ z. steps_left z x) p in
-    let most = count_le_length x.held in
+    let most = held_count_at_most_length x.held in
     omega (arith, own, most, few)
-one_less code x Done r few p ne = absurd (ne refl)
+each_step_leaves_fewer code x Done r few p ne = absurd (ne refl)
 
-left_past : (n : ℕ) (now : ℕ → thread.State) (t : ℕ) (y : thread.State) → n ≤ t → all_left n (upd now t y) ≡ all_left n now
-left_past zero now t y l = refl
-left_past (suc n) now t y l =
+all_left_ignores_later_thread : (n : ℕ) (now : ℕ → thread.ThreadState) (t : ℕ) (y : thread.ThreadState) → n ≤ t → all_left n (upd now t y) ≡ all_left n now
+all_left_ignores_later_thread zero now t y l = refl
+all_left_ignores_later_thread (suc n) now t y l =
     let here : steps_left (upd now t y n).ended (upd now t y n) ≡ steps_left (now n).ended (now n) =
-    ap (λ z. steps_left z.ended z) (upd_other now t n y (λ e. omega (arith, e, l))) in
-    let rest = left_past n now t y (omega arith) in
+    ap (λ z. steps_left z.ended z) (upd_at_other_place now t n y (λ e. omega (arith, e, l))) in
+    let rest = all_left_ignores_later_thread n now t y (omega arith) in
     omega (arith, here, rest)
 
 -- what one thread has fewer, all have
-pub all_less : (n : ℕ) (now : ℕ → thread.State) (t : ℕ) (y : thread.State) → t < n
+pub all_left_fewer_if_one_fewer : (n : ℕ) (now : ℕ → thread.ThreadState) (t : ℕ) (y : thread.ThreadState) → t < n
     → steps_left y.ended y + 1 ≤ steps_left (now t).ended (now t) → all_left n (upd now t y) + 1 ≤ all_left n now
-all_less zero now t y l less = absurd (omega arith)
-all_less (suc n) now t y l less = elim (cases_eq n t) [
+all_left_fewer_if_one_fewer zero now t y l less = absurd (omega arith)
+all_left_fewer_if_one_fewer (suc n) now t y l less = elim (cases_eq n t) [
   | inl e ↦
       let here : steps_left (upd now t y n).ended (upd now t y n) ≡ steps_left y.ended y =
-      ap (λ z. steps_left z.ended z) (ap (upd now t y) e ∙ upd_same now t y) in
+      ap (λ z. steps_left z.ended z) (ap (upd now t y) e ∙ upd_at_own_place now t y) in
       let was : steps_left (now n).ended (now n) ≡ steps_left (now t).ended (now t) = ap (λ k. steps_left (now k).ended (now k)) e in
-      let rest = left_past n now t y (omega (arith, e)) in
+      let rest = all_left_ignores_later_thread n now t y (omega (arith, e)) in
       omega (arith, here, was, rest, less)
   | inr ne ↦
       let here : steps_left (upd now t y n).ended (upd now t y n) ≡ steps_left (now n).ended (now n) =
-      ap (λ z. steps_left z.ended z) (upd_other now t n y ne) in
-      let rest = all_less n now t y (let h : t < n = omega (arith, l, ne) in h) less in
+      ap (λ z. steps_left z.ended z) (upd_at_other_place now t n y ne) in
+      let rest = all_left_fewer_if_one_fewer n now t y (let h : t < n = omega (arith, l, ne) in h) less in
       omega (arith, here, rest)
 ]

@@ -9,62 +9,62 @@ use Rattle.ir_thread.specs.Calls.{ask_of, most_events}
 use Rattle.ir_thread.specs.Instance.{is_result}
 use Rattle.ir_runs.specs.declared.env_kind.EnvKind.{EnvKind}
 use Rattle.ir_runs.specs.declared.env_kind.EnvKind.TheVariants.{Clock, Random, Input}
-use Rattle.ir_runs.proofs.CallerLemmas.{upd_same, upd_other}
+use Rattle.ir_runs.proofs.CallerLemmas.{upd_at_own_place, upd_at_other_place}
 use Rattle.ir_flat.specs.Flat.{Flat, thread_of, tables, machine}
 use Rattle.ir_runs.specs.Run.{after}
-use Rattle.ir_flat.proofs.CallerLemmas.{added, events_added, moved_thread, now_after}
+use Rattle.ir_flat.proofs.CallerLemmas.{events_added_by, events_after_ask, moved_thread, threads_after_step}
 use Rattle.ir_log.specs.Logged.{Logged}
 use Rattle.ir_log.specs.Logging.{label_of}
 use Rattle.ir_log.specs.declared.event.Event.{Event}
 use Rattle.ir_trace.specs.Within.{IsEvent, IsResult}
 use Rattle.ir_record.specs.Progress.{IsTape, no_log, log_at, labels_at}
-use Rattle.ir_record.proofs.Profiles.{fits_on, same_profile}
+use Rattle.ir_record.proofs.Profiles.{events_fit_if_limits_same, thread_profile_after_step}
 
 -- a step that there is, is taken
-pub stepped : {X E : Type 0} (result : Result X E) (P Q : Type 0) → P → OnErr result (P → ⊥) → OnOk result Q → Q
-stepped (Ok x) P Q p err ok = ok
-stepped (Err e) P Q p err ok = absurd (err p)
+pub on_ok_holds_if_can : {X E : Type 0} (result : Result X E) (P Q : Type 0) → P → OnErr result (P → ⊥) → OnOk result Q → Q
+on_ok_holds_if_can (Ok x) P Q p err ok = ok
+on_ok_holds_if_can (Err e) P Q p err ok = absurd (err p)
 
 -- what a thread counts of its events after a step
-pub own_events : (f g : Flat) (t r : ℕ) → tables g ≡ after (machine f) (tables f) (t, r)
-    → (thread_of g t).events ≡ (thread_of f t).events + added (ask_of f.code (thread_of f t))
-own_events f g t r taken =
-    ap (λ s. (s.now t).events) taken ∙ ap (λ now. (now t).events) (now_after f.code (tables f) (t, r))
-    ∙ ap (λ x. x.events) (upd_same (thread_of f) t (moved_thread f.code (tables f) (t, r)))
-    ∙ events_added f.code (thread_of f t) (ask_of f.code (thread_of f t)) _
+pub event_count_after_own_step : (f g : Flat) (t r : ℕ) → tables g ≡ after (machine f) (tables f) (t, r)
+    → (thread_of g t).events ≡ (thread_of f t).events + events_added_by (ask_of f.code (thread_of f t))
+event_count_after_own_step f g t r taken =
+    ap (λ s. (s.now t).events) taken ∙ ap (λ now. (now t).events) (threads_after_step f.code (tables f) (t, r))
+    ∙ ap (λ x. x.events) (upd_at_own_place (thread_of f) t (moved_thread f.code (tables f) (t, r)))
+    ∙ events_after_ask f.code (thread_of f t) (ask_of f.code (thread_of f t)) _
 
-pub other_events : (f g : Flat) (t r u : ℕ) → tables g ≡ after (machine f) (tables f) (t, r) → u ≢ t
+pub event_count_after_step_of_other : (f g : Flat) (t r u : ℕ) → tables g ≡ after (machine f) (tables f) (t, r) → u ≢ t
     → (thread_of g u).events ≡ (thread_of f u).events
-other_events f g t r u taken ne =
-    ap (λ s. (s.now u).events) taken ∙ ap (λ now. (now u).events) (now_after f.code (tables f) (t, r))
-    ∙ ap (λ x. x.events) (upd_other (thread_of f) t u (moved_thread f.code (tables f) (t, r)) ne)
+event_count_after_step_of_other f g t r u taken ne =
+    ap (λ s. (s.now u).events) taken ∙ ap (λ now. (now u).events) (threads_after_step f.code (tables f) (t, r))
+    ∙ ap (λ x. x.events) (upd_at_other_place (thread_of f) t u (moved_thread f.code (tables f) (t, r)) ne)
 
 -- a step that logs nothing
-pub tape_kept : (f g : Flat) (logs : List Logged) (t r : ℕ) → IsTape f logs → tables g ≡ after (machine f) (tables f) (t, r)
+pub tape_after_unlogged_step : (f g : Flat) (logs : List Logged) (t r : ℕ) → IsTape f logs → tables g ≡ after (machine f) (tables f) (t, r)
     → length g.threads ≡ length f.threads → length g.objects ≡ length f.objects
-    → added (ask_of f.code (thread_of f t)) ≡ 0 → IsTape g logs
-tape_kept f g logs t r tape taken threads objects none = record {
+    → events_added_by (ask_of f.code (thread_of f t)) ≡ 0 → IsTape g logs
+tape_after_unlogged_step f g logs t r tape taken threads objects none = record {
   one_each = tape.one_each ∙ sym threads;
   rooms = λ u l. tape.rooms u (omega (arith, l, threads));
   counts = λ u l. tape.counts u (omega (arith, l, threads)) ∙ sym (elim (cases_eq u t) [
     | inl e ↦ subst (λ z. (thread_of g z).events ≡ (thread_of f z).events) (sym e)
-        (let own = own_events f g t r taken in omega (arith, own, none))
-    | inr ne ↦ other_events f g t r u taken ne
+        (let own = event_count_after_own_step f g t r taken in omega (arith, own, none))
+    | inr ne ↦ event_count_after_step_of_other f g t r u taken ne
   ]);
-  events_fit = λ u l. fits_on (thread_of f u).profile (thread_of g u).profile (length f.objects) (length g.objects) (log_at logs u).events
-      (same_profile f g t r u taken) objects (tape.events_fit u (omega (arith, l, threads)));
+  events_fit = λ u l. events_fit_if_limits_same (thread_of f u).profile (thread_of g u).profile (length f.objects) (length g.objects) (log_at logs u).events
+      (thread_profile_after_step f g t r u taken) objects (tape.events_fit u (omega (arith, l, threads)));
 }
 
-pub all_append : {X : Type 0} (P : X → Type 0) (xs : List X) (x : X) → AllByRecursion P xs → P x → AllByRecursion P (xs ++ x ∷ [])
-all_append P [] x h p = (p, tt)
-all_append P (y ∷ xs) x h p = (h.0, all_append P xs x h.1 p)
+pub all_by_recursion_after_push : {X : Type 0} (P : X → Type 0) (xs : List X) (x : X) → AllByRecursion P xs → P x → AllByRecursion P (xs ++ x ∷ [])
+all_by_recursion_after_push P [] x h p = (p, tt)
+all_by_recursion_after_push P (y ∷ xs) x h p = (h.0, all_by_recursion_after_push P xs x h.1 p)
 
 -- a step that logs an event
-pub tape_pushed : (f g : Flat) (logs : List Logged) (t r : ℕ) (e : Event) (new : Logged) → IsTape f logs → t < length f.threads
+pub tape_after_event_pushed : (f g : Flat) (logs : List Logged) (t r : ℕ) (e : Event) (new : Logged) → IsTape f logs → t < length f.threads
     → tables g ≡ after (machine f) (tables f) (t, r) → length g.threads ≡ length f.threads → length g.objects ≡ length f.objects
-    → added (ask_of f.code (thread_of f t)) ≡ 1 → IsEvent (thread_of f t).profile (length f.objects) e
+    → events_added_by (ask_of f.code (thread_of f t)) ≡ 1 → IsEvent (thread_of f t).profile (length f.objects) e
     → new ≡ record (log_at logs t) { events = (log_at logs t).events ++ e ∷ [] } → IsTape g (set logs t new)
-tape_pushed f g logs t r e new tape below taken threads objects one fits is =
+tape_after_event_pushed f g logs t r e new tape below taken threads objects one fits is =
     let here : log_at (set logs t new) t ≡ new = get_or-set_same logs t new no_log (omega (arith, below, tape.one_each)) in
     let there : (u : ℕ) → u ≢ t → log_at (set logs t new) u ≡ log_at logs u = λ u ne. get_or-set_other logs t u new no_log ne in
     let longer : length new.events ≡ length (log_at logs t).events + 1 = ap (λ l. length l.events) is
@@ -79,39 +79,39 @@ tape_pushed f g logs t r e new tape below taken threads objects one fits is =
       counts = λ u l. elim (cases_eq u t) [
         | inl same ↦ subst (λ z. length (log_at (set logs t new) z).events ≡ (thread_of g z).events) (sym same)
             (ap (λ z. length z.events) here ∙ longer
-            ∙ (let own = own_events f g t r taken in let was = tape.counts t below in omega (arith, own, was, one)))
+            ∙ (let own = event_count_after_own_step f g t r taken in let was = tape.counts t below in omega (arith, own, was, one)))
         | inr ne ↦ ap (λ z. length z.events) (there u ne) ∙ tape.counts u (omega (arith, l, threads))
-            ∙ sym (other_events f g t r u taken ne)
+            ∙ sym (event_count_after_step_of_other f g t r u taken ne)
       ];
-      events_fit = λ u l. fits_on (thread_of f u).profile (thread_of g u).profile (length f.objects) (length g.objects)
-          (log_at (set logs t new) u).events (same_profile f g t r u taken) objects (elim (cases_eq u t) [
+      events_fit = λ u l. events_fit_if_limits_same (thread_of f u).profile (thread_of g u).profile (length f.objects) (length g.objects)
+          (log_at (set logs t new) u).events (thread_profile_after_step f g t r u taken) objects (elim (cases_eq u t) [
             | inl same ↦ subst (λ z. AllByRecursion (IsEvent (thread_of f z).profile (length f.objects)) (log_at (set logs t new) z).events)
                 (sym same) (subst (λ z. AllByRecursion (IsEvent (thread_of f t).profile (length f.objects)) z.events) (sym (here ∙ is))
-                (all_append (IsEvent (thread_of f t).profile (length f.objects)) (log_at logs t).events e (tape.events_fit t below) fits))
+                (all_by_recursion_after_push (IsEvent (thread_of f t).profile (length f.objects)) (log_at logs t).events e (tape.events_fit t below) fits))
             | inr ne ↦ subst (λ z. AllByRecursion (IsEvent (thread_of f u).profile (length f.objects)) z.events) (sym (there u ne))
                 (tape.events_fit u (omega (arith, l, threads)))
           ]);
     }
 
-pub map_append : {A B : Type 0} (f : A → B) (xs : List A) (x : A) → map f (xs ++ x ∷ []) ≡ map f xs ++ f x ∷ []
-map_append f [] x = refl
-map_append f (y ∷ xs) x = ap (λ z. f y ∷ z) (map_append f xs x)
+pub map_of_append_item : {A B : Type 0} (f : A → B) (xs : List A) (x : A) → map f (xs ++ x ∷ []) ≡ map f xs ++ f x ∷ []
+map_of_append_item f [] x = refl
+map_of_append_item f (y ∷ xs) x = ap (λ z. f y ∷ z) (map_of_append_item f xs x)
 
 -- the labels in a log with an event more
-pub labels_pushed : (logs : List Logged) (t : ℕ) (e : Event) (new : Logged) → t < length logs
+pub labels_after_event_pushed : (logs : List Logged) (t : ℕ) (e : Event) (new : Logged) → t < length logs
     → new ≡ record (log_at logs t) { events = (log_at logs t).events ++ e ∷ [] }
     → labels_at (set logs t new) t ≡ labels_at logs t ++ label_of e ∷ []
-labels_pushed logs t e new l is =
-    ap (λ z. map label_of z.events) (get_or-set_same logs t new no_log l ∙ is) ∙ map_append label_of (log_at logs t).events e
+labels_after_event_pushed logs t e new l is =
+    ap (λ z. map label_of z.events) (get_or-set_same logs t new no_log l ∙ is) ∙ map_of_append_item label_of (log_at logs t).events e
 
-pub labels_other : (logs : List Logged) (t u : ℕ) (new : Logged) → u ≢ t → labels_at (set logs t new) u ≡ labels_at logs u
-labels_other logs t u new ne = ap (λ z. map label_of z.events) (get_or-set_other logs t u new no_log ne)
+pub labels_of_other_thread_after_set : (logs : List Logged) (t u : ℕ) (new : Logged) → u ≢ t → labels_at (set logs t new) u ≡ labels_at logs u
+labels_of_other_thread_after_set logs t u new ne = ap (λ z. map label_of z.events) (get_or-set_other logs t u new no_log ne)
 
 -- a result of the environment is one that a log may hold
-pub result_fits : (kind : EnvKind) (value : ℕ) → is_result kind value ≡ true → IsResult kind value
-result_fits Clock value h = grind (arith, nat_tests, h)
-result_fits Random value h = grind (arith, nat_tests, h)
-result_fits Input value h = input_fits (nat_lt value (2 ^ 8)) (value == 0xFFFFFFFF) refl refl h
+pub result_if_is_result_true : (kind : EnvKind) (value : ℕ) → is_result kind value ≡ true → IsResult kind value
+result_if_is_result_true Clock value h = grind (arith, nat_tests, h)
+result_if_is_result_true Random value h = grind (arith, nat_tests, h)
+result_if_is_result_true Input value h = input_fits (nat_lt value (2 ^ 8)) (value == 0xFFFFFFFF) refl refl h
   where
     input_fits : (a b : Bool) → nat_lt value (2 ^ 8) ≡ a → (value == 0xFFFFFFFF) ≡ b → (a || b) ≡ true → IsResult Input value
     input_fits true b p q h = inl (ltb-true value 256 p)
@@ -119,14 +119,14 @@ result_fits Input value h = input_fits (nat_lt value (2 ^ 8)) (value == 0xFFFFFF
     input_fits false false p q h = absurd cc
 
 -- there is room for an event
-pub has_room : (f : Flat) (logs : List Logged) (t : ℕ) (l : Logged) → IsTape f logs → t < length f.threads → l ≡ log_at logs t
+pub log_has_room_for_event : (f : Flat) (logs : List Logged) (t : ℕ) (l : Logged) → IsTape f logs → t < length f.threads → l ≡ log_at logs t
     → (thread_of f t).events < most_events → length l.events < l.room
-has_room f logs t l tape below is can =
+log_has_room_for_event f logs t l tape below is can =
     let count : length l.events ≡ (thread_of f t).events = ap (λ z. length z.events) is ∙ tape.counts t below in
     let room : l.room ≡ most_events = ap (λ z. z.room) is ∙ tape.rooms t below in
     omega (arith, count, room, can)
 
 -- the log that was read
-pub log_found : (f : Flat) (logs : List Logged) (t : ℕ) (l : Logged) → IsTape f logs → t < length f.threads → l ≡ get_or logs t l
+pub found_log_is_log_at : (f : Flat) (logs : List Logged) (t : ℕ) (l : Logged) → IsTape f logs → t < length f.threads → l ≡ get_or logs t l
     → l ≡ log_at logs t
-log_found f logs t l tape below e = e ∙ get_or_default logs t l no_log (omega (arith, below, tape.one_each))
+found_log_is_log_at f logs t l tape below e = e ∙ get_or_default logs t l no_log (omega (arith, below, tape.one_each))

@@ -14,89 +14,89 @@ use Rattle.ir_record.specs.Gathered.{IsThreadTrace}
 use Rattle.ir_record.specs.Threads.{IsNew, AreNew, AreTraces, views_of, Pairs}
 use Rattle.ir_record.specs.declared.worker.Worker.{Worker}
 
-pub new_more : {W : Type 0} (g : Guest) (budget : ℕ) (profile : Profile) (id : TableId) (t n : ℕ) (ws : List (Worker W)) (w : Worker W)
+pub new_workers_with_one_added : {W : Type 0} (g : Guest) (budget : ℕ) (profile : Profile) (id : TableId) (t n : ℕ) (ws : List (Worker W)) (w : Worker W)
     → AreNew g budget profile id t ws → n ≡ t + length ws → IsNew g budget profile id n w → AreNew g budget profile id t (ws ++ w ∷ [])
-new_more g budget profile id t n [] w h e new = (subst (λ z. IsNew g budget profile id z w) (let q : n ≡ t = omega (arith, e) in q) new, tt)
-new_more g budget profile id t n (x ∷ ws) w h e new = (h.0, new_more g budget profile id (suc t) n ws w h.1 (omega (arith, e)) new)
+new_workers_with_one_added g budget profile id t n [] w h e new = (subst (λ z. IsNew g budget profile id z w) (let q : n ≡ t = omega (arith, e) in q) new, tt)
+new_workers_with_one_added g budget profile id t n (x ∷ ws) w h e new = (h.0, new_workers_with_one_added g budget profile id (suc t) n ws w h.1 (omega (arith, e)) new)
 
 -- the first seat, and those left
-pub seats_first : (id : TableId) (t : ℕ) (ss rest : List (Seat (Unit {0}) View)) (s : Seat (Unit {0}) View) → 0 < length ss
+pub first_seat_and_rest : (id : TableId) (t : ℕ) (ss rest : List (Seat (Unit {0}) View)) (s : Seat (Unit {0}) View) → 0 < length ss
     → s ≡ get_or ss 0 s → rest ≡ take 0 ss ++ drop 1 ss → AreSeats id t ss
     → ((s.table_id ≡ id) × (s.me ≡ (record { thread = t; steps = [] } ∷ [], []))) × AreSeats id (suc t) rest
-seats_first id t [] rest s l is left h = absurd (omega arith)
-seats_first id t (x ∷ ss) rest s l is left h =
+first_seat_and_rest id t [] rest s l is left h = absurd (omega arith)
+first_seat_and_rest id t (x ∷ ss) rest s l is left h =
     ((ap (λ z. z.table_id) is ∙ h.0.0, ap (λ z. z.me) is ∙ h.0.1), subst (AreSeats id (suc t)) (sym left) h.1)
 
-pub seats_left : {A : Type 0} (ss rest : List A) → 0 < length ss → rest ≡ take 0 ss ++ drop 1 ss → length rest + 1 ≡ length ss
-seats_left [] rest l left = absurd (omega arith)
-seats_left (x ∷ ss) rest l left = let e : length rest ≡ length ss = ap (λ z. length z) left in omega (arith, e)
+pub rest_of_seats_is_one_shorter : {A : Type 0} (ss rest : List A) → 0 < length ss → rest ≡ take 0 ss ++ drop 1 ss → length rest + 1 ≡ length ss
+rest_of_seats_is_one_shorter [] rest l left = absurd (omega arith)
+rest_of_seats_is_one_shorter (x ∷ ss) rest l left = let e : length rest ≡ length ss = ap (λ z. length z) left in omega (arith, e)
 
-pub traces_more : {W : Type 0} (ws : List (Worker W)) (rs : List RecordedThread) (w : Worker W) (r : RecordedThread) → AreTraces ws rs
+pub worker_traces_with_one_added : {W : Type 0} (ws : List (Worker W)) (rs : List RecordedThread) (w : Worker W) (r : RecordedThread) → AreTraces ws rs
     → IsThreadTrace w.thread w.log r → AreTraces (ws ++ w ∷ []) (rs ++ r ∷ [])
-traces_more [] [] w r h i = (i, tt)
-traces_more [] (q ∷ rs) w r h i = absurd h
-traces_more (x ∷ ws) [] w r h i = absurd h
-traces_more (x ∷ ws) (q ∷ rs) w r h i = (h.0, traces_more ws rs w r h.1 i)
+worker_traces_with_one_added [] [] w r h i = (i, tt)
+worker_traces_with_one_added [] (q ∷ rs) w r h i = absurd h
+worker_traces_with_one_added (x ∷ ws) [] w r h i = absurd h
+worker_traces_with_one_added (x ∷ ws) (q ∷ rs) w r h i = (h.0, worker_traces_with_one_added ws rs w r h.1 i)
 
-pub traces_count : {W : Type 0} (ws : List (Worker W)) (rs : List RecordedThread) → AreTraces ws rs → length rs ≡ length ws
-traces_count [] [] h = refl
-traces_count [] (q ∷ rs) h = absurd h
-traces_count (x ∷ ws) [] h = absurd h
-traces_count (x ∷ ws) (q ∷ rs) h = ap suc (traces_count ws rs h.1)
+pub traces_count_workers : {W : Type 0} (ws : List (Worker W)) (rs : List RecordedThread) → AreTraces ws rs → length rs ≡ length ws
+traces_count_workers [] [] h = refl
+traces_count_workers [] (q ∷ rs) h = absurd h
+traces_count_workers (x ∷ ws) [] h = absurd h
+traces_count_workers (x ∷ ws) (q ∷ rs) h = ap suc (traces_count_workers ws rs h.1)
 
-pub all_mid : {X : Type 0} (P : X → Type 0) (xs ys : List X) (x : X) → AllByRecursion P (xs ++ x ∷ ys) → P x
-all_mid P [] ys x h = h.0
-all_mid P (y ∷ xs) ys x h = all_mid P xs ys x h.1
+pub all_holds_of_middle_item : {X : Type 0} (P : X → Type 0) (xs ys : List X) (x : X) → AllByRecursion P (xs ++ x ∷ ys) → P x
+all_holds_of_middle_item P [] ys x h = h.0
+all_holds_of_middle_item P (y ∷ xs) ys x h = all_holds_of_middle_item P xs ys x h.1
 
-pub all_last : {X : Type 0} (P : X → Type 0) (xs : List X) (x : X) → AllByRecursion P (xs ++ x ∷ []) → AllByRecursion P xs × P x
-all_last P [] x h = (tt, h.0)
-all_last P (y ∷ xs) x h = let r = all_last P xs x h.1 in ((h.0, r.0), r.1)
+pub all_splits_off_last : {X : Type 0} (P : X → Type 0) (xs : List X) (x : X) → AllByRecursion P (xs ++ x ∷ []) → AllByRecursion P xs × P x
+all_splits_off_last P [] x h = (tt, h.0)
+all_splits_off_last P (y ∷ xs) x h = let r = all_splits_off_last P xs x h.1 in ((h.0, r.0), r.1)
 
-pub views_more : (ss : List (Seat (Unit {0}) View)) (s : Seat (Unit {0}) View) → views_of (ss ++ s ∷ []) ≡ views_of ss ++ s.me.0
-views_more [] s = append-nil s.me.0
-views_more (x ∷ ss) s = ap (λ z. x.me.0 ++ z) (views_more ss s) ∙ sym (append_assoc x.me.0 (views_of ss) s.me.0)
+pub views_with_seat_added : (ss : List (Seat (Unit {0}) View)) (s : Seat (Unit {0}) View) → views_of (ss ++ s ∷ []) ≡ views_of ss ++ s.me.0
+views_with_seat_added [] s = append-nil s.me.0
+views_with_seat_added (x ∷ ss) s = ap (λ z. x.me.0 ++ z) (views_with_seat_added ss s) ∙ sym (append_assoc x.me.0 (views_of ss) s.me.0)
 
 -- a seat more is joined
-pub views_on : (old rest : List (Seat (Unit {0}) View)) (s all new : Seat (Unit {0}) View) (whole : View) → views_of old ++ all.me.0 ≡ whole
+pub views_after_seat_joined : (old rest : List (Seat (Unit {0}) View)) (s all new : Seat (Unit {0}) View) (whole : View) → views_of old ++ all.me.0 ≡ whole
     → old ≡ rest ++ s ∷ [] → new.me ≡ (s.me.0 ++ all.me.0, []) → views_of rest ++ new.me.0 ≡ whole
-views_on old rest s all new whole h e is =
+views_after_seat_joined old rest s all new whole h e is =
     ap (λ z. views_of rest ++ z.0) is ∙ sym (append_assoc (views_of rest) s.me.0 all.me.0)
-    ∙ ap (λ z. z ++ all.me.0) (sym (views_more rest s) ∙ ap views_of (sym e)) ∙ h
+    ∙ ap (λ z. z ++ all.me.0) (sym (views_with_seat_added rest s) ∙ ap views_of (sym e)) ∙ h
 
-pub none_past : {W : Type 0} (f : W → Bool) (ws : List W) (n : ℕ) → length ws ≤ n → ((u : ℕ) → u < n → get_or (map f ws) u false ≡ false)
+pub all_false_if_false_below_length : {W : Type 0} (f : W → Bool) (ws : List W) (n : ℕ) → length ws ≤ n → ((u : ℕ) → u < n → get_or (map f ws) u false ≡ false)
     → (t : ℕ) → get_or (map f ws) t false ≡ false
-none_past f ws n l h t = elim (cases_lt t n) [
+all_false_if_false_below_length f ws n l h t = elim (cases_lt t n) [
   | inl below ↦ h t below
   | inr past ↦ get_or_past (map f ws) t false (let m = length-map ws f in omega (arith, m, l, past))
 ]
 
-pub mapped_last : {A B : Type 0} (f : A → B) (xs : List A) (x : A) (ys : List B) (y : B) → ys ≡ map f xs → y ≡ f x → ys ++ y
+pub map_with_last_added : {A B : Type 0} (f : A → B) (xs : List A) (x : A) (ys : List B) (y : B) → ys ≡ map f xs → y ≡ f x → ys ++ y
     ∷ [] ≡ map f (xs ++ x ∷ [])
-mapped_last f xs x ys y e h = (λ i. e i ++ h i ∷ []) ∙ go xs
+map_with_last_added f xs x ys y e h = (λ i. e i ++ h i ∷ []) ∙ go xs
   where
     go : (zs : _) → map f zs ++ f x ∷ [] ≡ map f (zs ++ x ∷ [])
     go [] = refl
     go (z ∷ zs) = ap (λ k. f z ∷ k) (go zs)
 
-pub one_more : {A : Type 0} (xs ys : List A) (x : A) → ys ≡ xs ++ x ∷ [] → length ys ≡ suc (length xs)
-one_more xs ys x e = ap (λ z. length z) e ∙ length-append xs (x ∷ []) ∙ (let q : length xs + 1 ≡ suc (length xs) = omega arith in q)
+pub length_with_item_added : {A : Type 0} (xs ys : List A) (x : A) → ys ≡ xs ++ x ∷ [] → length ys ≡ suc (length xs)
+length_with_item_added xs ys x e = ap (λ z. length z) e ∙ length-append xs (x ∷ []) ∙ (let q : length xs + 1 ≡ suc (length xs) = omega arith in q)
 
-pub nil_of : {A : Type 0} (xs : List A) (n : ℕ) → n ≡ length xs → n ≡ 0 → xs ≡ []
-nil_of [] n e z = refl
-nil_of (x ∷ xs) n e z = absurd (omega (arith, e, z))
+pub empty_if_length_zero : {A : Type 0} (xs : List A) (n : ℕ) → n ≡ length xs → n ≡ 0 → xs ≡ []
+empty_if_length_zero [] n e z = refl
+empty_if_length_zero (x ∷ xs) n e z = absurd (omega (arith, e, z))
 
-pub pairs_by : {A : Type 0} (P : A → A → Type 0) (xs ys : List A) → length ys ≡ length xs
+pub pairs_if_each_place_pairs : {A : Type 0} (P : A → A → Type 0) (xs ys : List A) → length ys ≡ length xs
     → ((i : ℕ) (d : A) → i < length xs → P (get_or xs i d) (get_or ys i d)) → Pairs P xs ys
-pairs_by P [] [] e h = tt
-pairs_by P [] (y ∷ ys) e h = absurd (omega (arith, e))
-pairs_by P (x ∷ xs) [] e h = absurd (omega (arith, e))
-pairs_by P (x ∷ xs) (y ∷ ys) e h = (h 0 x (omega arith), pairs_by P xs ys (omega (arith, e)) (λ i d l. h (suc i) d (omega (arith, l))))
+pairs_if_each_place_pairs P [] [] e h = tt
+pairs_if_each_place_pairs P [] (y ∷ ys) e h = absurd (omega (arith, e))
+pairs_if_each_place_pairs P (x ∷ xs) [] e h = absurd (omega (arith, e))
+pairs_if_each_place_pairs P (x ∷ xs) (y ∷ ys) e h = (h 0 x (omega arith), pairs_if_each_place_pairs P xs ys (omega (arith, e)) (λ i d l. h (suc i) d (omega (arith, l))))
 
-take_prefix : {A : Type 0} (xs ys : List A) → take (length xs) (xs ++ ys) ≡ xs
-take_prefix [] ys = refl
-take_prefix (x ∷ xs) ys = ap (λ z. x ∷ z) (take_prefix xs ys)
+take_length_of_append : {A : Type 0} (xs ys : List A) → take (length xs) (xs ++ ys) ≡ xs
+take_length_of_append [] ys = refl
+take_length_of_append (x ∷ xs) ys = ap (λ z. x ∷ z) (take_length_of_append xs ys)
 
 -- what is left in a list of which a part was changed in place
-pub changed_all : {A : Type 0} (new old : List A) (n : ℕ) → n ≡ length old → length new ≡ length old
+pub take_of_overwritten_list : {A : Type 0} (new old : List A) (n : ℕ) → n ≡ length old → length new ≡ length old
     → take n (new ++ drop (length new) old) ≡ new
-changed_all new old n e f = ap (λ k. take k (new ++ drop (length new) old)) (e ∙ sym f) ∙ take_prefix new (drop (length new) old)
+take_of_overwritten_list new old n e f = ap (λ k. take k (new ++ drop (length new) old)) (e ∙ sym f) ∙ take_length_of_append new (drop (length new) old)

@@ -14,15 +14,15 @@ use Rattle.ir_record.specs.Progress.{Progress}
 use Rattle.ir_record.specs.declared.pass.Pass.{Pass}
 use Rattle.ir_record.specs.declared.pass.Turned.{Turned}
 use Rattle.ir_record.specs.declared.pass.Turned.TheVariants.{Spent, Stepped, Waited}
-use Rattle.ir_record.proofs.Going.{reached, turn_more}
+use Rattle.ir_record.proofs.Going.{reached, round_with_turn_added}
 
 -- what is known after the turns of the first n threads
-pub record Passing (n : ℕ) (pass : Pass) (ahead : List ℕ) (f : Flat) : Type 0 where
+pub record PassAfterTurns (n : ℕ) (pass : Pass) (ahead : List ℕ) (f : Flat) : Type 0 where
   pub all : pass.waited ≡ false → (t : ℕ) → t < n → pass.free ≤ lead ahead t
   pub each : CanSkip (machine f) n pass.free ahead (tables f)
 
-pub none_passed : (pass : Pass) (ahead : List ℕ) (f : Flat) → Passing 0 pass ahead f
-none_passed pass ahead f = record { all = λ w t l. absurd (omega (arith, l)); each = λ t l. absurd (omega (arith, l)) }
+pub pass_after_no_turns : (pass : Pass) (ahead : List ℕ) (f : Flat) → PassAfterTurns 0 pass ahead f
+pass_after_no_turns pass ahead f = record { all = λ w t l. absurd (omega (arith, l)); each = λ t l. absurd (omega (arith, l)) }
 
 -- a turn that leaves its thread lead d t steps ahead, and the other threads as they were
 pub record Turning (turned : Turned) (t : ℕ) (c d : List ℕ) (f g : Flat) : Type 0 where
@@ -32,59 +32,59 @@ pub record Turning (turned : Turned) (t : ℕ) (c d : List ℕ) (f g : Flat) : T
   pub waits : turned ≡ Waited → HasNone (machine g) (tables g) t
 
 -- who had no step has none after a turn that changes nothing
-still_none : (u : ℕ) (f g : Flat) → g.code ≡ f.code → tables g ≡ tables f → HasNone (machine f) (tables f) u
+no_step_after_changeless_turn : (u : ℕ) (f g : Flat) → g.code ≡ f.code → tables g ≡ tables f → HasNone (machine f) (tables f) u
     → HasNone (machine g) (tables g) u
-still_none u f g code same none = subst (λ s. HasNone (machine g) s u) (sym same)
+no_step_after_changeless_turn u f g code same none = subst (λ s. HasNone (machine g) s u) (sym same)
     (subst (λ k. HasNone (thread_machine k) (tables f) u) (sym code) none)
 
-still_skips : (u k j : ℕ) (c d : List ℕ) (f g : Flat) → g.code ≡ f.code → tables g ≡ tables f → j ≤ k → lead d u ≡ lead c u → (k ≤ lead c u)
+skips_after_changeless_turn : (u k j : ℕ) (c d : List ℕ) (f g : Flat) → g.code ≡ f.code → tables g ≡ tables f → j ≤ k → lead d u ≡ lead c u → (k ≤ lead c u)
     ⊎ HasNone (machine f) (tables f) u → (j ≤ lead d u) ⊎ HasNone (machine g) (tables g) u
-still_skips u k j c d f g code same less is some =
-    elim some [ inl enough ↦ inl (omega (arith, less, is, enough)) | inr none ↦ inr (still_none u f g code same none) ]
+skips_after_changeless_turn u k j c d f g code same less is some =
+    elim some [ inl enough ↦ inl (omega (arith, less, is, enough)) | inr none ↦ inr (no_step_after_changeless_turn u f g code same none) ]
 
 -- where each thread bounds the rounds, and one more
-all_more : (t j k : ℕ) (c d : List ℕ) → ((u : ℕ) → u ≢ t → lead d u ≡ lead c u) → j ≡ min k (lead d t) → ((u : ℕ) → u < t → k ≤ lead c u)
+bound_of_leads_with_one_added : (t j k : ℕ) (c d : List ℕ) → ((u : ℕ) → u ≢ t → lead d u ≡ lead c u) → j ≡ min k (lead d t) → ((u : ℕ) → u < t → k ≤ lead c u)
     → (u : ℕ) → u < t + 1 → j ≤ lead d u
-all_more t j k c d others is before u l = elim (cases_eq u t) [
+bound_of_leads_with_one_added t j k c d others is before u l = elim (cases_eq u t) [
   | inl e ↦ subst (λ z. j ≤ lead d z) (sym e) (let own = min-le_right k (lead d t) in omega (arith, is, own))
   | inr ne ↦ let same = others u ne in let was = before u (omega (arith, l, ne)) in let less = min-le_left k (lead d t) in
       omega (arith, same, was, less, is)
 ]
 
-pub pass_more : (turned : Turned) (t : ℕ) (old new : Pass) (c d : List ℕ) (f g : Flat) → Passing t old c f → Turning turned t c d f g
-    → Noted turned (lead d t) old new → Passing (t + 1) new d g
-pass_more Spent t old new c d f g p q noted = record {
-  all = λ w. all_more t new.free old.free c d q.others noted.2 (p.all (sym noted.1 ∙ w));
+pub pass_after_turn : (turned : Turned) (t : ℕ) (old new : Pass) (c d : List ℕ) (f g : Flat) → PassAfterTurns t old c f → Turning turned t c d f g
+    → Noted turned (lead d t) old new → PassAfterTurns (t + 1) new d g
+pass_after_turn Spent t old new c d f g p q noted = record {
+  all = λ w. bound_of_leads_with_one_added t new.free old.free c d q.others noted.2 (p.all (sym noted.1 ∙ w));
   each = λ u l. elim (cases_eq u t) [
     | inl e ↦ inl (subst (λ z. new.free ≤ lead d z) (sym e) (let own = min-le_right old.free (lead d t) in omega (arith, noted.2, own)))
-    | inr ne ↦ still_skips u old.free new.free c d f g q.code (q.rests (λ is. cc is))
+    | inr ne ↦ skips_after_changeless_turn u old.free new.free c d f g q.code (q.rests (λ is. cc is))
         (let less = min-le_left old.free (lead d t) in omega (arith, noted.2, less)) (q.others u ne) (p.each u (omega (arith, l, ne)))
   ];
 }
-pass_more Stepped t old new c d f g p q noted = record {
-  all = λ w. all_more t new.free old.free c d q.others (noted.3 (sym noted.1 ∙ w)) (p.all (sym noted.1 ∙ w));
+pass_after_turn Stepped t old new c d f g p q noted = record {
+  all = λ w. bound_of_leads_with_one_added t new.free old.free c d q.others (noted.3 (sym noted.1 ∙ w)) (p.all (sym noted.1 ∙ w));
   each = λ u l. by_waited old.waited refl u l;
 }
   where
     by_waited : (b : Bool) → old.waited ≡ b → (u : ℕ) → u < t + 1 → (new.free ≤ lead d u) ⊎ HasNone (machine g) (tables g) u
     by_waited true e u l = inl (let zeros = noted.2 e in omega (arith, zeros))
-    by_waited false e u l = inl (all_more t new.free old.free c d q.others (noted.3 e) (p.all e) u l)
-pass_more Waited t old new c d f g p q noted = record {
+    by_waited false e u l = inl (bound_of_leads_with_one_added t new.free old.free c d q.others (noted.3 e) (p.all e) u l)
+pass_after_turn Waited t old new c d f g p q noted = record {
   all = λ w. absurd (cc (w, noted.1));
   each = λ u l. elim (cases_eq u t) [
     | inl e ↦ inr (subst (HasNone (machine g) (tables g)) (sym e) (q.waits refl))
-    | inr ne ↦ still_skips u old.free new.free c d f g q.code (q.rests (λ is. cc is)) (omega (arith, noted.2)) (q.others u ne)
+    | inr ne ↦ skips_after_changeless_turn u old.free new.free c d f g q.code (q.rests (λ is. cc is)) (omega (arith, noted.2)) (q.others u ne)
         (p.each u (omega (arith, l, ne)))
   ];
 }
 
 -- one turn more of a round, and what it comes to
-pub turn_noted : (turned : Turned) (t k : ℕ) (old new : Pass) (s : State thread.State) (a b e : Progress) (c d f : List ℕ)
+pub round_with_noted_turn_added : (turned : Turned) (t k : ℕ) (old new : Pass) (s : State thread.ThreadState) (a b e : Progress) (c d f : List ℕ)
     (p : WentIf old.moved (range_with_len 0 t) s a c b d) → WentIf (has_moved turned) (t ∷ []) (reached p.went) b d e f
     → Noted turned k old new → WentIf new.moved (range_with_len 0 (t + 1)) s a c e f
-turn_noted Spent t k old new s a b e c d f p q noted =
-    turn_more old.moved new.moved true t s a b e c d f p q (λ z. noted.0) (λ z. absurd (cc z))
-turn_noted Stepped t k old new s a b e c d f p q noted =
-    turn_more old.moved new.moved true t s a b e c d f p q (λ z. noted.0) (λ z. absurd (cc z))
-turn_noted Waited t k old new s a b e c d f p q noted =
-    turn_more old.moved new.moved false t s a b e c d f p q (λ z. absurd (cc z)) (λ z. noted.0)
+round_with_noted_turn_added Spent t k old new s a b e c d f p q noted =
+    round_with_turn_added old.moved new.moved true t s a b e c d f p q (λ z. noted.0) (λ z. absurd (cc z))
+round_with_noted_turn_added Stepped t k old new s a b e c d f p q noted =
+    round_with_turn_added old.moved new.moved true t s a b e c d f p q (λ z. noted.0) (λ z. absurd (cc z))
+round_with_noted_turn_added Waited t k old new s a b e c d f p q noted =
+    round_with_turn_added old.moved new.moved false t s a b e c d f p q (λ z. absurd (cc z)) (λ z. noted.0)

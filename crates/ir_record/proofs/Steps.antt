@@ -12,26 +12,26 @@ use Rattle.ir_runs.proofs.CallerLemmas.{log_append, end_append, turns_append}
 use Rattle.ir_runs.specs.InOrder.{HasNone, EntersIfFree, InTurn}
 use Rattle.ir_record.specs.Progress.{Progress, Took, TookIf, all_left, labels_at}
 use Rattle.ir_record.specs.Worlds.{answers_at, answers_in}
-use Rattle.ir_record.proofs.Tally.{Few, step_less}
+use Rattle.ir_record.proofs.Tally.{HoldFewObjects, step_leaves_all_fewer}
 
 -- ---- what a step logs
 
-pub log_own : (f : Flat) (t r : ℕ) → log (machine f) (tables f) ((t, r) ∷ []) t ≡ logged (label (machine f) (tables f) (t, r)) []
-log_own f t r = ap (λ b. events (join_if b (thread_of f t, label (machine f) (tables f) (t, r)) [])) (eq-eqb t t refl)
+pub log_of_own_step : (f : Flat) (t r : ℕ) → log (machine f) (tables f) ((t, r) ∷ []) t ≡ logged (label (machine f) (tables f) (t, r)) []
+log_of_own_step f t r = ap (λ b. events (join_if b (thread_of f t, label (machine f) (tables f) (t, r)) [])) (eq-eqb t t refl)
 
-pub log_other : (f : Flat) (t r u : ℕ) → u ≢ t → log (machine f) (tables f) ((t, r) ∷ []) u ≡ []
-log_other f t r u ne = ap (λ b. events (join_if b (thread_of f u, label (machine f) (tables f) (t, r)) [])) (ne_eqb u t ne)
+pub log_of_step_of_other : (f : Flat) (t r u : ℕ) → u ≢ t → log (machine f) (tables f) ((t, r) ∷ []) u ≡ []
+log_of_step_of_other f t r u ne = ap (λ b. events (join_if b (thread_of f u, label (machine f) (tables f) (t, r)) [])) (ne_eqb u t ne)
 
 -- ---- turns that were taken
 
 -- what is no try enters nothing
-pub no_try : (f : Flat) (t r : ℕ) (q : Ask) → ask_of f.code (thread_of f t) ≡ q → ((o : ℕ) → shared_ask q ≢ machine.Try o)
+pub ask_not_try_enters_if_free : (f : Flat) (t r : ℕ) (q : Ask) → ask_of f.code (thread_of f t) ≡ q → ((o : ℕ) → shared_ask q ≢ machine.Try o)
     → EntersIfFree (machine f) (tables f) (t, r)
-no_try f t r q is never o tries can = absurd (never o (sym (ap shared_ask is) ∙ tries))
+ask_not_try_enters_if_free f t r q is never o tries can = absurd (never o (sym (ap shared_ask is) ∙ tries))
 
 -- nothing happens in the turn of a thread that has no step
-pub took_none : (t : ℕ) (a b : Progress) → HasNone (machine a.flat) (tables a.flat) t → b ≡ a → TookIf false (t ∷ []) a b
-took_none t a b none same = subst (TookIf false (t ∷ []) a) (sym same) (record {
+pub turn_without_step_changes_nothing : (t : ℕ) (a b : Progress) → HasNone (machine a.flat) (tables a.flat) t → b ≡ a → TookIf false (t ∷ []) a b
+turn_without_step_changes_nothing t a b none same = subst (TookIf false (t ∷ []) a) (sym same) (record {
   took = record {
     run = [];
     turns = inl (none, refl);
@@ -50,7 +50,7 @@ took_none t a b none same = subst (TookIf false (t ∷ []) a) (sym same) (record
 -- a step of thread t that emits k
 pub record OneStep (t r : ℕ) (k : Label) (a b : Progress) : Type 0 where
   pub below : t < length a.flat.threads
-  pub few : Few (tables a.flat)
+  pub few : HoldFewObjects (tables a.flat)
   pub can : Can (machine a.flat) (tables a.flat) (t, r)
   pub enters : EntersIfFree (machine a.flat) (tables a.flat) (t, r)
   pub taken : tables b.flat ≡ after (machine a.flat) (tables a.flat) (t, r)
@@ -63,8 +63,8 @@ pub record OneStep (t r : ℕ) (k : Label) (a b : Progress) : Type 0 where
   pub other_logs : (u : ℕ) → u ≢ t → labels_at b.logs u ≡ labels_at a.logs u
   pub other_answers : (u : ℕ) → u ≢ t → answers_at b.answers u ≡ answers_at a.answers u
 
-unfoldable pub took_step : (t r : ℕ) (k : Label) (a b : Progress) → OneStep t r k a b → Took (t ∷ []) a b
-took_step t r k a b s = record {
+unfoldable pub took_turn_by_step : (t r : ℕ) (k : Label) (a b : Progress) → OneStep t r k a b → Took (t ∷ []) a b
+took_turn_by_step t r k a b s = record {
   run = (t, r) ∷ [];
   turns = inr (r, [], refl, s.can, s.enters, refl);
   ends = s.taken;
@@ -73,49 +73,49 @@ took_step t r k a b s = record {
   objects = s.objects;
   logs = λ u l. elim (cases_eq u t) [
     | inl e ↦ subst (λ z. labels_at b.logs z ≡ labels_at a.logs z ++ log (machine a.flat) (tables a.flat) ((t, r) ∷ []) z) (sym e)
-        (s.own_log ∙ ap (λ z. labels_at a.logs t ++ z) (sym (log_own a.flat t r ∙ ap (λ z. logged z []) s.emits)))
+        (s.own_log ∙ ap (λ z. labels_at a.logs t ++ z) (sym (log_of_own_step a.flat t r ∙ ap (λ z. logged z []) s.emits)))
     | inr ne ↦ s.other_logs u ne ∙ sym (append-nil (labels_at a.logs u))
-        ∙ ap (λ z. labels_at a.logs u ++ z) (sym (log_other a.flat t r u ne))
+        ∙ ap (λ z. labels_at a.logs u ++ z) (sym (log_of_step_of_other a.flat t r u ne))
   ];
   answers = λ u l. elim (cases_eq u t) [
     | inl e ↦ subst (λ z. answers_at b.answers z ≡ answers_at a.answers z ++ answers_in
         (log (machine a.flat) (tables a.flat) ((t, r) ∷ []) z)) (sym e)
-        (s.own_answers ∙ ap (λ z. answers_at a.answers t ++ answers_in z) (sym (log_own a.flat t r ∙ ap (λ z. logged z []) s.emits)))
+        (s.own_answers ∙ ap (λ z. answers_at a.answers t ++ answers_in z) (sym (log_of_own_step a.flat t r ∙ ap (λ z. logged z []) s.emits)))
     | inr ne ↦ s.other_answers u ne ∙ sym (append-nil (answers_at a.answers u))
-        ∙ ap (λ z. answers_at a.answers u ++ answers_in z) (sym (log_other a.flat t r u ne))
+        ∙ ap (λ z. answers_at a.answers u ++ answers_in z) (sym (log_of_step_of_other a.flat t r u ne))
   ];
   fewer = subst (λ z. all_left (length a.flat.threads) z.now + 1 ≤ all_left (length a.flat.threads) (thread_of a.flat)) (sym s.taken)
-      (step_less a.flat.code (length a.flat.threads) (tables a.flat) (t, r) s.few s.below s.can);
+      (step_leaves_all_fewer a.flat.code (length a.flat.threads) (tables a.flat) (t, r) s.few s.below s.can);
 }
 
-pub took_one : (t r : ℕ) (k : Label) (a b : Progress) → OneStep t r k a b → TookIf true (t ∷ []) a b
-unfolding took_step
-took_one t r k a b s = record {
-  took = took_step t r k a b s;
+pub turn_taken_by_step : (t r : ℕ) (k : Label) (a b : Progress) → OneStep t r k a b → TookIf true (t ∷ []) a b
+unfolding took_turn_by_step
+turn_taken_by_step t r k a b s = record {
+  took = took_turn_by_step t r k a b s;
   some = λ e. (let one : 0 < suc zero = omega arith in one);
   none =
       λ e. absurd cc;
 }
 
-answers_logged : (k : Label) (ys : List Label) → answers_in (logged k ys) ≡ answers_in (logged k []) ++ answers_in ys
-answers_logged Quiet ys = refl
-answers_logged (Answer i v) ys = refl
-answers_logged (In o a v l) ys = refl
-answers_logged (Refused o) ys = refl
-answers_logged (Out o a v) ys = refl
+answers_in_logged : (k : Label) (ys : List Label) → answers_in (logged k ys) ≡ answers_in (logged k []) ++ answers_in ys
+answers_in_logged Quiet ys = refl
+answers_in_logged (Answer i v) ys = refl
+answers_in_logged (In o a v l) ys = refl
+answers_in_logged (Refused o) ys = refl
+answers_in_logged (Out o a v) ys = refl
 
-pub answers_append : (xs ys : List Label) → answers_in (xs ++ ys) ≡ answers_in xs ++ answers_in ys
-answers_append [] ys = refl
-answers_append (Quiet ∷ xs) ys = answers_append xs ys
-answers_append (Answer i v ∷ xs) ys = ap (λ z. (i, v) ∷ z) (answers_append xs ys)
-answers_append (In o a v l ∷ xs) ys = answers_append xs ys
-answers_append (Refused o ∷ xs) ys = answers_append xs ys
-answers_append (Out o a v ∷ xs) ys = answers_append xs ys
+pub answers_in_append : (xs ys : List Label) → answers_in (xs ++ ys) ≡ answers_in xs ++ answers_in ys
+answers_in_append [] ys = refl
+answers_in_append (Quiet ∷ xs) ys = answers_in_append xs ys
+answers_in_append (Answer i v ∷ xs) ys = ap (λ z. (i, v) ∷ z) (answers_in_append xs ys)
+answers_in_append (In o a v l ∷ xs) ys = answers_in_append xs ys
+answers_in_append (Refused o ∷ xs) ys = answers_in_append xs ys
+answers_in_append (Out o a v ∷ xs) ys = answers_in_append xs ys
 
 -- ---- turns one after the other
 
-unfoldable pub took_nothing : (a : Progress) → Took [] a a
-took_nothing a = record {
+unfoldable pub took_no_turns : (a : Progress) → Took [] a a
+took_no_turns a = record {
   run = [];
   turns = refl;
   ends = refl;
@@ -128,18 +128,18 @@ took_nothing a = record {
 }
 
 -- the same run on the machine and state at which it begins
-pub log_there : (a b : Progress) (first : List Step) (run : List Step) (t : ℕ) → b.flat.code ≡ a.flat.code
+pub log_same_on_first_machine : (a b : Progress) (first : List Step) (run : List Step) (t : ℕ) → b.flat.code ≡ a.flat.code
     → tables b.flat ≡ end (machine a.flat) (tables a.flat) first
     → log (machine b.flat) (tables b.flat) run t ≡ log (machine a.flat) (end (machine a.flat) (tables a.flat) first) run t
-log_there a b first run t code ends = ap (λ c. log (thread_machine c) (tables b.flat) run t) code
+log_same_on_first_machine a b first run t code ends = ap (λ c. log (thread_machine c) (tables b.flat) run t) code
     ∙ ap (λ s. log (machine a.flat) s run t) ends
 
-unfoldable pub took_both : (order more : List ℕ) (a b c : Progress) → Took order a b → Took more b c → Took (order ++ more) a c
-took_both order more a b c p q =
+unfoldable pub took_both_orders : (order more : List ℕ) (a b c : Progress) → Took order a b → Took more b c → Took (order ++ more) a c
+took_both_orders order more a b c p q =
     let logs_of : (t : ℕ) → log (machine a.flat) (tables a.flat) (p.run ++ q.run) t ≡ log (machine a.flat) (tables a.flat) p.run t ++ log
     (machine b.flat) (tables b.flat) q.run t =
     λ t. log_append (machine a.flat) (tables a.flat) p.run q.run t
-    ∙ ap (λ z. log (machine a.flat) (tables a.flat) p.run t ++ z) (sym (log_there a b p.run q.run t p.code p.ends)) in
+    ∙ ap (λ z. log (machine a.flat) (tables a.flat) p.run t ++ z) (sym (log_same_on_first_machine a b p.run q.run t p.code p.ends)) in
     record {
       run = p.run ++ q.run;
       turns = turns_append (machine a.flat) (tables a.flat) order more p.run q.run p.turns
@@ -158,7 +158,7 @@ took_both order more a b c p q =
           ∙ append_assoc (answers_at a.answers t) (answers_in (log (machine a.flat) (tables a.flat) p.run t))
           (answers_in (log (machine b.flat) (tables b.flat) q.run t))
           ∙ ap (λ z. answers_at a.answers t ++ z)
-          (sym (answers_append (log (machine a.flat) (tables a.flat) p.run t) (log (machine b.flat) (tables b.flat) q.run t))
+          (sym (answers_in_append (log (machine a.flat) (tables a.flat) p.run t) (log (machine b.flat) (tables b.flat) q.run t))
           ∙ ap answers_in (sym (logs_of t)));
       fewer = let more_left = subst (λ n. all_left n (tables c.flat).now + length q.run ≤ all_left n (tables b.flat).now) p.threads
           q.fewer in

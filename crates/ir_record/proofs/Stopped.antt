@@ -10,7 +10,7 @@ use Rattle.ir_thread.specs.Instance.{shared_ask, thread_machine}
 use Rattle.ir_thread.specs.State as thread
 use Rattle.ir_runs.specs.Machine as machine
 use Rattle.ir_flat.specs.Flat.{Flat, thread_of, tables, machine, start_flat}
-use Rattle.ir_flat.proofs.CallerLemmas.{threads_length}
+use Rattle.ir_flat.proofs.CallerLemmas.{length_of_start_threads}
 use Rattle.ir_runs.specs.Run.{State, Step, asked, end, log}
 use Rattle.ir_runs.specs.InOrder.{InTurn, rounds}
 use Rattle.ir_runs.proofs.CallerLemmas.{log_append, end_append, turns_append}
@@ -20,19 +20,19 @@ use Rattle.ir_record.specs.Failures.{IsUnanswered, StoppedAt}
 use Rattle.ir_record.specs.Progress.{Progress, Took, IsReady}
 use Rattle.ir_record.specs.Worlds.{answers_at, Answered, answers_in}
 use Rattle.ir_record.specs.Recording.{StoppedInOrder}
-use Rattle.ir_record.proofs.Ended.{start, started, new_log}
-use Rattle.ir_record.proofs.Going.{reached, range_last}
-use Rattle.ir_record.proofs.Steps.{answers_append}
+use Rattle.ir_record.proofs.Ended.{start, made_recording_is_start, new_log}
+use Rattle.ir_record.proofs.Going.{reached, range_from_zero_with_last}
+use Rattle.ir_record.proofs.Steps.{answers_in_append}
 
 -- the error that a `?` hands on
-pub if_error : {A E : Type 0} (P : E → Type 0) (r : Result A E) (e : E) → IsErrAnd r (λ x. x ≡ e) → P e → IfErr r P
-if_error P (Ok x) e h p = tt
-if_error P (Err x) e h p = subst P (sym h) p
+pub if_err_holds_of_error : {A E : Type 0} (P : E → Type 0) (r : Result A E) (e : E) → IsErrAnd r (λ x. x ≡ e) → P e → IfErr r P
+if_err_holds_of_error P (Ok x) e h p = tt
+if_err_holds_of_error P (Err x) e h p = subst P (sym h) p
 
 -- a turn in which the thread asks its world, in any state in which it is the same
-pub stopped_here : (t : ℕ) (s : State thread.State) (p : Progress) (named : ℕ) (answers : List (List Answered)) (failed : List Bool)
+pub stopped_at_own_turn : (t : ℕ) (s : State thread.ThreadState) (p : Progress) (named : ℕ) (answers : List (List Answered)) (failed : List Bool)
     → IsReady p failed → s.now t ≡ thread_of p.flat t → IsUnanswered t p named answers → StoppedAt (t ∷ []) s p named answers
-stopped_here t s p named answers failed ready same h = record {
+stopped_at_own_turn t s p named answers failed ready same h = record {
   taken = [];
   left = [];
   so_far = ap (λ z. z ∷ []) (sym h.named_is);
@@ -46,9 +46,9 @@ stopped_here t s p named answers failed ready same h = record {
 }
 
 -- the turns of a longer order
-pub stopped_within : (order more whole : List ℕ) (s : State thread.State) (p : Progress) (named : ℕ) (answers : List (List Answered))
+pub stopped_in_longer_order : (order more whole : List ℕ) (s : State thread.ThreadState) (p : Progress) (named : ℕ) (answers : List (List Answered))
     → order ++ more ≡ whole → StoppedAt order s p named answers → StoppedAt whole s p named answers
-stopped_within order more whole s p named answers e h = record {
+stopped_in_longer_order order more whole s p named answers e h = record {
   taken = h.taken;
   left = h.left ++ more;
   so_far = sym e ∙ ap (λ z. z ++ more) h.so_far ∙ append_assoc h.taken (named ∷ h.left) more;
@@ -61,12 +61,12 @@ stopped_within order more whole s p named answers e h = record {
 }
 
 -- turns by a first order, and those of a next one
-stopped_later : (order more : List ℕ) (s : State thread.State) (a b : Progress) (run : List Step) (named : ℕ) (answers : List (List Answered))
+stopped_after_run_of_order : (order more : List ℕ) (s : State thread.ThreadState) (a b : Progress) (run : List Step) (named : ℕ) (answers : List (List Answered))
     → InTurn (machine a.flat) s order run → b.flat.code ≡ a.flat.code → length b.flat.threads ≡ length a.flat.threads
     → ((t : ℕ) → t < length a.flat.threads → answers_at b.answers t ≡ answers_at a.answers t ++ answers_in (log (machine a.flat) s run t))
     → StoppedAt more (end (machine a.flat) s run) b named answers → StoppedAt (order ++ more) s a named answers
-stopped_later order more s a b run named answers turns code threads given h =
-    let mid : State thread.State = end (machine a.flat) s run in
+stopped_after_run_of_order order more s a b run named answers turns code threads given h =
+    let mid : State thread.ThreadState = end (machine a.flat) s run in
     let logs_of : (t : ℕ) → log (machine a.flat) s (run ++ h.run) t ≡ log (machine a.flat) s run t ++ log (machine b.flat) mid h.run t =
     λ t. log_append (machine a.flat) s run h.run t
     ∙ ap (λ z. log (machine a.flat) s run t ++ z) (sym (ap (λ k. log (thread_machine k) mid h.run t) code)) in
@@ -85,55 +85,55 @@ stopped_later order more s a b run named answers turns code threads given h =
           ∙ ap (λ z. z ++ answers_in (log (machine b.flat) mid h.run t)) (given t l)
           ∙ append_assoc (answers_at a.answers t) (answers_in (log (machine a.flat) s run t)) (answers_in (log (machine b.flat) mid h.run t))
           ∙ ap (λ z. answers_at a.answers t ++ z)
-          (sym (answers_append (log (machine a.flat) s run t) (log (machine b.flat) mid h.run t)) ∙ ap answers_in (sym (logs_of t)));
+          (sym (answers_in_append (log (machine a.flat) s run t) (log (machine b.flat) mid h.run t)) ∙ ap answers_in (sym (logs_of t)));
     }
 
-pub stopped_after : (order more : List ℕ) (a b : Progress) (named : ℕ) (answers : List (List Answered)) → Took order a b
+pub stopped_after_turns : (order more : List ℕ) (a b : Progress) (named : ℕ) (answers : List (List Answered)) → Took order a b
     → StoppedAt more (tables b.flat) b named answers → StoppedAt (order ++ more) (tables a.flat) a named answers
-stopped_after order more a b named answers p h = stopped_later order more (tables a.flat) a b p.run named answers p.turns p.code p.threads
+stopped_after_turns order more a b named answers p h = stopped_after_run_of_order order more (tables a.flat) a b p.run named answers p.turns p.code p.threads
     p.answers (subst (λ s. StoppedAt more s b named answers) p.ends h)
 
 -- the same where threads are ahead
-pub stopped_ahead : (order more : List ℕ) (s : State thread.State) (a b : Progress) (c d : List ℕ) (named : ℕ)
+pub stopped_after_turns_ahead : (order more : List ℕ) (s : State thread.ThreadState) (a b : Progress) (c d : List ℕ) (named : ℕ)
     (answers : List (List Answered)) (p : Went order s a c b d) → StoppedAt more (reached p) b named answers
     → StoppedAt (order ++ more) s a named answers
-stopped_ahead order more s a b c d named answers p h =
-    stopped_later order more s a b p.run named answers p.turns p.code p.threads p.answers h
+stopped_after_turns_ahead order more s a b c d named answers p h =
+    stopped_after_run_of_order order more s a b p.run named answers p.turns p.code p.threads p.answers h
 
 -- n numbers, and then the others
-pub range_split : (from n more : ℕ) → range_with_len from n ++ range_with_len (from + n) more ≡ range_with_len from (n + more)
-range_split from zero more = ap (λ k. range_with_len k more) (let e : from + 0 ≡ from = omega arith in e)
+pub range_splits_in_two : (from n more : ℕ) → range_with_len from n ++ range_with_len (from + n) more ≡ range_with_len from (n + more)
+range_splits_in_two from zero more = ap (λ k. range_with_len k more) (let e : from + 0 ≡ from = omega arith in e)
     ∙ ap (range_with_len from) (let e : more ≡ 0 + more = omega arith in e)
-range_split from (suc n) more = ap (λ xs. from ∷ xs)
+range_splits_in_two from (suc n) more = ap (λ xs. from ∷ xs)
     (ap (λ k. range_with_len (from + 1) n ++ range_with_len k more) (let e : from + suc n ≡ from + 1 + n = omega arith in e)
-    ∙ range_split (from + 1) n more)
+    ∙ range_splits_in_two (from + 1) n more)
     ∙ ap (range_with_len from) (let e : suc (n + more) ≡ suc n + more = omega arith in e)
 
 -- the numbers below t, t, and those after it
-pub range_all : (t n : ℕ) → t < n → (range_with_len 0 t ++ t ∷ []) ++ range_with_len (t + 1) (n - (t + 1)) ≡ range_with_len 0 n
-range_all t n l = ap (λ z. z ++ range_with_len (t + 1) (n - (t + 1))) (range_last t)
+pub range_splits_at_number : (t n : ℕ) → t < n → (range_with_len 0 t ++ t ∷ []) ++ range_with_len (t + 1) (n - (t + 1)) ≡ range_with_len 0 n
+range_splits_at_number t n l = ap (λ z. z ++ range_with_len (t + 1) (n - (t + 1))) (range_from_zero_with_last t)
     ∙ ap (λ k. range_with_len 0 (t + 1) ++ range_with_len k (n - (t + 1))) (let e : t + 1 ≡ 0 + (t + 1) = omega arith in e)
-    ∙ range_split 0 (t + 1) (n - (t + 1)) ∙ ap (range_with_len 0) (let e : t + 1 + (n - (t + 1)) ≡ n = omega (arith, l) in e)
+    ∙ range_splits_in_two 0 (t + 1) (n - (t + 1)) ∙ ap (range_with_len 0) (let e : t + 1 + (n - (t + 1)) ≡ n = omega (arith, l) in e)
 
 -- the turns of one thread before the last one that was taken, that one, and those after it
-pub turns_all : (t count left ran : ℕ) → left ≤ count → 0 < left → ran ≤ left - 1
+pub turns_split_at_last_taken : (t count left ran : ℕ) → left ≤ count → 0 < left → ran ≤ left - 1
     → (replicate (count - left + ran) t ++ t ∷ []) ++ replicate (left - (ran + 1)) t ≡ replicate count t
-turns_all t count left ran l some few = ap (λ z. z ++ replicate (left - (ran + 1)) t) (replicate-append-replicate (count - left + ran) 1 t)
+turns_split_at_last_taken t count left ran l some few = ap (λ z. z ++ replicate (left - (ran + 1)) t) (replicate-append-replicate (count - left + ran) 1 t)
     ∙ replicate-append-replicate (count - left + ran + 1) (left - (ran + 1)) t
     ∙ ap (λ k. replicate k t) (let e : count - left + ran + 1 + (left - (ran + 1)) ≡ count = omega (arith, l, some, few) in e)
 
 -- the turns from the guest's start
-pub stopped_there : {guest : Guest} {budget : ℕ} {profile : Profile} {order : List ℕ} {before answers : List (List Answered)}
+pub stopped_in_order_from_start : {guest : Guest} {budget : ℕ} {profile : Profile} {order : List ℕ} {before answers : List (List Answered)}
     {f : Flat} {logs : List Logged} {named : ℕ} → f ≡ start_flat guest budget profile → logs ≡ replicate (length guest.entries) new_log
     → ((count : ℕ) × StoppedAt (order ++ rounds (length f.threads) count) (tables f) (record { flat = f; logs = logs; answers = before })
     named answers) → StoppedInOrder guest budget profile order named before answers
-stopped_there {guest} {budget} {profile} {order} {before} {answers} {f} {logs} {named} p q k =
+stopped_in_order_from_start {guest} {budget} {profile} {order} {before} {answers} {f} {logs} {named} p q k =
     let size : length (start_flat guest budget profile).threads ≡ length guest.entries =
-    threads_length guest budget profile 0 (length guest.entries) in
+    length_of_start_threads guest budget profile 0 (length guest.entries) in
     let h : StoppedAt (order ++ rounds (length f.threads) k.0) (tables (start_flat guest budget profile)) (start guest budget profile before)
     named answers =
     subst (λ z. StoppedAt (order ++ rounds (length f.threads) k.0) (tables z.flat) z named answers)
-    (started guest budget profile before p q) k.1 in
+    (made_recording_is_start guest budget profile before p q) k.1 in
     record {
       count = k.0;
       taken = h.taken;

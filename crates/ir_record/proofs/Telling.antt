@@ -10,7 +10,7 @@ use Rattle.ir_thread.specs.State as thread
 use Rattle.ir_thread.specs.declared.end.End as end
 use Rattle.ir_flat.specs.Flat.{start_flat, tables}
 use Rattle.ir_runs.specs.Run.{Step, IsRun, IsDone, end, log, count}
-use Rattle.ir_flat.proofs.CallerLemmas.{tally, no_steps}
+use Rattle.ir_flat.proofs.CallerLemmas.{tallies_along_run, start_thread_has_no_steps}
 use Rattle.ir_log.specs.Logged.{Logged}
 use Rattle.ir_log.specs.Logging.{label_of}
 use Rattle.ir_trace.specs.Recorded.{Recorded, RecordedThread, absent}
@@ -19,7 +19,7 @@ use Rattle.ir_record.specs.Worlds.{answers_at, Answered, answers_in}
 use Rattle.ir_record.specs.Recording.{IsTraceOf, AreOutputs, AreAnswers}
 
 -- the threads at the end of the run, the logs of what they did in it, and their worlds' answers
-pub record StandAtEnd (guest : Guest) (budget : ℕ) (profile : Profile) (run : List Step) (before : List (List Answered)) (now : ℕ → thread.State)
+pub record StandAtEnd (guest : Guest) (budget : ℕ) (profile : Profile) (run : List Step) (before : List (List Answered)) (now : ℕ → thread.ThreadState)
     (logs : ℕ → Logged) (answers : ℕ → List Answered) : Type 0 where
   pub runs : IsRun (thread_machine guest.code) (tables (start_flat guest budget profile)) run
   pub threads : (t : ℕ) → t < length guest.entries → now t ≡ (end (thread_machine guest.code) (tables (start_flat guest budget profile)) run).now t
@@ -29,12 +29,12 @@ pub record StandAtEnd (guest : Guest) (budget : ℕ) (profile : Profile) (run : 
       → answers t ≡ answers_at before t ++ answers_in (log (thread_machine guest.code) (tables (start_flat guest budget profile)) run t)
 
 -- the end that is reported of a recorded thread
-ends_by : (r : RecordedThread) (x : Option end.End) → x ≡ Some r.end
+recorded_end_as_numbers : (r : RecordedThread) (x : Option end.End) → x ≡ Some r.end
     → ◌≡◌ {A = Option (ℕ × ℕ)} (Some (end_number r.end, end_code r.end)) (option_map (λ e. (end_number e, end_code e)) x)
-ends_by r x e = ap (option_map (λ k. (end_number k, end_code k))) (sym e)
+recorded_end_as_numbers r x e = ap (option_map (λ k. (end_number k, end_code k))) (sym e)
 
 module _ {guest : Guest} {budget : ℕ} {profile : Profile} {run : List Step} {before : List (List Answered)}
-    {now : ℕ → thread.State} {logs : ℕ → Logged} {given : ℕ → List Answered}
+    {now : ℕ → thread.ThreadState} {logs : ℕ → Logged} {given : ℕ → List Answered}
     (s : StandAtEnd guest budget profile run before now logs given) where
   pub emitted_there : IsDone (thread_machine guest.code) (end (thread_machine guest.code) (tables (start_flat guest budget profile)) run)
       → (trace : Recorded)
@@ -50,13 +50,13 @@ module _ {guest : Guest} {budget : ℕ} {profile : Profile} {run : List Step} {b
       runs = s.runs;
       done = done;
       steps = λ t l. sym ((each t l).steps ∙ ap (λ x. x.steps) (s.threads t l)
-          ∙ (tally guest.code (tables (start_flat guest budget profile)) run s.runs t).steps
+          ∙ (tallies_along_run guest.code (tables (start_flat guest budget profile)) run s.runs t).steps
           ∙ ap (λ k. k + count (thread_machine guest.code) (tables (start_flat guest budget profile)) run t)
-          (no_steps guest budget profile 0 (length guest.entries) t)
+          (start_thread_has_no_steps guest budget profile 0 (length guest.entries) t)
           ∙ (let e : 0 + count (thread_machine guest.code) (tables (start_flat guest budget profile)) run t ≡ count (thread_machine guest.code)
           (tables (start_flat guest budget profile)) run t = omega arith in e));
       logs = λ t l. sym (ap (map label_of) (each t l).events ∙ s.logged t l);
-      ends = λ t l. sym (ends_by (get_or trace.threads t absent) (now t).ended (each t l).end
+      ends = λ t l. sym (recorded_end_as_numbers (get_or trace.threads t absent) (now t).ended (each t l).end
           ∙ ap (thread_machine guest.code).ended (s.threads t l));
     };
   }

@@ -5,32 +5,32 @@ use Rattle.ir_thread.specs.Permitted.{Permits}
 use Rattle.ir_thread.specs.Instance.{shared_ask}
 use Rattle.ir_thread.specs.declared.ask.Ask.TheVariants.{Try}
 use Rattle.ir_thread.specs.declared.profile.Profile.{Profile}
-use Rattle.ir_thread.proofs.CallerLemmas.{ask_permits}
+use Rattle.ir_thread.proofs.CallerLemmas.{ask_of_permitted}
 use Rattle.ir_runs.specs.Machine as machine
 use Rattle.ir_runs.specs.Machine.{act_of, target, emitted, Admits, Label, Refused}
 use Rattle.ir_runs.specs.declared.access.Access.TheVariants.{Writing}
 use Rattle.ir_runs.specs.Run.{Can, after}
 use Rattle.ir_flat.specs.Flat.{Flat, thread_of, tables, machine as machine_of, IsFlat}
-use Rattle.ir_flat.proofs.CallerLemmas.{added, try_object}
+use Rattle.ir_flat.proofs.CallerLemmas.{events_added_by, tried_object_is_of_state}
 use Rattle.ir_log.specs.Logged.{Logged}
 use Rattle.ir_log.specs.Logging.{label_of}
 use Rattle.ir_log.specs.declared.event.Event.{Event}
 use Rattle.ir_log.specs.declared.event.Event.TheVariants as event
 use Rattle.ir_trace.specs.Within.{IsEvent}
 use Rattle.ir_record.specs.Progress.{IsTape, log_at}
-use Rattle.ir_record.proofs.Entering.{OneEvent, emits_asked, entry_logged, entry_unanswered}
+use Rattle.ir_record.proofs.Entering.{OneEventLogged, label_is_of_ask, entry_logs_itself, entry_logs_no_answer}
 
 -- there is room to log a try
-pub tries_room : (f : Flat) (t o : ℕ) → ask_of f.code (thread_of f t) ≡ Try o → (thread_of f t).events < most_events
-tries_room f t o is = (subst (Permits (thread_of f t)) is (ask_permits f.code (thread_of f t))).1
+pub room_to_log_try : (f : Flat) (t o : ℕ) → ask_of f.code (thread_of f t) ≡ Try o → (thread_of f t).events < most_events
+room_to_log_try f t o is = (subst (Permits (thread_of f t)) is (ask_of_permitted f.code (thread_of f t))).1
 
 -- a try may always be refused
-pub refused_can : (f : Flat) (t o : ℕ) → ask_of f.code (thread_of f t) ≡ Try o → Can (machine_of f) (tables f) (t, 0)
-refused_can f t o is = subst (λ q. Admits (machine_of f) (act_of (shared_ask q) 0) ((tables f).objects (target (act_of (shared_ask q) 0))))
+pub refused_try_can_be_taken : (f : Flat) (t o : ℕ) → ask_of f.code (thread_of f t) ≡ Try o → Can (machine_of f) (tables f) (t, 0)
+refused_try_can_be_taken f t o is = subst (λ q. Admits (machine_of f) (act_of (shared_ask q) 0) ((tables f).objects (target (act_of (shared_ask q) 0))))
     (sym is) tt
 
 -- a try was taken with this result, and this event was logged of it
-pub record Trying (f g : Flat) (logs more : List Logged) (t o r : ℕ) (e : Event) : Type 0 where
+pub record TryLogged (f g : Flat) (logs more : List Logged) (t o r : ℕ) (e : Event) : Type 0 where
   pub tape : IsTape f logs
   pub flat : IsFlat f
   pub below : t < length f.threads
@@ -49,17 +49,17 @@ abbrev pub entry_label : Flat → ℕ → Label
 entry_label f o = emitted (machine.Entry o Writing 0) ((tables f).objects o)
 
 -- it entered
-pub tried_in : (f g : Flat) (logs more : List Logged) (t o : ℕ) (e : Event) → Trying f g logs more t o 1 e → label_of e ≡ entry_label f o
-    → ((profile : Profile) → IsEvent profile (length f.objects) e) → OneEvent f g logs more t 1 (entry_label f o) e
-tried_in f g logs more t o e x emits fits = record {
+pub entering_try_logs_one_event : (f g : Flat) (logs more : List Logged) (t o : ℕ) (e : Event) → TryLogged f g logs more t o 1 e → label_of e ≡ entry_label f o
+    → ((profile : Profile) → IsEvent profile (length f.objects) e) → OneEventLogged f g logs more t 1 (entry_label f o) e
+entering_try_logs_one_event f g logs more t o e x emits fits = record {
   tape = x.tape;
   flat = x.flat;
   below = x.below;
-  one = ap added x.asked;
-  emits = emits_asked f t 1 (Try o) x.asked;
+  one = ap events_added_by x.asked;
+  emits = label_is_of_ask f t 1 (Try o) x.asked;
   event = emits;
-  once = entry_logged o Writing 0 ((tables f).objects o);
-  unanswered = entry_unanswered o Writing 0 ((tables f).objects o);
+  once = entry_logs_itself o Writing 0 ((tables f).objects o);
+  unanswered = entry_logs_no_answer o Writing 0 ((tables f).objects o);
   fits = fits (thread_of f t).profile;
   can = x.can;
   enters = λ i tries can. refl;
@@ -73,20 +73,20 @@ tried_in f g logs more t o e x emits fits = record {
 }
 
 -- it was refused, where it can't enter
-pub tried_out : (f g : Flat) (logs more : List Logged) (t o : ℕ) → Trying f g logs more t o 0 (event.Try o)
-    → (Can (machine_of f) (tables f) (t, 1) → ⊥) → OneEvent f g logs more t 0 (Refused o) (event.Try o)
-tried_out f g logs more t o x never = record {
+pub refused_try_logs_one_event : (f g : Flat) (logs more : List Logged) (t o : ℕ) → TryLogged f g logs more t o 0 (event.Try o)
+    → (Can (machine_of f) (tables f) (t, 1) → ⊥) → OneEventLogged f g logs more t 0 (Refused o) (event.Try o)
+refused_try_logs_one_event f g logs more t o x never = record {
   tape = x.tape;
   flat = x.flat;
   below = x.below;
-  one = ap added x.asked;
-  emits = emits_asked f t 0 (Try o) x.asked;
+  one = ap events_added_by x.asked;
+  emits = label_is_of_ask f t 0 (Try o) x.asked;
   event = refl;
   once = refl;
   unanswered = refl;
   fits = (
-    (subst (Permits (thread_of f t)) x.asked (ask_permits f.code (thread_of f t))).4,
-    try_object f t o x.flat x.below x.asked,
+    (subst (Permits (thread_of f t)) x.asked (ask_of_permitted f.code (thread_of f t))).4,
+    tried_object_is_of_state f t o x.flat x.below x.asked,
   );
   can = x.can;
   enters = λ i tries can. absurd (never can);

@@ -22,11 +22,11 @@ use Rattle.ir_thread.specs.declared.ask.Ask.TheVariants as ask
 use Rattle.ir_runs.specs.declared.env_kind.EnvKind.{EnvKind}
 use Rattle.ir_thread.specs.declared.ask.Reply.TheVariants.{Go}
 use Rattle.ir_thread.specs.declared.profile.Profile.TheVariants.{Two}
-use Rattle.ir_thread.proofs.CallerLemmas.{ask_permits, lawful}
+use Rattle.ir_thread.proofs.CallerLemmas.{ask_of_permitted, thread_machine_is_lawful}
 use Rattle.ir_object.specs.Order.{Shared, keep_if, inside_if, inside_after}
-use Rattle.ir_object.proofs.CallerLemmas.{inside_more}
+use Rattle.ir_object.proofs.CallerLemmas.{inside_after_step}
 use Rattle.ir_flat.specs.Lone.{MayReply, alone_label}
-use Rattle.ir_flat.proofs.CallerLemmas.{added, events_added, held_length}
+use Rattle.ir_flat.proofs.CallerLemmas.{events_added_by, events_after_ask, length_of_held_after_ask}
 use Rattle.ir_log.specs.Logged.{Logged}
 use Rattle.ir_log.specs.Logging as logging
 use Rattle.ir_log.specs.declared.event.Event.{Event}
@@ -37,81 +37,81 @@ use Rattle.ir_crew.specs.Rule.{shared_by, shared_of, label_of, one_if_entry, ent
 use Rattle.ir_crew.specs.declared.deed.Deed.{Deed}
 use Rattle.ir_crew.specs.declared.deed.Deed.TheVariants.{Leave}
 use Rattle.ir_crew.specs.declared.deed.ObjectStep.{ObjectStep}
-use Rattle.ir_crew.proofs.CallerLemmas.{entries_more, track, act, target_by}
+use Rattle.ir_crew.proofs.CallerLemmas.{entries_with_step_added, track, step_of_deed, target_of_deed}
 use Rattle.ir_record.specs.Worlds.{Answered, answers_in}
 use Rattle.ir_record.specs.declared.worker.Worker.{Worker}
 use Rattle.ir_record.specs.Working.{Work, IsWorking, StillWorks, IsOwn, IsInside, IsSeated, Stays}
-use Rattle.ir_record.proofs.Profiles.{asks_profile}
-use Rattle.ir_record.proofs.Working.{worked_more, held_own, held_inside}
+use Rattle.ir_record.proofs.Profiles.{profile_after_ask}
+use Rattle.ir_record.proofs.Working.{worked_with_reply_added, held_after_own_act, held_after_is_inside_if}
 
-map_join : {A B : Type 0} (f : A → B) (xs ys : List A) → map f (xs ++ ys) ≡ map f xs ++ map f ys
-map_join f [] ys = refl
-map_join f (x ∷ xs) ys = ap (λ z. f x ∷ z) (map_join f xs ys)
+map_of_append : {A B : Type 0} (f : A → B) (xs ys : List A) → map f (xs ++ ys) ≡ map f xs ++ map f ys
+map_of_append f [] ys = refl
+map_of_append f (x ∷ xs) ys = ap (λ z. f x ∷ z) (map_of_append f xs ys)
 
-answers_join : (xs ys : List Label) → answers_in (xs ++ ys) ≡ answers_in xs ++ answers_in ys
-answers_join [] ys = refl
-answers_join (Quiet ∷ xs) ys = answers_join xs ys
-answers_join (Answer k v ∷ xs) ys = ap (λ z. (k, v) ∷ z) (answers_join xs ys)
-answers_join (In o a v l ∷ xs) ys = answers_join xs ys
-answers_join (Rattle.ir_runs.specs.Machine.Refused o ∷ xs) ys = answers_join xs ys
-answers_join (Out o a v ∷ xs) ys = answers_join xs ys
+answers_in_append : (xs ys : List Label) → answers_in (xs ++ ys) ≡ answers_in xs ++ answers_in ys
+answers_in_append [] ys = refl
+answers_in_append (Quiet ∷ xs) ys = answers_in_append xs ys
+answers_in_append (Answer k v ∷ xs) ys = ap (λ z. (k, v) ∷ z) (answers_in_append xs ys)
+answers_in_append (In o a v l ∷ xs) ys = answers_in_append xs ys
+answers_in_append (Rattle.ir_runs.specs.Machine.Refused o ∷ xs) ys = answers_in_append xs ys
+answers_in_append (Out o a v ∷ xs) ys = answers_in_append xs ys
 
-all_join : {X : Type 0} (P : X → Type 0) (xs ys : List X) → AllByRecursion P xs → AllByRecursion P ys → AllByRecursion P (xs ++ ys)
-all_join P [] ys p q = q
-all_join P (x ∷ xs) ys p q = (p.0, all_join P xs ys p.1 q)
+all_of_append : {X : Type 0} (P : X → Type 0) (xs ys : List X) → AllByRecursion P xs → AllByRecursion P ys → AllByRecursion P (xs ++ ys)
+all_of_append P [] ys p q = q
+all_of_append P (x ∷ xs) ys p q = (p.0, all_of_append P xs ys p.1 q)
 
 -- how a thread is inside an object after a step, which is an object step if b
-inside_keep : (q : Act) (v o : ℕ) (h : ℕ → Option Access) (xs : List Shared) (b : Bool) → is_shared q ≡ b → inside_after o None xs ≡ h o
+inside_after_kept_step : (q : Act) (v o : ℕ) (h : ℕ → Option Access) (xs : List Shared) (b : Bool) → is_shared q ≡ b → inside_after o None xs ≡ h o
     → inside_after o None (xs ++ keep_if b (q, v) []) ≡ held_after q h o
-inside_keep q v o h xs false is e = ap (inside_after o None) (append-nil xs) ∙ e ∙ sym (held_own q h o is)
-inside_keep q v o h xs true is e = inside_more o None xs (q, v) ∙ ap (inside_if (eqb o (Rattle.ir_runs.specs.Machine.target q)) q) e
-    ∙ sym (held_inside q h o is)
+inside_after_kept_step q v o h xs false is e = ap (inside_after o None) (append-nil xs) ∙ e ∙ sym (held_after_own_act q h o is)
+inside_after_kept_step q v o h xs true is e = inside_after_step o None xs (q, v) ∙ ap (inside_if (eqb o (Rattle.ir_runs.specs.Machine.target q)) q) e
+    ∙ sym (held_after_is_inside_if q h o is)
 
-entries_keep : (q : Act) (v : ℕ) (xs : List Shared) (b : Bool) → entries (xs ++ keep_if b (q, v) []) ≤ entries xs + one_if_entry q
-entries_keep q v xs false = let e = ap entries (append-nil xs) in omega (arith, e)
-entries_keep q v xs true = let e = entries_more xs (q, v) in omega (arith, e)
+entries_with_kept_step : (q : Act) (v : ℕ) (xs : List Shared) (b : Bool) → entries (xs ++ keep_if b (q, v) []) ≤ entries xs + one_if_entry q
+entries_with_kept_step q v xs false = let e = ap entries (append-nil xs) in omega (arith, e)
+entries_with_kept_step q v xs true = let e = entries_with_step_added xs (q, v) in omega (arith, e)
 
 -- only entries that are logged are entries
-entry_added : (q : Ask) (v : ℕ) → one_if_entry (act_of (shared_ask q) v) ≤ added q
-entry_added ask.Private v = omega arith
-entry_added (ask.Env kind) v = omega arith
-entry_added (ask.Enter object access) v = omega arith
-entry_added (ask.Try object) zero = omega arith
-entry_added (ask.Try object) (suc zero) = omega arith
-entry_added (ask.Try object) (suc (suc v)) = omega arith
-entry_added (ask.Leave object access) v = omega arith
-entry_added (ask.Get object index) v = omega arith
-entry_added (ask.Put object index value) v = omega arith
-entry_added ask.Print v = omega arith
-entry_added (ask.End e) v = omega arith
-entry_added ask.Done v = omega arith
+entry_count_within_events_added : (q : Ask) (v : ℕ) → one_if_entry (act_of (shared_ask q) v) ≤ events_added_by q
+entry_count_within_events_added ask.Private v = omega arith
+entry_count_within_events_added (ask.Env kind) v = omega arith
+entry_count_within_events_added (ask.Enter object access) v = omega arith
+entry_count_within_events_added (ask.Try object) zero = omega arith
+entry_count_within_events_added (ask.Try object) (suc zero) = omega arith
+entry_count_within_events_added (ask.Try object) (suc (suc v)) = omega arith
+entry_count_within_events_added (ask.Leave object access) v = omega arith
+entry_count_within_events_added (ask.Get object index) v = omega arith
+entry_count_within_events_added (ask.Put object index value) v = omega arith
+entry_count_within_events_added ask.Print v = omega arith
+entry_count_within_events_added (ask.End e) v = omega arith
+entry_count_within_events_added ask.Done v = omega arith
 
 -- ---- one step of the thread
 
 -- the object steps, and the labels and the number of the events, are those of what is asked, with this result
-abbrev pub AreOf : Ask → ℕ → List ObjectStep → List Event → Type 0
-AreOf q v es evs = ◌≡◌ {A = List Shared × List Label × ℕ} (map shared_of es, map logging.label_of evs, length evs) (
+abbrev pub AreOfAsk : Ask → ℕ → List ObjectStep → List Event → Type 0
+AreOfAsk q v es evs = ◌≡◌ {A = List Shared × List Label × ℕ} (map shared_of es, map logging.label_of evs, length evs) (
   keep_if (is_shared (act_of (shared_ask q) v)) (act_of (shared_ask q) v, v) [],
   logged (alone_label (act_of (shared_ask q) v) (map label_of es)) [],
-  added q,
+  events_added_by q,
 )
 
 -- it was taken
 record IsStep (g : Guest) (w w' : Work) (q : Ask) (v : ℕ) (es : List ObjectStep) (evs : List Event) : Type 0 where
   asked : ask_of g.code w.thread ≡ q
   may : MayReply (thread_machine g.code) (act_of (shared_ask q) v) v
-  of : AreOf q v es evs
+  of : AreOfAsk q v es evs
   fit : AllByRecursion (IsEvent w.thread.profile (object_count g)) evs
   took : w'.thread ≡ after_reply g.code w.thread (reply_of q v)
   log : w'.log ≡ record w.log { events = w.log.events ++ evs }
   answers : w'.answers ≡ w.answers ++ answers_in (map logging.label_of evs)
 
-works_on : (g : Guest) (budget : ℕ) (profile : Profile) (t : ℕ) (before : List Answered) (w w' : Work) (q : Ask) (v : ℕ)
+working_after_step : (g : Guest) (budget : ℕ) (profile : Profile) (t : ℕ) (before : List Answered) (w w' : Work) (q : Ask) (v : ℕ)
     (es : List ObjectStep) (evs : List Event) → (i : IsWorking g budget profile t before w) → IsStep g w w' q v es evs
     → w'.me ≡ (track t (i.track ++ es) ∷ [], []) → IsWorking g budget profile t before w'
 unfolding after_reply
-works_on g budget profile t before w w' q v es evs i s view =
-    let m : Machine thread.State = thread_machine g.code in
+working_after_step g budget profile t before w w' q v es evs i s view =
+    let m : Machine thread.ThreadState = thread_machine g.code in
     let a : Act = act_of (shared_ask q) v in
     let is : act_of (m.ask w.thread) v ≡ a = ap (λ z. act_of (shared_ask z) v) s.asked in
     let next : m.take w.thread v ≡ w'.thread = ap (λ z. after_reply g.code w.thread (reply_of z v)) s.asked ∙ sym s.took in
@@ -119,14 +119,14 @@ works_on g budget profile t before w w' q v es evs i s view =
     ∙ ap (λ z. after_ask g.code w.thread z (reply_of q v)) s.asked in
     let even : length (map label_of i.track) ≡ length (map shared_of i.track) = length-map i.track label_of
     ∙ sym (length-map i.track shared_of) in
-    let steps : map shared_of (i.track ++ es) ≡ map shared_of i.track ++ keep_if (is_shared a) (a, v) [] = map_join shared_of i.track es
+    let steps : map shared_of (i.track ++ es) ≡ map shared_of i.track ++ keep_if (is_shared a) (a, v) [] = map_of_append shared_of i.track es
     ∙ ap (λ (z : List Shared × List Label × ℕ). map shared_of i.track ++ z.0) s.of in
-    let more = worked_more m (thread.start_state g t budget profile) w.thread (map shared_of i.track) (map label_of i.track)
+    let more = worked_with_reply_added m (thread.start_state g t budget profile) w.thread (map shared_of i.track) (map label_of i.track)
     (map logging.label_of w.log.events) v (map label_of es) i.worked even (subst (λ z. MayReply m z v) (sym is) s.may) in
     let events : w'.log.events ≡ w.log.events ++ evs = ap (λ z. z.events) s.log in
     let labels : map logging.label_of w'.log.events ≡ map logging.label_of w.log.events ++ map logging.label_of evs =
-    ap (map logging.label_of) events ∙ map_join logging.label_of w.log.events evs in
-    let sum : w'.thread.events ≡ w.thread.events + added q = ap (λ z. z.events) after ∙ events_added g.code w.thread q (reply_of q v) in
+    ap (map logging.label_of) events ∙ map_of_append logging.label_of w.log.events evs in
+    let sum : w'.thread.events ≡ w.thread.events + events_added_by q = ap (λ z. z.events) after ∙ events_after_ask g.code w.thread q (reply_of q v) in
     record {
       track = i.track ++ es;
       view = view;
@@ -137,33 +137,33 @@ works_on g budget profile t before w w' q v es evs i s view =
         steps_are = more.steps_are ∙ ap (λ z. map shared_of i.track ++ keep_if (is_shared z) (z, v) []) is ∙ sym steps;
         logged = ap (λ z. Rattle.ir_runs.specs.Run.events
             (Rattle.ir_flat.specs.Lone.alone_trail m (thread.start_state g t budget profile) more.replies z))
-            (map_join label_of i.track es) ∙ more.logged ∙ ap (λ z. map logging.label_of w.log.events ++ logged (alone_label z (map label_of es)) []) is
+            (map_of_append label_of i.track es) ∙ more.logged ∙ ap (λ z. map logging.label_of w.log.events ++ logged (alone_label z (map label_of es)) []) is
             ∙ ap (λ (z : List Shared × List Label × ℕ). map logging.label_of w.log.events ++ z.1) (sym s.of) ∙ sym labels;
       };
       held = λ o. ap (inside_after o None) steps
-          ∙ inside_keep a v o (held_at w.thread.held) (map shared_of i.track) (is_shared a) refl (i.held o)
-          ∙ ap (λ z. held_after z (held_at w.thread.held) o) (sym is) ∙ sym ((lawful g.code).takes w.thread v o)
+          ∙ inside_after_kept_step a v o (held_at w.thread.held) (map shared_of i.track) (is_shared a) refl (i.held o)
+          ∙ ap (λ z. held_after z (held_at w.thread.held) o) (sym is) ∙ sym ((thread_machine_is_lawful g.code).takes w.thread v o)
           ∙ ap (λ z. held_at z.held o) next;
-      places = ap (λ z. length z.held) after ∙ held_length g.code w.thread q (reply_of q v) ∙ i.places;
+      places = ap (λ z. length z.held) after ∙ length_of_held_after_ask g.code w.thread q (reply_of q v) ∙ i.places;
       few =
-          let here = entries_keep a v (map shared_of i.track) (is_shared a) in
+          let here = entries_with_kept_step a v (map shared_of i.track) (is_shared a) in
           let same = ap entries steps in
-          let one = entry_added q v in
+          let one = entry_count_within_events_added q v in
           let was = i.few in
           omega (arith, here, same, one, was, sum);
       room = ap (λ z. z.room) s.log ∙ i.room;
       count =
           let long : length w'.log.events ≡ length w.log.events + length evs = ap (λ z. length z) events ∙ length-append w.log.events evs in
           let was = i.count in
-          let new : length evs ≡ added q = ap (λ (z : List Shared × List Label × ℕ). z.2) s.of in
+          let new : length evs ≡ events_added_by q = ap (λ (z : List Shared × List Label × ℕ). z.2) s.of in
           omega (arith, long, was, new, sum);
-      profile_is = ap (λ z. z.profile) after ∙ asks_profile g.code w.thread q (reply_of q v) ∙ i.profile_is;
+      profile_is = ap (λ z. z.profile) after ∙ profile_after_ask g.code w.thread q (reply_of q v) ∙ i.profile_is;
       events_fit = subst (AllByRecursion (IsEvent profile (object_count g))) (sym events)
-          (all_join (IsEvent profile (object_count g)) w.log.events evs i.events_fit
+          (all_of_append (IsEvent profile (object_count g)) w.log.events evs i.events_fit
           (subst (λ p. AllByRecursion (IsEvent p (object_count g)) evs) i.profile_is s.fit));
       answered = s.answers ∙ ap (λ z. z ++ answers_in (map logging.label_of evs)) i.answered
           ∙ append_assoc before (answers_in (map logging.label_of w.log.events)) (answers_in (map logging.label_of evs))
-          ∙ ap (λ z. before ++ z) (sym (answers_join (map logging.label_of w.log.events) (map logging.label_of evs))
+          ∙ ap (λ z. before ++ z) (sym (answers_in_append (map logging.label_of w.log.events) (map logging.label_of evs))
           ∙ ap answers_in (sym labels));
     }
 
@@ -175,89 +175,89 @@ listed None = []
 listed (Some x) = x ∷ []
 
 -- what the object step, if it is one, makes of the seat's view
-abbrev pub seen : Option ObjectStep → M → M
-seen None me = me
-seen (Some step) me = (did me.0 step.object step.deed, me.1)
+abbrev pub me_after_object_step : Option ObjectStep → M → M
+me_after_object_step None me = me
+me_after_object_step (Some step) me = (did me.0 step.object step.deed, me.1)
 
-seen_on : (t : ℕ) (step : Option ObjectStep) (steps : List ObjectStep) (me : M) → me ≡ (track t steps ∷ [], [])
-    → seen step me ≡ (track t (steps ++ listed step) ∷ [], [])
-seen_on t None steps me is = is ∙ (λ i. (track t (sym (append-nil steps) i) ∷ [], []))
-seen_on t (Some step) steps me is = ap (λ (z : M). (did z.0 step.object step.deed, z.1)) is
+me_after_object_step_is_track : (t : ℕ) (step : Option ObjectStep) (steps : List ObjectStep) (me : M) → me ≡ (track t steps ∷ [], [])
+    → me_after_object_step step me ≡ (track t (steps ++ listed step) ∷ [], [])
+me_after_object_step_is_track t None steps me is = is ∙ (λ i. (track t (sym (append-nil steps) i) ∷ [], []))
+me_after_object_step_is_track t (Some step) steps me is = ap (λ (z : M). (did z.0 step.object step.deed, z.1)) is
 
 -- what the event, if there is one, makes of the log
-abbrev pub noted : Option Event → Logged → Logged
-noted None log = log
-noted (Some e) log = record log { events = log.events ++ e ∷ [] }
+abbrev pub log_after_event : Option Event → Logged → Logged
+log_after_event None log = log
+log_after_event (Some e) log = record log { events = log.events ++ e ∷ [] }
 
-noted_on : (e : Option Event) (log : Logged) → noted e log ≡ record log { events = log.events ++ listed e }
-noted_on None log = λ i. record log { events = sym (append-nil log.events) i }
-noted_on (Some e) log = refl
+log_after_event_is_append : (e : Option Event) (log : Logged) → log_after_event e log ≡ record log { events = log.events ++ listed e }
+log_after_event_is_append None log = λ i. record log { events = sym (append-nil log.events) i }
+log_after_event_is_append (Some e) log = refl
 
 -- and of the world's answers
-abbrev pub told : Option Event → List Answered → List Answered
-told (Some (event.Answer kind value)) answers = answers ++ (kind, value) ∷ []
-told e answers = answers
+abbrev pub answers_after_event : Option Event → List Answered → List Answered
+answers_after_event (Some (event.Answer kind value)) answers = answers ++ (kind, value) ∷ []
+answers_after_event e answers = answers
 
-told_on : (e : Option Event) (answers : List Answered) → told e answers ≡ answers ++ answers_in (map logging.label_of (listed e))
-told_on None answers = sym (append-nil answers)
-told_on (Some (event.Answer kind value)) answers = refl
-told_on (Some (event.Read o version)) answers = sym (append-nil answers)
-told_on (Some (event.Write o version left)) answers = sym (append-nil answers)
-told_on (Some (event.Try o)) answers = sym (append-nil answers)
+answers_after_event_is_append : (e : Option Event) (answers : List Answered) → answers_after_event e answers ≡ answers ++ answers_in (map logging.label_of (listed e))
+answers_after_event_is_append None answers = sym (append-nil answers)
+answers_after_event_is_append (Some (event.Answer kind value)) answers = refl
+answers_after_event_is_append (Some (event.Read o version)) answers = sym (append-nil answers)
+answers_after_event_is_append (Some (event.Write o version left)) answers = sym (append-nil answers)
+answers_after_event_is_append (Some (event.Try o)) answers = sym (append-nil answers)
 
 -- a step of a thread with this code: what it asks, its result, its object step and its event, which fits
-pub step_on : {g : Guest} {w w' : Work} {code : List ℕ} → code ≡ g.code → (q : Ask) (v : ℕ) (step : Option ObjectStep) (e : Option Event)
-    → MayReply (thread_machine g.code) (act_of (shared_ask q) v) v → AreOf q v (listed step) (listed e)
-    → AllByRecursion (IsEvent w.thread.profile (object_count g)) (listed e) → ask_of code w.thread ≡ q → w'.me ≡ seen step w.me
-    → w'.thread ≡ after_reply code w.thread (reply_of q v) → w'.log ≡ noted e w.log → w'.answers ≡ told e w.answers → StillWorks g w w'
-step_on {g} {w} {w'} same q v step e may of fit asked me took log answers budget profile t before i =
-    works_on g budget profile t before w w' q v (listed step) (listed e) i
+pub still_works_after_step : {g : Guest} {w w' : Work} {code : List ℕ} → code ≡ g.code → (q : Ask) (v : ℕ) (step : Option ObjectStep) (e : Option Event)
+    → MayReply (thread_machine g.code) (act_of (shared_ask q) v) v → AreOfAsk q v (listed step) (listed e)
+    → AllByRecursion (IsEvent w.thread.profile (object_count g)) (listed e) → ask_of code w.thread ≡ q → w'.me ≡ me_after_object_step step w.me
+    → w'.thread ≡ after_reply code w.thread (reply_of q v) → w'.log ≡ log_after_event e w.log → w'.answers ≡ answers_after_event e w.answers → StillWorks g w w'
+still_works_after_step {g} {w} {w'} same q v step e may of fit asked me took log answers budget profile t before i =
+    working_after_step g budget profile t before w w' q v (listed step) (listed e) i
     (record {
       asked = subst (λ z. ask_of z w.thread ≡ q) same asked;
       may = may;
       of = of;
       fit = fit;
       took = subst (λ z. w'.thread ≡ after_reply z w.thread (reply_of q v)) same took;
-      log = log ∙ noted_on e w.log;
-      answers = answers ∙ told_on e w.answers;
+      log = log ∙ log_after_event_is_append e w.log;
+      answers = answers ∙ answers_after_event_is_append e w.answers;
     })
-    (me ∙ seen_on t step i.track w.me i.view)
+    (me ∙ me_after_object_step_is_track t step i.track w.me i.view)
 
 -- a step that concerns no other thread
 record IsOwnStep (code : List ℕ) (q : Ask) : Type 0 where
   may : MayReply (thread_machine code) (act_of (shared_ask q) 0) 0
-  of : AreOf q 0 [] []
+  of : AreOfAsk q 0 [] []
   reply : Go ≡ reply_of q 0
 
-own_is_step : (code : List ℕ) (q : Ask) → IsOwn q → IsOwnStep code q
-own_is_step code ask.Private own = record { may = refl; of = refl; reply = refl }
-own_is_step code (ask.Env kind) own = absurd own
-own_is_step code (ask.Enter object access) own = absurd own
-own_is_step code (ask.Try object) own = absurd own
-own_is_step code (ask.Leave object access) own = absurd own
-own_is_step code (ask.Get object index) own = absurd own
-own_is_step code (ask.Put object index value) own = absurd own
-own_is_step code ask.Print own = record { may = refl; of = refl; reply = refl }
-own_is_step code (ask.End e) own = record { may = refl; of = refl; reply = refl }
-own_is_step code ask.Done own = absurd own
+own_ask_is_own_step : (code : List ℕ) (q : Ask) → IsOwn q → IsOwnStep code q
+own_ask_is_own_step code ask.Private own = record { may = refl; of = refl; reply = refl }
+own_ask_is_own_step code (ask.Env kind) own = absurd own
+own_ask_is_own_step code (ask.Enter object access) own = absurd own
+own_ask_is_own_step code (ask.Try object) own = absurd own
+own_ask_is_own_step code (ask.Leave object access) own = absurd own
+own_ask_is_own_step code (ask.Get object index) own = absurd own
+own_ask_is_own_step code (ask.Put object index value) own = absurd own
+own_ask_is_own_step code ask.Print own = record { may = refl; of = refl; reply = refl }
+own_ask_is_own_step code (ask.End e) own = record { may = refl; of = refl; reply = refl }
+own_ask_is_own_step code ask.Done own = absurd own
 
-pub own_step : {g : Guest} {w w' : Work} {code : List ℕ} → code ≡ g.code → (q : Ask) → IsOwn q → ask_of code w.thread ≡ q → w'.me ≡ w.me
+pub still_works_after_own_step : {g : Guest} {w w' : Work} {code : List ℕ} → code ≡ g.code → (q : Ask) → IsOwn q → ask_of code w.thread ≡ q → w'.me ≡ w.me
     → w'.thread ≡ after_reply code w.thread Go → w'.log ≡ w.log → w'.answers ≡ w.answers → StillWorks g w w'
-own_step {g} {w} {w'} {code} same q own asked me took =
-    let k : IsOwnStep g.code q = own_is_step g.code q own in
-    step_on same q 0 None None k.may k.of tt asked me (took ∙ ap (after_reply code w.thread) k.reply)
+still_works_after_own_step {g} {w} {w'} {code} same q own asked me took =
+    let k : IsOwnStep g.code q = own_ask_is_own_step g.code q own in
+    still_works_after_step same q 0 None None k.may k.of tt asked me (took ∙ ap (after_reply code w.thread) k.reply)
 
 -- count private steps
-pub run_steps : {g : Guest} {w w' : Work} {code : List ℕ} → code ≡ g.code → (count : ℕ) → PrivateSteps code count w.thread w'.thread
+pub still_works_after_private_steps : {g : Guest} {w w' : Work} {code : List ℕ} → code ≡ g.code → (count : ℕ) → PrivateSteps code count w.thread w'.thread
     → w'.me ≡ w.me → w'.log ≡ w.log → w'.answers ≡ w.answers → StillWorks g w w'
 unfolding run_of step_of
-run_steps {g} {w} {w'} same zero p me log answers budget profile t before i =
+still_works_after_private_steps {g} {w} {w'} same zero p me log answers budget profile t before i =
     subst (IsWorking g budget profile t before)
     (λ j. record { me = sym me j; thread = sym p.steps j; log = sym log j; answers = sym answers j }) i
-run_steps {g} {w} {w'} {code} same (suc count) p me log answers budget profile t before i =
+still_works_after_private_steps {g} {w} {w'} {code} same (suc count) p me log answers budget profile t before i =
     let mid : Work = record w { thread = run_of code count w.thread } in
-    own_step {w = mid} same ask.Private tt (p.each count (omega arith)) me p.steps log answers budget profile t before
-    (run_steps {w' = mid} same count (record { steps = refl; each = λ k l. p.each k (omega (arith, l)) }) refl refl refl
+    still_works_after_own_step {w = mid} same ask.Private tt (p.each count (omega arith)) me p.steps log answers budget profile t before
+    (still_works_after_private_steps {w' = mid} same count (record { steps = refl; each = λ k l. p.each k (omega (arith, l)) }) refl refl refl
     budget profile t before i)
 
 -- ---- what is known of a worker where its thread asks for a step
@@ -265,7 +265,7 @@ run_steps {g} {w} {w'} {code} same (suc count) p me log answers budget profile t
 module _ {W : Type 0} {answers : W → List Answered} {g : Guest} {id : TableId} {code : List ℕ} {w : Worker W}
     (s : IsSeated answers g id code w) where
   permits : {q : Ask} → ask_of code w.thread ≡ q → Permits w.thread q
-  permits asked = subst (Permits w.thread) asked (ask_permits code w.thread)
+  permits asked = subst (Permits w.thread) asked (ask_of_permitted code w.thread)
 
   inside_view : (o : ℕ) → inside_by o (history w.seat.me.0) ≡ held_at w.thread.held o
   inside_view o = ap (λ (z : M). inside_by o (history z.0)) s.worker.4.view ∙ s.worker.4.held o
@@ -319,7 +319,7 @@ module _ {W : Type 0} {answers : W → List Answered} {g : Guest} {id : TableId}
 
   pub outside : {o : ℕ} {a : Access} → ask_of code w.thread ≡ ask.Enter o a → inside_by o (history w.seat.me.0) ≡ None
   outside {o} {a} asked = inside_view o ∙ subst (λ q. lawful.Holds (shared_ask q) (held_at w.thread.held)) asked
-      ((lawful code).holds w.thread) o (omega arith)
+      ((thread_machine_is_lawful code).holds w.thread) o (omega arith)
 
   pub inside_leave : {o : ℕ} {a : Access} → ask_of code w.thread ≡ ask.Leave o a → inside_by o (history w.seat.me.0) ≡ Some a
   inside_leave {o} asked = inside_view o ∙ (permits asked).2
@@ -330,8 +330,8 @@ module _ {W : Type 0} {answers : W → List Answered} {g : Guest} {id : TableId}
   pub inside_put : {o index value : ℕ} → ask_of code w.thread ≡ ask.Put o index value → inside_by o (history w.seat.me.0) ≡ Some Writing
   inside_put {o} asked = inside_view o ∙ (permits asked).3
 
-  pub inside_worker : {me : M} {x : thread.State} → me ≡ w.seat.me → x ≡ w.thread → IsInside g me x
-  inside_worker e f = subst (λ (z : M × thread.State). IsInside g z.0 z.1) (λ j. (sym e j, sym f j)) (record {
+  pub inside_worker : {me : M} {x : thread.ThreadState} → me ≡ w.seat.me → x ≡ w.thread → IsInside g me x
+  inside_worker e f = subst (λ (z : M × thread.ThreadState). IsInside g z.0 z.1) (λ j. (sym e j, sym f j)) (record {
     alone = subst (λ (z : M). IsAlone z.0) (sym s.worker.4.view) tt;
     places = s.worker.4.places;
     inside = inside_view;
@@ -347,8 +347,8 @@ module _ {W : Type 0} {answers : W → List Answered} {g : Guest} {id : TableId}
 
 -- ---- releasing
 
-pub did_alone : (me me' : M) (o : ℕ) (d : Deed) → me' ≡ (did me.0 o d, me.1) → IsAlone me.0 → IsAlone me'.0
-did_alone me me' o d e h = subst (λ (z : M). IsAlone z.0) (sym e) (go me.0 h)
+pub seat_alone_after_deed : (me me' : M) (o : ℕ) (d : Deed) → me' ≡ (did me.0 o d, me.1) → IsAlone me.0 → IsAlone me'.0
+seat_alone_after_deed me me' o d e h = subst (λ (z : M). IsAlone z.0) (sym e) (go me.0 h)
   where
     go : (v : _) → IsAlone v → IsAlone (did v o d)
     go [] h = h
@@ -356,25 +356,25 @@ did_alone me me' o d e h = subst (λ (z : M). IsAlone z.0) (sym e) (go me.0 h)
     go (k ∷ l ∷ ks) h = h
 
 -- how the seat's one thread is inside an object after a step
-did_inside : (me me' : M) (o p : ℕ) (d : Deed) → me' ≡ (did me.0 o d, me.1) → IsAlone me.0
+inside_after_deed : (me me' : M) (o p : ℕ) (d : Deed) → me' ≡ (did me.0 o d, me.1) → IsAlone me.0
     → inside_by p (history me'.0) ≡ inside_if (eqb p o) (shared_by o d).0 (inside_by p (history me.0))
-did_inside me me' o p d e h = ap (λ (z : M). inside_by p (history z.0)) e ∙ go me.0 h
+inside_after_deed me me' o p d e h = ap (λ (z : M). inside_by p (history z.0)) e ∙ go me.0 h
   where
     go : (v : _) → IsAlone v → inside_by p (history (did v o d)) ≡ inside_if (eqb p o) (shared_by o d).0 (inside_by p (history v))
     go [] h = absurd h
-    go (k ∷ []) h = ap (inside_after p None) (map_join shared_of k.steps (act o d ∷ []))
-        ∙ inside_more p None (map shared_of k.steps) (shared_by o d)
-        ∙ ap (λ z. inside_if (eqb p z) (shared_by o d).0 (inside_after p None (map shared_of k.steps))) (target_by o d)
+    go (k ∷ []) h = ap (inside_after p None) (map_of_append shared_of k.steps (step_of_deed o d ∷ []))
+        ∙ inside_after_step p None (map shared_of k.steps) (shared_by o d)
+        ∙ ap (λ z. inside_if (eqb p z) (shared_by o d).0 (inside_after p None (map shared_of k.steps))) (target_of_deed o d)
     go (k ∷ l ∷ ks) h = absurd h
 
 -- a step on another object
-pub did_elsewhere : (me me' : M) (o p : ℕ) (d : Deed) → me' ≡ (did me.0 o d, me.1) → IsAlone me.0 → p ≢ o
+pub inside_after_deed_elsewhere : (me me' : M) (o p : ℕ) (d : Deed) → me' ≡ (did me.0 o d, me.1) → IsAlone me.0 → p ≢ o
     → inside_by p (history me'.0) ≡ inside_by p (history me.0)
-did_elsewhere me me' o p d e h ne = did_inside me me' o p d e h
+inside_after_deed_elsewhere me me' o p d e h ne = inside_after_deed me me' o p d e h
     ∙ ap (λ b. inside_if b (shared_by o d).0 (inside_by p (history me.0))) (ne_eqb p o ne)
 
 -- a leave
-pub did_leave : (me me' : M) (o p : ℕ) (a : Access) (v : ℕ) → me' ≡ (did me.0 o (Leave a v), me.1) → IsAlone me.0 → p ≡ o
+pub outside_after_leave : (me me' : M) (o p : ℕ) (a : Access) (v : ℕ) → me' ≡ (did me.0 o (Leave a v), me.1) → IsAlone me.0 → p ≡ o
     → inside_by p (history me'.0) ≡ None
-did_leave me me' o p a v e h same = did_inside me me' o p (Leave a v) e h
+outside_after_leave me me' o p a v e h same = inside_after_deed me me' o p (Leave a v) e h
     ∙ ap (λ b. inside_if b (shared_by o (Leave a v)).0 (inside_by p (history me.0))) (eq-eqb p o same)

@@ -15,94 +15,94 @@ use Rattle.ir_crew.specs.declared.deed.ObjectStep.{ObjectStep}
 use Rattle.ir_record.specs.Working.{Worked}
 use Rattle.ir_record.specs.Worlds.{answers_in}
 
-may_more : {T : Type 0} (m : Machine T) (x : T) (vs : List ℕ) (v : ℕ) → MayRun m x vs → MayReply m (act_of (m.ask (alone_after m x vs)) v) v
+may_run_with_reply_added : {T : Type 0} (m : Machine T) (x : T) (vs : List ℕ) (v : ℕ) → MayRun m x vs → MayReply m (act_of (m.ask (alone_after m x vs)) v) v
     → MayRun m x (vs ++ v ∷ [])
-may_more m x [] v h r = (r, tt)
-may_more m x (u ∷ vs) v h r = (h.0, may_more m (m.take x u) vs v h.1 r)
+may_run_with_reply_added m x [] v h r = (r, tt)
+may_run_with_reply_added m x (u ∷ vs) v h r = (h.0, may_run_with_reply_added m (m.take x u) vs v h.1 r)
 
-after_more : {T : Type 0} (m : Machine T) (x : T) (vs : List ℕ) (v : ℕ) → alone_after m x (vs ++ v ∷ []) ≡ m.take (alone_after m x vs) v
-after_more m x [] v = refl
-after_more m x (u ∷ vs) v = after_more m (m.take x u) vs v
+alone_after_with_reply_added : {T : Type 0} (m : Machine T) (x : T) (vs : List ℕ) (v : ℕ) → alone_after m x (vs ++ v ∷ []) ≡ m.take (alone_after m x vs) v
+alone_after_with_reply_added m x [] v = refl
+alone_after_with_reply_added m x (u ∷ vs) v = alone_after_with_reply_added m (m.take x u) vs v
 
-keep_append : {A : Type 0} (b : Bool) (x : A) (xs ys : List A) → keep_if b x (xs ++ ys) ≡ keep_if b x xs ++ ys
-keep_append true x xs ys = refl
-keep_append false x xs ys = refl
+keep_if_of_append : {A : Type 0} (b : Bool) (x : A) (xs ys : List A) → keep_if b x (xs ++ ys) ≡ keep_if b x xs ++ ys
+keep_if_of_append true x xs ys = refl
+keep_if_of_append false x xs ys = refl
 
-shared_more : {T : Type 0} (m : Machine T) (x : T) (vs : List ℕ) (v : ℕ)
+shared_steps_with_reply_added : {T : Type 0} (m : Machine T) (x : T) (vs : List ℕ) (v : ℕ)
     → shared_steps m x (vs ++ v ∷ []) ≡ shared_steps m x vs ++ keep_if (is_shared (act_of (m.ask (alone_after m x vs)) v))
     (act_of (m.ask (alone_after m x vs)) v, v) []
-shared_more m x [] v = refl
-shared_more m x (u ∷ vs) v = ap (keep_if (is_shared (act_of (m.ask x) u)) (act_of (m.ask x) u, u)) (shared_more m (m.take x u) vs v)
-    ∙ keep_append (is_shared (act_of (m.ask x) u)) (act_of (m.ask x) u, u) (shared_steps m (m.take x u) vs) _
+shared_steps_with_reply_added m x [] v = refl
+shared_steps_with_reply_added m x (u ∷ vs) v = ap (keep_if (is_shared (act_of (m.ask x) u)) (act_of (m.ask x) u, u)) (shared_steps_with_reply_added m (m.take x u) vs v)
+    ∙ keep_if_of_append (is_shared (act_of (m.ask x) u)) (act_of (m.ask x) u, u) (shared_steps m (m.take x u) vs) _
 
-own_label : (q : Act) (ks ls : List Label) → is_shared q ≡ false → alone_label q ks ≡ alone_label q ls
-own_label Silent ks ls e = refl
-own_label (Result k v) ks ls e = refl
-own_label (Entry o a v) ks ls e = absurd (cc e)
-own_label (Refusal o) ks ls e = refl
-own_label (Exit o a) ks ls e = absurd (cc e)
-own_label (Load o i) ks ls e = absurd (cc e)
-own_label (Store o i w) ks ls e = absurd (cc e)
-own_label Never ks ls e = refl
+own_act_label_ignores_labels : (q : Act) (ks ls : List Label) → is_shared q ≡ false → alone_label q ks ≡ alone_label q ls
+own_act_label_ignores_labels Silent ks ls e = refl
+own_act_label_ignores_labels (Result k v) ks ls e = refl
+own_act_label_ignores_labels (Entry o a v) ks ls e = absurd (cc e)
+own_act_label_ignores_labels (Refusal o) ks ls e = refl
+own_act_label_ignores_labels (Exit o a) ks ls e = absurd (cc e)
+own_act_label_ignores_labels (Load o i) ks ls e = absurd (cc e)
+own_act_label_ignores_labels (Store o i w) ks ls e = absurd (cc e)
+own_act_label_ignores_labels Never ks ls e = refl
 
-first_label : (q : Act) (k : Label) (ks ls : List Label) → alone_label q (k ∷ ks) ≡ alone_label q (k ∷ ls)
-first_label Silent k ks ls = refl
-first_label (Result i v) k ks ls = refl
-first_label (Entry o a v) k ks ls = refl
-first_label (Refusal o) k ks ls = refl
-first_label (Exit o a) k ks ls = refl
-first_label (Load o i) k ks ls = refl
-first_label (Store o i w) k ks ls = refl
-first_label Never k ks ls = refl
+alone_label_uses_first_label : (q : Act) (k : Label) (ks ls : List Label) → alone_label q (k ∷ ks) ≡ alone_label q (k ∷ ls)
+alone_label_uses_first_label Silent k ks ls = refl
+alone_label_uses_first_label (Result i v) k ks ls = refl
+alone_label_uses_first_label (Entry o a v) k ks ls = refl
+alone_label_uses_first_label (Refusal o) k ks ls = refl
+alone_label_uses_first_label (Exit o a) k ks ls = refl
+alone_label_uses_first_label (Load o i) k ks ls = refl
+alone_label_uses_first_label (Store o i w) k ks ls = refl
+alone_label_uses_first_label Never k ks ls = refl
 
 -- what the trail of more replies says
-abbrev TrailMore : {T : Type 0} → Machine T → T → List ℕ → ℕ → List Label → List Label → Type 0
-TrailMore m x vs v ks ls = alone_trail m x (vs ++ v ∷ []) (ks ++ ls) ≡ alone_trail m x vs ks ++
+abbrev TrailWithReplyAdded : {T : Type 0} → Machine T → T → List ℕ → ℕ → List Label → List Label → Type 0
+TrailWithReplyAdded m x vs v ks ls = alone_trail m x (vs ++ v ∷ []) (ks ++ ls) ≡ alone_trail m x vs ks ++
     (alone_after m x vs, alone_label (act_of (m.ask (alone_after m x vs)) v) ls) ∷ []
 
-trail_step : {T : Type 0} (m : Machine T) (x : T) (u : ℕ) (vs : List ℕ) (v : ℕ) (ls : List Label)
-    → ((ks : List Label) → length ks ≡ length (shared_steps m (m.take x u) vs) → TrailMore m (m.take x u) vs v ks ls) → (b : Bool)
+trail_with_reply_added_step : {T : Type 0} (m : Machine T) (x : T) (u : ℕ) (vs : List ℕ) (v : ℕ) (ls : List Label)
+    → ((ks : List Label) → length ks ≡ length (shared_steps m (m.take x u) vs) → TrailWithReplyAdded m (m.take x u) vs v ks ls) → (b : Bool)
     → is_shared (act_of (m.ask x) u) ≡ b
     → (ks : List Label) → length ks ≡ length (keep_if b (act_of (m.ask x) u, u) (shared_steps m (m.take x u) vs))
-    → TrailMore m x (u ∷ vs) v ks ls
-trail_step m x u vs v ls rest false is ks n =
+    → TrailWithReplyAdded m x (u ∷ vs) v ks ls
+trail_with_reply_added_step m x u vs v ls rest false is ks n =
     let q = act_of (m.ask x) u in
-    ap (λ z. (x, z) ∷ alone_trail m (m.take x u) (vs ++ v ∷ []) (labels_left (is_shared q) (ks ++ ls))) (own_label q (ks ++ ls) ks is)
+    ap (λ z. (x, z) ∷ alone_trail m (m.take x u) (vs ++ v ∷ []) (labels_left (is_shared q) (ks ++ ls))) (own_act_label_ignores_labels q (ks ++ ls) ks is)
     ∙ ap (λ b. (x, alone_label q ks) ∷ alone_trail m (m.take x u) (vs ++ v ∷ []) (labels_left b (ks ++ ls))) is
     ∙ ap (λ z. (x, alone_label q ks) ∷ z) (rest ks n)
     ∙ sym (ap (λ b. ((x, alone_label q ks) ∷ alone_trail m (m.take x u) vs (labels_left b ks)) ++
     (alone_after m (m.take x u) vs, alone_label (act_of (m.ask (alone_after m (m.take x u) vs)) v) ls) ∷ []) is)
-trail_step m x u vs v ls rest true is [] n = absurd (omega (arith, n))
-trail_step m x u vs v ls rest true is (k ∷ ks) n =
+trail_with_reply_added_step m x u vs v ls rest true is [] n = absurd (omega (arith, n))
+trail_with_reply_added_step m x u vs v ls rest true is (k ∷ ks) n =
     let q = act_of (m.ask x) u in
-    ap (λ z. (x, z) ∷ alone_trail m (m.take x u) (vs ++ v ∷ []) (labels_left (is_shared q) (k ∷ ks ++ ls))) (first_label q k (ks ++ ls) ks)
+    ap (λ z. (x, z) ∷ alone_trail m (m.take x u) (vs ++ v ∷ []) (labels_left (is_shared q) (k ∷ ks ++ ls))) (alone_label_uses_first_label q k (ks ++ ls) ks)
     ∙ ap (λ b. (x, alone_label q (k ∷ ks)) ∷ alone_trail m (m.take x u) (vs ++ v ∷ []) (labels_left b (k ∷ ks ++ ls))) is
     ∙ ap (λ z. (x, alone_label q (k ∷ ks)) ∷ z) (rest ks (omega (arith, n)))
     ∙ sym (ap (λ b. ((x, alone_label q (k ∷ ks)) ∷ alone_trail m (m.take x u) vs (labels_left b (k ∷ ks))) ++
     (alone_after m (m.take x u) vs, alone_label (act_of (m.ask (alone_after m (m.take x u) vs)) v) ls) ∷ []) is)
 
-trail_more : {T : Type 0} (m : Machine T) (x : T) (vs : List ℕ) (v : ℕ) (ks ls : List Label) → length ks ≡ length (shared_steps m x vs)
-    → TrailMore m x vs v ks ls
-trail_more m x [] v [] ls e = refl
-trail_more m x [] v (k ∷ ks) ls e = absurd (omega (arith, e))
-trail_more m x (u ∷ vs) v ks ls e = trail_step m x u vs v ls (λ is n. trail_more m (m.take x u) vs v is ls n)
+trail_with_reply_added : {T : Type 0} (m : Machine T) (x : T) (vs : List ℕ) (v : ℕ) (ks ls : List Label) → length ks ≡ length (shared_steps m x vs)
+    → TrailWithReplyAdded m x vs v ks ls
+trail_with_reply_added m x [] v [] ls e = refl
+trail_with_reply_added m x [] v (k ∷ ks) ls e = absurd (omega (arith, e))
+trail_with_reply_added m x (u ∷ vs) v ks ls e = trail_with_reply_added_step m x u vs v ls (λ is n. trail_with_reply_added m (m.take x u) vs v is ls n)
     (is_shared (act_of (m.ask x) u)) refl ks e
 
-pub worked_starts : {T : Type 0} (m : Machine T) (x : T) → Worked m x x [] [] []
-worked_starts m x = record { replies = []; may = tt; now = refl; steps_are = refl; logged = refl }
+pub worked_by_no_replies : {T : Type 0} (m : Machine T) (x : T) → Worked m x x [] [] []
+worked_by_no_replies m x = record { replies = []; may = tt; now = refl; steps_are = refl; logged = refl }
 
 -- one step more: its object step, if it is one, with what it reported, and what is logged of it
-pub worked_more : {T : Type 0} (m : Machine T) (x y : T) (steps : List Shared) (labels log : List Label) (v : ℕ) (ls : List Label)
+pub worked_with_reply_added : {T : Type 0} (m : Machine T) (x y : T) (steps : List Shared) (labels log : List Label) (v : ℕ) (ls : List Label)
     → Worked m x y steps labels log → length labels ≡ length steps → MayReply m (act_of (m.ask y) v) v
     → Worked m x (m.take y v) (steps ++ keep_if (is_shared (act_of (m.ask y) v)) (act_of (m.ask y) v, v) []) (labels ++ ls)
     (log ++ logged (alone_label (act_of (m.ask y) v) ls) [])
-worked_more m x y steps labels log v ls w n may = record {
+worked_with_reply_added m x y steps labels log v ls w n may = record {
   replies = w.replies ++ v ∷ [];
-  may = may_more m x w.replies v w.may (subst (λ z. MayReply m (act_of (m.ask z) v) v) (sym w.now) may);
-  now = after_more m x w.replies v ∙ ap (λ z. m.take z v) w.now;
-  steps_are = shared_more m x w.replies v ∙ (λ i. w.steps_are i ++ keep_if (is_shared (act_of (m.ask (w.now i)) v))
+  may = may_run_with_reply_added m x w.replies v w.may (subst (λ z. MayReply m (act_of (m.ask z) v) v) (sym w.now) may);
+  now = alone_after_with_reply_added m x w.replies v ∙ ap (λ z. m.take z v) w.now;
+  steps_are = shared_steps_with_reply_added m x w.replies v ∙ (λ i. w.steps_are i ++ keep_if (is_shared (act_of (m.ask (w.now i)) v))
       (act_of (m.ask (w.now i)) v, v) []);
-  logged = ap events (trail_more m x w.replies v labels ls (n ∙ ap (λ z. length z) (sym w.steps_are)))
+  logged = ap events (trail_with_reply_added m x w.replies v labels ls (n ∙ ap (λ z. length z) (sym w.steps_are)))
       ∙ events_append (alone_trail m x w.replies labels)
       ((alone_after m x w.replies, alone_label (act_of (m.ask (alone_after m x w.replies)) v) ls) ∷ [])
       ∙ (λ i. w.logged i ++ logged (alone_label (act_of (m.ask (w.now i)) v) ls) []);
@@ -110,64 +110,64 @@ worked_more m x y steps labels log v ls w n may = record {
 
 -- ---- what a thread holds is what it is inside of
 
-pub held_own : (q : Act) (h : ℕ → Option Access) (o : ℕ) → is_shared q ≡ false → held_after q h o ≡ h o
-held_own Silent h o e = refl
-held_own (Result k v) h o e = refl
-held_own (Entry i a v) h o e = absurd (cc e)
-held_own (Refusal i) h o e = refl
-held_own (Exit i a) h o e = absurd (cc e)
-held_own (Load i j) h o e = absurd (cc e)
-held_own (Store i j w) h o e = absurd (cc e)
-held_own Never h o e = refl
+pub held_after_own_act : (q : Act) (h : ℕ → Option Access) (o : ℕ) → is_shared q ≡ false → held_after q h o ≡ h o
+held_after_own_act Silent h o e = refl
+held_after_own_act (Result k v) h o e = refl
+held_after_own_act (Entry i a v) h o e = absurd (cc e)
+held_after_own_act (Refusal i) h o e = refl
+held_after_own_act (Exit i a) h o e = absurd (cc e)
+held_after_own_act (Load i j) h o e = absurd (cc e)
+held_after_own_act (Store i j w) h o e = absurd (cc e)
+held_after_own_act Never h o e = refl
 
-either : (b : Bool) (q : Act) (x : Option Access) (y : Option Access) → inside_then q y ≡ x → cond b x y ≡ inside_if b q y
-either true q x y e = sym e
-either false q x y e = refl
+cond_is_inside_if : (b : Bool) (q : Act) (x : Option Access) (y : Option Access) → inside_then q y ≡ x → cond b x y ≡ inside_if b q y
+cond_is_inside_if true q x y e = sym e
+cond_is_inside_if false q x y e = refl
 
-same_either : (b : Bool) (q : Act) (y : Option Access) → inside_then q y ≡ y → y ≡ inside_if b q y
-same_either true q y e = sym e
-same_either false q y e = refl
+unchanged_is_inside_if : (b : Bool) (q : Act) (y : Option Access) → inside_then q y ≡ y → y ≡ inside_if b q y
+unchanged_is_inside_if true q y e = sym e
+unchanged_is_inside_if false q y e = refl
 
-pub held_inside : (q : Act) (h : ℕ → Option Access) (o : ℕ) → is_shared q ≡ true → held_after q h o ≡ inside_if (eqb o (target q)) q (h o)
+pub held_after_is_inside_if : (q : Act) (h : ℕ → Option Access) (o : ℕ) → is_shared q ≡ true → held_after q h o ≡ inside_if (eqb o (target q)) q (h o)
 unfolding upd
-held_inside Silent h o e = absurd (cc e)
-held_inside (Result k v) h o e = absurd (cc e)
-held_inside (Entry i a v) h o e = either (eqb o i) (Entry i a v) (Some a) (h o) refl
-held_inside (Refusal i) h o e = absurd (cc e)
-held_inside (Exit i a) h o e = either (eqb o i) (Exit i a) None (h o) refl
-held_inside (Load i j) h o e = same_either (eqb o i) (Load i j) (h o) refl
-held_inside (Store i j w) h o e = same_either (eqb o i) (Store i j w) (h o) refl
-held_inside Never h o e = absurd (cc e)
+held_after_is_inside_if Silent h o e = absurd (cc e)
+held_after_is_inside_if (Result k v) h o e = absurd (cc e)
+held_after_is_inside_if (Entry i a v) h o e = cond_is_inside_if (eqb o i) (Entry i a v) (Some a) (h o) refl
+held_after_is_inside_if (Refusal i) h o e = absurd (cc e)
+held_after_is_inside_if (Exit i a) h o e = cond_is_inside_if (eqb o i) (Exit i a) None (h o) refl
+held_after_is_inside_if (Load i j) h o e = unchanged_is_inside_if (eqb o i) (Load i j) (h o) refl
+held_after_is_inside_if (Store i j w) h o e = unchanged_is_inside_if (eqb o i) (Store i j w) (h o) refl
+held_after_is_inside_if Never h o e = absurd (cc e)
 
 -- ---- what is logged of object steps is no answer of the environment
 
-deed_silent : (o : ℕ) (d : Deed) (es : List Label) → answers_in (logged (label_by o d) es) ≡ answers_in es
-deed_silent o (Enter a v l) es = refl
-deed_silent o (Try v l) es = refl
-deed_silent o (Leave a v) es = refl
-deed_silent o (Get i w) es = refl
-deed_silent o (Put i w) es = refl
+deed_logs_no_answer : (o : ℕ) (d : Deed) (es : List Label) → answers_in (logged (label_by o d) es) ≡ answers_in es
+deed_logs_no_answer o (Enter a v l) es = refl
+deed_logs_no_answer o (Try v l) es = refl
+deed_logs_no_answer o (Leave a v) es = refl
+deed_logs_no_answer o (Get i w) es = refl
+deed_logs_no_answer o (Put i w) es = refl
 
 -- f labels is what is logged of the steps after this one when object steps report these labels
-answers_step : (q : Act) (f : List Label → List Label) (track : List ObjectStep)
+answers_ignore_object_labels_step : (q : Act) (f : List Label → List Label) (track : List ObjectStep)
     → ((later : List ObjectStep) → answers_in (f (map label_of later)) ≡ answers_in (f []))
     → answers_in (logged (alone_label q (map label_of track)) (f (labels_left (is_shared q) (map label_of track))))
     ≡ answers_in (logged (alone_label q []) (f (labels_left (is_shared q) [])))
-answers_step Silent f track rest = rest track
-answers_step (Result k v) f track rest = ap (λ z. (k, v) ∷ z) (rest track)
-answers_step (Refusal o) f track rest = rest track
-answers_step Never f track rest = rest track
-answers_step (Entry o a v) f [] rest = refl
-answers_step (Entry o a v) f (e ∷ track) rest = deed_silent e.object e.deed (f (map label_of track)) ∙ rest track
-answers_step (Exit o a) f [] rest = refl
-answers_step (Exit o a) f (e ∷ track) rest = deed_silent e.object e.deed (f (map label_of track)) ∙ rest track
-answers_step (Load o i) f [] rest = refl
-answers_step (Load o i) f (e ∷ track) rest = deed_silent e.object e.deed (f (map label_of track)) ∙ rest track
-answers_step (Store o i w) f [] rest = refl
-answers_step (Store o i w) f (e ∷ track) rest = deed_silent e.object e.deed (f (map label_of track)) ∙ rest track
+answers_ignore_object_labels_step Silent f track rest = rest track
+answers_ignore_object_labels_step (Result k v) f track rest = ap (λ z. (k, v) ∷ z) (rest track)
+answers_ignore_object_labels_step (Refusal o) f track rest = rest track
+answers_ignore_object_labels_step Never f track rest = rest track
+answers_ignore_object_labels_step (Entry o a v) f [] rest = refl
+answers_ignore_object_labels_step (Entry o a v) f (e ∷ track) rest = deed_logs_no_answer e.object e.deed (f (map label_of track)) ∙ rest track
+answers_ignore_object_labels_step (Exit o a) f [] rest = refl
+answers_ignore_object_labels_step (Exit o a) f (e ∷ track) rest = deed_logs_no_answer e.object e.deed (f (map label_of track)) ∙ rest track
+answers_ignore_object_labels_step (Load o i) f [] rest = refl
+answers_ignore_object_labels_step (Load o i) f (e ∷ track) rest = deed_logs_no_answer e.object e.deed (f (map label_of track)) ∙ rest track
+answers_ignore_object_labels_step (Store o i w) f [] rest = refl
+answers_ignore_object_labels_step (Store o i w) f (e ∷ track) rest = deed_logs_no_answer e.object e.deed (f (map label_of track)) ∙ rest track
 
-pub answers_alone : {T : Type 0} (m : Machine T) (x : T) (vs : List ℕ) (track : List ObjectStep)
+pub answers_ignore_object_labels : {T : Type 0} (m : Machine T) (x : T) (vs : List ℕ) (track : List ObjectStep)
     → answers_in (events (alone_trail m x vs (map label_of track))) ≡ answers_in (events (alone_trail m x vs []))
-answers_alone m x [] track = refl
-answers_alone m x (v ∷ vs) track = answers_step (act_of (m.ask x) v) (λ ks. events (alone_trail m (m.take x v) vs ks)) track
-    (answers_alone m (m.take x v) vs)
+answers_ignore_object_labels m x [] track = refl
+answers_ignore_object_labels m x (v ∷ vs) track = answers_ignore_object_labels_step (act_of (m.ask x) v) (λ ks. events (alone_trail m (m.take x v) vs ks)) track
+    (answers_ignore_object_labels m (m.take x v) vs)

@@ -49,7 +49,7 @@ NoneAhead [] ahead = Unit {0}
 NoneAhead (t ∷ order) ahead = (lead ahead t ≡ 0) × NoneAhead order ahead
 
 -- a is ahead of the state s, and b is a after a turn of each thread that the order names
-pub record Went (order : List ℕ) (s : State thread.State) (a : Progress) (old : List ℕ) (b : Progress) (new : List ℕ) : Type 0 where
+pub record Went (order : List ℕ) (s : State thread.ThreadState) (a : Progress) (old : List ℕ) (b : Progress) (new : List ℕ) : Type 0 where
   pub run : List Step
   pub turns : InTurn (machine a.flat) s order run
   pub ahead : IsAhead (machine a.flat) new (end (machine a.flat) s run) (tables b.flat)
@@ -64,7 +64,7 @@ pub record Went (order : List ℕ) (s : State thread.State) (a : Progress) (old 
       (tables a.flat).now + all_ahead old
 
 -- the same, and whether a step was taken
-pub record WentIf (moved : Bool) (order : List ℕ) (s : State thread.State) (a : Progress) (old : List ℕ) (b : Progress) (new : List ℕ) :
+pub record WentIf (moved : Bool) (order : List ℕ) (s : State thread.ThreadState) (a : Progress) (old : List ℕ) (b : Progress) (new : List ℕ) :
     Type 0 where
   pub went : Went order s a old b new
   pub some : moved ≡ true → 0 < length went.run

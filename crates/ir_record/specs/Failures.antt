@@ -20,7 +20,7 @@ pub record IsUnanswered (t : ℕ) (p : Progress) (named : ℕ) (answers : List (
 
 -- from s on the turns of the order were taken until the one of the thread that is named, which asks its world there. Each world
 -- answered what it had answered in p, and then what the steps of these turns logged of it
-pub record StoppedAt (order : List ℕ) (s : State thread.State) (p : Progress) (named : ℕ) (answers : List (List Answered)) : Type 0 where
+pub record StoppedAt (order : List ℕ) (s : State thread.ThreadState) (p : Progress) (named : ℕ) (answers : List (List Answered)) : Type 0 where
   pub taken : List ℕ
   pub left : List ℕ
   pub so_far : order ≡ taken ++ named ∷ left

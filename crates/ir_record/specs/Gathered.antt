@@ -8,7 +8,7 @@ use Rattle.ir_trace.specs.Recorded.{RecordedThread, absent}
 use Rattle.ir_record.specs.Progress.{log_at}
 
 -- what was recorded of a thread: its steps, its end and its events
-pub record IsThreadTrace (x : thread.State) (l : Logged) (r : RecordedThread) : Type 0 where
+pub record IsThreadTrace (x : thread.ThreadState) (l : Logged) (r : RecordedThread) : Type 0 where
   pub steps : r.steps ≡ x.steps
   pub end : x.ended ≡ Some r.end
   pub events : r.events ≡ l.events

@@ -41,12 +41,12 @@ abbrev pub labels_at : List Logged → ℕ → List Label
 labels_at logs t = map label_of (log_at logs t).events
 
 -- how many steps a thread may still take at most, by how it ended
-abbrev pub steps_left : Option End → thread.State → ℕ
+abbrev pub steps_left : Option End → thread.ThreadState → ℕ
 steps_left None x = most_closing + (x.budget - x.steps)
 steps_left (Some e) x = held_count x.held
 
 -- how many steps the first n threads may still take at most
-abbrev pub all_left : ℕ → (ℕ → thread.State) → ℕ
+abbrev pub all_left : ℕ → (ℕ → thread.ThreadState) → ℕ
 all_left zero now = 0
 all_left (suc n) now = all_left n now + steps_left (now n).ended (now n)
 

@@ -25,5 +25,5 @@ abbrev pub StopsAtOnce : {W : Type 0} → (W → List Answered) → ℕ → Reco
 StopsAtOnce answers t r worlds f = IsUnanswered t (progress_of answers r) f.thread (map answers worlds)
 
 -- from s on the turns of the order were taken until the one of the thread whose world failed
-abbrev pub StopsIn : {W : Type 0} → (W → List Answered) → List ℕ → State thread.State → Recorder W → List W → Failed → Type 0
+abbrev pub StopsIn : {W : Type 0} → (W → List Answered) → List ℕ → State thread.ThreadState → Recorder W → List W → Failed → Type 0
 StopsIn answers order s r worlds f = StoppedAt order s (progress_of answers r) f.thread (map answers worlds)

@@ -55,7 +55,7 @@ pub record IsRecordingOfSome (guest : Guest) (budget : ℕ) (profile : Profile) 
   pub of : IsRecordingOf guest budget profile run before trace outputs answers
 
 -- the same of the run of the guest by the order
-pub record IsRecording (guest : Guest) (budget : ℕ) (profile : Profile) (order : List ℕ) (before : List (List Answered)) (trace : Recorded)
+pub record IsRecordingInOrder (guest : Guest) (budget : ℕ) (profile : Profile) (order : List ℕ) (before : List (List Answered)) (trace : Recorded)
     (outputs : List (List ℕ)) (answers : List (List Answered)) : Type 0 where
   pub run : List Step
   pub by_order : IsByOrder (machine (start_flat guest budget profile)) (tables (start_flat guest budget profile)) (length guest.entries) order run
@@ -74,11 +74,11 @@ printed_by outputs = map (λ o. o.bytes.items) outputs.each.items
 -- the run of the guest by the order, which is complete: its trace, what its threads printed, and what their worlds answered
 abbrev pub IsRecordedInOrder : {W : Type 0} → (W → List Answered) → Guest → ℕ → Profile → List ℕ → List W → Recorded × Outputs W → Type 0
 IsRecordedInOrder answers guest budget profile order before r =
-    IsRecording guest budget profile order (map answers before) r.0 (printed_by r.1) (each_world answers r.1)
+    IsRecordingInOrder guest budget profile order (map answers before) r.0 (printed_by r.1) (each_world answers r.1)
 
 -- the same of one complete run of the guest
-abbrev pub IsRecorded : {W : Type 0} → (W → List Answered) → Guest → ℕ → Profile → List W → Recorded × Outputs W → Type 0
-IsRecorded answers guest budget profile before r = IsRecordingOfSome guest budget profile (map answers before) r.0 (printed_by r.1) (each_world answers r.1)
+abbrev pub IsRecordedByThreads : {W : Type 0} → (W → List Answered) → Guest → ℕ → Profile → List W → Recorded × Outputs W → Type 0
+IsRecordedByThreads answers guest budget profile before r = IsRecordingOfSome guest budget profile (map answers before) r.0 (printed_by r.1) (each_world answers r.1)
 
 -- no world that is handed back has failed
 abbrev pub AllWork : {W : Type 0} → (W → Bool) → Recorded × Outputs W → Type 0

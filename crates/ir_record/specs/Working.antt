@@ -39,7 +39,7 @@ pub record Worked {T : Type 0} (m : Machine T) (x y : T) (steps : List Shared) (
 -- a worker apart from where it lies: its seat's view, its thread, its log, and what its world has answered
 pub record Work : Type 0 where
   pub me : M
-  pub thread : thread.State
+  pub thread : thread.ThreadState
   pub log : Logged
   pub answers : List Answered
 
@@ -86,7 +86,7 @@ IsOwn (ask.End e) = Unit {0}
 IsOwn ask.Done = ⊥
 
 -- the seat's one thread is inside what this thread holds
-pub record IsInside (g : Guest) (me : M) (x : thread.State) : Type 0 where
+pub record IsInside (g : Guest) (me : M) (x : thread.ThreadState) : Type 0 where
   pub alone : IsAlone me.0
   pub places : length x.held ≡ object_count g
   pub inside : (o : ℕ) → inside_by o (history me.0) ≡ held_at x.held o

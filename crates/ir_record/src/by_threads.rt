@@ -3,7 +3,7 @@
 ghost use Rattle.std.specs.Prelude.{◌≡◌, ◌≤◌, length, map, vec_len, IfOk, IfErr};
 ghost use Rattle.ir_thread.specs.State.{IsAllowed};
 ghost use Rattle.ir_thread.specs.Calls.{most_budget};
-ghost use Rattle.ir_record.specs.Recording.{IsRecorded, AllWork, AreHandedBack, IsFailure};
+ghost use Rattle.ir_record.specs.Recording.{IsRecordedByThreads, AllWork, AreHandedBack, IsFailure};
 ghost use Rattle.ir_record.specs.Worlds.{NoneFailed};
 
 use crate::handing_back::{gathered, joined, room, worlds_of};
@@ -62,7 +62,7 @@ pub fn record<R: Threads + Wait + Sync, W: World + Drop + Send, G: Gate + Sync>(
     requires each { vec_len worlds ≡ length image.now.entries }
     requires works { NoneFailed (map W.broken worlds.items) }
     // One complete run of the guest: its trace, what its threads printed, and what their worlds answered.
-    ensures recorded { IfOk result (IsRecorded W.answers image.now budget profile worlds.items) }
+    ensures recorded { IfOk result (IsRecordedByThreads W.answers image.now budget profile worlds.items) }
     ensures works { IfOk result (AllWork W.broken) }
     // The worlds are those that were handed in.
     ensures origins { IfOk result (AreHandedBack W.origin worlds.items) }

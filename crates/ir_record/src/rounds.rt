@@ -56,7 +56,7 @@ impl<W: World> Recorder<'_, W> {
         requires each { length ahead.old.items ≡ length self.old.tape.flat.threads }
         requires asks { AreAsks asks.old.items self.old.tape.flat }
         requires thread { t < length self.old.tape.flat.threads }
-        ensures went { IfOk result (λ turned. (s : State thread.State) → IsAhead (machine self.old.tape.flat) ahead.old.items s (tables self.old.tape.flat) → WentIf (has_moved turned) (t ∷ []) s (progress_of W.answers self.old) ahead.old.items (progress_of W.answers self.new) ahead.new.items) }
+        ensures went { IfOk result (λ turned. (s : State thread.ThreadState) → IsAhead (machine self.old.tape.flat) ahead.old.items s (tables self.old.tape.flat) → WentIf (has_moved turned) (t ∷ []) s (progress_of W.answers self.old) ahead.old.items (progress_of W.answers self.new) ahead.new.items) }
         ensures waits { IfOk result (λ turned. turned ≡ Waited → HasNone (machine self.new.tape.flat) (tables self.new.tape.flat) t) }
         ensures rests { IfOk result (λ turned. turned ≢ Stepped → tables self.new.tape.flat ≡ tables self.old.tape.flat) }
         ensures code { OnOk result (self.new.tape.flat.code ≡ self.old.tape.flat.code) }
@@ -66,7 +66,7 @@ impl<W: World> Recorder<'_, W> {
         ensures threads { OnOk result (length self.new.tape.flat.threads ≡ length self.old.tape.flat.threads) }
         ensures ready { OnOk result (CanGoOn W.answers W.broken self.new) }
         ensures failed { IfErr result (NamesFirst W.broken self.new.worlds.items) }
-        ensures stopped { IfErr result (λ f. (s : State thread.State) → IsAhead (machine self.old.tape.flat) ahead.old.items s (tables self.old.tape.flat) → StopsIn W.answers (t ∷ []) s self.old self.new.worlds.items f) }
+        ensures stopped { IfErr result (λ f. (s : State thread.ThreadState) → IsAhead (machine self.old.tape.flat) ahead.old.items s (tables self.old.tape.flat) → StopsIn W.answers (t ∷ []) s self.old self.new.worlds.items f) }
         ensures kept { AreSameWorlds W.origin self.old.worlds.items self.new.worlds.items }
     {
         let lead = ahead[t];
@@ -88,14 +88,14 @@ impl<W: World> Recorder<'_, W> {
         requires ready { CanGoOn W.answers W.broken self.old }
         requires each { length ahead.old.items ≡ length self.old.tape.flat.threads }
         requires asks { AreAsks asks.old.items self.old.tape.flat }
-        ensures went { IfOk result (λ pass. (s : State thread.State) → IsAhead (machine self.old.tape.flat) ahead.old.items s (tables self.old.tape.flat) → WentIf pass.moved (range_with_len 0 (length self.old.tape.flat.threads)) s (progress_of W.answers self.old) ahead.old.items (progress_of W.answers self.new) ahead.new.items) }
+        ensures went { IfOk result (λ pass. (s : State thread.ThreadState) → IsAhead (machine self.old.tape.flat) ahead.old.items s (tables self.old.tape.flat) → WentIf pass.moved (range_with_len 0 (length self.old.tape.flat.threads)) s (progress_of W.answers self.old) ahead.old.items (progress_of W.answers self.new) ahead.new.items) }
         ensures free { IfOk result (λ pass. CanSkip (machine self.new.tape.flat) (length self.new.tape.flat.threads) pass.free ahead.new.items (tables self.new.tape.flat)) }
         ensures each { OnOk result (length ahead.new.items ≡ length self.new.tape.flat.threads) }
         ensures asks { OnOk result (AreAsks asks.new.items self.new.tape.flat) }
         ensures threads { OnOk result (length self.new.tape.flat.threads ≡ length self.old.tape.flat.threads) }
         ensures ready { OnOk result (CanGoOn W.answers W.broken self.new) }
         ensures failed { IfErr result (NamesFirst W.broken self.new.worlds.items) }
-        ensures stopped { IfErr result (λ f. (s : State thread.State) → IsAhead (machine self.old.tape.flat) ahead.old.items s (tables self.old.tape.flat) → StopsIn W.answers (range_with_len 0 (length self.old.tape.flat.threads)) s self.old self.new.worlds.items f) }
+        ensures stopped { IfErr result (λ f. (s : State thread.ThreadState) → IsAhead (machine self.old.tape.flat) ahead.old.items s (tables self.old.tape.flat) → StopsIn W.answers (range_with_len 0 (length self.old.tape.flat.threads)) s self.old self.new.worlds.items f) }
         ensures kept { AreSameWorlds W.origin self.old.worlds.items self.new.worlds.items }
     {
         let mut pass = Pass::new();

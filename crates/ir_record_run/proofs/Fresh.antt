@@ -5,7 +5,7 @@ use Rattle.std.specs.Option.{is_some}
 use Rattle.ir_image.specs.Guest.{Guest}
 use Rattle.ir_image.specs.Reading.{guest_at}
 use Rattle.ir_trace.specs.Recorded.{Recorded}
-use Rattle.ir_record.specs.Recording.{IsRecording, IsRecordingOfSome}
+use Rattle.ir_record.specs.Recording.{IsRecordingInOrder, IsRecordingOfSome}
 use Rattle.ir_record.specs.Worlds.{Answered}
 use Rattle.ir_record_run.specs.Order.{order_of}
 use Rattle.ir_record_run.specs.Plan.{Plan}
@@ -13,14 +13,14 @@ use Rattle.ir_record_run.specs.Recording.{IsRecordedBy, IsRecordedOf}
 use Rattle.ir_sources.specs.Sources.{origin_of, IsAnswered}
 
 -- what was recorded in an order, with fresh worlds
-pub recorded_from : (image list : List ℕ) (plan : Plan) (guest : Guest) (entries order given : List ℕ)
+pub fresh_recording_by_order_is_recorded : (image list : List ℕ) (plan : Plan) (guest : Guest) (entries order given : List ℕ)
     (before : List (List Answered)) (trace : Recorded) (outputs : List (List ℕ)) (answers : List (List Answered))
     → plan.order ≡ Some list
     → guest_at image ≡ Ok guest → entries ≡ guest.entries → order_of (length entries) list ≡ Some order → given ≡ order
-    → before ≡ replicate (length entries) [] → IsRecording guest plan.budget plan.profile given before trace outputs answers
+    → before ≡ replicate (length entries) [] → IsRecordingInOrder guest plan.budget plan.profile given before trace outputs answers
     → ((t : ℕ) → t < length entries → IsAnswered (origin_of true plan.random plan.input t) (get_or answers t []))
     → IsRecordedOf image plan trace outputs
-recorded_from image list plan guest entries order given before trace outputs answers listed is same spelled e silent h answered =
+fresh_recording_by_order_is_recorded image list plan guest entries order given before trace outputs answers listed is same spelled e silent h answered =
     let long : length entries ≡ length guest.entries = ap (λ (z : List ℕ). length z) same in
     record {
       guest = guest;
@@ -29,23 +29,23 @@ recorded_from image list plan guest entries order given before trace outputs ans
       recorded = subst (λ (o : Option (List ℕ)). IsRecordedBy o guest plan.budget plan.profile trace outputs answers) (sym listed) (
         order,
         ap (λ (n : ℕ). order_of n list) (sym long) ∙ spelled,
-        subst (λ (z : List (List Answered)). IsRecording guest plan.budget plan.profile order z trace outputs answers)
+        subst (λ (z : List (List Answered)). IsRecordingInOrder guest plan.budget plan.profile order z trace outputs answers)
             (silent ∙ ap (λ (n : ℕ). replicate n []) long)
-            (subst (λ (z : List ℕ). IsRecording guest plan.budget plan.profile z before trace outputs answers) e h),
+            (subst (λ (z : List ℕ). IsRecordingInOrder guest plan.budget plan.profile z before trace outputs answers) e h),
       );
       answered = λ t l. subst (λ (o : Option (List ℕ)). IsAnswered (origin_of (is_some o) plan.random plan.input t) (get_or answers t []))
           (sym listed) (answered t (omega (arith, l, long)));
     }
 
 -- the same, by threads
-pub recorded_by : (image : List ℕ) (plan : Plan) (guest : Guest) (entries : List ℕ) (before : List (List Answered))
+pub fresh_recording_by_threads_is_recorded : (image : List ℕ) (plan : Plan) (guest : Guest) (entries : List ℕ) (before : List (List Answered))
     (trace : Recorded) (outputs : List (List ℕ)) (answers : List (List Answered))
     → plan.order ≡ None
     → guest_at image ≡ Ok guest → entries ≡ guest.entries → before ≡ replicate (length entries) []
     → IsRecordingOfSome guest plan.budget plan.profile before trace outputs answers
     → ((t : ℕ) → t < length entries → IsAnswered (origin_of false plan.random plan.input t) (get_or answers t []))
     → IsRecordedOf image plan trace outputs
-recorded_by image plan guest entries before trace outputs answers unlisted is same silent h answered =
+fresh_recording_by_threads_is_recorded image plan guest entries before trace outputs answers unlisted is same silent h answered =
     let long : length entries ≡ length guest.entries = ap (λ (z : List ℕ). length z) same in
     record {
       guest = guest;

@@ -7,18 +7,18 @@ use Rattle.ir_record_run.specs.Faults.{Unwritten, fault_words, IsReported}
 use Rattle.ir_record_run.specs.declared.record_fault.RecordFault.{RecordFault}
 use Rattle.ir_record_run.specs.declared.record_fault.RecordFault.TheVariants.{Clock, Image, TooLarge, NoMem, Lines}
 
-same_fault : (e f : RecordFault) (image : List ℕ) (plan : Plan) (trace output : Unwritten) (w : Writer) → e ≡ f
+reported_of_equal_fault : (e f : RecordFault) (image : List ℕ) (plan : Plan) (trace output : Unwritten) (w : Writer) → e ≡ f
     → (Reports w (fault_text (fault_words f)) → IsReported f image plan trace output w) → Reports w (fault_text (fault_words e))
     → IsReported e image plan trace output w
-same_fault e f image plan trace output w is by r = subst (λ (z : RecordFault). IsReported z image plan trace output w) (sym is)
+reported_of_equal_fault e f image plan trace output w is by r = subst (λ (z : RecordFault). IsReported z image plan trace output w) (sym is)
     (by (subst (λ (z : RecordFault). Reports w (fault_text (fault_words z))) is r))
 
 -- the line of its words reports a fault that names nothing
-pub reported : (e : RecordFault) (image : List ℕ) (plan : Plan) (trace output : Unwritten) (w : Writer)
+pub reported_fault_without_name : (e : RecordFault) (image : List ℕ) (plan : Plan) (trace output : Unwritten) (w : Writer)
     → ((x : ImageErr) × (e ≡ Image x)) ⊎ ((e ≡ TooLarge) ⊎ ((e ≡ NoMem) ⊎ ((e ≡ Clock) ⊎ (e ≡ Lines))))
     → Reports w (fault_text (fault_words e)) → IsReported e image plan trace output w
-reported e image plan trace output w (inl (x, is)) = same_fault e (Image x) image plan trace output w is (λ h. h)
-reported e image plan trace output w (inr (inl is)) = same_fault e TooLarge image plan trace output w is (λ h. h)
-reported e image plan trace output w (inr (inr (inl is))) = same_fault e NoMem image plan trace output w is (λ h. h)
-reported e image plan trace output w (inr (inr (inr (inl is)))) = same_fault e Clock image plan trace output w is (λ h. h)
-reported e image plan trace output w (inr (inr (inr (inr is)))) = same_fault e Lines image plan trace output w is (λ h. h)
+reported_fault_without_name e image plan trace output w (inl (x, is)) = reported_of_equal_fault e (Image x) image plan trace output w is (λ h. h)
+reported_fault_without_name e image plan trace output w (inr (inl is)) = reported_of_equal_fault e TooLarge image plan trace output w is (λ h. h)
+reported_fault_without_name e image plan trace output w (inr (inr (inl is))) = reported_of_equal_fault e NoMem image plan trace output w is (λ h. h)
+reported_fault_without_name e image plan trace output w (inr (inr (inr (inl is)))) = reported_of_equal_fault e Clock image plan trace output w is (λ h. h)
+reported_fault_without_name e image plan trace output w (inr (inr (inr (inr is)))) = reported_of_equal_fault e Lines image plan trace output w is (λ h. h)

@@ -1,6 +1,7 @@
 //! What `ir record` does: a guest is recorded in an order or by threads, and its trace, outputs and lines are written.
 #![tactic(auto)]
 
+mod files;
 mod numeral;
 mod order;
 mod parsed_image;
@@ -8,6 +9,7 @@ mod plan;
 mod record_fault;
 mod recording;
 
+pub use files::{RecordFiles, Recording};
 pub use numeral::number_within;
 pub use order::{OrderErr, bad_item, read_order};
 pub use parsed_image::ParsedImage;

@@ -13,6 +13,7 @@ ghost use Rattle.ir_record_run.specs.Faults.{Allows, fault_status, Refuses, Writ
 ghost use Rattle.ir_record_run.specs.declared.record_fault.RecordFault.{RecordFault};
 ghost use Rattle.ir_record_run.specs.declared.record_fault.RecordFault.TheVariants.{NoMem, Clock};
 
+use crate::files::{RecordFiles, Recording};
 use crate::order::{bad_item, read_order};
 use crate::parsed_image::ParsedImage;
 use crate::plan::RecordPlan;
@@ -54,7 +55,7 @@ fn printed<W: Drop>(alloc: Global, outputs: Outputs<W>) -> Result<Vec<Vec<u8>>, 
 
 // The recording of the image's guest by the order that the list spells, on one thread: the trace, and what each thread
 // printed.
-#[tactic(auto, using(ir_image::proofs::CallerLemmas::few_threads))]
+#[tactic(auto, using(ir_image::proofs::CallerLemmas::guest_threads_at_most_limit))]
 fn recorded_in_order<C: Clock>(
     clock: &C,
     alloc: Global,
@@ -237,29 +238,28 @@ fn run<
     gate: &G,
     image: &ParsedImage<'_>,
     plan: &RecordPlan<'_>,
-    trace: &mut W,
-    outputs: &mut P,
+    files: &mut RecordFiles<W, P>,
     out: &mut O,
 ) -> Result<Trace, RecordFault>
     ensures done { IfOk result (λ recorded. (printed : List (List ℕ)) × IsRecordedOf image.now plan.now recorded printed
-        × Appends (W.written trace.old) (W.written trace.new) (encoding recorded)
-        × TookEach (output_writer_of (P.taken outputs.old) (P.taken outputs.new) (P.broken outputs.new)) printed
+        × Appends (W.written files.old.trace) (W.written files.new.trace) (encoding recorded)
+        × TookEach (output_writer_of (P.taken files.old.outputs) (P.taken files.new.outputs) (P.broken files.new.outputs)) printed
         × Appends (O.written out.old) (O.written out.new) (lines_of recorded)) }
-    ensures whole { OnOk result (W.whole trace.new ≡ true) }
+    ensures whole { OnOk result (W.whole files.new.trace ≡ true) }
     ensures allowed { OnOk result (Allows image.now plan.now) }
     ensures stopped { IfErr result (λ e. Stops e image.now plan.now
-        (writer_of (W.written trace.old) (W.written trace.new) (W.broken trace.new))
-        (output_writer_of (P.taken outputs.old) (P.taken outputs.new) (P.broken outputs.new))
+        (writer_of (W.written files.old.trace) (W.written files.new.trace) (W.broken files.new.trace))
+        (output_writer_of (P.taken files.old.outputs) (P.taken files.new.outputs) (P.broken files.new.outputs))
         (writer_of (O.written out.old) (O.written out.new) (O.broken out.new))
-        ((trace.new ≡ trace.old) × (outputs.new ≡ outputs.old) × (out.new ≡ out.old)) ((outputs.new ≡ outputs.old) × (out.new ≡ out.old)) (out.new ≡ out.old)) }
+        ((files.new.trace ≡ files.old.trace) × (files.new.outputs ≡ files.old.outputs) × (out.new ≡ out.old)) ((files.new.outputs ≡ files.old.outputs) × (out.new ≡ out.old)) (out.new ≡ out.old)) }
 {
     let alloc = rt.alloc();
     let (recorded, printed) = recorded(rt, alloc, gate, image, plan)?;
     let bytes = write_trace(alloc, &recorded)?;
     let lines = lines(alloc, &recorded)?;
     match written(
-        trace,
-        outputs,
+        &mut files.trace,
+        &mut files.outputs,
         out,
         bytes.as_slice(),
         printed.as_slice(),
@@ -271,7 +271,7 @@ fn run<
 }
 
 // Reports that a plan's list spells no order of an image's threads: which item doesn't, and why.
-#[tactic(auto, using(ir_image::proofs::CallerLemmas::few_threads))]
+#[tactic(auto, using(ir_image::proofs::CallerLemmas::guest_threads_at_most_limit))]
 fn tell_order<E: Sink>(faults: &mut E, image: &ParsedImage<'_>, plan: &RecordPlan<'_>)
     requires { E.broken faults.old ≡ false }
     ensures { IsOrderReported image.now plan.now (writer_of (E.written faults.old) (E.written faults.new) (E.broken faults.new)) }
@@ -334,40 +334,39 @@ pub fn record_run<
 >(
     rt: &R,
     gate: &G,
-    image: &ParsedImage<'_>,
-    plan: &RecordPlan<'_>,
-    trace: &mut W,
-    outputs: &mut P,
+    recording: &Recording<'_, '_, '_, '_>,
+    files: &mut RecordFiles<W, P>,
     out: &mut O,
     faults: &mut E,
 ) -> Result<Trace, ExitStatus>
-    requires writes { W.broken trace.old ≡ false }
-    requires puts { P.broken outputs.old ≡ false }
+    requires writes { W.broken files.old.trace ≡ false }
+    requires puts { P.broken files.old.outputs ≡ false }
     requires prints { O.broken out.old ≡ false }
     requires reports { E.broken faults.old ≡ false }
     // Of the run by the order, or of some complete run, the trace was written, what each of its threads printed as that
     // thread's output, and its lines, and no fault reported.
-    ensures done { IfOk result (λ recorded. (printed : List (List ℕ)) × IsRecordedOf image.now plan.now recorded printed
-        × Appends (W.written trace.old) (W.written trace.new) (encoding recorded)
-        × TookEach (output_writer_of (P.taken outputs.old) (P.taken outputs.new) (P.broken outputs.new)) printed
+    ensures done { IfOk result (λ recorded. (printed : List (List ℕ)) × IsRecordedOf recording.now.image.now recording.now.plan.now recorded printed
+        × Appends (W.written files.old.trace) (W.written files.new.trace) (encoding recorded)
+        × TookEach (output_writer_of (P.taken files.old.outputs) (P.taken files.new.outputs) (P.broken files.new.outputs)) printed
         × Appends (O.written out.old) (O.written out.new) (lines_of recorded)) }
-    ensures whole { OnOk result (W.whole trace.new ≡ true) }
+    ensures whole { OnOk result (W.whole files.new.trace ≡ true) }
     // The profile allows its threads and objects.
-    ensures allowed { OnOk result (Allows image.now plan.now) }
+    ensures allowed { OnOk result (Allows recording.now.image.now recording.now.plan.now) }
     ensures quiet { OnOk result (faults.new ≡ faults.old) }
     // Else what stopped it, what that left, and that it is reported.
     ensures stopped { IfErr result (λ status. (e : RecordFault) × (status ≡ fault_status e)
-        × IsReported e image.now plan.now (unwritten_of (W.called trace.new) (W.cause trace.new)) (unwritten_of (P.called outputs.new) (P.cause outputs.new))
-        (writer_of (E.written faults.old) (E.written faults.new) (E.broken faults.new)) × Stops e image.now plan.now
-        (writer_of (W.written trace.old) (W.written trace.new) (W.broken trace.new))
-        (output_writer_of (P.taken outputs.old) (P.taken outputs.new) (P.broken outputs.new))
+        × IsReported e recording.now.image.now recording.now.plan.now (unwritten_of (W.called files.new.trace) (W.cause files.new.trace)) (unwritten_of (P.called files.new.outputs) (P.cause files.new.outputs))
+        (writer_of (E.written faults.old) (E.written faults.new) (E.broken faults.new)) × Stops e recording.now.image.now recording.now.plan.now
+        (writer_of (W.written files.old.trace) (W.written files.new.trace) (W.broken files.new.trace))
+        (output_writer_of (P.taken files.old.outputs) (P.taken files.new.outputs) (P.broken files.new.outputs))
         (writer_of (O.written out.old) (O.written out.new) (O.broken out.new))
-        ((trace.new ≡ trace.old) × (outputs.new ≡ outputs.old) × (out.new ≡ out.old)) ((outputs.new ≡ outputs.old) × (out.new ≡ out.old)) (out.new ≡ out.old)) }
+        ((files.new.trace ≡ files.old.trace) × (files.new.outputs ≡ files.old.outputs) × (out.new ≡ out.old)) ((files.new.outputs ≡ files.old.outputs) × (out.new ≡ out.old)) (out.new ≡ out.old)) }
 {
-    match run(rt, gate, image, plan, trace, outputs, out) {
+    let Recording { image, plan } = *recording;
+    match run(rt, gate, image, plan, files, out) {
         Ok(recorded) => Ok(recorded),
         Err(why) => {
-            tell_fault(faults, &why, image, plan, trace, outputs);
+            tell_fault(faults, &why, image, plan, &files.trace, &files.outputs);
             Err(why.status())
         }
     }

@@ -10,7 +10,7 @@ use Rattle.ir_object.specs.Cell.{Cell}
 use Rattle.ir_flat.specs.Flat.{Flat, idle}
 use Rattle.ir_runs.specs.Cuts.{Cut}
 use Rattle.ir_fit.specs.Fit.{FittedTrace, HasRun}
-use Rattle.ir_runs.proofs.CallerLemmas.{sum_less}
+use Rattle.ir_runs.proofs.CallerLemmas.{sum_below_less_if_one_less}
 use Rattle.ir_cut.specs.Positions.{cut_of, IsConsistentCut}
 use Rattle.ir_weave.specs.Ahead.{IsAhead}
 use Rattle.ir_weave.specs.Standing.{Standing, StandsAt, flat_in, IsBetween, positions}
@@ -19,21 +19,21 @@ use Rattle.ir_weave.specs.declared.plan.Plan.{Plan}
 use Rattle.ir_replay.specs.Rounds.{Goes, backwards, threads_of, seats_of, views_of, IsOfTable}
 use Rattle.ir_replay.specs.Workers.{IsReady, HasWorked, Pairs}
 use Rattle.ir_replay.specs.declared.worker.Worker.{Worker}
-use Rattle.ir_replay.proofs.Down.{Down, down_map, down_both, down_all, down_at, down_pairs, back_threads, down_threads, down_seats, IsFirst}
-use Rattle.ir_replay.proofs.Gathered.{stands_there, still_reached}
-use Rattle.ir_weave.proofs.CallerLemmas.{ahead_at}
+use Rattle.ir_replay.proofs.Down.{AllByNumber, all_by_number_if_implied, all_by_number_of_both, all_if_all_by_number, property_at_number, all_by_number_through_pairs, length_of_backward_threads, threads_of_workers_by_number, seats_of_workers_by_number, IsSeatAtOpening}
+use Rattle.ir_replay.proofs.Gathered.{standing_of_ahead_threads, target_reached_if_no_thread_moves}
+use Rattle.ir_weave.proofs.CallerLemmas.{state_thread_is_ahead_at_position}
 
 -- the guest at a cut below the target
-pub record Starts (f : FittedTrace) (target : List ℕ) (s : Standing) : Type 0 where
+pub record StandsBelowTarget (f : FittedTrace) (target : List ℕ) (s : Standing) : Type 0 where
   pub run : HasRun f
   pub stands : StandsAt f (positions (flat_in f s)) s
   pub size : length target ≡ length f.guest.entries
   pub consistent : IsConsistentCut f target
   pub below : (t : ℕ) → positions (flat_in f s) t ≤ cut_of target t
 
-pub starts_in : (k : Plan) (f : FittedTrace) (target : List ℕ) (s : Standing) → trace_in k ≡ f → k.opened.value ≡ s → Starts f target s
-    → Starts (trace_in k) target k.opened.value
-starts_in k f target s for is h = subst (λ (z : FittedTrace × Standing). Starts z.0 target z.1) (λ i. (sym for i, sym is i)) h
+pub stands_below_target_in_plan : (k : Plan) (f : FittedTrace) (target : List ℕ) (s : Standing) → trace_in k ≡ f → k.opened.value ≡ s → StandsBelowTarget f target s
+    → StandsBelowTarget (trace_in k) target k.opened.value
+stands_below_target_in_plan k f target s for is h = subst (λ (z : FittedTrace × Standing). StandsBelowTarget z.0 target z.1) (λ i. (sym for i, sym is i)) h
 
 -- ---- before the workers go on
 
@@ -43,14 +43,14 @@ pub record IsAssigned (id : TableId) (k : Plan) (target : List ℕ) (t : ℕ) (w
   pub number : w.thread.number ≡ t
   pub steps : w.thread.steps ≡ opened_at k t
 
-assigned_one : (id : TableId) (k : Plan) (target : List ℕ) (t : ℕ) (w : Worker) → Starts (trace_in k) target k.opened.value
-    → t < length k.opened.value.threads → IsFirst id k t w.seat → w.thread ≡ slice_index_or k.opened.value.threads t idle
+worker_is_assigned : (id : TableId) (k : Plan) (target : List ℕ) (t : ℕ) (w : Worker) → StandsBelowTarget (trace_in k) target k.opened.value
+    → t < length k.opened.value.threads → IsSeatAtOpening id k t w.seat → w.thread ≡ slice_index_or k.opened.value.threads t idle
     → IsAssigned id k target t w
-assigned_one id k target t w h there first same =
+worker_is_assigned id k target t w h there first same =
     let ahead : IsAhead (trace_in k) t (opened_at k t) w.thread =
     subst (IsAhead (trace_in k) t (opened_at k t)) (sym same)
-    (ahead_at (trace_in k) (opened_in k) t h.run h.stands.flat h.stands.at there) in
-    let steps : w.thread.steps ≡ opened_at k t = ap (λ (x : thread.State). x.steps) same in
+    (state_thread_is_ahead_at_position (trace_in k) (opened_in k) t h.run h.stands.flat h.stands.at there) in
+    let steps : w.thread.steps ≡ opened_at k t = ap (λ (x : thread.ThreadState). x.steps) same in
     record {
       ready = record {
         table = first.0;
@@ -62,20 +62,20 @@ assigned_one id k target t w h there first same =
       steps = steps;
     }
 
-pub assigned : (id : TableId) (k : Plan) (target : List ℕ) (ws : List Worker) (seats : List (Seat (Unit {0}) View))
-    → Starts (trace_in k) target k.opened.value → AreSeats id k 0 seats → backwards (seats_of ws) ≡ seats
-    → backwards (threads_of ws) ≡ k.opened.value.threads → Down (IsAssigned id k target) ws
-assigned id k target ws seats h are of_seats of_threads =
-    let size : length ws ≡ length k.opened.value.threads = sym (back_threads ws) ∙ ap (λ z. length z) of_threads in
-    down_map (λ t w. IsFirst id k t w.seat × (w.thread ≡ slice_index_or k.opened.value.threads t idle)) (IsAssigned id k target) ws
-    (λ t w l x. assigned_one id k target t w h (omega (arith, l, size)) x.0 x.1)
-    (down_both (λ t w. IsFirst id k t w.seat) (λ t w. w.thread ≡ slice_index_or k.opened.value.threads t idle) ws
-    (down_seats id k ws [] (subst (AreSeats id k 0) (sym (append-nil (backwards (seats_of ws)) ∙ of_seats)) are))
-    (down_threads ws [] k.opened.value.threads (append-nil (backwards (threads_of ws)) ∙ of_threads)))
+pub workers_are_assigned : (id : TableId) (k : Plan) (target : List ℕ) (ws : List Worker) (seats : List (Seat (Unit {0}) View))
+    → StandsBelowTarget (trace_in k) target k.opened.value → AreSeats id k 0 seats → backwards (seats_of ws) ≡ seats
+    → backwards (threads_of ws) ≡ k.opened.value.threads → AllByNumber (IsAssigned id k target) ws
+workers_are_assigned id k target ws seats h are of_seats of_threads =
+    let size : length ws ≡ length k.opened.value.threads = sym (length_of_backward_threads ws) ∙ ap (λ z. length z) of_threads in
+    all_by_number_if_implied (λ t w. IsSeatAtOpening id k t w.seat × (w.thread ≡ slice_index_or k.opened.value.threads t idle)) (IsAssigned id k target) ws
+    (λ t w l x. worker_is_assigned id k target t w h (omega (arith, l, size)) x.0 x.1)
+    (all_by_number_of_both (λ t w. IsSeatAtOpening id k t w.seat) (λ t w. w.thread ≡ slice_index_or k.opened.value.threads t idle) ws
+    (seats_of_workers_by_number id k ws [] (subst (AreSeats id k 0) (sym (append-nil (backwards (seats_of ws)) ∙ of_seats)) are))
+    (threads_of_workers_by_number ws [] k.opened.value.threads (append-nil (backwards (threads_of ws)) ∙ of_threads)))
 
-pub all_ready : (id : TableId) (k : Plan) (target : List ℕ) (ws : List Worker) → Down (IsAssigned id k target) ws
+pub assigned_workers_are_ready : (id : TableId) (k : Plan) (target : List ℕ) (ws : List Worker) → AllByNumber (IsAssigned id k target) ws
     → AllByRecursion (IsReady id k target) ws
-all_ready id k target ws h = down_all (IsAssigned id k target) (IsReady id k target) ws (λ t w l m. m.ready) h
+assigned_workers_are_ready id k target ws h = all_if_all_by_number (IsAssigned id k target) (IsReady id k target) ws (λ t w l m. m.ready) h
 
 -- ---- and after that
 
@@ -86,111 +86,111 @@ pub record IsAfterRound (id : TableId) (k : Plan) (target : List ℕ) (t : ℕ) 
   pub up : opened_at k t ≤ w.thread.steps
   pub rests : (w.thread.steps ≡ cut_of target t) ⊎ WasStopped k t w.thread.steps
 
-after_one : (id : TableId) (k : Plan) (target : List ℕ) (t : ℕ) (v w : Worker) → IsAssigned id k target t v → HasWorked id k target v w
+worker_is_after_round : (id : TableId) (k : Plan) (target : List ℕ) (t : ℕ) (v w : Worker) → IsAssigned id k target t v → HasWorked id k target v w
     → IsAfterRound id k target t w
-after_one id k target t v w m h = record {
+worker_is_after_round id k target t v w m h = record {
   ready = h.ready;
   number = h.number ∙ m.number;
   up = let a = m.steps in let b = h.up in omega (arith, a, b);
   rests = subst (λ n. (w.thread.steps ≡ cut_of target n) ⊎ WasStopped k n w.thread.steps) (h.number ∙ m.number) h.rests;
 }
 
-pub after_all : (id : TableId) (k : Plan) (target : List ℕ) (vs ws : List Worker) → Down (IsAssigned id k target) vs
-    → Pairs (HasWorked id k target) vs ws → Down (IsAfterRound id k target) ws
-after_all id k target vs ws h p = down_map (λ t w. (v : Worker) × IsAssigned id k target t v × HasWorked id k target v w)
-    (IsAfterRound id k target) ws (λ t w l x. after_one id k target t x.0 w x.1 x.2)
-    (down_pairs (IsAssigned id k target) (HasWorked id k target) vs ws h p)
+pub workers_are_after_round : (id : TableId) (k : Plan) (target : List ℕ) (vs ws : List Worker) → AllByNumber (IsAssigned id k target) vs
+    → Pairs (HasWorked id k target) vs ws → AllByNumber (IsAfterRound id k target) ws
+workers_are_after_round id k target vs ws h p = all_by_number_if_implied (λ t w. (v : Worker) × IsAssigned id k target t v × HasWorked id k target v w)
+    (IsAfterRound id k target) ws (λ t w l x. worker_is_after_round id k target t x.0 w x.1 x.2)
+    (all_by_number_through_pairs (IsAssigned id k target) (HasWorked id k target) vs ws h p)
 
-pub of_table : (id : TableId) (k : Plan) (target : List ℕ) (ws : List Worker) → Down (IsAfterRound id k target) ws
+pub workers_after_round_of_table : (id : TableId) (k : Plan) (target : List ℕ) (ws : List Worker) → AllByNumber (IsAfterRound id k target) ws
     → AllByRecursion (IsOfTable id) ws
-of_table id k target ws h = down_all (IsAfterRound id k target) (IsOfTable id) ws
+workers_after_round_of_table id k target ws h = all_if_all_by_number (IsAfterRound id k target) (IsOfTable id) ws
     (λ t w l p. record { table = p.ready.table; slots = p.ready.slots }) h
 
 -- ---- where the threads are
 
-are_parts : (p : Cut) (v w : View) → AreAt p (v ++ w) → AreAt p v × AreAt p w
-are_parts p [] w h = (tt, h)
-are_parts p (q ∷ v) w h = let r = are_parts p v w h.1 in ((h.0, r.0), r.1)
+views_at_cut_of_append : (p : Cut) (v w : View) → AreAt p (v ++ w) → AreAt p v × AreAt p w
+views_at_cut_of_append p [] w h = (tt, h)
+views_at_cut_of_append p (q ∷ v) w h = let r = views_at_cut_of_append p v w h.1 in ((h.0, r.0), r.1)
 
-down_views : (p : Cut) (ws : List Worker) → AreAt p (views_of ws) → Down (λ t w. AreAt p w.seat.me.0) ws
-down_views p [] h = tt
-down_views p (w ∷ ws) h = let r = are_parts p (views_of ws) w.seat.me.0 h in (r.1, down_views p ws r.0)
+views_of_workers_at_cut : (p : Cut) (ws : List Worker) → AreAt p (views_of ws) → AllByNumber (λ t w. AreAt p w.seat.me.0) ws
+views_of_workers_at_cut p [] h = tt
+views_of_workers_at_cut p (w ∷ ws) h = let r = views_at_cut_of_append p (views_of ws) w.seat.me.0 h in (r.1, views_of_workers_at_cut p ws r.0)
 
-ahead_of : (k : Plan) (p : Cut) (v : View) (x : thread.State) (t : ℕ) → IsSeated k v x → AreAt p v → x.number ≡ t
+seated_thread_is_ahead : (k : Plan) (p : Cut) (v : View) (x : thread.ThreadState) (t : ℕ) → IsSeated k v x → AreAt p v → x.number ≡ t
     → IsAhead (trace_in k) t (p t) x
-ahead_of k p [] x t seated at e = absurd seated
-ahead_of k p (q ∷ r ∷ qs) x t seated at e = absurd seated
-ahead_of k p (q ∷ []) x t seated at e =
+seated_thread_is_ahead k p [] x t seated at e = absurd seated
+seated_thread_is_ahead k p (q ∷ r ∷ qs) x t seated at e = absurd seated
+seated_thread_is_ahead k p (q ∷ []) x t seated at e =
     let same : q.thread ≡ t = sym seated.1.number ∙ e in
     let here : q.position ≡ p t = sym at.0 ∙ ap p same in
     subst (λ (z : Plan × (ℕ × ℕ)). IsAhead (trace_in z.0) z.1.0 z.1.1 x) (λ i. (seated.0 i, (same i, here i))) seated.1
 
 -- thread t after the round
-record IsLeft (k : Plan) (target : List ℕ) (p : Cut) (t : ℕ) (x : thread.State) : Type 0 where
+record IsThreadAfterRound (k : Plan) (target : List ℕ) (p : Cut) (t : ℕ) (x : thread.ThreadState) : Type 0 where
   ahead : IsAhead (trace_in k) t (p t) x
   up : opened_at k t ≤ x.steps
   below : x.steps ≤ cut_of target t
   rests : (x.steps ≡ cut_of target t) ⊎ WasStopped k t x.steps
 
-left_one : (id : TableId) (k : Plan) (target : List ℕ) (p : Cut) (t : ℕ) (w : Worker) → IsAfterRound id k target t w → AreAt p w.seat.me.0
-    → IsLeft k target p t w.thread
-left_one id k target p t w h at = record {
-  ahead = ahead_of k p w.seat.me.0 w.thread t h.ready.seated at h.number;
+thread_of_worker_after_round : (id : TableId) (k : Plan) (target : List ℕ) (p : Cut) (t : ℕ) (w : Worker) → IsAfterRound id k target t w → AreAt p w.seat.me.0
+    → IsThreadAfterRound k target p t w.thread
+thread_of_worker_after_round id k target p t w h at = record {
+  ahead = seated_thread_is_ahead k p w.seat.me.0 w.thread t h.ready.seated at h.number;
   up = h.up;
   below = subst (λ n. w.thread.steps ≤ cut_of target n) h.number h.ready.below;
   rests = h.rests;
 }
 
-left_at : (id : TableId) (k : Plan) (target : List ℕ) (p : Cut) (ws : List Worker) → Down (IsAfterRound id k target) ws
-    → AreAt p (views_of ws) → (t : ℕ) → t < length ws → IsLeft k target p t (slice_index_or (backwards (threads_of ws)) t idle)
-left_at id k target p ws h at t l =
-    let xs : List thread.State = backwards (threads_of ws) in
-    let all : Down (λ n w. IsLeft k target p n (slice_index_or xs n idle)) ws =
-    down_map (λ n w. (IsAfterRound id k target n w × AreAt p w.seat.me.0) × (w.thread ≡ slice_index_or xs n idle))
-    (λ n w. IsLeft k target p n (slice_index_or xs n idle)) ws
-    (λ n w less x. subst (IsLeft k target p n) x.1 (left_one id k target p n w x.0.0 x.0.1))
-    (down_both (λ n w. IsAfterRound id k target n w × AreAt p w.seat.me.0) (λ n w. w.thread ≡ slice_index_or xs n idle) ws
-    (down_both (IsAfterRound id k target) (λ n w. AreAt p w.seat.me.0) ws h (down_views p ws at))
-    (down_threads ws [] xs (append-nil xs))) in
-    (down_at (λ n w. IsLeft k target p n (slice_index_or xs n idle)) ws all t l).1
+thread_at_number_after_round : (id : TableId) (k : Plan) (target : List ℕ) (p : Cut) (ws : List Worker) → AllByNumber (IsAfterRound id k target) ws
+    → AreAt p (views_of ws) → (t : ℕ) → t < length ws → IsThreadAfterRound k target p t (slice_index_or (backwards (threads_of ws)) t idle)
+thread_at_number_after_round id k target p ws h at t l =
+    let xs : List thread.ThreadState = backwards (threads_of ws) in
+    let all : AllByNumber (λ n w. IsThreadAfterRound k target p n (slice_index_or xs n idle)) ws =
+    all_by_number_if_implied (λ n w. (IsAfterRound id k target n w × AreAt p w.seat.me.0) × (w.thread ≡ slice_index_or xs n idle))
+    (λ n w. IsThreadAfterRound k target p n (slice_index_or xs n idle)) ws
+    (λ n w less x. subst (IsThreadAfterRound k target p n) x.1 (thread_of_worker_after_round id k target p n w x.0.0 x.0.1))
+    (all_by_number_of_both (λ n w. IsAfterRound id k target n w × AreAt p w.seat.me.0) (λ n w. w.thread ≡ slice_index_or xs n idle) ws
+    (all_by_number_of_both (IsAfterRound id k target) (λ n w. AreAt p w.seat.me.0) ws h (views_of_workers_at_cut p ws at))
+    (threads_of_workers_by_number ws [] xs (append-nil xs))) in
+    (property_at_number (λ n w. IsThreadAfterRound k target p n (slice_index_or xs n idle)) ws all t l).1
 
-none_there : (xs : List thread.State) (t : ℕ) → length xs ≤ t → (slice_index_or xs t idle).steps ≡ 0
-none_there xs t l = ap (λ (x : thread.State). x.steps) (get_or_past xs t idle l)
+steps_of_missing_thread_zero : (xs : List thread.ThreadState) (t : ℕ) → length xs ≤ t → (slice_index_or xs t idle).steps ≡ 0
+steps_of_missing_thread_zero xs t l = ap (λ (x : thread.ThreadState). x.steps) (get_or_past xs t idle l)
 
 -- ---- the guest after the round
 
 abbrev after_round : List Worker → List Cell → Standing
 after_round ws cells = record { threads = backwards (threads_of ws); objects = cells }
 
-between : (id : TableId) (k : Plan) (target : List ℕ) (ws : List Worker) (cells : List Cell) → Starts (trace_in k) target k.opened.value
-    → length ws ≡ length k.opened.value.threads → Down (IsAfterRound id k target) ws → IsClosed k (views_of ws) cells
+standing_after_round_is_between : (id : TableId) (k : Plan) (target : List ℕ) (ws : List Worker) (cells : List Cell) → StandsBelowTarget (trace_in k) target k.opened.value
+    → length ws ≡ length k.opened.value.threads → AllByNumber (IsAfterRound id k target) ws → IsClosed k (views_of ws) cells
     → IsBetween (trace_in k) target k.opened.value (after_round ws cells)
-between id k target ws cells h size p c =
-    let xs : List thread.State = backwards (threads_of ws) in
-    let back : length xs ≡ length ws = back_threads ws in
+standing_after_round_is_between id k target ws cells h size p c =
+    let xs : List thread.ThreadState = backwards (threads_of ws) in
+    let back : length xs ≡ length ws = length_of_backward_threads ws in
     let there = h.stands.at.threads in
     let closed = c.at.threads in
-    let left : (t : ℕ) → t < length ws → IsLeft k target (positions c.state) t (slice_index_or xs t idle) =
-    left_at id k target (positions c.state) ws p c.view in
+    let left : (t : ℕ) → t < length ws → IsThreadAfterRound k target (positions c.state) t (slice_index_or xs t idle) =
+    thread_at_number_after_round id k target (positions c.state) ws p c.view in
     record {
-      stands = stands_there (trace_in k) c.state xs cells h.run c.flat c.at (λ t l. (left t (omega (arith, l, size, there, closed))).ahead)
+      stands = standing_of_ahead_threads (trace_in k) c.state xs cells h.run c.flat c.at (λ t l. (left t (omega (arith, l, size, there, closed))).ahead)
           (omega (arith, back, size, there, closed)) c.objects;
       above = λ t. elim (cases_lt t (length ws)) [
         | inl l ↦ (left t l).up
-        | inr past ↦ let none = none_there k.opened.value.threads t (omega (arith, past, size)) in omega (arith, none)
+        | inr past ↦ let none = steps_of_missing_thread_zero k.opened.value.threads t (omega (arith, past, size)) in omega (arith, none)
       ];
       below = λ t. elim (cases_lt t (length ws)) [
         | inl l ↦ (left t l).below
-        | inr past ↦ let none = none_there xs t (omega (arith, past, back)) in omega (arith, none)
+        | inr past ↦ let none = steps_of_missing_thread_zero xs t (omega (arith, past, back)) in omega (arith, none)
       ];
     }
 
 -- whether any has moved
-moved_or_none : (n : ℕ) (a b : ℕ → ℕ) → ((t : ℕ) → a t ≤ b t) → ((t : ℕ) → t < n → a t ≡ b t) ⊎ ((t : ℕ) × (t < n) × (a t < b t))
-moved_or_none zero a b up = inl (λ t l. absurd (omega (arith, l)))
-moved_or_none (suc n) a b up = elim (cases_lt (a n) (b n)) [
+equal_or_some_increase : (n : ℕ) (a b : ℕ → ℕ) → ((t : ℕ) → a t ≤ b t) → ((t : ℕ) → t < n → a t ≡ b t) ⊎ ((t : ℕ) × (t < n) × (a t < b t))
+equal_or_some_increase zero a b up = inl (λ t l. absurd (omega (arith, l)))
+equal_or_some_increase (suc n) a b up = elim (cases_lt (a n) (b n)) [
   | inl less ↦ inr (n, omega arith, less)
-  | inr not ↦ elim (moved_or_none n a b up) [
+  | inr not ↦ elim (equal_or_some_increase n a b up) [
     | inr some ↦ inr (some.0, (let l = some.1 in omega (arith, l)), some.2)
     | inl same ↦ inl (λ t l. elim (cases_eq t n) [
       | inl e ↦ subst (λ z. a z ≡ b z) (sym e) (let u = up n in omega (arith, not, u))
@@ -199,32 +199,32 @@ moved_or_none (suc n) a b up = elim (cases_lt (a n) (b n)) [
   ]
 ]
 
-goes : (id : TableId) (k : Plan) (target : List ℕ) (ws : List Worker) (cells : List Cell) → Starts (trace_in k) target k.opened.value
-    → length ws ≡ length k.opened.value.threads → Down (IsAfterRound id k target) ws → IsClosed k (views_of ws) cells
+standing_after_round_goes : (id : TableId) (k : Plan) (target : List ℕ) (ws : List Worker) (cells : List Cell) → StandsBelowTarget (trace_in k) target k.opened.value
+    → length ws ≡ length k.opened.value.threads → AllByNumber (IsAfterRound id k target) ws → IsClosed k (views_of ws) cells
     → IsBetween (trace_in k) target k.opened.value (after_round ws cells) → Goes (trace_in k) target k.opened.value (after_round ws cells)
-goes id k target ws cells h size p c b t less =
+standing_after_round_goes id k target ws cells h size p c b t less =
     let new : Flat = flat_in (trace_in k) (after_round ws cells) in
     let there = h.stands.at.threads in
     let whole = h.size in
-    elim (moved_or_none (length target) (opened_at k) (positions new) b.above) [
-      | inr some ↦ sum_less (length target) some.0 (λ u. cut_of target u - positions new u) (λ u. cut_of target u - opened_at k u) some.1
+    elim (equal_or_some_increase (length target) (opened_at k) (positions new) b.above) [
+      | inr some ↦ sum_below_less_if_one_less (length target) some.0 (λ u. cut_of target u - positions new u) (λ u. cut_of target u - opened_at k u) some.1
           (let up = some.2 in let below = b.below some.0 in omega (arith, up, below)) (λ u. let up = b.above u in omega (arith, up))
       | inl same ↦
           let rests : (u : ℕ) → u < length target → (opened_at k u ≡ cut_of target u) ⊎ WasStopped k u (opened_at k u) =
           λ u l. subst (λ n. (n ≡ cut_of target u) ⊎ WasStopped k u n) (sym (same u l))
-          (left_at id k target (positions c.state) ws p c.view u (omega (arith, l, size, there, whole))).rests in
-          let at = still_reached k target h.run h.stands.at h.size h.consistent h.below rests t in
+          (thread_at_number_after_round id k target (positions c.state) ws p c.view u (omega (arith, l, size, there, whole))).rests in
+          let at = target_reached_if_no_thread_moves k target h.run h.stands.at h.size h.consistent h.below rests t in
           absurd (omega (arith, at, less))
     ]
 
-pub round_leaves : (id : TableId) (k : Plan) (f : FittedTrace) (target : List ℕ) (s new : Standing) (ws : List Worker) (cells : List Cell)
-    → trace_in k ≡ f → k.opened.value ≡ s → Starts f target s → length ws ≡ length s.threads → Down (IsAfterRound id k target) ws
+pub standing_left_by_round : (id : TableId) (k : Plan) (f : FittedTrace) (target : List ℕ) (s new : Standing) (ws : List Worker) (cells : List Cell)
+    → trace_in k ≡ f → k.opened.value ≡ s → StandsBelowTarget f target s → length ws ≡ length s.threads → AllByNumber (IsAfterRound id k target) ws
     → IsClosed k (views_of ws) cells → new ≡ record { threads = backwards (threads_of ws); objects = cells }
     → IsBetween f target s new × Goes f target s new
-round_leaves id k f target s new ws cells for is h size p c e =
-    let start : Starts (trace_in k) target k.opened.value = starts_in k f target s for is h in
+standing_left_by_round id k f target s new ws cells for is h size p c e =
+    let start : StandsBelowTarget (trace_in k) target k.opened.value = stands_below_target_in_plan k f target s for is h in
     let long : length ws ≡ length k.opened.value.threads = size ∙ ap (λ (z : Standing). length z.threads) (sym is) in
-    let b : IsBetween (trace_in k) target k.opened.value (after_round ws cells) = between id k target ws cells start long p c in
+    let b : IsBetween (trace_in k) target k.opened.value (after_round ws cells) = standing_after_round_is_between id k target ws cells start long p c in
     subst (λ (z : FittedTrace × Standing). IsBetween z.0 target z.1 new × Goes z.0 target z.1 new) (λ i. (for i, is i))
     (subst (λ z. IsBetween (trace_in k) target k.opened.value z × Goes (trace_in k) target k.opened.value z) (sym e)
-    (b, goes id k target ws cells start long p c b))
+    (b, standing_after_round_goes id k target ws cells start long p c b))

@@ -7,68 +7,68 @@ use Rattle.ir_weave.specs.Woven.{View}
 use Rattle.ir_replay.specs.Rounds.{backwards, threads_of, seats_of, views_of}
 use Rattle.ir_replay.specs.declared.worker.Worker.{Worker}
 
-backwards-snoc : {A : Type 0} (xs : List A) (x : A) → backwards (xs ++ x ∷ []) ≡ x ∷ backwards xs
-backwards-snoc [] x = refl
-backwards-snoc (y ∷ xs) x = ap (λ z. z ++ y ∷ []) (backwards-snoc xs x)
+backwards_of_push : {A : Type 0} (xs : List A) (x : A) → backwards (xs ++ x ∷ []) ≡ x ∷ backwards xs
+backwards_of_push [] x = refl
+backwards_of_push (y ∷ xs) x = ap (λ z. z ++ y ∷ []) (backwards_of_push xs x)
 
-threads-snoc : (ws : List Worker) (w : Worker) → threads_of (ws ++ w ∷ []) ≡ threads_of ws ++ w.thread ∷ []
-threads-snoc [] w = refl
-threads-snoc (v ∷ ws) w = ap (λ z. v.thread ∷ z) (threads-snoc ws w)
+threads_of_push : (ws : List Worker) (w : Worker) → threads_of (ws ++ w ∷ []) ≡ threads_of ws ++ w.thread ∷ []
+threads_of_push [] w = refl
+threads_of_push (v ∷ ws) w = ap (λ z. v.thread ∷ z) (threads_of_push ws w)
 
-seats-snoc : (ws : List Worker) (w : Worker) → seats_of (ws ++ w ∷ []) ≡ seats_of ws ++ w.seat ∷ []
-seats-snoc [] w = refl
-seats-snoc (v ∷ ws) w = ap (λ z. v.seat ∷ z) (seats-snoc ws w)
+seats_of_push : (ws : List Worker) (w : Worker) → seats_of (ws ++ w ∷ []) ≡ seats_of ws ++ w.seat ∷ []
+seats_of_push [] w = refl
+seats_of_push (v ∷ ws) w = ap (λ z. v.seat ∷ z) (seats_of_push ws w)
 
-one_more : {A : Type 0} (old new back all : List A) (x : A) → old ≡ new ++ x ∷ [] → old ++ backwards back ≡ all
+append_backwards_of_moved_element : {A : Type 0} (old new back all : List A) (x : A) → old ≡ new ++ x ∷ [] → old ++ backwards back ≡ all
     → new ++ backwards (back ++ x ∷ []) ≡ all
-one_more old new back all x taken h = ap (λ z. new ++ z) (backwards-snoc back x) ∙ sym (append_assoc new (x ∷ []) (backwards back))
+append_backwards_of_moved_element old new back all x taken h = ap (λ z. new ++ z) (backwards_of_push back x) ∙ sym (append_assoc new (x ∷ []) (backwards back))
     ∙ ap (λ z. z ++ backwards back) (sym taken) ∙ h
 
-pub threads_more : (old new all : List thread.State) (ws ws' : List Worker) (w : Worker) → old ≡ new ++ w.thread ∷ [] → ws' ≡ ws ++ w ∷ []
+pub threads_with_moved_worker : (old new all : List thread.ThreadState) (ws ws' : List Worker) (w : Worker) → old ≡ new ++ w.thread ∷ [] → ws' ≡ ws ++ w ∷ []
     → old ++ backwards (threads_of ws) ≡ all → new ++ backwards (threads_of ws') ≡ all
-threads_more old new all ws ws' w taken made h = ap (λ z. new ++ backwards z) (ap threads_of made ∙ threads-snoc ws w)
-    ∙ one_more old new (threads_of ws) all w.thread taken h
+threads_with_moved_worker old new all ws ws' w taken made h = ap (λ z. new ++ backwards z) (ap threads_of made ∙ threads_of_push ws w)
+    ∙ append_backwards_of_moved_element old new (threads_of ws) all w.thread taken h
 
-pub seats_more : (old new all : List (Seat (Unit {0}) View)) (ws ws' : List Worker) (w : Worker) → old ≡ new ++ w.seat ∷ [] → ws' ≡ ws ++ w
+pub seats_with_moved_worker : (old new all : List (Seat (Unit {0}) View)) (ws ws' : List Worker) (w : Worker) → old ≡ new ++ w.seat ∷ [] → ws' ≡ ws ++ w
     ∷ [] → old ++ backwards (seats_of ws) ≡ all → new ++ backwards (seats_of ws') ≡ all
-seats_more old new all ws ws' w taken made h = ap (λ z. new ++ backwards z) (ap seats_of made ∙ seats-snoc ws w)
-    ∙ one_more old new (seats_of ws) all w.seat taken h
+seats_with_moved_worker old new all ws ws' w taken made h = ap (λ z. new ++ backwards z) (ap seats_of made ∙ seats_of_push ws w)
+    ∙ append_backwards_of_moved_element old new (seats_of ws) all w.seat taken h
 
 -- ---- and again
 
-views-snoc : (ws : List Worker) (w : Worker) → views_of (ws ++ w ∷ []) ≡ w.seat.me.0 ++ views_of ws
-views-snoc [] w = sym (append-nil w.seat.me.0)
-views-snoc (v ∷ ws) w = ap (λ z. z ++ v.seat.me.0) (views-snoc ws w) ∙ append_assoc w.seat.me.0 (views_of ws) v.seat.me.0
+views_of_push : (ws : List Worker) (w : Worker) → views_of (ws ++ w ∷ []) ≡ w.seat.me.0 ++ views_of ws
+views_of_push [] w = sym (append-nil w.seat.me.0)
+views_of_push (v ∷ ws) w = ap (λ z. z ++ v.seat.me.0) (views_of_push ws w) ∙ append_assoc w.seat.me.0 (views_of ws) v.seat.me.0
 
-pub first_view : (ws rest : List Worker) (w : Worker) → ws ≡ rest ++ w ∷ [] → w.seat.me.0 ++ views_of rest ≡ views_of ws
-first_view ws rest w e = sym (views-snoc rest w) ∙ ap views_of (sym e)
+pub view_before_views_of_others : (ws rest : List Worker) (w : Worker) → ws ≡ rest ++ w ∷ [] → w.seat.me.0 ++ views_of rest ≡ views_of ws
+view_before_views_of_others ws rest w e = sym (views_of_push rest w) ∙ ap views_of (sym e)
 
 -- a seat more is joined
-pub view_more : (old rest : List Worker) (w : Worker) (all new : Seat (Unit {0}) View) (whole : View) → all.me.0 ++ views_of old ≡ whole
+pub joined_views_with_next_seat : (old rest : List Worker) (w : Worker) (all new : Seat (Unit {0}) View) (whole : View) → all.me.0 ++ views_of old ≡ whole
     → old ≡ rest ++ w ∷ [] → new.me ≡ (all.me.0 ++ w.seat.me.0, []) → new.me.0 ++ views_of rest ≡ whole
-view_more old rest w all new whole h e is = ap (λ z. z.0 ++ views_of rest) is ∙ append_assoc all.me.0 w.seat.me.0 (views_of rest)
-    ∙ ap (λ z. all.me.0 ++ z) (first_view old rest w e) ∙ h
+joined_views_with_next_seat old rest w all new whole h e is = ap (λ z. z.0 ++ views_of rest) is ∙ append_assoc all.me.0 w.seat.me.0 (views_of rest)
+    ∙ ap (λ z. all.me.0 ++ z) (view_before_views_of_others old rest w e) ∙ h
 
 -- a thread more rises
-pub thread_more : (old rest : List Worker) (w : Worker) (xs ys whole : List thread.State) → xs ++ backwards (threads_of old) ≡ whole
+pub joined_threads_with_next_worker : (old rest : List Worker) (w : Worker) (xs ys whole : List thread.ThreadState) → xs ++ backwards (threads_of old) ≡ whole
     → old ≡ rest ++ w ∷ [] → ys ≡ xs ++ w.thread ∷ [] → ys ++ backwards (threads_of rest) ≡ whole
-thread_more old rest w xs ys whole h e is =
+joined_threads_with_next_worker old rest w xs ys whole h e is =
     ap (λ z. z ++ backwards (threads_of rest)) is ∙ append_assoc xs (w.thread ∷ []) (backwards (threads_of rest))
-    ∙ ap (λ z. xs ++ z) (sym (backwards-snoc (threads_of rest) w.thread) ∙ ap backwards (sym (threads-snoc rest w))
+    ∙ ap (λ z. xs ++ z) (sym (backwards_of_push (threads_of rest) w.thread) ∙ ap backwards (sym (threads_of_push rest w))
     ∙ ap (λ z. backwards (threads_of z)) (sym e)) ∙ h
 
-pub all_last : {X : Type 0} (P : X → Type 0) (xs : List X) (x : X) → AllByRecursion P (xs ++ x ∷ []) → AllByRecursion P xs × P x
-all_last P [] x h = (tt, h.0)
-all_last P (y ∷ xs) x h = let r = all_last P xs x h.1 in ((h.0, r.0), r.1)
+pub all_splits_off_last : {X : Type 0} (P : X → Type 0) (xs : List X) (x : X) → AllByRecursion P (xs ++ x ∷ []) → AllByRecursion P xs × P x
+all_splits_off_last P [] x h = (tt, h.0)
+all_splits_off_last P (y ∷ xs) x h = let r = all_splits_off_last P xs x h.1 in ((h.0, r.0), r.1)
 
-pub one_less : {X : Type 0} (xs ys : List X) (x : X) → xs ≡ ys ++ x ∷ [] → length xs ≡ length ys + 1
-one_less xs ys x e = ap (λ z. length z) e ∙ length-append ys (x ∷ [])
+pub length_after_push : {X : Type 0} (xs ys : List X) (x : X) → xs ≡ ys ++ x ∷ [] → length xs ≡ length ys + 1
+length_after_push xs ys x e = ap (λ z. length z) e ∙ length-append ys (x ∷ [])
 
-take_prefix : {A : Type 0} (xs ys : List A) → take (length xs) (xs ++ ys) ≡ xs
-take_prefix [] ys = refl
-take_prefix (x ∷ xs) ys = ap (λ z. x ∷ z) (take_prefix xs ys)
+take_length_of_append : {A : Type 0} (xs ys : List A) → take (length xs) (xs ++ ys) ≡ xs
+take_length_of_append [] ys = refl
+take_length_of_append (x ∷ xs) ys = ap (λ z. x ∷ z) (take_length_of_append xs ys)
 
 -- a list that was changed in place
-pub changed_all : {A : Type 0} (new old : List A) (n : ℕ) → n ≡ length old → length new ≡ length old
+pub take_of_overwritten_list : {A : Type 0} (new old : List A) (n : ℕ) → n ≡ length old → length new ≡ length old
     → take n (new ++ drop (length new) old) ≡ new
-changed_all new old n e f = ap (λ k. take k (new ++ drop (length new) old)) (e ∙ sym f) ∙ take_prefix new (drop (length new) old)
+take_of_overwritten_list new old n e f = ap (λ k. take k (new ++ drop (length new) old)) (e ∙ sym f) ∙ take_length_of_append new (drop (length new) old)

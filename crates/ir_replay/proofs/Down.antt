@@ -14,100 +14,100 @@ use Rattle.ir_replay.specs.Workers.{Pairs}
 use Rattle.ir_replay.specs.declared.worker.Worker.{Worker}
 
 -- P holds of each number and the element there
-abbrev pub Down : {A : Type 0} → (ℕ → A → Type 0) → List A → Type 0
-Down P [] = Unit {0}
-Down P (x ∷ xs) = P (length xs) x × Down P xs
+abbrev pub AllByNumber : {A : Type 0} → (ℕ → A → Type 0) → List A → Type 0
+AllByNumber P [] = Unit {0}
+AllByNumber P (x ∷ xs) = P (length xs) x × AllByNumber P xs
 
-pub down_map : {A : Type 0} (P Q : ℕ → A → Type 0) (xs : List A) → ((t : ℕ) (x : A) → t < length xs → P t x → Q t x) → Down P xs → Down Q xs
-down_map P Q [] f h = tt
-down_map P Q (x ∷ xs) f h = (f (length xs) x (omega arith) h.0, down_map P Q xs (λ t y l. f t y (omega (arith, l))) h.1)
+pub all_by_number_if_implied : {A : Type 0} (P Q : ℕ → A → Type 0) (xs : List A) → ((t : ℕ) (x : A) → t < length xs → P t x → Q t x) → AllByNumber P xs → AllByNumber Q xs
+all_by_number_if_implied P Q [] f h = tt
+all_by_number_if_implied P Q (x ∷ xs) f h = (f (length xs) x (omega arith) h.0, all_by_number_if_implied P Q xs (λ t y l. f t y (omega (arith, l))) h.1)
 
-pub down_both : {A : Type 0} (P Q : ℕ → A → Type 0) (xs : List A) → Down P xs → Down Q xs → Down (λ t x. P t x × Q t x) xs
-down_both P Q [] h k = tt
-down_both P Q (x ∷ xs) h k = ((h.0, k.0), down_both P Q xs h.1 k.1)
+pub all_by_number_of_both : {A : Type 0} (P Q : ℕ → A → Type 0) (xs : List A) → AllByNumber P xs → AllByNumber Q xs → AllByNumber (λ t x. P t x × Q t x) xs
+all_by_number_of_both P Q [] h k = tt
+all_by_number_of_both P Q (x ∷ xs) h k = ((h.0, k.0), all_by_number_of_both P Q xs h.1 k.1)
 
-pub down_all : {A : Type 0} (P : ℕ → A → Type 0) (Q : A → Type 0) (xs : List A) → ((t : ℕ) (x : A) → t < length xs → P t x → Q x)
-    → Down P xs → AllByRecursion Q xs
-down_all P Q [] f h = tt
-down_all P Q (x ∷ xs) f h = (f (length xs) x (omega arith) h.0, down_all P Q xs (λ t y l. f t y (omega (arith, l))) h.1)
+pub all_if_all_by_number : {A : Type 0} (P : ℕ → A → Type 0) (Q : A → Type 0) (xs : List A) → ((t : ℕ) (x : A) → t < length xs → P t x → Q x)
+    → AllByNumber P xs → AllByRecursion Q xs
+all_if_all_by_number P Q [] f h = tt
+all_if_all_by_number P Q (x ∷ xs) f h = (f (length xs) x (omega arith) h.0, all_if_all_by_number P Q xs (λ t y l. f t y (omega (arith, l))) h.1)
 
-pub down_at : {A : Type 0} (P : ℕ → A → Type 0) (xs : List A) → Down P xs → (t : ℕ) → t < length xs → (x : A) × P t x
-down_at P [] h t l = absurd (omega (arith, l))
-down_at P (x ∷ xs) h t l = elim (cases_eq t (length xs)) [
+pub property_at_number : {A : Type 0} (P : ℕ → A → Type 0) (xs : List A) → AllByNumber P xs → (t : ℕ) → t < length xs → (x : A) × P t x
+property_at_number P [] h t l = absurd (omega (arith, l))
+property_at_number P (x ∷ xs) h t l = elim (cases_eq t (length xs)) [
   | inl e ↦ (x, subst (λ z. P z x) (sym e) h.0)
-  | inr ne ↦ down_at P xs h.1 t (omega (arith, l, ne))
+  | inr ne ↦ property_at_number P xs h.1 t (omega (arith, l, ne))
 ]
 
-pub pairs_size : {A : Type 0} (R : A → A → Type 0) (xs ys : List A) → Pairs R xs ys → length ys ≡ length xs
-pairs_size R [] [] p = refl
-pairs_size R [] (y ∷ ys) p = absurd p
-pairs_size R (x ∷ xs) [] p = absurd p
-pairs_size R (x ∷ xs) (y ∷ ys) p = ap suc (pairs_size R xs ys p.1)
+pub pairs_have_same_length : {A : Type 0} (R : A → A → Type 0) (xs ys : List A) → Pairs R xs ys → length ys ≡ length xs
+pairs_have_same_length R [] [] p = refl
+pairs_have_same_length R [] (y ∷ ys) p = absurd p
+pairs_have_same_length R (x ∷ xs) [] p = absurd p
+pairs_have_same_length R (x ∷ xs) (y ∷ ys) p = ap suc (pairs_have_same_length R xs ys p.1)
 
-pub down_pairs : {A : Type 0} (P : ℕ → A → Type 0) (R : A → A → Type 0) (xs ys : List A) → Down P xs → Pairs R xs ys
-    → Down (λ t y. (x : A) × P t x × R x y) ys
-down_pairs P R [] [] h p = tt
-down_pairs P R [] (y ∷ ys) h p = absurd p
-down_pairs P R (x ∷ xs) [] h p = absurd p
-down_pairs P R (x ∷ xs) (y ∷ ys) h p = ((x, subst (λ z. P z x) (sym (pairs_size R xs ys p.1)) h.0, p.0), down_pairs P R xs ys h.1 p.1)
+pub all_by_number_through_pairs : {A : Type 0} (P : ℕ → A → Type 0) (R : A → A → Type 0) (xs ys : List A) → AllByNumber P xs → Pairs R xs ys
+    → AllByNumber (λ t y. (x : A) × P t x × R x y) ys
+all_by_number_through_pairs P R [] [] h p = tt
+all_by_number_through_pairs P R [] (y ∷ ys) h p = absurd p
+all_by_number_through_pairs P R (x ∷ xs) [] h p = absurd p
+all_by_number_through_pairs P R (x ∷ xs) (y ∷ ys) h p = ((x, subst (λ z. P z x) (sym (pairs_have_same_length R xs ys p.1)) h.0, p.0), all_by_number_through_pairs P R xs ys h.1 p.1)
 
-pub pairs_by : {A : Type 0} (R : A → A → Type 0) (xs ys : List A) → length ys ≡ length xs
+pub pairs_if_elements_related : {A : Type 0} (R : A → A → Type 0) (xs ys : List A) → length ys ≡ length xs
     → ((i : ℕ) (d : A) → i < length xs → R (slice_index_or xs i d) (slice_index_or ys i d)) → Pairs R xs ys
-pairs_by R [] [] e h = tt
-pairs_by R [] (y ∷ ys) e h = absurd (omega (arith, e))
-pairs_by R (x ∷ xs) [] e h = absurd (omega (arith, e))
-pairs_by R (x ∷ xs) (y ∷ ys) e h = (h 0 x (omega arith), pairs_by R xs ys (omega (arith, e)) (λ i d l. h (suc i) d (omega (arith, l))))
+pairs_if_elements_related R [] [] e h = tt
+pairs_if_elements_related R [] (y ∷ ys) e h = absurd (omega (arith, e))
+pairs_if_elements_related R (x ∷ xs) [] e h = absurd (omega (arith, e))
+pairs_if_elements_related R (x ∷ xs) (y ∷ ys) e h = (h 0 x (omega arith), pairs_if_elements_related R xs ys (omega (arith, e)) (λ i d l. h (suc i) d (omega (arith, l))))
 
 -- ---- workers
 
-pub back_size : {A : Type 0} (xs : List A) → length (backwards xs) ≡ length xs
-back_size [] = refl
-back_size (x ∷ xs) = length-append (backwards xs) (x ∷ [])
-    ∙ (let e = back_size xs in let g : length (backwards xs) + 1 ≡ suc (length xs) = omega (arith, e) in g)
+pub length_of_backwards : {A : Type 0} (xs : List A) → length (backwards xs) ≡ length xs
+length_of_backwards [] = refl
+length_of_backwards (x ∷ xs) = length-append (backwards xs) (x ∷ [])
+    ∙ (let e = length_of_backwards xs in let g : length (backwards xs) + 1 ≡ suc (length xs) = omega (arith, e) in g)
 
-threads_size : (ws : List Worker) → length (threads_of ws) ≡ length ws
-threads_size [] = refl
-threads_size (w ∷ ws) = ap suc (threads_size ws)
+length_of_threads_of : (ws : List Worker) → length (threads_of ws) ≡ length ws
+length_of_threads_of [] = refl
+length_of_threads_of (w ∷ ws) = ap suc (length_of_threads_of ws)
 
-seats_size : (ws : List Worker) → length (seats_of ws) ≡ length ws
-seats_size [] = refl
-seats_size (w ∷ ws) = ap suc (seats_size ws)
+length_of_seats_of : (ws : List Worker) → length (seats_of ws) ≡ length ws
+length_of_seats_of [] = refl
+length_of_seats_of (w ∷ ws) = ap suc (length_of_seats_of ws)
 
-pub back_threads : (ws : List Worker) → length (backwards (threads_of ws)) ≡ length ws
-back_threads ws = back_size (threads_of ws) ∙ threads_size ws
+pub length_of_backward_threads : (ws : List Worker) → length (backwards (threads_of ws)) ≡ length ws
+length_of_backward_threads ws = length_of_backwards (threads_of ws) ∙ length_of_threads_of ws
 
-pub back_seats : (ws : List Worker) → length (backwards (seats_of ws)) ≡ length ws
-back_seats ws = back_size (seats_of ws) ∙ seats_size ws
+pub length_of_backward_seats : (ws : List Worker) → length (backwards (seats_of ws)) ≡ length ws
+length_of_backward_seats ws = length_of_backwards (seats_of ws) ∙ length_of_seats_of ws
 
 -- their threads
-pub down_threads : (ws : List Worker) (rest xs : List thread.State) → backwards (threads_of ws) ++ rest ≡ xs
-    → Down (λ t w. w.thread ≡ slice_index_or xs t idle) ws
-down_threads [] rest xs e = tt
-down_threads (w ∷ ws) rest xs e =
+pub threads_of_workers_by_number : (ws : List Worker) (rest xs : List thread.ThreadState) → backwards (threads_of ws) ++ rest ≡ xs
+    → AllByNumber (λ t w. w.thread ≡ slice_index_or xs t idle) ws
+threads_of_workers_by_number [] rest xs e = tt
+threads_of_workers_by_number (w ∷ ws) rest xs e =
     let parts : backwards (threads_of ws) ++ w.thread ∷ rest ≡ xs = sym (append_assoc (backwards (threads_of ws)) (w.thread ∷ []) rest)
     ∙ e in (
       sym (ap (λ z. slice_index_or z (length ws) idle) (sym parts)
-          ∙ get_or_at (backwards (threads_of ws)) w.thread rest idle (length ws) (back_threads ws)),
-      down_threads ws (w.thread ∷ rest) xs
+          ∙ get_or_at (backwards (threads_of ws)) w.thread rest idle (length ws) (length_of_backward_threads ws)),
+      threads_of_workers_by_number ws (w.thread ∷ rest) xs
           parts,
     )
 
 -- the seat of thread t as the table is opened
-abbrev pub IsFirst : TableId → Plan → ℕ → Seat (Unit {0}) View → Type 0
-IsFirst id k t s = (s.table_id ≡ id) × (s.me ≡ (progress k t (opened_at k t) false (first_met k) ∷ [], []))
+abbrev pub IsSeatAtOpening : TableId → Plan → ℕ → Seat (Unit {0}) View → Type 0
+IsSeatAtOpening id k t s = (s.table_id ≡ id) × (s.me ≡ (progress k t (opened_at k t) false (first_met k) ∷ [], []))
 
-seat_at : (id : TableId) (k : Plan) (t m : ℕ) (xs rest : List (Seat (Unit {0}) View)) (s : Seat (Unit {0}) View) → m ≡ t + length xs
-    → AreSeats id k t (xs ++ s ∷ rest) → IsFirst id k m s
-seat_at id k t m [] rest s e h = subst (λ z. IsFirst id k z s) (let g : t ≡ m = omega (arith, e) in g) h.0
-seat_at id k t m (x ∷ xs) rest s e h = seat_at id k (suc t) m xs rest s (omega (arith, e)) h.1
+seat_at_number_is_opening_seat : (id : TableId) (k : Plan) (t m : ℕ) (xs rest : List (Seat (Unit {0}) View)) (s : Seat (Unit {0}) View) → m ≡ t + length xs
+    → AreSeats id k t (xs ++ s ∷ rest) → IsSeatAtOpening id k m s
+seat_at_number_is_opening_seat id k t m [] rest s e h = subst (λ z. IsSeatAtOpening id k z s) (let g : t ≡ m = omega (arith, e) in g) h.0
+seat_at_number_is_opening_seat id k t m (x ∷ xs) rest s e h = seat_at_number_is_opening_seat id k (suc t) m xs rest s (omega (arith, e)) h.1
 
-pub down_seats : (id : TableId) (k : Plan) (ws : List Worker) (rest : List (Seat (Unit {0}) View))
-    → AreSeats id k 0 (backwards (seats_of ws) ++ rest) → Down (λ t w. IsFirst id k t w.seat) ws
-down_seats id k [] rest h = tt
-down_seats id k (w ∷ ws) rest h =
+pub seats_of_workers_by_number : (id : TableId) (k : Plan) (ws : List Worker) (rest : List (Seat (Unit {0}) View))
+    → AreSeats id k 0 (backwards (seats_of ws) ++ rest) → AllByNumber (λ t w. IsSeatAtOpening id k t w.seat) ws
+seats_of_workers_by_number id k [] rest h = tt
+seats_of_workers_by_number id k (w ∷ ws) rest h =
     let parts : AreSeats id k 0 (backwards (seats_of ws) ++ w.seat ∷ rest) =
     subst (AreSeats id k 0) (append_assoc (backwards (seats_of ws)) (w.seat ∷ []) rest) h in (
-      seat_at id k 0 (length ws) (backwards (seats_of ws)) rest w.seat (let e = back_seats ws in omega (arith, e)) parts,
-      down_seats id k ws
+      seat_at_number_is_opening_seat id k 0 (length ws) (backwards (seats_of ws)) rest w.seat (let e = length_of_backward_seats ws in omega (arith, e)) parts,
+      seats_of_workers_by_number id k ws
           (w.seat ∷ rest) parts,
     )

@@ -11,37 +11,37 @@ use Rattle.ir_runs.specs.Cuts.{Cut}
 use Rattle.ir_runs.specs.Admitted.{Admitted}
 use Rattle.ir_fit.specs.Fit.{FittedTrace, HasRun, IsRunOf}
 use Rattle.ir_cut.specs.Positions.{machine_of, start_of, cut_of, IsConsistentCut}
-use Rattle.ir_runs.proofs.CallerLemmas.{Progress, progress}
+use Rattle.ir_runs.proofs.CallerLemmas.{Progress, progress_below_consistent_target}
 use Rattle.ir_weave.specs.Standing.{Standing, StandsAt, flat_in, IsBetween, IsAt, IsStateAt, positions}
 use Rattle.ir_weave.specs.Stepping.{LogsNext, IsTarget, IsUnder, HasGone, IsSame, Rests, steps_left}
-use Rattle.ir_weave.proofs.CallerLemmas.{law, good, admitted_next}
+use Rattle.ir_weave.proofs.CallerLemmas.{guest_machine_is_lawful, state_invariant_at_guest_start, admitted_thread_logs_next}
 use Rattle.ir_replay.specs.Rounds.{Goes}
 
 -- a thread below its target is below its last step
-pub steps_there : (f : FittedTrace) (target : List ℕ) (s : Flat) (t n : ℕ) → IsTarget f target → t < length target
+pub steps_ahead_if_below_target : (f : FittedTrace) (target : List ℕ) (s : Flat) (t n : ℕ) → IsTarget f target → t < length target
     → n ≡ cut_of target t - positions s t → 0 < n → 0 < steps_ahead f.recorded s t
-steps_there f target s t n aim l is some =
+steps_ahead_if_below_target f target s t n aim l is some =
     let within = (aim.consistent aim.run.run aim.run.whole).0 t in
     let steps = aim.run.whole.1.steps t (subst (λ k. t < k) aim.size l) in
     omega (arith, is, some, within, steps)
 
 -- a thread that can't log what comes next isn't admitted
-pub rests_there : (f : FittedTrace) (target : List ℕ) (s : Flat) (t : ℕ) → IsTarget f target → IsUnder f target s → t < length target
+pub rests_if_next_not_logged : (f : FittedTrace) (target : List ℕ) (s : Flat) (t : ℕ) → IsTarget f target → IsUnder f target s → t < length target
     → ((v : ℕ) → LogsNext f.recorded s t v → ⊥) → Rests f target s t
-rests_there f target s t aim under l none = inr
-    (λ run is ad. let next = admitted_next f s under.state run is t (subst (λ k. t < k) aim.size l) ad in none next.0 next.1)
+rests_if_next_not_logged f target s t aim under l none = inr
+    (λ run is ad. let next = admitted_thread_logs_next f s under.state run is t (subst (λ k. t < k) aim.size l) ad in none next.0 next.1)
 
 -- there is no thread past the last
-pub no_thread : (target : List ℕ) (s : Flat) (t : ℕ) → positions s t < cut_of target t → t < length target
-no_thread target s t less = elim (cases_lt t (length target)) [
+pub thread_below_target_exists : (target : List ℕ) (s : Flat) (t : ℕ) → positions s t < cut_of target t → t < length target
+thread_below_target_exists target s t less = elim (cases_lt t (length target)) [
   | inl l ↦ l
   | inr past ↦ let none : cut_of target t ≡ 0 = get_or_past target t 0 past in absurd (omega (arith, none, less))
 ]
 
 -- where all threads rest, all are at their targets
-pub all_reached : (f : FittedTrace) (target : List ℕ) (s : Flat) → IsTarget f target → IsUnder f target s
+pub target_reached_if_all_rest : (f : FittedTrace) (target : List ℕ) (s : Flat) → IsTarget f target → IsUnder f target s
     → ((t : ℕ) → t < length target → Rests f target s t) → (t : ℕ) → positions s t ≡ cut_of target t
-all_reached f target s aim under rest t = elim (cases_lt (positions s t) (cut_of target t)) [
+target_reached_if_all_rest f target s aim under rest t = elim (cases_lt (positions s t) (cut_of target t)) [
   | inr past ↦ let b = under.below t in omega (arith, b, past)
   | inl less ↦
       let run : List Step = aim.run.run in
@@ -49,10 +49,10 @@ all_reached f target s aim under rest t = elim (cases_lt (positions s t) (cut_of
       let at : IsAt f (positions s) s run = under.state.each run is in
       let goal = aim.consistent run is in
       let k : Progress (machine_of f) (start_of f) run (positions s) (cut_of target) =
-      progress (machine_of f) (law f) (start_of f) (good f) run is.1.runs (positions s) (cut_of target) at.consistent goal.1 goal.0 t
+      progress_below_consistent_target (machine_of f) (guest_machine_is_lawful f) (start_of f) (state_invariant_at_guest_start f) run is.1.runs (positions s) (cut_of target) at.consistent goal.1 goal.0 t
       less in
       let before : positions s k.thread < cut_of target k.thread = k.below in
-      absurd (elim (rest k.thread (no_thread target s k.thread before)) [
+      absurd (elim (rest k.thread (thread_below_target_exists target s k.thread before)) [
         | inl done ↦ omega (arith, done, before)
         | inr none ↦ none run is (let b = goal.0 k.thread in omega (arith, before, b), k.consistent)
       ])
@@ -60,58 +60,58 @@ all_reached f target s aim under rest t = elim (cases_lt (positions s t) (cut_of
 
 -- ---- positions that are the same
 
-pub rests_same : (f : FittedTrace) (target : List ℕ) (old new : Flat) (t : ℕ) → IsSame old new → Rests f target old t → Rests f target new t
-rests_same f target old new t same rest = subst (λ (p : Cut). (cut_of target t ≤ p t)
+pub rests_in_same_state : (f : FittedTrace) (target : List ℕ) (old new : Flat) (t : ℕ) → IsSame old new → Rests f target old t → Rests f target new t
+rests_in_same_state f target old new t same rest = subst (λ (p : Cut). (cut_of target t ≤ p t)
     ⊎ ((run : List Step) → IsRunOf f.guest f.recorded run → Admitted (machine_of f) (start_of f) run p t → ⊥)) (λ i u. sym (same u) i) rest
 
 -- ---- before and after all steps
 
-pub target_at : (f : FittedTrace) (target aim : List ℕ) → aim ≡ target → HasRun f → (length target ≡ length f.guest.entries)
+pub consistent_cut_is_target : (f : FittedTrace) (target aim : List ℕ) → aim ≡ target → HasRun f → (length target ≡ length f.guest.entries)
     × IsConsistentCut f target → IsTarget f aim
-target_at f target aim same run h = subst (IsTarget f) (sym same) (record { run = run; size = h.0; consistent = h.1 })
+consistent_cut_is_target f target aim same run h = subst (IsTarget f) (sym same) (record { run = run; size = h.0; consistent = h.1 })
 
-pub under_at : (f : FittedTrace) (target aim : List ℕ) (state : Standing) (s : Flat) → s ≡ flat_in f state → aim ≡ target
+pub standing_below_target_is_under : (f : FittedTrace) (target aim : List ℕ) (state : Standing) (s : Flat) → s ≡ flat_in f state → aim ≡ target
     → StandsAt f (positions (flat_in f state)) state → ((t : ℕ) → positions (flat_in f state) t ≤ cut_of target t) → IsUnder f aim s
-under_at f target aim state s is same stands below =
+standing_below_target_is_under f target aim state s is same stands below =
     subst (λ (z : List ℕ × Flat). IsUnder f z.0 z.1) (λ i. (sym same i, sym is i)) (record { state = stands.at; below = below })
 
 -- a state of these threads and objects
-pub stands_from : (f : FittedTrace) (p : Cut) (s : Flat) (state : Standing) → state ≡ record { threads = s.threads; objects = s.objects }
+pub standing_of_flat_state : (f : FittedTrace) (p : Cut) (s : Flat) (state : Standing) → state ≡ record { threads = s.threads; objects = s.objects }
     → IsFlat s → IsStateAt f p s → StandsAt f p state
-stands_from f p s state is flat at =
+standing_of_flat_state f p s state is flat at =
     let same : s ≡ flat_in f (record { threads = s.threads; objects = s.objects }) =
     λ i. record { code = at.code i; threads = s.threads; objects = s.objects } in
     subst (StandsAt f p) (sym is) (record { flat = subst IsFlat same flat; at = subst (IsStateAt f p) same at })
 
-pub reached_at : (f : FittedTrace) (target aim : List ℕ) (s : Flat) (state : Standing) → aim ≡ target → IsUnder f aim s
+pub standing_at_reached_target : (f : FittedTrace) (target aim : List ℕ) (s : Flat) (state : Standing) → aim ≡ target → IsUnder f aim s
     → ((t : ℕ) → positions s t ≡ cut_of aim t) → state ≡ record { threads = s.threads; objects = s.objects } → IsFlat s
     → StandsAt f (cut_of target) state
-reached_at f target aim s state same under reached is flat =
-    stands_from f (cut_of target) s state is flat
+standing_at_reached_target f target aim s state same under reached is flat =
+    standing_of_flat_state f (cut_of target) s state is flat
     (subst (λ z. IsStateAt f (cut_of z) s) same (subst (λ p. IsStateAt f p s) (λ i t. reached t i) under.state))
 
 -- the state after steps from another
-pub between_at : (f : FittedTrace) (target aim : List ℕ) (old state : Standing) (first s : Flat) → first ≡ flat_in f old → aim ≡ target
+pub standing_after_steps_is_between : (f : FittedTrace) (target aim : List ℕ) (old state : Standing) (first s : Flat) → first ≡ flat_in f old → aim ≡ target
     → IsUnder f aim s → ((t : ℕ) → positions first t ≤ positions s t) → state ≡ record { threads = s.threads; objects = s.objects }
     → IsFlat s → IsBetween f target old state
-between_at f target aim old state first s was same under above is flat =
+standing_after_steps_is_between f target aim old state first s was same under above is flat =
     subst (IsBetween f target old) (sym is) (record {
-      stands = stands_from f (positions s) s (record { threads = s.threads; objects = s.objects }) refl flat under.state;
+      stands = standing_of_flat_state f (positions s) s (record { threads = s.threads; objects = s.objects }) refl flat under.state;
       above = λ t. subst (λ z. positions z t ≤ positions s t) was (above t);
       below = λ t. subst (λ z. positions s t ≤ cut_of z t) same (under.below t);
     })
 
-pub goes_at : (f : FittedTrace) (target aim : List ℕ) (old state : Standing) (first s : Flat) → first ≡ flat_in f old → aim ≡ target
+pub standing_after_steps_goes : (f : FittedTrace) (target aim : List ℕ) (old state : Standing) (first s : Flat) → first ≡ flat_in f old → aim ≡ target
     → ((t : ℕ) → positions first t < cut_of aim t → steps_left aim s < steps_left aim first)
     → state ≡ record { threads = s.threads; objects = s.objects } → Goes f target old state
-goes_at f target aim old state first s was same h is =
+standing_after_steps_goes f target aim old state first s was same h is =
     subst (Goes f target old) (sym is) (subst (λ (z : List ℕ × Flat). (t : ℕ) → positions z.1 t < cut_of z.0 t
     → steps_left z.0 s < steps_left z.0 z.1) (λ i. (same i, was i)) h)
 
 -- a state between whose threads are all at the target
-pub all_there : (f : FittedTrace) (target : List ℕ) (old s : Standing) → IsBetween f target old s → length target ≡ length f.guest.entries
+pub standing_between_at_target : (f : FittedTrace) (target : List ℕ) (old s : Standing) → IsBetween f target old s → length target ≡ length f.guest.entries
     → ((t : ℕ) → t < length s.threads → cut_of target t ≤ (slice_index_or s.threads t idle).steps) → StandsAt f (cut_of target) s
-all_there f target old s b size there =
+standing_between_at_target f target old s b size there =
     subst (λ (p : Cut). StandsAt f p s) (fun_ext (λ t. elim (cases_lt t (length s.threads)) [
       | inl l ↦ let up = there t l in let below = b.below t in omega (arith, up, below)
       | inr past ↦ let none : cut_of target t ≡ 0 = get_or_past target t 0 (let e = b.stands.at.threads in omega (arith, past, e, size)) in
@@ -120,28 +120,28 @@ all_there f target old s b size there =
 
 -- ---- one thread that has gone on alone
 
-pub alone_stands : (f : FittedTrace) (aim : List ℕ) (s : Flat) (state : Standing) → IsUnder f aim s
+pub standing_after_thread_alone : (f : FittedTrace) (aim : List ℕ) (s : Flat) (state : Standing) → IsUnder f aim s
     → state ≡ record { threads = s.threads; objects = s.objects } → IsFlat s → StandsAt f (positions (flat_in f state)) state
-alone_stands f aim s state under is flat =
+standing_after_thread_alone f aim s state under is flat =
     subst (λ (z : Standing). StandsAt f (positions (flat_in f z)) z) (sym is)
-    (stands_from f (positions s) s (record { threads = s.threads; objects = s.objects }) refl flat under.state)
+    (standing_of_flat_state f (positions s) s (record { threads = s.threads; objects = s.objects }) refl flat under.state)
 
-pub alone_below : (f : FittedTrace) (target aim : List ℕ) (s : Flat) (state : Standing) → aim ≡ target → IsUnder f aim s
+pub positions_after_thread_alone_below_target : (f : FittedTrace) (target aim : List ℕ) (s : Flat) (state : Standing) → aim ≡ target → IsUnder f aim s
     → state ≡ record { threads = s.threads; objects = s.objects } → (u : ℕ) → positions (flat_in f state) u ≤ cut_of target u
-alone_below f target aim s state same under is u =
+positions_after_thread_alone_below_target f target aim s state same under is u =
     subst (λ (z : List ℕ × Standing). positions (flat_in f z.1) u ≤ cut_of z.0 u) (λ i. (same i, sym is i)) (under.below u)
 
-pub alone_gone : (f : FittedTrace) (old state : Standing) (first s : Flat) (t n : ℕ) → first ≡ flat_in f old → HasGone first s t n
+pub has_gone_in_standings : (f : FittedTrace) (old state : Standing) (first s : Flat) (t n : ℕ) → first ≡ flat_in f old → HasGone first s t n
     → state ≡ record { threads = s.threads; objects = s.objects } → HasGone (flat_in f old) (flat_in f state) t n
-alone_gone f old state first s t n was gone is = record {
+has_gone_in_standings f old state first s t n was gone is = record {
   own = subst (λ (z : Standing × Flat). positions (flat_in f z.0) t ≡ positions z.1 t + n) (λ i. (sym is i, was i)) gone.own;
   others = λ u ne. subst (λ (z : Standing × Flat). positions (flat_in f z.0) u ≡ positions z.1 u) (λ i. (sym is i, was i))
       (gone.others u ne);
 }
 
-pub alone_rests : (f : FittedTrace) (target aim : List ℕ) (state : Standing) (s : Flat) (t : ℕ) → aim ≡ target → Rests f aim s t
+pub rests_in_standing : (f : FittedTrace) (target aim : List ℕ) (state : Standing) (s : Flat) (t : ℕ) → aim ≡ target → Rests f aim s t
     → state ≡ record { threads = s.threads; objects = s.objects } → Rests f target (flat_in f state) t
-alone_rests f target aim state s t same rest is =
+rests_in_standing f target aim state s t same rest is =
     subst (λ (z : List ℕ × Standing). (cut_of z.0 t ≤ positions (flat_in f z.1) t)
     ⊎ ((run : List Step) → IsRunOf f.guest f.recorded run
     → Admitted (machine_of f) (start_of f) run (positions (flat_in f z.1)) t → ⊥)) (λ i. (same i, sym is i)) rest

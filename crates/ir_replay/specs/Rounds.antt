@@ -20,7 +20,7 @@ abbrev pub backwards : {A : Type 0} → List A → List A
 backwards [] = []
 backwards (x ∷ xs) = backwards xs ++ x ∷ []
 
-abbrev pub threads_of : List Worker → List thread.State
+abbrev pub threads_of : List Worker → List thread.ThreadState
 threads_of [] = []
 threads_of (w ∷ ws) = w.thread ∷ threads_of ws
 

@@ -26,33 +26,35 @@ const LOOKS_FOR_A_TIME: u64 = 16;
 
 /// How often a worker may still look for steps that aren't admitted.
 #[derive(Drop)]
-pub struct Patience<'a> {
+pub struct Patience<'a, C> {
     pub looks: u64,
+    clock: &'a C,
     limit: &'a Limit,
 }
 
-impl<'a> Patience<'a> {
+impl<'a, C: Clock> Patience<'a, C> {
     // Of a worker that hasn't begun, in a round that ends so.
-    pub fn new(limit: &'a Limit) -> Patience<'a> {
+    pub fn new(clock: &'a C, limit: &'a Limit) -> Patience<'a, C> {
         Patience {
             looks: MOST_LOOKS,
+            clock,
             limit,
         }
     }
 
     // Whether the worker ends its round, after `looked` looks for one step.
-    fn is_over(&self, clock: &impl Clock, looked: u64) -> bool {
+    fn is_over(&self, looked: u64) -> bool {
         if looked >= LAST_LOOKS && self.limit.is_ended() {
             return true;
         }
-        self.looks % LOOKS_FOR_A_TIME == 0 && self.limit.is_reached(clock)
+        self.looks % LOOKS_FOR_A_TIME == 0 && self.limit.is_reached(self.clock)
     }
 
     // Waits a moment after `looked` looks for one step; or says that there is no time for another.
-    pub fn wait(&mut self, clock: &impl Clock, backoff: &Backoff, looked: u64) -> bool
+    pub fn wait(&mut self, backoff: &Backoff, looked: u64) -> bool
         ensures { result ≡ true → self.new.looks < self.old.looks }
     {
-        if self.looks == 0 || self.is_over(clock, looked) {
+        if self.looks == 0 || self.is_over(looked) {
             self.limit.end();
             return false;
         }
@@ -60,7 +62,7 @@ impl<'a> Patience<'a> {
         if looked < LOOKS_AWAKE {
             backoff.snooze();
         } else {
-            thread::sleep(clock, Duration::from_micros(SLEEP_MICROS));
+            thread::sleep(self.clock, Duration::from_micros(SLEEP_MICROS));
         }
         true
     }

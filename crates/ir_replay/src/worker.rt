@@ -29,14 +29,13 @@ pub struct Worker {
 }
 
 // The thread takes its next step, for which it asks so, if it is admitted now or while the worker waits.
-fn try_again(
-    clock: &impl Clock,
+fn try_again<C: Clock>(
     weave: &Weave,
     worker: &mut Worker,
     fitted: &Fitted,
     target: &Cut,
     asked: Ask,
-    patience: &mut Patience<'_>,
+    patience: &mut Patience<'_, C>,
 ) -> Tried
     requires table { IsFor weave.now.table.shared.key fitted.now }
     requires target { (length target.now ≡ length fitted.now.guest.entries) × IsConsistentCut fitted.now target.now }
@@ -51,7 +50,7 @@ fn try_again(
     let mut looked = 0u64;
     'looks: loop {
         let tried = weave.try_asked(&mut worker.seat, &mut worker.thread, fitted, target, asked);
-        if tried != Tried::NotNow || !patience.wait(clock, &backoff, looked) {
+        if tried != Tried::NotNow || !patience.wait(&backoff, looked) {
             return tried;
         }
         looked = looked.saturating_add(1);
@@ -73,7 +72,7 @@ fn work<H: Hands>(
     ensures { HasWorked weave.now.table.shared.table_id weave.now.table.shared.key target.now worker.old worker.new }
 {
     let number = worker.thread.number();
-    let mut patience = Patience::new(limit);
+    let mut patience = Patience::new(hands, limit);
     let mut untold = Untold::new();
     'steps: loop {
         let (seat, thread) = (&worker.seat, &mut worker.thread);
@@ -83,7 +82,7 @@ fn work<H: Hands>(
             break;
         }
         tell_leave(hands, number, asked);
-        match try_again(hands, weave, worker, fitted, target, asked, &mut patience) {
+        match try_again(weave, worker, fitted, target, asked, &mut patience) {
             Tried::Stepped => tell_entry(hands, &worker.thread, asked),
             Tried::NotNow | Tried::AtTarget => break,
         }

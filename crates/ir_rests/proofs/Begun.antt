@@ -17,30 +17,30 @@ use Rattle.ir_rests.specs.declared.found.Found.TheVariants.{Unknown, Known}
 
 -- ---- before a walk
 
-pub none_begun : (f : FittedTrace) (rows : List StaleWrite) (found : List Found) → found ≡ replicate (length rows) (Known None) → AreBegun false f rows found
-none_begun f rows found e r x there = ap (λ (xs : List Found). slice_index_or xs r Unknown) e
+pub begun_with_no_rest_known : (f : FittedTrace) (rows : List StaleWrite) (found : List Found) → found ≡ replicate (length rows) (Known None) → AreBegun false f rows found
+begun_with_no_rest_known f rows found e r x there = ap (λ (xs : List Found). slice_index_or xs r Unknown) e
     ∙ get_or-replicate (length rows) r (Known None) Unknown (slice_get_within rows r x there)
 
 -- a row that is never left
-pub never_left : (copies : Bool) (f : FittedTrace) (x : StaleWrite) (z : Found) → IsBegun copies f x z
+pub found_if_never_left : (copies : Bool) (f : FittedTrace) (x : StaleWrite) (z : Found) → IsBegun copies f x z
     → ((k : ℕ) → LeavesAfter f x.thread x.event k → ⊥) → IsFoundAs copies f x z
-never_left false f x z begun never = subst (IsFoundAs false f x) (sym begun) (inr (never, refl))
-never_left true f x Unknown begun never = absurd (never begun.1.0 begun.1.1)
-never_left true f x (Known r) begun never = begun
+found_if_never_left false f x z begun never = subst (IsFoundAs false f x) (sym begun) (inr (never, refl))
+found_if_never_left true f x Unknown begun never = absurd (never begun.1.0 begun.1.1)
+found_if_never_left true f x (Known r) begun never = begun
 
 -- a row that isn't looked at
-pub not_looked_at : (copies : Bool) (f : FittedTrace) (x : StaleWrite) (z : Found) → IsBegun copies f x z → is_looked_at copies z ≡ false
+pub found_unless_looked_at : (copies : Bool) (f : FittedTrace) (x : StaleWrite) (z : Found) → IsBegun copies f x z → is_looked_at copies z ≡ false
     → IsFoundAs copies f x z
-not_looked_at copies f x Unknown begun out = absurd (true≢false out)
-not_looked_at false f x (Known r) begun out = absurd (true≢false out)
-not_looked_at true f x (Known r) begun out = begun
+found_unless_looked_at copies f x Unknown begun out = absurd (true≢false out)
+found_unless_looked_at false f x (Known r) begun out = absurd (true≢false out)
+found_unless_looked_at true f x (Known r) begun out = begun
 
 -- ---- after the walks
 
 -- no row is unknown
-pub found_all : (f : FittedTrace) (rows : List StaleWrite) (found : List Found) → length found ≡ length rows → AreFound false f rows found
+pub found_with_copies_if_none_unknown : (f : FittedTrace) (rows : List StaleWrite) (found : List Found) → length found ≡ length rows → AreFound false f rows found
     → (Contains found Unknown → ⊥) → AreFound true f rows found
-found_all f rows found size are none r x there = found_known (slice_index_or found r Unknown) (are r x there)
+found_with_copies_if_none_unknown f rows found size are none r x there = found_known (slice_index_or found r Unknown) (are r x there)
     (λ e. none (r, (let a = slice_get_within rows r x there in omega (arith, a, size)), e))
   where
     found_known : (z : Found) → IsFoundAs false f x z → (z ≡ Unknown → ⊥) → IsFoundAs true f x z
@@ -48,9 +48,9 @@ found_all f rows found size are none r x there = found_known (slice_index_or fou
     found_known (Known q) is other = is
 
 -- how each rests
-pub all_rest : (f : FittedTrace) (rows : List StaleWrite) (found : List Found) (rests : List (Option Rest)) → length found ≡ length rows → AreFound true f rows found
+pub rests_of_known_found : (f : FittedTrace) (rows : List StaleWrite) (found : List Found) (rests : List (Option Rest)) → length found ≡ length rows → AreFound true f rows found
     → rests ≡ map known found → AreRests f rows rests
-all_rest f rows found rests size are e = record {
+rests_of_known_found f rows found rests size are e = record {
   size = ap (λ (xs : List (Option Rest)). length xs) e ∙ length-map found known ∙ size;
   each = λ r x there. subst (IsRestOf f x)
       (sym (ap (λ (xs : List (Option Rest)). slice_index_or xs r None) e ∙ get_or-map known found r Unknown None (let a = slice_get_within rows r x there in omega (arith, a, size))))

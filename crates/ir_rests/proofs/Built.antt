@@ -16,15 +16,15 @@ use Rattle.ir_rests.specs.declared.found.Found.TheVariants.{Unknown}
 use Rattle.ir_rests.specs.declared.span.Span.{Span}
 use Rattle.ir_rests.specs.declared.kept.Open.{Open}
 use Rattle.ir_rests.specs.declared.watch.Watch.{Watch}
-use Rattle.ir_walk.proofs.CallerLemmas.{each_more, each_same, some_same}
+use Rattle.ir_walk.proofs.CallerLemmas.{each_element_after_push, each_element_of_permutation, some_element_of_permutation}
 
-same_row : (x y : StaleWrite) → Some x ≡ Some y → x ≡ y
-same_row x y e = cc e
+some_row_injective : (x y : StaleWrite) → Some x ≡ Some y → x ≡ y
+some_row_injective x y e = cc e
 
 -- no row of all
-pub none_built : (copies : Bool) (f : FittedTrace) (rows : List StaleWrite) (found : List Found) (t : ℕ) (w : Watch) → w.next ≡ 0 → w.spans.items ≡ [] → w.opened.items ≡ []
+pub built_of_no_row : (copies : Bool) (f : FittedTrace) (rows : List StaleWrite) (found : List Found) (t : ℕ) (w : Watch) → w.next ≡ 0 → w.spans.items ≡ [] → w.opened.items ≡ []
     → IsBuilt copies f rows found 0 t w
-none_built copies f rows found t w next spans opened = record {
+built_of_no_row copies f rows found t w next spans opened = record {
   next = next;
   opened = opened;
   spans = λ i d l. absurd (let n = ap (λ (xs : List Span). length xs) spans in omega (arith, l, n));
@@ -32,15 +32,15 @@ none_built copies f rows found t w next spans opened = record {
 }
 
 -- one row more, which is of another thread or is found
-pub passed_built : (copies : Bool) (f : FittedTrace) (rows : List StaleWrite) (found : List Found) (n t : ℕ) (w : Watch) (x : StaleWrite) → IsBuilt copies f rows found n t w → slice_get rows n ≡ Some x
+pub built_after_row_of_other : (copies : Bool) (f : FittedTrace) (rows : List StaleWrite) (found : List Found) (n t : ℕ) (w : Watch) (x : StaleWrite) → IsBuilt copies f rows found n t w → slice_get rows n ≡ Some x
     → (x.thread ≡ t → IsFoundAs copies f x (slice_index_or found n Unknown)) → IsBuilt copies f rows found (n + 1) t w
-passed_built copies f rows found n t w x is there none = record {
+built_after_row_of_other copies f rows found n t w x is there none = record {
   next = is.next;
   opened = is.opened;
   spans = is.spans;
   covered = λ r y l here own. elim (cases_eq r n) [
     | inl same ↦
-        let e : x ≡ y = same_row x y (sym there ∙ ap (slice_get rows) (sym same) ∙ here) in
+        let e : x ≡ y = some_row_injective x y (sym there ∙ ap (slice_get rows) (sym same) ∙ here) in
         inr (subst (λ j. IsFoundAs copies f y (slice_index_or found j Unknown)) (sym same)
         (subst (λ (z : StaleWrite). IsFoundAs copies f z (slice_index_or found n Unknown)) e (none (ap (λ (z : StaleWrite). z.thread) e ∙ own))))
     | inr ne ↦ is.covered r y (omega (arith, l, ne)) here own
@@ -48,13 +48,13 @@ passed_built copies f rows found n t w x is there none = record {
 }
 
 -- or is one of this thread
-pub added_built : (copies : Bool) (f : FittedTrace) (rows : List StaleWrite) (found : List Found) (n t : ℕ) (w new : Watch) (x : StaleWrite) (s : Span) → IsBuilt copies f rows found n t w → slice_get rows n ≡ Some x
+pub built_after_own_row : (copies : Bool) (f : FittedTrace) (rows : List StaleWrite) (found : List Found) (n t : ℕ) (w new : Watch) (x : StaleWrite) (s : Span) → IsBuilt copies f rows found n t w → slice_get rows n ≡ Some x
     → x.thread ≡ t → IsRow f.recorded x → s.row ≡ n → IsSpan f x s → new.next ≡ w.next → new.opened.items ≡ w.opened.items
     → new.spans.items ≡ w.spans.items ++ s ∷ [] → IsBuilt copies f rows found (n + 1) t new
-added_built copies f rows found n t w new x s is there own stale row span next opened spans = record {
+built_after_own_row copies f rows found n t w new x s is there own stale row span next opened spans = record {
   next = next ∙ is.next;
   opened = opened ∙ is.opened;
-  spans = each_more (IsSpanOf f rows t) w.spans.items new.spans.items s is.spans (record {
+  spans = each_element_after_push (IsSpanOf f rows t) w.spans.items new.spans.items s is.spans (record {
     row = x;
     there = ap (slice_get rows) row ∙ there;
     thread = own;
@@ -83,39 +83,39 @@ added_built copies f rows found n t w new x s is there own stale row span next o
 }
 
 -- each thread, where one of them is another
-pub set_built : (copies : Bool) (f : FittedTrace) (rows : List StaleWrite) (found : List Found) (n u : ℕ) (ws : List Watch) (new : Watch) (x : StaleWrite) → u < length ws
+pub all_built_after_watch_set : (copies : Bool) (f : FittedTrace) (rows : List StaleWrite) (found : List Found) (n u : ℕ) (ws : List Watch) (new : Watch) (x : StaleWrite) → u < length ws
     → AreBuilt copies f rows found n ws → slice_get rows n ≡ Some x → x.thread ≡ u → IsBuilt copies f rows found (n + 1) u new → AreBuilt copies f rows found (n + 1) (set ws u new)
-set_built copies f rows found n u ws new x l are there own is t d lt = elim (cases_eq t u) [
+all_built_after_watch_set copies f rows found n u ws new x l are there own is t d lt = elim (cases_eq t u) [
   | inl same ↦ subst (λ j. IsBuilt copies f rows found (n + 1) j (slice_index_or (set ws u new) j d)) (sym same)
       (subst (IsBuilt copies f rows found (n + 1) u) (sym (get_or-set_same ws u new d l)) is)
   | inr ne ↦ subst (IsBuilt copies f rows found (n + 1) t) (sym (get_or-set_other ws u t new d ne))
-      (passed_built copies f rows found n t (slice_index_or ws t d) x (are t d (let m = length-set ws u new in omega (arith, lt, m))) there
+      (built_after_row_of_other copies f rows found n t (slice_index_or ws t d) x (are t d (let m = length-set ws u new in omega (arith, lt, m))) there
       (λ e. absurd (ne (sym e ∙ own))))
 ]
 
-pub same_built : (copies : Bool) (f : FittedTrace) (rows : List StaleWrite) (found : List Found) (n : ℕ) (ws : List Watch) (x : StaleWrite) → AreBuilt copies f rows found n ws → slice_get rows n ≡ Some x
+pub all_built_after_found_row : (copies : Bool) (f : FittedTrace) (rows : List StaleWrite) (found : List Found) (n : ℕ) (ws : List Watch) (x : StaleWrite) → AreBuilt copies f rows found n ws → slice_get rows n ≡ Some x
     → IsFoundAs copies f x (slice_index_or found n Unknown) → AreBuilt copies f rows found (n + 1) ws
-same_built copies f rows found n ws x are there none t d l = passed_built copies f rows found n t (slice_index_or ws t d) x (are t d l) there (λ _. none)
+all_built_after_found_row copies f rows found n ws x are there none t d l = built_after_row_of_other copies f rows found n t (slice_index_or ws t d) x (are t d l) there (λ _. none)
 
 -- ---- before the first step
 
 -- the rows of a thread in another order
-pub sorted_built : (copies : Bool) (f : FittedTrace) (rows : List StaleWrite) (found : List Found) (n t : ℕ) (old new : Watch) → IsBuilt copies f rows found n t old → IsSorted old new → IsBuilt copies f rows found n t new
-sorted_built copies f rows found n t old new is sorted = let none : Span = record { row = 0; object = 0; read = 0; write = 0; end = 0 } in record {
+pub built_after_sorting : (copies : Bool) (f : FittedTrace) (rows : List StaleWrite) (found : List Found) (n t : ℕ) (old new : Watch) → IsBuilt copies f rows found n t old → IsSorted old new → IsBuilt copies f rows found n t new
+built_after_sorting copies f rows found n t old new is sorted = let none : Span = record { row = 0; object = 0; read = 0; write = 0; end = 0 } in record {
   next = sorted.next ∙ is.next;
   opened = sorted.opened ∙ is.opened;
-  spans = each_same (IsSpanOf f rows t) old.spans.items new.spans.items sorted.same is.spans;
+  spans = each_element_of_permutation (IsSpanOf f rows t) old.spans.items new.spans.items sorted.same is.spans;
   covered = λ r x l there own. elim (is.covered r x l there own) [
     | inr never ↦ inr never
     | inl p ↦
-        let q = some_same (λ (s : Span). s.row) none old.spans.items new.spans.items sorted.same r p.0 p.2 p.3 in
+        let q = some_element_of_permutation (λ (s : Span). s.row) none old.spans.items new.spans.items sorted.same r p.0 p.2 p.3 in
         inl (q.0, (let a = sorted.next in let b = is.next in omega (arith, a, b)), q.1, q.2)
   ];
 }
 
-pub watched_first : (copies : Bool) (f : FittedTrace) (rows : List StaleWrite) (found : List Found) (t k : ℕ) (w : Watch) → IsBuilt copies f rows found (length rows) t w
+pub watch_at_start_if_built : (copies : Bool) (f : FittedTrace) (rows : List StaleWrite) (found : List Found) (t k : ℕ) (w : Watch) → IsBuilt copies f rows found (length rows) t w
     → IsNonDecreasingBy (λ (s : Span). s.read) w.spans.items → k ≤ 0 → IsWatch copies f rows t k w
-watched_first copies f rows found t k w is sorted first = record {
+watch_at_start_if_built copies f rows found t k w is sorted first = record {
   sorted = sorted;
   spans = is.spans;
   next = let b = is.next in omega (arith, b);
@@ -123,32 +123,32 @@ watched_first copies f rows found t k w is sorted first = record {
   opened = λ i d l. absurd (let n = ap (λ (xs : List Open). length xs) is.opened in omega (arith, l, n));
 }
 
-pub found_first : (copies : Bool) (f : FittedTrace) (rows : List StaleWrite) (found : List Found) (t : ℕ) (w : Watch) → IsBuilt copies f rows found (length rows) t w
+pub found_at_start_if_built : (copies : Bool) (f : FittedTrace) (rows : List StaleWrite) (found : List Found) (t : ℕ) (w : Watch) → IsBuilt copies f rows found (length rows) t w
     → IsFound copies f rows found t w
-found_first copies f rows found t w is r x there own = elim (is.covered r x (slice_get_within rows r x there) there own) [
+found_at_start_if_built copies f rows found t w is r x there own = elim (is.covered r x (slice_get_within rows r x there) there own) [
   | inr known ↦ inr known
   | inl p ↦ inl (inl p)
 ]
 
 -- ---- each thread without rows
 
-pub none_of_all : (copies : Bool) (f : FittedTrace) (rows : List StaleWrite) (found : List Found) (ws : List Watch) → ws ≡ [] → AreBuilt copies f rows found 0 ws
-none_of_all copies f rows found ws none t d l = absurd (let n = ap (λ (xs : List Watch). length xs) none in omega (arith, l, n))
+pub all_built_of_no_watch : (copies : Bool) (f : FittedTrace) (rows : List StaleWrite) (found : List Found) (ws : List Watch) → ws ≡ [] → AreBuilt copies f rows found 0 ws
+all_built_of_no_watch copies f rows found ws none t d l = absurd (let n = ap (λ (xs : List Watch). length xs) none in omega (arith, l, n))
 
-pub one_of_all : (copies : Bool) (f : FittedTrace) (rows : List StaleWrite) (found : List Found) (ws new : List Watch) (w : Watch) → AreBuilt copies f rows found 0 ws → new ≡ ws ++ w ∷ []
+pub all_built_after_watch_added : (copies : Bool) (f : FittedTrace) (rows : List StaleWrite) (found : List Found) (ws new : List Watch) (w : Watch) → AreBuilt copies f rows found 0 ws → new ≡ ws ++ w ∷ []
     → w.next ≡ 0 → w.spans.items ≡ [] → w.opened.items ≡ [] → AreBuilt copies f rows found 0 new
-one_of_all copies f rows found ws new w are e next spans opened t d l = subst (λ (xs : List Watch). IsBuilt copies f rows found 0 t (slice_index_or xs t d)) (sym e) (elim (cases_lt t (length ws)) [
+all_built_after_watch_added copies f rows found ws new w are e next spans opened t d l = subst (λ (xs : List Watch). IsBuilt copies f rows found 0 t (slice_index_or xs t d)) (sym e) (elim (cases_lt t (length ws)) [
   | inl before ↦ subst (IsBuilt copies f rows found 0 t) (sym (get_or-append ws (w ∷ []) d t before)) (are t d before)
   | inr past ↦
       let size : length new ≡ length ws + 1 = ap (λ (xs : List Watch). length xs) e ∙ length-append ws (w ∷ []) in
       let at : t ≡ length ws = omega (arith, past, l, size) in
       subst (λ j. IsBuilt copies f rows found 0 t (slice_index_or (ws ++ w ∷ []) j d)) (sym at)
-      (subst (IsBuilt copies f rows found 0 t) (sym (get_or-append_seam ws w [] d)) (none_built copies f rows found t w next spans opened))
+      (subst (IsBuilt copies f rows found 0 t) (sym (get_or-append_seam ws w [] d)) (built_of_no_row copies f rows found t w next spans opened))
 ])
 
 -- in order
-pub all_sorted : (copies : Bool) (f : FittedTrace) (rows : List StaleWrite) (found : List Found) (n : ℕ) (old new : List Watch) → AreBuilt copies f rows found n old → AreSorted old new
+pub all_built_after_sorting : (copies : Bool) (f : FittedTrace) (rows : List StaleWrite) (found : List Found) (n : ℕ) (old new : List Watch) → AreBuilt copies f rows found n old → AreSorted old new
     → length new ≡ length old → AreBuilt copies f rows found n new
-all_sorted copies f rows found n old new are sorted size t d l =
+all_built_after_sorting copies f rows found n old new are sorted size t d l =
     let lt : t < length old = omega (arith, l, size) in
-    sorted_built copies f rows found n t (slice_index_or old t d) (slice_index_or new t d) (are t d lt) (sorted t d lt)
+    built_after_sorting copies f rows found n t (slice_index_or old t d) (slice_index_or new t d) (are t d lt) (sorted t d lt)

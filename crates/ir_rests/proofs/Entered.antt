@@ -9,20 +9,20 @@ use Rattle.ir_weave.specs.Ahead.{thread_at}
 use Rattle.ir_past.specs.Past.{IsRow}
 use Rattle.ir_past.specs.declared.stale_write.StaleWrite.{StaleWrite}
 use Rattle.ir_events.specs.Events.{entry_of}
-use Rattle.ir_events.proofs.CallerLemmas.{logged_there}
-use Rattle.ir_walk.proofs.CallerLemmas.{holds_behind}
+use Rattle.ir_events.proofs.CallerLemmas.{events_are_logged}
+use Rattle.ir_walk.proofs.CallerLemmas.{thread_holds_object_behind_entry}
 use Rattle.ir_rests.specs.Rests.{behind_read, behind_write}
-use Rattle.ir_rests.proofs.Leaving.{placed}
+use Rattle.ir_rests.proofs.Leaving.{row_entries_are_placed}
 
 -- behind the entries of a row its thread holds the object
-pub holds_read : (f : FittedTrace) → HasRun f → (x : StaleWrite) → IsRow f.recorded x
+pub row_object_held_behind_read : (f : FittedTrace) → HasRun f → (x : StaleWrite) → IsRow f.recorded x
     → EachRun f (λ run. (machine_of f).held (thread_at f run x.thread (behind_read f x)) x.object ≡ None → ⊥)
-holds_read f h x row run of none =
-    holds_behind f run of x.thread (entry_of f x.thread x.read) x.object Reading x.version 0
-    (logged_there f h x.thread x.read (Read x.object x.version) (placed f h x row).there row.stale.read run of) none
+row_object_held_behind_read f h x row run of none =
+    thread_holds_object_behind_entry f run of x.thread (entry_of f x.thread x.read) x.object Reading x.version 0
+    (events_are_logged f h x.thread x.read (Read x.object x.version) (row_entries_are_placed f h x row).there row.stale.read run of) none
 
-pub holds_write : (f : FittedTrace) → HasRun f → (x : StaleWrite) → IsRow f.recorded x
+pub row_object_held_behind_write : (f : FittedTrace) → HasRun f → (x : StaleWrite) → IsRow f.recorded x
     → EachRun f (λ run. (machine_of f).held (thread_at f run x.thread (behind_write f x)) x.object ≡ None → ⊥)
-holds_write f h x row run of none =
-    holds_behind f run of x.thread (entry_of f x.thread x.event) x.object Writing x.written row.stale.readers
-    (logged_there f h x.thread x.event (Write x.object x.written row.stale.readers) (placed f h x row).there row.stale.write run of) none
+row_object_held_behind_write f h x row run of none =
+    thread_holds_object_behind_entry f run of x.thread (entry_of f x.thread x.event) x.object Writing x.written row.stale.readers
+    (events_are_logged f h x.thread x.event (Write x.object x.written row.stale.readers) (row_entries_are_placed f h x row).there row.stale.write run of) none

@@ -7,35 +7,35 @@ use Rattle.ir_fit.specs.Fit.{FittedTrace, HasRun}
 use Rattle.ir_past.specs.Past.{IsRow}
 use Rattle.ir_past.specs.declared.stale_write.StaleWrite.{StaleWrite}
 use Rattle.ir_fit_run.specs.Positions.{IsInside}
-use Rattle.ir_fit_run.proofs.CallerLemmas.{inside}
+use Rattle.ir_fit_run.proofs.CallerLemmas.{recorded_event_is_inside}
 use Rattle.ir_rests.specs.Lines.{line_if, first_lines, one_if, kept_of}
 use Rattle.ir_rests.specs.declared.rest.Rest.{Rest}
 
 -- ---- how many
 
-pub none_kept : (rests : List (Option Rest)) → 0 ≡ kept_of rests 0
+pub kept_of_no_rest : (rests : List (Option Rest)) → 0 ≡ kept_of rests 0
 unfolding kept_of
-none_kept rests = refl
+kept_of_no_rest rests = refl
 
-pub one_kept : (rests : List (Option Rest)) (n kept one : ℕ) → kept ≡ kept_of rests n → one ≡ one_if (slice_index_or rests n None)
+pub kept_of_rests_step : (rests : List (Option Rest)) (n kept one : ℕ) → kept ≡ kept_of rests n → one ≡ one_if (slice_index_or rests n None)
     → kept + one ≡ kept_of rests (n + 1)
 unfolding kept_of
-one_kept rests n kept one a b =
+kept_of_rests_step rests n kept one a b =
     let on : suc n ≡ n + 1 = omega arith in
     ap (λ k. k + one) a ∙ ap (λ k. kept_of rests n + k) b ∙ ap (kept_of rests) on
 
 -- ---- lines
 
-pub no_lines : (f : FittedTrace) (rows : List StaleWrite) (rests : List (Option Rest)) (text first : List ℕ) → text ≡ first
+pub text_of_no_first_lines : (f : FittedTrace) (rows : List StaleWrite) (rests : List (Option Rest)) (text first : List ℕ) → text ≡ first
     → text ≡ first ++ first_lines f rows rests 0
 unfolding first_lines
-no_lines f rows rests text first e = e ∙ sym (append-nil first)
+text_of_no_first_lines f rows rests text first e = e ∙ sym (append-nil first)
 
-pub one_line : (f : FittedTrace) (rows : List StaleWrite) (rests : List (Option Rest)) (n : ℕ) (x : StaleWrite) (r : Option Rest) (text new first : List ℕ)
+pub first_lines_step : (f : FittedTrace) (rows : List StaleWrite) (rests : List (Option Rest)) (n : ℕ) (x : StaleWrite) (r : Option Rest) (text new first : List ℕ)
     → text ≡ first ++ first_lines f rows rests n → new ≡ text ++ line_if f (Some x) r → slice_get rows n ≡ Some x
     → r ≡ slice_index_or rests n None → new ≡ first ++ first_lines f rows rests (n + 1)
 unfolding first_lines
-one_line f rows rests n x r text new first before made there same =
+first_lines_step f rows rests n x r text new first before made there same =
     let on : suc n ≡ n + 1 = omega arith in
     let line : line_if f (Some x) r ≡ line_if f (slice_get rows n) (slice_index_or rests n None) = λ i. line_if f (sym there i) (same i) in
     made ∙ (λ i. before i ++ line i)
@@ -43,6 +43,6 @@ one_line f rows rests n x r text new first before made there same =
     ∙ ap (λ k. first ++ first_lines f rows rests k) on
 
 -- where what wrote over a read is
-pub over_placed : (f : FittedTrace) → HasRun f → (x : StaleWrite) → IsRow f.recorded x
+pub overwriting_event_is_inside : (f : FittedTrace) → HasRun f → (x : StaleWrite) → IsRow f.recorded x
     → IsInside f x.overwritten_by.thread x.overwritten_by.event
-over_placed f h x row = inside f h x.overwritten_by.thread x.overwritten_by.event (Write x.object x.version row.readers) row.overwriter
+overwriting_event_is_inside f h x row = recorded_event_is_inside f h x.overwritten_by.thread x.overwritten_by.event (Write x.object x.version row.readers) row.overwriter

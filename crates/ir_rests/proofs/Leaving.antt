@@ -3,12 +3,12 @@ use Rattle.std.proofs.Common.{◌+◌, ◌<◌, ℕ, length, refl, arith}
 use Rattle.ir_log.specs.declared.event.Event.TheVariants.{Read, Write}
 use Rattle.ir_fit.specs.Fit.{FittedTrace, HasRun}
 use Rattle.ir_fit.specs.Within.{IsFitted}
-use Rattle.ir_fit.proofs.CallerLemmas.{entries_rise}
+use Rattle.ir_fit.proofs.CallerLemmas.{entry_positions_rise}
 use Rattle.ir_past.specs.Past.{IsRow}
 use Rattle.ir_past.specs.declared.stale_write.StaleWrite.{StaleWrite}
 use Rattle.ir_events.specs.Events.{entry_of}
 use Rattle.ir_fit_run.specs.Positions.{IsInside, IsLeaveOf}
-use Rattle.ir_fit_run.proofs.CallerLemmas.{inside, leave_within}
+use Rattle.ir_fit_run.proofs.CallerLemmas.{recorded_event_is_inside, leave_is_within_thread}
 use Rattle.ir_rests.specs.Rests.{behind_read, behind_write}
 use Rattle.ir_rests.specs.Watch.{IsSpan}
 
@@ -19,23 +19,23 @@ pub record IsPlaced (f : FittedTrace) (x : StaleWrite) : Type 0 where
   pub event : IsInside f x.thread x.event
   pub rises : entry_of f x.thread x.read < entry_of f x.thread x.event
 
-pub placed : (f : FittedTrace) → HasRun f → (x : StaleWrite) → IsRow f.recorded x → IsPlaced f x
-placed f h x row =
+pub row_entries_are_placed : (f : FittedTrace) → HasRun f → (x : StaleWrite) → IsRow f.recorded x → IsPlaced f x
+row_entries_are_placed f h x row =
     let stale = row.stale in
-    let read = inside f h x.thread x.read (Read x.object x.version) stale.read in
-    let event = inside f h x.thread x.event (Write x.object x.written stale.readers) stale.write in
+    let read = recorded_event_is_inside f h x.thread x.read (Read x.object x.version) stale.read in
+    let event = recorded_event_is_inside f h x.thread x.event (Write x.object x.written stale.readers) stale.write in
     record {
       there = event.thread;
       read = read;
       event = event;
-      rises = entries_rise f h x.thread event.thread x.read x.event stale.later event.event;
+      rises = entry_positions_rise f h x.thread event.thread x.read x.event stale.later event.event;
     }
 
 -- the positions of a row
-pub spanned : (f : FittedTrace) → IsFitted f → (x : StaleWrite) (row last : ℕ) → IsRow f.recorded x → IsLeaveOf f x.thread x.event last
+pub row_positions_are_span : (f : FittedTrace) → IsFitted f → (x : StaleWrite) (row last : ℕ) → IsRow f.recorded x → IsLeaveOf f x.thread x.event last
     → IsSpan f x (record { row = row; object = x.object; read = behind_read f x; write = behind_write f x; end = last + 1 })
-spanned f fitted x row last is leave =
-    let at = placed f fitted.run x is in
+row_positions_are_span f fitted x row last is leave =
+    let at = row_entries_are_placed f fitted.run x is in
     record {
       object = refl;
       read = refl;
@@ -44,5 +44,5 @@ spanned f fitted x row last is leave =
       last = last;
       leave = leave;
       end = refl;
-      within = let w = leave_within f fitted.run x.thread x.event last at.there leave.leaves in omega (arith, w);
+      within = let w = leave_is_within_thread f fitted.run x.thread x.event last at.there leave.leaves in omega (arith, w);
     }

@@ -6,92 +6,92 @@ use Rattle.ir_rests.specs.WhatIf.{hold_after, is_reading, is_get, gets, is_writi
 use Rattle.ir_walk.specs.declared.exchange.Exchange.{Exchange}
 use Rattle.ir_rests.specs.declared.hold.Hold.{Hold}
 
-first_true : (b c whole : Bool) → whole ≡ (b || c) → b ≡ true → true ≡ whole
-first_true b c whole e h = sym (e ∙ rw (h) refl)
+disjunction_true_if_left_true : (b c whole : Bool) → whole ≡ (b || c) → b ≡ true → true ≡ whole
+disjunction_true_if_left_true b c whole e h = sym (e ∙ rw (h) refl)
 
-first_false : (b c whole : Bool) → whole ≡ (b || c) → b ≡ false → whole ≡ c
-first_false b c whole e h = e ∙ rw (h) refl
+disjunction_is_right_if_left_false : (b c whole : Bool) → whole ≡ (b || c) → b ≡ false → whole ≡ c
+disjunction_is_right_if_left_false b c whole e h = e ∙ rw (h) refl
 
-next_get : (o i : ℕ) (h : Hold) (n : ℕ) (cs : List Exchange) (c : Exchange) → n < length cs → gets o i h (drop n cs) ≡
+gets_of_drop_step : (o i : ℕ) (h : Hold) (n : ℕ) (cs : List Exchange) (c : Exchange) → n < length cs → gets o i h (drop n cs) ≡
     ((is_reading h && is_get o i (get_or cs n c).asked) || gets o i (hold_after o (get_or cs n c) h) (drop (n + 1) cs))
 unfolding gets
-next_get o i h n cs c l = at_drop_more (gets o i h) cs n c l
+gets_of_drop_step o i h n cs c l = at_drop_more (gets o i h) cs n c l
 
 -- the next call gets the word
-pub got_here : (o i : ℕ) (h : Hold) (n : ℕ) (cs : List Exchange) (c : Exchange) (whole : Bool) → whole ≡ gets o i h (drop n cs)
+pub gets_true_at_call : (o i : ℕ) (h : Hold) (n : ℕ) (cs : List Exchange) (c : Exchange) (whole : Bool) → whole ≡ gets o i h (drop n cs)
     → n < length cs → (is_reading h && is_get o i (get_or cs n c).asked) ≡ true → true ≡ whole
-got_here o i h n cs c whole e l is = first_true _ _ whole (e ∙ next_get o i h n cs c l) is
+gets_true_at_call o i h n cs c whole e l is = disjunction_true_if_left_true _ _ whole (e ∙ gets_of_drop_step o i h n cs c l) is
 
 -- it doesn't
-pub got_later : (o i : ℕ) (h g : Hold) (n : ℕ) (cs : List Exchange) (c : Exchange) (whole : Bool) → whole ≡ gets o i h (drop n cs)
+pub gets_step : (o i : ℕ) (h g : Hold) (n : ℕ) (cs : List Exchange) (c : Exchange) (whole : Bool) → whole ≡ gets o i h (drop n cs)
     → n < length cs → (is_reading h && is_get o i (get_or cs n c).asked) ≡ false → g ≡ hold_after o (get_or cs n c) h
     → whole ≡ gets o i g (drop (n + 1) cs)
-got_later o i h g n cs c whole e l missed same = first_false _ _ whole (e ∙ next_get o i h n cs c l) missed
+gets_step o i h g n cs c whole e l missed same = disjunction_is_right_if_left_false _ _ whole (e ∙ gets_of_drop_step o i h n cs c l) missed
     ∙ ap (λ (x : Hold). gets o i x (drop (n + 1) cs)) (sym same)
 
 -- no call is left
-pub got_none : (o i : ℕ) (h : Hold) (n : ℕ) (cs : List Exchange) (whole : Bool) → whole ≡ gets o i h (drop n cs) → length cs ≤ n
+pub gets_false_at_end : (o i : ℕ) (h : Hold) (n : ℕ) (cs : List Exchange) (whole : Bool) → whole ≡ gets o i h (drop n cs) → length cs ≤ n
     → false ≡ whole
 unfolding gets
-got_none o i h n cs whole e l = sym (e ∙ at_drop_all (gets o i h) cs n l)
+gets_false_at_end o i h n cs whole e l = sym (e ∙ at_drop_all (gets o i h) cs n l)
 
-next_put : (o : ℕ) (h : Hold) (n : ℕ) (cs : List Exchange) (c : Exchange) → n < length cs → puts o h (drop n cs) ≡
+puts_of_drop_step : (o : ℕ) (h : Hold) (n : ℕ) (cs : List Exchange) (c : Exchange) → n < length cs → puts o h (drop n cs) ≡
     ((is_writing h && is_put o (get_or cs n c).asked) || puts o (hold_after o (get_or cs n c) h) (drop (n + 1) cs))
 unfolding puts
-next_put o h n cs c l = at_drop_more (puts o h) cs n c l
+puts_of_drop_step o h n cs c l = at_drop_more (puts o h) cs n c l
 
 -- the next call puts a word
-pub put_here : (o : ℕ) (h : Hold) (n : ℕ) (cs : List Exchange) (c : Exchange) (whole : Bool) → whole ≡ puts o h (drop n cs)
+pub puts_true_at_call : (o : ℕ) (h : Hold) (n : ℕ) (cs : List Exchange) (c : Exchange) (whole : Bool) → whole ≡ puts o h (drop n cs)
     → n < length cs → (is_writing h && is_put o (get_or cs n c).asked) ≡ true → true ≡ whole
-put_here o h n cs c whole e l is = first_true _ _ whole (e ∙ next_put o h n cs c l) is
+puts_true_at_call o h n cs c whole e l is = disjunction_true_if_left_true _ _ whole (e ∙ puts_of_drop_step o h n cs c l) is
 
 -- it doesn't
-pub put_later : (o : ℕ) (h g : Hold) (n : ℕ) (cs : List Exchange) (c : Exchange) (whole : Bool) → whole ≡ puts o h (drop n cs)
+pub puts_step : (o : ℕ) (h g : Hold) (n : ℕ) (cs : List Exchange) (c : Exchange) (whole : Bool) → whole ≡ puts o h (drop n cs)
     → n < length cs → (is_writing h && is_put o (get_or cs n c).asked) ≡ false → g ≡ hold_after o (get_or cs n c) h
     → whole ≡ puts o g (drop (n + 1) cs)
-put_later o h g n cs c whole e l missed same = first_false _ _ whole (e ∙ next_put o h n cs c l) missed
+puts_step o h g n cs c whole e l missed same = disjunction_is_right_if_left_false _ _ whole (e ∙ puts_of_drop_step o h n cs c l) missed
     ∙ ap (λ (x : Hold). puts o x (drop (n + 1) cs)) (sym same)
 
 -- no call is left
-pub put_none : (o : ℕ) (h : Hold) (n : ℕ) (cs : List Exchange) (whole : Bool) → whole ≡ puts o h (drop n cs) → length cs ≤ n
+pub puts_false_at_end : (o : ℕ) (h : Hold) (n : ℕ) (cs : List Exchange) (whole : Bool) → whole ≡ puts o h (drop n cs) → length cs ≤ n
     → false ≡ whole
 unfolding puts
-put_none o h n cs whole e l = sym (e ∙ at_drop_all (puts o h) cs n l)
+puts_false_at_end o h n cs whole e l = sym (e ∙ at_drop_all (puts o h) cs n l)
 
 -- ---- the least number
 
 -- there is none below 0
-pub none_below : (is : ℕ → Bool) → least_below is 0 ≡ None
+pub least_below_zero_is_none : (is : ℕ → Bool) → least_below is 0 ≡ None
 unfolding least_below
-none_below is = refl
+least_below_zero_is_none is = refl
 
-one_more : (is : ℕ → Bool) (n : ℕ) → least_below is (n + 1) ≡ found_or (least_below is n) (is n) n
+least_below_successor : (is : ℕ → Bool) (n : ℕ) → least_below is (n + 1) ≡ found_or (least_below is n) (is n) n
 unfolding least_below
-one_more is n = let on : n + 1 ≡ suc n = omega arith in ap (least_below is) on
+least_below_successor is n = let on : n + 1 ≡ suc n = omega arith in ap (least_below is) on
 
-found_stays : (x : Option ℕ) (b : Bool) (n i : ℕ) → x ≡ Some i → found_or x b n ≡ Some i
-found_stays x b n i e = ap (λ (z : Option ℕ). found_or z b n) e
+found_or_keeps_found : (x : Option ℕ) (b : Bool) (n i : ℕ) → x ≡ Some i → found_or x b n ≡ Some i
+found_or_keeps_found x b n i e = ap (λ (z : Option ℕ). found_or z b n) e
 
 -- once it is found it stays
-stays_least : (is : ℕ → Bool) (i n more : ℕ) → least_below is n ≡ Some i → least_below is (n + more) ≡ Some i
-stays_least is i n zero e = (let on : n + zero ≡ n = omega arith in ap (least_below is) on) ∙ e
-stays_least is i n (suc more) e =
-    (let on : n + suc more ≡ n + more + 1 = omega arith in ap (least_below is) on) ∙ one_more is (n + more)
-    ∙ found_stays (least_below is (n + more)) (is (n + more)) (n + more) i (stays_least is i n more e)
+least_below_stays : (is : ℕ → Bool) (i n more : ℕ) → least_below is n ≡ Some i → least_below is (n + more) ≡ Some i
+least_below_stays is i n zero e = (let on : n + zero ≡ n = omega arith in ap (least_below is) on) ∙ e
+least_below_stays is i n (suc more) e =
+    (let on : n + suc more ≡ n + more + 1 = omega arith in ap (least_below is) on) ∙ least_below_successor is (n + more)
+    ∙ found_or_keeps_found (least_below is (n + more)) (is (n + more)) (n + more) i (least_below_stays is i n more e)
 
-next_found : (x : Option ℕ) (b : Bool) (n : ℕ) → x ≡ None → b ≡ true → found_or x b n ≡ Some n
-next_found x b n none here = ap (λ (z : Option ℕ × Bool). found_or z.0 z.1 n) (λ i. (none i, here i))
+found_or_finds_next : (x : Option ℕ) (b : Bool) (n : ℕ) → x ≡ None → b ≡ true → found_or x b n ≡ Some n
+found_or_finds_next x b n none here = ap (λ (z : Option ℕ × Bool). found_or z.0 z.1 n) (λ i. (none i, here i))
 
-next_passed : (x : Option ℕ) (b : Bool) (n : ℕ) → x ≡ None → b ≡ false → found_or x b n ≡ None
-next_passed x b n none here = ap (λ (z : Option ℕ × Bool). found_or z.0 z.1 n) (λ i. (none i, here i))
+found_or_passes_next : (x : Option ℕ) (b : Bool) (n : ℕ) → x ≡ None → b ≡ false → found_or x b n ≡ None
+found_or_passes_next x b n none here = ap (λ (z : Option ℕ × Bool). found_or z.0 z.1 n) (λ i. (none i, here i))
 
 -- the next number is one, and none below it
-pub least_here : (is : ℕ → Bool) (i n : ℕ) → least_below is i ≡ None → is i ≡ true → i < n → least_below is n ≡ Some i
-least_here is i n none here l =
+pub least_below_if_number_passes : (is : ℕ → Bool) (i n : ℕ) → least_below is i ≡ None → is i ≡ true → i < n → least_below is n ≡ Some i
+least_below_if_number_passes is i n none here l =
     let more : n ≡ i + 1 + (n - (i + 1)) = omega (arith, l) in
     ap (least_below is) more
-    ∙ stays_least is i (i + 1) (n - (i + 1)) (one_more is i ∙ next_found (least_below is i) (is i) i none here)
+    ∙ least_below_stays is i (i + 1) (n - (i + 1)) (least_below_successor is i ∙ found_or_finds_next (least_below is i) (is i) i none here)
 
 -- it isn't
-pub least_later : (is : ℕ → Bool) (i : ℕ) → least_below is i ≡ None → is i ≡ false → least_below is (i + 1) ≡ None
-least_later is i none here = one_more is i ∙ next_passed (least_below is i) (is i) i none here
+pub least_below_successor_is_none : (is : ℕ → Bool) (i : ℕ) → least_below is i ≡ None → is i ≡ false → least_below is (i + 1) ≡ None
+least_below_successor_is_none is i none here = least_below_successor is i ∙ found_or_passes_next (least_below is i) (is i) i none here

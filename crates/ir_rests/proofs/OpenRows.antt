@@ -7,7 +7,7 @@ use Rattle.std.proofs.lemmas.Bool.{cases_lt, cases_eq}
 use Rattle.std.proofs.Math.ListN.{get_or-append}
 use Rattle.std.proofs.Math.Seq.{get_or-append_seam}
 use Rattle.ir_fit.specs.Fit.{FittedTrace}
-use Rattle.ir_walk.proofs.CallerLemmas.{each_more}
+use Rattle.ir_walk.proofs.CallerLemmas.{each_element_after_push}
 use Rattle.ir_past.specs.declared.stale_write.StaleWrite.{StaleWrite}
 use Rattle.ir_rests.specs.Watch.{IsFoundAs, IsWithout, IsSpanOf, IsOpenAt, IsWatched, IsWatch, NoneDue, AddsRests}
 use Rattle.ir_rests.specs.declared.found.Found.{Found}
@@ -18,20 +18,20 @@ use Rattle.ir_rests.specs.declared.watch.Watch.{Watch}
 
 -- ---- one more is open
 
-pub opened_one : (copies : Bool) (f : FittedTrace) (rows : List StaleWrite) (t k : ℕ) (w new : Watch) (o : Open) → IsWatch copies f rows t k w → w.next < length w.spans.items
+pub watch_after_row_opened : (copies : Bool) (f : FittedTrace) (rows : List StaleWrite) (t k : ℕ) (w new : Watch) (o : Open) → IsWatch copies f rows t k w → w.next < length w.spans.items
     → IsOpenAt copies f rows t k o → new.spans ≡ w.spans → new.next ≡ w.next + 1 → new.opened.items ≡ w.opened.items ++ o ∷ [] → IsWatch copies f rows t k new
-opened_one copies f rows t k w new o is l this spans next opened = record {
+watch_after_row_opened copies f rows t k w new o is l this spans next opened = record {
   sorted = subst (λ v. IsNonDecreasingBy (λ (s : Span). s.read) v.items) (sym spans) is.sorted;
   spans = subst (λ v. (i : ℕ) (d : Span) → i < length v.items → IsSpanOf f rows t (slice_index_or v.items i d)) (sym spans) is.spans;
   next = let n = ap (λ v. length v.items) spans in omega (arith, l, next, n);
   pending = subst (λ v. (i : ℕ) (d : Span) → new.next ≤ i → i < length v.items → k ≤ (slice_index_or v.items i d).read) (sym spans)
       (λ i d past li. is.pending i d (omega (arith, past, next)) li);
-  opened = each_more (IsOpenAt copies f rows t k) w.opened.items new.opened.items o is.opened this opened;
+  opened = each_element_after_push (IsOpenAt copies f rows t k) w.opened.items new.opened.items o is.opened this opened;
 }
 
-pub opened_watched : (w new : Watch) (o : Open) → new.spans ≡ w.spans → new.next ≡ w.next + 1 → new.opened.items ≡ w.opened.items ++ o ∷ []
+pub watched_after_row_opened : (w new : Watch) (o : Open) → new.spans ≡ w.spans → new.next ≡ w.next + 1 → new.opened.items ≡ w.opened.items ++ o ∷ []
     → ((d : Span) → o.span.row ≡ (slice_index_or w.spans.items w.next d).row) → (r : ℕ) → IsWatched w r → IsWatched new r
-opened_watched w new o spans next opened row r (inl p) = elim (cases_eq p.0 w.next) [
+watched_after_row_opened w new o spans next opened row r (inl p) = elim (cases_eq p.0 w.next) [
   | inr ne ↦ inl (
     p.0,
     (let a = p.1 in omega (arith, a, ne, next)),
@@ -46,16 +46,16 @@ opened_watched w new o spans next opened row r (inl p) = elim (cases_eq p.0 w.ne
         ∙ row o.span ∙ ap (λ j. (slice_index_or w.spans.items j o.span).row) (sym at) ∙ p.3 o.span,
   )
 ]
-opened_watched w new o spans next opened row r (inr q) = inr (
+watched_after_row_opened w new o spans next opened row r (inr q) = inr (
   q.0,
   (let a = q.1 in let n = ap length opened in let m = length-append w.opened.items (o ∷ []) in omega (arith, a, n, m)),
   λ d. ap (λ xs. (slice_index_or xs q.0 d).span.row) opened ∙ ap (λ (x : Open). x.span.row) (get_or-append w.opened.items (o ∷ []) d q.0 q.1) ∙ q.2 d,
 )
 
 -- no other has its read entry here
-pub none_due : (copies : Bool) (f : FittedTrace) (rows : List StaleWrite) (t k : ℕ) (w : Watch) → IsWatch copies f rows t k w
+pub none_due_if_next_reads_elsewhere : (copies : Bool) (f : FittedTrace) (rows : List StaleWrite) (t k : ℕ) (w : Watch) → IsWatch copies f rows t k w
     → (w.next < length w.spans.items → (d : Span) → (slice_index_or w.spans.items w.next d).read ≢ k) → NoneDue k w
-none_due copies f rows t k w is other i d past l =
+none_due_if_next_reads_elsewhere copies f rows t k w is other i d past l =
     let first = is.pending w.next d (omega arith) (omega (arith, past, l)) in
     let ne = other (omega (arith, past, l)) d in
     let up = is.sorted w.next i d past l in
@@ -63,39 +63,39 @@ none_due copies f rows t k w is other i d past l =
 
 -- ---- one fewer
 
-pub each_fewer : {X : Type 0} (P : X → Type 0) (xs ys : List X) (n : ℕ) → IsWithout xs ys n → ((i : ℕ) (d : X) → i < length xs → P (slice_index_or xs i d))
+pub each_element_without_one : {X : Type 0} (P : X → Type 0) (xs ys : List X) (n : ℕ) → IsWithout xs ys n → ((i : ℕ) (d : X) → i < length xs → P (slice_index_or xs i d))
     → (i : ℕ) (d : X) → i < length ys → P (slice_index_or ys i d)
-each_fewer P xs ys n out each i d l = elim (cases_eq i n) [
+each_element_without_one P xs ys n out each i d l = elim (cases_eq i n) [
   | inl at ↦ let s = out.size in subst (λ j. P (slice_index_or ys j d)) (sym at) (subst P (sym (out.moved d (omega (arith, s, l, at))))
       (each (length xs - 1) d (omega (arith, s, l))))
   | inr ne ↦ let s = out.size in subst P (sym (out.others i d ne (omega (arith, s, l)))) (each i d (omega (arith, s, l)))
 ]
 
-pub closed_one : (copies : Bool) (f : FittedTrace) (rows : List StaleWrite) (t k n : ℕ) (w new : Watch) → IsWatch copies f rows t k w → new.spans ≡ w.spans → new.next ≡ w.next
+pub watch_after_row_closed : (copies : Bool) (f : FittedTrace) (rows : List StaleWrite) (t k n : ℕ) (w new : Watch) → IsWatch copies f rows t k w → new.spans ≡ w.spans → new.next ≡ w.next
     → IsWithout w.opened.items new.opened.items n → IsWatch copies f rows t k new
-closed_one copies f rows t k n w new is spans next out = record {
+watch_after_row_closed copies f rows t k n w new is spans next out = record {
   sorted = subst (λ v. IsNonDecreasingBy (λ (s : Span). s.read) v.items) (sym spans) is.sorted;
   spans = subst (λ v. (i : ℕ) (d : Span) → i < length v.items → IsSpanOf f rows t (slice_index_or v.items i d)) (sym spans) is.spans;
   next = let m = ap (λ v. length v.items) spans in let a = is.next in omega (arith, a, next, m);
   pending = subst (λ v. (i : ℕ) (d : Span) → new.next ≤ i → i < length v.items → k ≤ (slice_index_or v.items i d).read) (sym spans)
       (λ i d past li. is.pending i d (omega (arith, past, next)) li);
-  opened = each_fewer (IsOpenAt copies f rows t k) w.opened.items new.opened.items n out is.opened;
+  opened = each_element_without_one (IsOpenAt copies f rows t k) w.opened.items new.opened.items n out is.opened;
 }
 
 -- those that were looked at still end later
-pub still_later : (k n : ℕ) (xs ys : List Open) → IsWithout xs ys n → n < length xs → ((j : ℕ) (d : Open) → j < n → k < (slice_index_or xs j d).span.end)
+pub open_rows_still_end_later : (k n : ℕ) (xs ys : List Open) → IsWithout xs ys n → n < length xs → ((j : ℕ) (d : Open) → j < n → k < (slice_index_or xs j d).span.end)
     → (j : ℕ) (d : Open) → j < n → k < (slice_index_or ys j d).span.end
-still_later k n xs ys out l later j d less =
+open_rows_still_end_later k n xs ys out l later j d less =
     subst (λ (o : Open). k < o.span.end) (sym (out.others j d (omega (arith, less)) (omega (arith, less, l)))) (later j d less)
 
 -- a row that was open is, or was closed
-pub closed_watched : (copies : Bool) (f : FittedTrace) (rows : List StaleWrite) (w new : Watch) (rests new_rests : List Found) (n row : ℕ) (rest : Found)
+pub watched_or_found_after_row_closed : (copies : Bool) (f : FittedTrace) (rows : List StaleWrite) (w new : Watch) (rests new_rests : List Found) (n row : ℕ) (rest : Found)
     (any : Open) → new.spans ≡ w.spans → new.next ≡ w.next → IsWithout w.opened.items new.opened.items n → n < length w.opened.items
     → ((d : Open) → (slice_index_or w.opened.items n d).span.row ≡ row) → row < length rests → new_rests ≡ set rests row rest
     → ((x : StaleWrite) → slice_get rows row ≡ Some x → IsFoundAs copies f x rest)
     → (r : ℕ) (x : StaleWrite) → slice_get rows r ≡ Some x → IsWatched w r ⊎ IsFoundAs copies f x (slice_index_or rests r Unknown)
     → IsWatched new r ⊎ IsFoundAs copies f x (slice_index_or new_rests r Unknown)
-closed_watched copies f rows w new rests new_rests n row rest any spans next out l at within set_to judged r x there was = elim (cases_eq r row) [
+watched_or_found_after_row_closed copies f rows w new rests new_rests n row rest any spans next out l at within set_to judged r x there was = elim (cases_eq r row) [
   | inl same ↦ inr (subst (λ xs. IsFoundAs copies f x (slice_index_or xs r Unknown)) (sym set_to)
       (subst (λ j. IsFoundAs copies f x (slice_index_or (set rests row rest) j Unknown)) (sym same)
       (subst (IsFoundAs copies f x) (sym (get_or-set_same rests row rest Unknown within)) (judged x (ap (slice_get rows) (sym same) ∙ there)))))
@@ -135,9 +135,9 @@ closed_watched copies f rows w new rests new_rests n row rest any spans next out
     ]))
 
 -- one result more
-pub adds_one : (copies : Bool) (f : FittedTrace) (rows : List StaleWrite) (first rests new : List Found) (row : ℕ) (rest : Found) → AddsRests copies f rows first rests
+pub adds_rests_after_result : (copies : Bool) (f : FittedTrace) (rows : List StaleWrite) (first rests new : List Found) (row : ℕ) (rest : Found) → AddsRests copies f rows first rests
     → row < length rests → new ≡ set rests row rest → ((x : StaleWrite) → slice_get rows row ≡ Some x → IsFoundAs copies f x rest) → AddsRests copies f rows first new
-adds_one copies f rows first rests new row rest adds within set_to judged = record {
+adds_rests_after_result copies f rows first rests new row rest adds within set_to judged = record {
   size = ap length set_to ∙ length-set rests row rest ∙ adds.size;
   each = λ r x there. elim (cases_eq r row) [
     | inl same ↦ inr (subst (λ xs. IsFoundAs copies f x (slice_index_or xs r Unknown)) (sym set_to)
@@ -152,31 +152,31 @@ adds_one copies f rows first rests new row rest adds within set_to judged = reco
   ];
 }
 
-pub adds_none : (copies : Bool) (f : FittedTrace) (rows : List StaleWrite) (rests : List Found) → AddsRests copies f rows rests rests
-adds_none copies f rows rests = record { size = refl; each = λ r x there. inl refl }
+pub adds_rests_reflexive : (copies : Bool) (f : FittedTrace) (rows : List StaleWrite) (rests : List Found) → AddsRests copies f rows rests rests
+adds_rests_reflexive copies f rows rests = record { size = refl; each = λ r x there. inl refl }
 
 -- ---- each in turn
 
 -- one more of a list is so
-pub set_each : {X : Type 0} (P : X → Type 0) (xs : List X) (i : ℕ) (x : X) → i < length xs → ((j : ℕ) (d : X) → j < i → P (slice_index_or xs j d)) → P x
+pub each_element_up_to_set_place : {X : Type 0} (P : X → Type 0) (xs : List X) (i : ℕ) (x : X) → i < length xs → ((j : ℕ) (d : X) → j < i → P (slice_index_or xs j d)) → P x
     → (j : ℕ) (d : X) → j < i + 1 → P (slice_index_or (set xs i x) j d)
-set_each P xs i x l each last j d less = elim (cases_eq j i) [
+each_element_up_to_set_place P xs i x l each last j d less = elim (cases_eq j i) [
   | inl same ↦ subst (λ n. P (slice_index_or (set xs i x) n d)) (sym same) (subst P (sym (get_or-set_same xs i x d l)) last)
   | inr ne ↦ subst P (sym (get_or-set_other xs i j x d ne)) (each j d (omega (arith, less, ne)))
 ]
 
 -- each has the span that it had
-pub set_spans : (first xs : List Open) (i : ℕ) (x : Open) → i < length xs
+pub spans_kept_up_to_set_place : (first xs : List Open) (i : ℕ) (x : Open) → i < length xs
     → ((j : ℕ) (d : Open) → j < i → (slice_index_or xs j d).span ≡ (slice_index_or first j d).span)
     → ((d : Open) → x.span ≡ (slice_index_or first i d).span)
     → (j : ℕ) (d : Open) → j < i + 1 → (slice_index_or (set xs i x) j d).span ≡ (slice_index_or first j d).span
-set_spans first xs i x l each last j d less = elim (cases_eq j i) [
+spans_kept_up_to_set_place first xs i x l each last j d less = elim (cases_eq j i) [
   | inl same ↦ subst (λ n. (slice_index_or (set xs i x) n d).span ≡ (slice_index_or first n d).span) (sym same)
       (ap (λ (o : Open). o.span) (get_or-set_same xs i x d l) ∙ last d)
   | inr ne ↦ ap (λ (o : Open). o.span) (get_or-set_other xs i j x d ne) ∙ each j d (omega (arith, less, ne))
 ]
 
 -- and the others are as they were
-pub set_others : {X : Type 0} (first xs : List X) (i : ℕ) (x : X) → ((j : ℕ) (d : X) → i ≤ j → slice_index_or xs j d ≡ slice_index_or first j d)
+pub others_kept_beyond_set_place : {X : Type 0} (first xs : List X) (i : ℕ) (x : X) → ((j : ℕ) (d : X) → i ≤ j → slice_index_or xs j d ≡ slice_index_or first j d)
     → (j : ℕ) (d : X) → i + 1 ≤ j → slice_index_or (set xs i x) j d ≡ slice_index_or first j d
-set_others first xs i x each j d past = get_or-set_other xs i j x d (λ e. absurd (omega (arith, past, e))) ∙ each j d (omega (arith, past))
+others_kept_beyond_set_place first xs i x each j d past = get_or-set_other xs i j x d (λ e. absurd (omega (arith, past, e))) ∙ each j d (omega (arith, past))

@@ -3,7 +3,7 @@ use Rattle.std.specs.Prelude.{⊤, ◌≡◌, ◌≢◌, ◌⊎◌, ℕ, ◌+◌
 use Rattle.std.specs.List.{slice_index_or}
 use Rattle.std.specs.List.Sorted.{IsPermutation, IsNonDecreasingBy}
 use Rattle.ir_mach.specs.Marks.{Marked}
-use Rattle.ir_thread.specs.State.{State}
+use Rattle.ir_thread.specs.State.{ThreadState}
 use Rattle.ir_trace.specs.Recorded.{recorded_thread}
 use Rattle.ir_fit.specs.Fit.{FittedTrace}
 use Rattle.ir_cut.specs.Positions.{EachRun}
@@ -49,7 +49,7 @@ pub record IsSpanOf (f : FittedTrace) (rows : List StaleWrite) (t : ℕ) (s : Sp
   pub span : IsSpan f row s
 
 -- the copy of a thread, if there is one, is this one
-abbrev pub IsCopyOf : Option State → State → Type 0
+abbrev pub IsCopyOf : Option ThreadState → ThreadState → Type 0
 IsCopyOf None x = ⊤
 IsCopyOf (Some copy) x = copy ≡ x
 

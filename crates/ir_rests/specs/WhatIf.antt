@@ -5,7 +5,7 @@ use Rattle.ir_runs.specs.declared.access.Access.{Access}
 use Rattle.ir_runs.specs.declared.access.Access.TheVariants as access
 use Rattle.ir_runs.specs.declared.env_kind.EnvKind.{EnvKind}
 use Rattle.ir_runs.specs.declared.env_kind.EnvKind.TheVariants.{Clock, Random, Input}
-use Rattle.ir_thread.specs.State.{State, end_number, end_code}
+use Rattle.ir_thread.specs.State.{ThreadState, end_number, end_code}
 use Rattle.ir_thread.specs.Calls.{ask_of, after_reply}
 use Rattle.ir_thread.specs.Permitted.{step_of}
 use Rattle.ir_thread.specs.declared.ask.Ask.{Ask}
@@ -115,7 +115,7 @@ is_private _ = false
 
 -- the thread x, which is so with object o, is answered as in these calls but for the fresh words of o: how it first differs from them, if
 -- it does; by its way, too, if it hasn't come to the last of them after `fuel` steps
-unfoldable pub what_if : List ℕ → ℕ → List ℕ → Hold → ℕ → State → List Exchange → Option Reason
+unfoldable pub what_if : List ℕ → ℕ → List ℕ → Hold → ℕ → ThreadState → List Exchange → Option Reason
 what_if code o fresh h fuel x [] = None
 what_if code o fresh h zero x (c ∷ cs) = Some reason.Way
 what_if code o fresh h (suc fuel) x (c ∷ cs) =
@@ -184,7 +184,7 @@ more_steps = 65536
 
 -- how the write of a thread into object o rests on its read, if it does: x is the thread behind its read entry, these are its calls from
 -- there to its leave after the write entry, and the words are those of the object behind both entries; a hold with no PUT is no write
-abbrev pub rest_of : List ℕ → ℕ → List ℕ → List ℕ → ℕ → State → List Exchange → Option Rest
+abbrev pub rest_of : List ℕ → ℕ → List ℕ → List ℕ → ℕ → ThreadState → List Exchange → Option Rest
 rest_of code o was now fuel x calls =
     if puts o Reading calls
     then rest_by was now (changed_word o was now calls) (what_if code o now Reading fuel x calls)
@@ -197,7 +197,7 @@ unknown_by (Some i) = Unknown
 
 -- what is found of the write: with a copy of the thread how it rests on its read, and with none that it rests on nothing, where the
 -- calls and the words show it
-abbrev pub found_of : List ℕ → ℕ → List ℕ → List ℕ → ℕ → Option State → List Exchange → Found
+abbrev pub found_of : List ℕ → ℕ → List ℕ → List ℕ → ℕ → Option ThreadState → List Exchange → Found
 found_of code o was now fuel (Some x) calls = Known (rest_of code o was now fuel x calls)
 found_of code o was now fuel None calls =
     if puts o Reading calls

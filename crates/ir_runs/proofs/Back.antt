@@ -6,120 +6,120 @@ use Rattle.ir_runs.specs.Machine.{Act, act_of, Silent, Result, Entry, Refusal, E
 use Rattle.ir_runs.specs.Lawful.{IsLawful}
 use Rattle.ir_runs.specs.declared.access.Access.{Access}
 use Rattle.ir_runs.specs.declared.access.Access.TheVariants.{Reading, Writing}
-use Rattle.ir_runs.proofs.Tables.{upd_same, upd_other}
+use Rattle.ir_runs.proofs.Tables.{upd_at_own_place, upd_at_other_place}
 use Rattle.ir_runs.specs.Run.{act, State, Step, Can, after, label, IsRun, join_if, trail}
-use Rattle.ir_runs.proofs.Good.{Inside, Good, inside_now, stays_good}
-use Rattle.ir_runs.proofs.Pull.{clash_sym}
-use Rattle.ir_runs.proofs.Same.{now_other}
-use Rattle.ir_runs.proofs.Steps.{Clashes, Keeps, keeps, commute}
+use Rattle.ir_runs.proofs.Good.{InsideForAct, StateInvariant, inside_for_act_of_step, state_invariant_after_step}
+use Rattle.ir_runs.proofs.Pull.{clash_is_symmetric}
+use Rattle.ir_runs.proofs.Same.{thread_after_step_of_other}
+use Rattle.ir_runs.proofs.Steps.{Clashes, StepUnchanged, step_unchanged_after_other_step, steps_commute_unless_clash}
 use Rattle.ir_runs.proofs.Swap.{Clash}
-use Rattle.ir_runs.specs.Cuts.{At, Needs}
+use Rattle.ir_runs.specs.Cuts.{At, IsNeededBy}
 
-before_entry : {T : Type 0} (m : Machine T) (b : Object) (t : ℕ) (x : Option Access) → (x ≡ Some Writing → ⊥) → b.inside t ≡ x
+no_writer_inside_before_change : {T : Type 0} (m : Machine T) (b : Object) (t : ℕ) (x : Option Access) → (x ≡ Some Writing → ⊥) → b.inside t ≡ x
     → (a : Option Access) → ((w : ℕ) → upd b.inside t a w ≢ Some Writing) → (w : ℕ) → b.inside w ≢ Some Writing
-before_entry m b t x ne i a h w e = elim (cases_eq w t) [
+no_writer_inside_before_change m b t x ne i a h w e = elim (cases_eq w t) [
   | inl same ↦ ne (sym i ∙ ap b.inside (sym same) ∙ e)
-  | inr other ↦ h w (upd_other b.inside t w a other ∙ e)
+  | inr other ↦ h w (upd_at_other_place b.inside t w a other ∙ e)
 ]
 
 -- The step of u was admitted before that of t, unless it needs that.
-back1 : {T : Type 0} (m : Machine T) (b : Object) (t u : ℕ) (q q' : Act) → target q' ≡ target q → Inside q (b.inside t) → Admits m q b
-    → Admits m q' (acted q t b) → (Needs (emitted q b) (emitted q' (acted q t b)) → ⊥) → Admits m q' b × (Clash q q' → ⊥)
-back1 m b t u Silent q' same i h h' free = (h', λ c. c)
-back1 m b t u (Refusal _) q' same i h h' free = (h', λ c. c)
-back1 m b t u (Result k res) q' same i h h' free = (h', λ c. c)
-back1 m b t u (Load o j) q' same i h h' free = (h', λ c. c)
-back1 m b t u Never q' same i h h' free = absurd h
-back1 m b t u (Store o j w) Silent same i h h' free = (tt, λ c. c)
-back1 m b t u (Store o j w) (Refusal _) same i h h' free = (tt, λ c. c)
-back1 m b t u (Store o j w) (Result k res) same i h h' free = (h', λ c. c)
-back1 m b t u (Store o j w) (Entry p Reading ans') same i h h' free = (h', λ c. c)
-back1 m b t u (Store o j w) (Entry p Writing ans') same i h h' free = (h', λ c. c)
-back1 m b t u (Store o j w) (Exit p a) same i h h' free = (tt, λ c. c)
-back1 m b t u (Store o j w) (Load p k) same i h h' free = (tt, λ c. c)
-back1 m b t u (Store o j w) (Store p k v) same i h h' free = (tt, λ c. c)
-back1 m b t u (Store o j w) Never same i h h' free = absurd h'
-back1 m b t u (Entry o Reading ans) Silent same i h h' free = (tt, λ c. c)
-back1 m b t u (Entry o Reading ans) (Refusal _) same i h h' free = (tt, λ c. c)
-back1 m b t u (Entry o Writing ans) Silent same i h h' free = (tt, λ c. c)
-back1 m b t u (Entry o Writing ans) (Refusal _) same i h h' free = (tt, λ c. c)
-back1 m b t u (Entry o Reading ans) (Result k res) same i h h' free = (h', λ c. c)
-back1 m b t u (Entry o Writing ans) (Result k res) same i h h' free = (h', λ c. c)
-back1 m b t u (Entry o Reading ans) (Entry p Reading ans') same i h h' free = (h_before, λ c. c)
+act_admitted_before_unless_needed : {T : Type 0} (m : Machine T) (b : Object) (t u : ℕ) (q q' : Act) → target q' ≡ target q → InsideForAct q (b.inside t) → Admits m q b
+    → Admits m q' (acted q t b) → (IsNeededBy (emitted q b) (emitted q' (acted q t b)) → ⊥) → Admits m q' b × (Clash q q' → ⊥)
+act_admitted_before_unless_needed m b t u Silent q' same i h h' free = (h', λ c. c)
+act_admitted_before_unless_needed m b t u (Refusal _) q' same i h h' free = (h', λ c. c)
+act_admitted_before_unless_needed m b t u (Result k res) q' same i h h' free = (h', λ c. c)
+act_admitted_before_unless_needed m b t u (Load o j) q' same i h h' free = (h', λ c. c)
+act_admitted_before_unless_needed m b t u Never q' same i h h' free = absurd h
+act_admitted_before_unless_needed m b t u (Store o j w) Silent same i h h' free = (tt, λ c. c)
+act_admitted_before_unless_needed m b t u (Store o j w) (Refusal _) same i h h' free = (tt, λ c. c)
+act_admitted_before_unless_needed m b t u (Store o j w) (Result k res) same i h h' free = (h', λ c. c)
+act_admitted_before_unless_needed m b t u (Store o j w) (Entry p Reading ans') same i h h' free = (h', λ c. c)
+act_admitted_before_unless_needed m b t u (Store o j w) (Entry p Writing ans') same i h h' free = (h', λ c. c)
+act_admitted_before_unless_needed m b t u (Store o j w) (Exit p a) same i h h' free = (tt, λ c. c)
+act_admitted_before_unless_needed m b t u (Store o j w) (Load p k) same i h h' free = (tt, λ c. c)
+act_admitted_before_unless_needed m b t u (Store o j w) (Store p k v) same i h h' free = (tt, λ c. c)
+act_admitted_before_unless_needed m b t u (Store o j w) Never same i h h' free = absurd h'
+act_admitted_before_unless_needed m b t u (Entry o Reading ans) Silent same i h h' free = (tt, λ c. c)
+act_admitted_before_unless_needed m b t u (Entry o Reading ans) (Refusal _) same i h h' free = (tt, λ c. c)
+act_admitted_before_unless_needed m b t u (Entry o Writing ans) Silent same i h h' free = (tt, λ c. c)
+act_admitted_before_unless_needed m b t u (Entry o Writing ans) (Refusal _) same i h h' free = (tt, λ c. c)
+act_admitted_before_unless_needed m b t u (Entry o Reading ans) (Result k res) same i h h' free = (h', λ c. c)
+act_admitted_before_unless_needed m b t u (Entry o Writing ans) (Result k res) same i h h' free = (h', λ c. c)
+act_admitted_before_unless_needed m b t u (Entry o Reading ans) (Entry p Reading ans') same i h h' free = (h_before, λ c. c)
   where
     h_before : (w : ℕ) → b.inside w ≢ Some Writing
     h_before = h
-back1 m b t u (Entry o Writing ans) (Entry p Reading ans') same i h h' free = absurd (h' t (upd_same b.inside t (Some Writing)))
-back1 m b t u (Entry o a ans) (Entry p Writing ans') same i h h' free = absurd (cc (h' t, upd_same b.inside t (Some a)))
-back1 m b t u (Entry o Reading ans) (Exit p c) same i h h' free = (tt, λ c. c)
-back1 m b t u (Entry o Writing ans) (Exit p c) same i h h' free = (tt, λ c. c)
-back1 m b t u (Entry o Reading ans) (Load p k) same i h h' free = (tt, λ c. c)
-back1 m b t u (Entry o Writing ans) (Load p k) same i h h' free = (tt, λ c. c)
-back1 m b t u (Entry o Reading ans) (Store p k v) same i h h' free = (tt, λ c. c)
-back1 m b t u (Entry o Writing ans) (Store p k v) same i h h' free = (tt, λ c. c)
-back1 m b t u (Entry o a ans) Never same i h h' free = absurd h'
-back1 m b t u (Exit o a) Silent same i h h' free = (tt, λ c. c)
-back1 m b t u (Exit o a) (Refusal _) same i h h' free = (tt, λ c. c)
-back1 m b t u (Exit o a) (Result k res) same i h h' free = (h', λ c. c)
-back1 m b t u (Exit o Reading) (Entry p Reading ans') same i h h' free = (before_entry m b t (Some Reading) (λ z. cc z) i None h', λ c. c)
-back1 m b t u (Exit o Reading) (Entry p Writing ans') same i h h' free = absurd (free (sym same, refl))
-back1 m b t u (Exit o Writing) (Entry p Reading ans') same i h h' free = absurd (free (sym same, refl))
-back1 m b t u (Exit o Writing) (Entry p Writing ans') same i h h' free = absurd (free (sym same, refl))
-back1 m b t u (Exit o a) (Exit p c) same i h h' free = (tt, λ c. c)
-back1 m b t u (Exit o a) (Load p k) same i h h' free = (tt, λ c. c)
-back1 m b t u (Exit o a) (Store p k v) same i h h' free = (tt, λ c. c)
-back1 m b t u (Exit o a) Never same i h h' free = absurd h'
+act_admitted_before_unless_needed m b t u (Entry o Writing ans) (Entry p Reading ans') same i h h' free = absurd (h' t (upd_at_own_place b.inside t (Some Writing)))
+act_admitted_before_unless_needed m b t u (Entry o a ans) (Entry p Writing ans') same i h h' free = absurd (cc (h' t, upd_at_own_place b.inside t (Some a)))
+act_admitted_before_unless_needed m b t u (Entry o Reading ans) (Exit p c) same i h h' free = (tt, λ c. c)
+act_admitted_before_unless_needed m b t u (Entry o Writing ans) (Exit p c) same i h h' free = (tt, λ c. c)
+act_admitted_before_unless_needed m b t u (Entry o Reading ans) (Load p k) same i h h' free = (tt, λ c. c)
+act_admitted_before_unless_needed m b t u (Entry o Writing ans) (Load p k) same i h h' free = (tt, λ c. c)
+act_admitted_before_unless_needed m b t u (Entry o Reading ans) (Store p k v) same i h h' free = (tt, λ c. c)
+act_admitted_before_unless_needed m b t u (Entry o Writing ans) (Store p k v) same i h h' free = (tt, λ c. c)
+act_admitted_before_unless_needed m b t u (Entry o a ans) Never same i h h' free = absurd h'
+act_admitted_before_unless_needed m b t u (Exit o a) Silent same i h h' free = (tt, λ c. c)
+act_admitted_before_unless_needed m b t u (Exit o a) (Refusal _) same i h h' free = (tt, λ c. c)
+act_admitted_before_unless_needed m b t u (Exit o a) (Result k res) same i h h' free = (h', λ c. c)
+act_admitted_before_unless_needed m b t u (Exit o Reading) (Entry p Reading ans') same i h h' free = (no_writer_inside_before_change m b t (Some Reading) (λ z. cc z) i None h', λ c. c)
+act_admitted_before_unless_needed m b t u (Exit o Reading) (Entry p Writing ans') same i h h' free = absurd (free (sym same, refl))
+act_admitted_before_unless_needed m b t u (Exit o Writing) (Entry p Reading ans') same i h h' free = absurd (free (sym same, refl))
+act_admitted_before_unless_needed m b t u (Exit o Writing) (Entry p Writing ans') same i h h' free = absurd (free (sym same, refl))
+act_admitted_before_unless_needed m b t u (Exit o a) (Exit p c) same i h h' free = (tt, λ c. c)
+act_admitted_before_unless_needed m b t u (Exit o a) (Load p k) same i h h' free = (tt, λ c. c)
+act_admitted_before_unless_needed m b t u (Exit o a) (Store p k v) same i h h' free = (tt, λ c. c)
+act_admitted_before_unless_needed m b t u (Exit o a) Never same i h h' free = absurd h'
 
 -- The step e' was there before e, unless it needs e.
-pub back : {T : Type 0} (m : Machine T) → IsLawful m → (s : State T) → Good m s → (e e' : Step) → e'.0 ≢ e.0 → Can m s e
-    → Can m (after m s e) e' → (Needs (label m s e) (label m (after m s e) e') → ⊥) → Can m s e' × (Clashes m s e e' → ⊥)
+pub step_can_come_before_unless_needed : {T : Type 0} (m : Machine T) → IsLawful m → (s : State T) → StateInvariant m s → (e e' : Step) → e'.0 ≢ e.0 → Can m s e
+    → Can m (after m s e) e' → (IsNeededBy (label m s e) (label m (after m s e) e') → ⊥) → Can m s e' × (Clashes m s e e' → ⊥)
 unfolding after
-back m law s good e e' ne can can' free =
+step_can_come_before_unless_needed m law s good e e' ne can can' free =
     let q : Act = act m s e in let q' : Act = act m s e' in
     let s1 = after m s e in
-    let p : s1.now e'.0 ≡ s.now e'.0 = now_other m s e e'.0 ne in
+    let p : s1.now e'.0 ≡ s.now e'.0 = thread_after_step_of_other m s e e'.0 ne in
     let h : Admits m q' (s1.objects (target q')) =
     subst (λ z. Admits m (act_of (m.ask z) e'.1) (s1.objects (target (act_of (m.ask z) e'.1)))) p can' in
-    let f : Needs (label m s e) (emitted q' (s1.objects (target q'))) → ⊥ =
-    subst (λ z. Needs (label m s e) (emitted (act_of (m.ask z) e'.1) (s1.objects (target (act_of (m.ask z) e'.1)))) → ⊥) p free in
+    let f : IsNeededBy (label m s e) (emitted q' (s1.objects (target q'))) → ⊥ =
+    subst (λ z. IsNeededBy (label m s e) (emitted (act_of (m.ask z) e'.1) (s1.objects (target (act_of (m.ask z) e'.1)))) → ⊥) p free in
     elim (cases_eq (target q') (target q)) [
       | inl same ↦
-          let c : s1.objects (target q') ≡ acted q e.0 (s.objects (target q)) = ap s1.objects same ∙ upd_same s.objects (target q) _ in
+          let c : s1.objects (target q') ≡ acted q e.0 (s.objects (target q)) = ap s1.objects same ∙ upd_at_own_place s.objects (target q) _ in
           let z : Admits m q' (s.objects (target q)) × (Clash q q' → ⊥) =
-          back1 m (s.objects (target q)) e.0 e'.0 q q' same (inside_now m law s good e) can
-          (subst (Admits m q') c h) (subst (λ y. Needs (label m s e) (emitted q' y) → ⊥) c f) in
+          act_admitted_before_unless_needed m (s.objects (target q)) e.0 e'.0 q q' same (inside_for_act_of_step m law s good e) can
+          (subst (Admits m q') c h) (subst (λ y. IsNeededBy (label m s e) (emitted q' y) → ⊥) c f) in
           (subst (λ y. Admits m q' (s.objects y)) (sym same) z.0, λ y. z.1 y.1)
-      | inr other ↦ (subst (Admits m q') (upd_other s.objects (target q) (target q') _ other) h, λ y. other y.0)
+      | inr other ↦ (subst (Admits m q') (upd_at_other_place s.objects (target q) (target q') _ other) h, λ y. other y.0)
     ]
 
 -- the run without the step e before it
-pub record Skipped {T : Type 0} (m : Machine T) (s : State T) (e : Step) (run : List Step) : Type 0 where
+pub record RunWithoutStep {T : Type 0} (m : Machine T) (s : State T) (e : Step) (run : List Step) : Type 0 where
   pub ok : IsRun m s run
   pub same_trail : (u : ℕ) → trail m s run u ≡ trail m (after m s e) run u
 
-pub skip : {T : Type 0} (m : Machine T) → IsLawful m → (s : State T) → Good m s → (e : Step) → Can m s e → (run : List Step)
+pub run_without_unneeded_step : {T : Type 0} (m : Machine T) → IsLawful m → (s : State T) → StateInvariant m s → (e : Step) → Can m s e → (run : List Step)
     → IsRun m (after m s e) run → trail m (after m s e) run e.0 ≡ []
-    → ((u k : ℕ) (x : T) (a : Label) → At (trail m (after m s e) run u) k (x, a) → Needs (label m s e) a → ⊥) → Skipped m s e run
-skip m law s good e can [] ok none free = record { ok = tt; same_trail = λ u. refl }
-skip {T} m law s good e can (d ∷ run) ok none free =
+    → ((u k : ℕ) (x : T) (a : Label) → At (trail m (after m s e) run u) k (x, a) → IsNeededBy (label m s e) a → ⊥) → RunWithoutStep m s e run
+run_without_unneeded_step m law s good e can [] ok none free = record { ok = tt; same_trail = λ u. refl }
+run_without_unneeded_step {T} m law s good e can (d ∷ run) ok none free =
     let s1 = after m s e in
     let other : d.0 ≢ e.0 = λ p. cc (subst (λ b. join_if b (s1.now e.0, label m s1 d) (trail m (after m s1 d) run e.0) ≡ [])
     (eq-eqb e.0 d.0 (sym p)) none) in
     let none' : trail m (after m s1 d) run e.0 ≡ [] =
     subst (λ b. join_if b (s1.now e.0, label m s1 d) (trail m (after m s1 d) run e.0) ≡ []) (ne_eqb e.0 d.0 (λ p. other (sym p)))
     none in
-    let b = back m law s good e d other can ok.0
+    let b = step_can_come_before_unless_needed m law s good e d other can ok.0
     (free d.0 0 (s1.now d.0) (label m s1 d)
     (subst (λ b. At (join_if b (s1.now d.0, label m s1 d) (trail m (after m s1 d) run d.0)) 0 (s1.now d.0, label m s1 d))
     (sym (eq-eqb d.0 d.0 refl)) refl)) in
-    let free2 : Clashes m s d e → ⊥ = λ c. b.1 (sym c.0, clash_sym _ _ c.1) in
-    let k : Keeps m s e d = keeps m law s good e d (λ p. other (sym p)) can b.0 b.1 in
-    let k' : Keeps m s d e = keeps m law s good d e other b.0 can free2 in
-    let p : after m s1 d ≡ after m (after m s d) e = commute m law s good e d (λ p. other (sym p)) can b.0 b.1 free2 in
-    let z : Skipped m (after m s d) e run = skip m law (after m s d) (stays_good m law s good d b.0) e k'.can run
+    let free2 : Clashes m s d e → ⊥ = λ c. b.1 (sym c.0, clash_is_symmetric _ _ c.1) in
+    let k : StepUnchanged m s e d = step_unchanged_after_other_step m law s good e d (λ p. other (sym p)) can b.0 b.1 in
+    let k' : StepUnchanged m s d e = step_unchanged_after_other_step m law s good d e other b.0 can free2 in
+    let p : after m s1 d ≡ after m (after m s d) e = steps_commute_unless_clash m law s good e d (λ p. other (sym p)) can b.0 b.1 free2 in
+    let z : RunWithoutStep m (after m s d) e run = run_without_unneeded_step m law (after m s d) (state_invariant_after_step m law s good d b.0) e k'.can run
     (subst (λ z. IsRun m z run) p ok.1) (subst (λ z. trail m z run e.0 ≡ []) p none')
     (λ u k x a h n. skip_free s1 d run p e u k x a free (subst (λ z. At (trail m z run u) k (x, a)) (sym p) h)
-    (subst (λ z. Needs z a) k'.label_same n)) in
+    (subst (λ z. IsNeededBy z a) k'.label_same n)) in
     record {
       ok = (b.0, z.ok);
       same_trail = λ u. ap (join_if (eqb u d.0) (s.now u, label m s d)) (z.same_trail u ∙ ap (λ y. trail m y run u) (sym p))
@@ -136,7 +136,7 @@ skip {T} m law s good e can (d ∷ run) ok none free =
     at_later false x y xs k h = (k, h)
 
     skip_free : (s1 : State T) (d : Step) (run : List Step) {s2 : State T} → after m s1 d ≡ s2 → (e : Step) (u k : ℕ) (x : T) (a : Label)
-        → ((u k : ℕ) (x : T) (a : Label) → At (trail m s1 (d ∷ run) u) k (x, a) → Needs (label m s e) a → ⊥)
-        → At (trail m (after m s1 d) run u) k (x, a) → Needs (label m s e) a → ⊥
+        → ((u k : ℕ) (x : T) (a : Label) → At (trail m s1 (d ∷ run) u) k (x, a) → IsNeededBy (label m s e) a → ⊥)
+        → At (trail m (after m s1 d) run u) k (x, a) → IsNeededBy (label m s e) a → ⊥
     skip_free s1 d run p e u k x a free h n = let j =
         at_later (eqb u d.0) (s1.now u, label m s1 d) (x, a) (trail m (after m s1 d) run u) k h in free u j.0 x a j.1 n

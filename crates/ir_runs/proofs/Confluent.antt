@@ -7,19 +7,19 @@ use Rattle.ir_runs.specs.Lawful.{IsLawful}
 use Rattle.ir_runs.specs.declared.access.Access.TheVariants.{Reading, Writing}
 use Rattle.ir_runs.specs.Run.{act, State, Step, asked, Can, after, label, IsRun, end, join_if, trail}
 use Rattle.ir_runs.specs.Bounds.{IsStart, IsIdle}
-use Rattle.ir_runs.proofs.Good.{Good, stays_good}
-use Rattle.ir_runs.proofs.Append.{trail_append, run_append}
-use Rattle.ir_runs.proofs.Follow.{fits_part}
-use Rattle.ir_runs.proofs.Pull.{Pulled, pull}
-use Rattle.ir_runs.proofs.Same.{Goes, Heads, heads, Starts, now_other, agree, join_append}
-use Rattle.ir_runs.proofs.Steps.{Clashes, Keeps, keeps}
+use Rattle.ir_runs.proofs.Good.{StateInvariant, state_invariant_after_step}
+use Rattle.ir_runs.proofs.Append.{trail_append, append_of_runs_is_run}
+use Rattle.ir_runs.proofs.Follow.{prefix_of_fitting_steps_fits}
+use Rattle.ir_runs.proofs.Pull.{PulledFirst, thread_step_can_come_first}
+use Rattle.ir_runs.proofs.Same.{BeginsRun, FirstStepEmits, first_step_of_trail_emits, NonEmpty, thread_after_step_of_other, logs_of_same_ask_agree, append_to_join_if}
+use Rattle.ir_runs.proofs.Steps.{Clashes, StepUnchanged, step_unchanged_after_other_step}
 use Rattle.ir_runs.proofs.Swap.{Clash}
-use Rattle.ir_runs.proofs.Tally.{Tally, tally_step, tally_start, sum_less, sum_zero, is_reader, readers_inside, counted}
+use Rattle.ir_runs.proofs.Tally.{Tally, tally_after_step, tally_at_start, sum_below_less_if_one_less, sum_below_of_zeros, one_if_reader, readers_inside, counted_read}
 use Rattle.ir_runs.specs.Alike.{Reaches}
 use Rattle.ir_runs.specs.Coherent.{reads_one, reads, sum_below, IsCoherent}
 use Rattle.ir_runs.specs.Cuts.{At}
 use Rattle.ir_runs.specs.Following.{Ending, Check, unlogged, Fits, Follows, IsMaximal}
-use Rattle.ir_runs.proofs.Ending.{run_last}
+use Rattle.ir_runs.proofs.Ending.{last_step_can_be_taken}
 
 abbrev pub steps_left : (ℕ → ℕ) → Step → ℕ → ℕ
 steps_left ns e u = cond (eqb u e.0) (pred (ns u)) (ns u)
@@ -28,37 +28,37 @@ abbrev pub log_left : (ℕ → List Label) → Step → Label → ℕ → List L
 log_left rem e k u = cond (eqb u e.0) (unlogged k (rem u)) (rem u)
 
 -- the run follows what is left
-abbrev pub Goes_on : {T : Type 0} → Ending T → Machine T → State T → (ℕ → ℕ) → (ℕ → List Label) → List Step → Type 0
-Goes_on E m s ns rem run = IsRun m s run × ((t : ℕ) → Fits (E t) (ns t) (rem t) (trail m s run t))
+abbrev pub FollowsRemainder : {T : Type 0} → Ending T → Machine T → State T → (ℕ → ℕ) → (ℕ → List Label) → List Step → Type 0
+FollowsRemainder E m s ns rem run = IsRun m s run × ((t : ℕ) → Fits (E t) (ns t) (rem t) (trail m s run t))
 
-fits_first : {T : Type 0} (E : Check T) (n : ℕ) (es : List Label) (b : Bool) (x : T × Label) (xs : List (T × Label)) → b ≡ true
+joined_step_fits : {T : Type 0} (E : Check T) (n : ℕ) (es : List Label) (b : Bool) (x : T × Label) (xs : List (T × Label)) → b ≡ true
     → Fits E n es (join_if b x xs) → (0 < n) × (logged x.1 (unlogged x.1 es) ≡ es) × E x.0 n es
-fits_first E n es true x xs p h = (h.0, h.1, h.2)
-fits_first E n es false x xs p h = absurd (cc p)
+joined_step_fits E n es true x xs p h = (h.0, h.1, h.2)
+joined_step_fits E n es false x xs p h = absurd (cc p)
 
-fits_later : {T : Type 0} (E : Check T) (n : ℕ) (es : List Label) (b : Bool) (x : T × Label) (xs : List (T × Label))
+steps_after_joined_step_fit : {T : Type 0} (E : Check T) (n : ℕ) (es : List Label) (b : Bool) (x : T × Label) (xs : List (T × Label))
     → Fits E n es (join_if b x xs) → (k : Label) → (b ≡ true → x.1 ≡ k) → Fits E (cond b (pred n) n) (cond b (unlogged k es) es) xs
-fits_later E n es true x xs h k same = subst (λ z. Fits E (pred n) (unlogged z es) xs) (same refl) h.3
-fits_later E n es false x xs h k same = h
+steps_after_joined_step_fit E n es true x xs h k same = subst (λ z. Fits E (pred n) (unlogged z es) xs) (same refl) h.3
+steps_after_joined_step_fit E n es false x xs h k same = h
 
 -- the first step's conditions, and the rest
-pub first_fits : {T : Type 0} (E : Ending T) (m : Machine T) (s : State T) (ns : ℕ → ℕ) (rem : ℕ → List Label) (e : Step) (run : List Step)
-    → Goes_on E m s ns rem (e ∷ run) → (0 < ns e.0) × (logged (label m s e) (unlogged (label m s e) (rem e.0)) ≡ rem e.0)
+pub first_step_follows_remainder : {T : Type 0} (E : Ending T) (m : Machine T) (s : State T) (ns : ℕ → ℕ) (rem : ℕ → List Label) (e : Step) (run : List Step)
+    → FollowsRemainder E m s ns rem (e ∷ run) → (0 < ns e.0) × (logged (label m s e) (unlogged (label m s e) (rem e.0)) ≡ rem e.0)
     × E e.0 (s.now e.0) (ns e.0) (rem e.0)
-first_fits E m s ns rem e run h = fits_first (E e.0) (ns e.0) (rem e.0) (eqb e.0 e.0) (s.now e.0, label m s e)
+first_step_follows_remainder E m s ns rem e run h = joined_step_fits (E e.0) (ns e.0) (rem e.0) (eqb e.0 e.0) (s.now e.0, label m s e)
     (trail m (after m s e) run e.0) (eq-eqb e.0 e.0 refl) (h.1 e.0)
 
-pub rest_fits : {T : Type 0} (E : Ending T) (m : Machine T) (s : State T) (ns : ℕ → ℕ) (rem : ℕ → List Label) (e : Step) (run : List Step)
-    → Goes_on E m s ns rem (e ∷ run) → Goes_on E m (after m s e) (steps_left ns e) (log_left rem e (label m s e)) run
-rest_fits E m s ns rem e run h = (
+pub later_steps_follow_remainder : {T : Type 0} (E : Ending T) (m : Machine T) (s : State T) (ns : ℕ → ℕ) (rem : ℕ → List Label) (e : Step) (run : List Step)
+    → FollowsRemainder E m s ns rem (e ∷ run) → FollowsRemainder E m (after m s e) (steps_left ns e) (log_left rem e (label m s e)) run
+later_steps_follow_remainder E m s ns rem e run h = (
   h.0.1,
-  λ t. fits_later (E t) (ns t) (rem t) (eqb t e.0) (s.now t, label m s e)
+  λ t. steps_after_joined_step_fit (E t) (ns t) (rem t) (eqb t e.0) (s.now t, label m s e)
       (trail m (after m s e) run t) (h.1 t) (label m s e) (λ _. refl),
 )
 
 -- what is known so far
-pub record Sofar (n : ℕ) {T : Type 0} (m : Machine T) (tr : Trace) (s : State T) (rem : ℕ → List Label) : Type 0 where
-  pub good : Good m s
+pub record FollowingInvariant (n : ℕ) {T : Type 0} (m : Machine T) (tr : Trace) (s : State T) (rem : ℕ → List Label) : Type 0 where
+  pub good : StateInvariant m s
   pub counts : ℕ → ℕ → ℕ → ℕ
   pub tally : Tally n s counts
   pub total : (o v t : ℕ) → counts o v t + reads o v (rem t) ≡ reads o v (tr.logs t)
@@ -72,27 +72,27 @@ reads_logged o v (In p a w l) es = refl
 reads_logged o v (Refused p) es = refl
 reads_logged o v (Out p a w) es = let g : reads o v es ≡ 0 + reads o v es = omega arith in g
 
-at_logged : (k : Label) (es : List Label) (i : ℕ) (j : Label) → At es i j → (h : ℕ) × At (logged k es) h j
-at_logged Quiet es i j h = (i, h)
-at_logged (Answer a x) es i j h = (suc i, h)
-at_logged (In p a w l) es i j h = (suc i, h)
-at_logged (Refused p) es i j h = (suc i, h)
-at_logged (Out p a w) es i j h = (i, h)
+event_stays_in_logged : (k : Label) (es : List Label) (i : ℕ) (j : Label) → At es i j → (h : ℕ) × At (logged k es) h j
+event_stays_in_logged Quiet es i j h = (i, h)
+event_stays_in_logged (Answer a x) es i j h = (suc i, h)
+event_stays_in_logged (In p a w l) es i j h = (suc i, h)
+event_stays_in_logged (Refused p) es i j h = (suc i, h)
+event_stays_in_logged (Out p a w) es i j h = (i, h)
 
-pub below_done : {T : Type 0} (m : Machine T) (s : State T) (n : ℕ) → ((t : ℕ) → n ≤ t → asked m s t ≡ Done) → (e : Step) → Can m s e
+pub stepping_thread_is_below_idle : {T : Type 0} (m : Machine T) (s : State T) (n : ℕ) → ((t : ℕ) → n ≤ t → asked m s t ≡ Done) → (e : Step) → Can m s e
     → e.0 < n
-below_done m s n idle e can = elim (cases_lt e.0 n)
+stepping_thread_is_below_idle m s n idle e can = elim (cases_lt e.0 n)
     [ inl l ↦ l | inr g ↦ absurd (subst (λ q. Admits m (act_of q e.1) (s.objects (target (act_of q e.1)))) (idle e.0 g) can) ]
 
-sofar_step : (n : ℕ) {T : Type 0} (m : Machine T) → IsLawful m → (tr : Trace) (s : State T) (rem : ℕ → List Label) → Sofar n m tr s rem
+following_invariant_after_step : (n : ℕ) {T : Type 0} (m : Machine T) → IsLawful m → (tr : Trace) (s : State T) (rem : ℕ → List Label) → FollowingInvariant n m tr s rem
     → (e : Step) → Can m s e → logged (label m s e) (unlogged (label m s e) (rem e.0)) ≡ rem e.0
-    → Sofar n m tr (after m s e) (log_left rem e (label m s e))
-sofar_step n m law tr s rem f e can is =
-    let less : e.0 < n = below_done m s n f.idle e can in
+    → FollowingInvariant n m tr (after m s e) (log_left rem e (label m s e))
+following_invariant_after_step n m law tr s rem f e can is =
+    let less : e.0 < n = stepping_thread_is_below_idle m s n f.idle e can in
     record {
-      good = stays_good m law s f.good e can;
-      counts = λ o v u. f.counts o v u + counted o v (label m s e) e.0 u;
-      tally = tally_step m law n s f.good f.counts f.tally e can less;
+      good = state_invariant_after_step m law s f.good e can;
+      counts = λ o v u. f.counts o v u + counted_read o v (label m s e) e.0 u;
+      tally = tally_after_step m law n s f.good f.counts f.tally e can less;
       total = λ o v t. elim (cases_eq t e.0) [
         | inl same ↦ subst (λ b. (f.counts o v t + cond b (reads_one o v (label m s e)) 0) + reads o v
             (cond b (unlogged (label m s e) (rem t)) (rem t)) ≡ reads o v (tr.logs t)) (sym (eq-eqb t e.0 same))
@@ -106,13 +106,13 @@ sofar_step n m law tr s rem f e can is =
       ];
       within = λ t i k h. elim (cases_eq t e.0) [
         | inl same ↦
-            let g = at_logged (label m s e) (unlogged (label m s e) (rem t)) i k
+            let g = event_stays_in_logged (label m s e) (unlogged (label m s e) (rem t)) i k
             (subst (λ b. At (cond b (unlogged (label m s e) (rem t)) (rem t)) i k) (eq-eqb t e.0 same) h) in
             f.within t g.0 k (subst (λ z. At z g.0 k)
             (subst (λ z. logged (label m s e) (unlogged (label m s e) (rem z)) ≡ rem z) (sym same) is) g.1)
         | inr other ↦ f.within t i k (subst (λ b. At (cond b (unlogged (label m s e) (rem t)) (rem t)) i k) (ne_eqb t e.0 other) h)
       ];
-      idle = λ t l. ap m.ask (now_other m s e t (λ p. lt_ne e.0 t n less l p)) ∙ f.idle t l;
+      idle = λ t l. ap m.ask (thread_after_step_of_other m s e t (λ p. lt_ne e.0 t n less l p)) ∙ f.idle t l;
     }
   where
     here : (c k u r l : ℕ) → c + r ≡ l → k + u ≡ r → (c + k) + u ≡ l
@@ -125,11 +125,11 @@ sofar_step n m law tr s rem f e can is =
     lt_ne a t n l g e = omega arith
 
 -- a writer that is admitted at its logged version has all its readers before it
-reader_waits : (n : ℕ) {T : Type 0} (m : Machine T) (tr : Trace) → IsCoherent n tr → (s : State T) (rem : ℕ → List Label)
-    → Sofar n m tr s rem → (e d : Step) (o ans ans' : ℕ) → Can m s e → logged (label m s e) (unlogged (label m s e) (rem e.0)) ≡ rem e.0
+no_reader_next_beside_writer : (n : ℕ) {T : Type 0} (m : Machine T) (tr : Trace) → IsCoherent n tr → (s : State T) (rem : ℕ → List Label)
+    → FollowingInvariant n m tr s rem → (e d : Step) (o ans ans' : ℕ) → Can m s e → logged (label m s e) (unlogged (label m s e) (rem e.0)) ≡ rem e.0
     → act m s e ≡ Entry o Writing ans → act m s d ≡ Entry o Reading ans' → logged (label m s d) (unlogged (label m s d) (rem d.0)) ≡ rem d.0
     → d.0 < n → ⊥
-reader_waits n m tr co s rem f e d o ans ans' can is a a' is' less =
+no_reader_next_beside_writer n m tr co s rem f e d o ans ans' can is a a' is' less =
     let b : Object = s.objects o in
     let v : ℕ = b.version in
     let k : label m s e ≡ In o Writing v b.left = ap (λ z. emitted z (s.objects (target z))) a in
@@ -138,11 +138,11 @@ reader_waits n m tr co s rem f e d o ans ans' can is a a' is' less =
     (subst (λ z. At z 0 (In o Writing v b.left)) (ap (λ z. logged z (unlogged (label m s e) (rem e.0))) (sym k) ∙ is) refl) in
     let all : b.left ≡ sum_below n (λ u. reads o v (tr.logs u)) = co.readers e.0 i.0 o v b.left i.1 in
     let empty : (u : ℕ) → b.inside u ≡ None = subst (λ z. Admits m z (s.objects (target z))) a can in
-    let none : readers_inside n b ≡ 0 = sum_zero n (λ u. is_reader (b.inside u)) (λ u _. ap is_reader (empty u)) in
+    let none : readers_inside n b ≡ 0 = sum_below_of_zeros n (λ u. one_if_reader (b.inside u)) (λ u _. ap one_if_reader (empty u)) in
     let one : 1 ≤ reads o v (rem d.0) = subst (λ z. 1 ≤ reads o v z) (ap (λ z. logged z (unlogged (label m s d) (rem d.0))) (sym k') ∙ is')
     (read_first o v (unlogged (label m s d) (rem d.0))) in
     let more : sum_below n (f.counts o v) < sum_below n (λ u. reads o v (tr.logs u)) =
-    sum_less n d.0 (f.counts o v) (λ u. reads o v (tr.logs u)) less (omega (arith, f.total o v d.0, one))
+    sum_below_less_if_one_less n d.0 (f.counts o v) (λ u. reads o v (tr.logs u)) less (omega (arith, f.total o v d.0, one))
     (λ u. omega (arith, f.total o v u)) in
     omega (arith, f.tally.balance o, none, all, more)
   where
@@ -154,11 +154,11 @@ reader_waits n m tr co s rem f e d o ans ans' can is a a' is' less =
         at_least n = omega arith
 
 -- no two next steps clash
-no_clash : (n : ℕ) {T : Type 0} (m : Machine T) → IsLawful m → (tr : Trace) → IsCoherent n tr → (s : State T) (rem : ℕ → List Label)
-    → Sofar n m tr s rem → (e d : Step) → e.0 ≢ d.0 → Can m s e → Can m s d
+next_steps_do_not_clash : (n : ℕ) {T : Type 0} (m : Machine T) → IsLawful m → (tr : Trace) → IsCoherent n tr → (s : State T) (rem : ℕ → List Label)
+    → FollowingInvariant n m tr s rem → (e d : Step) → e.0 ≢ d.0 → Can m s e → Can m s d
     → logged (label m s e) (unlogged (label m s e) (rem e.0)) ≡ rem e.0 → logged (label m s d) (unlogged (label m s d) (rem d.0)) ≡ rem d.0
     → (q q' : Act) → act m s e ≡ q → act m s d ≡ q' → target q' ≡ target q → Clash q q' → ⊥
-no_clash n m law tr co s rem f e d ne can can' is is' (Entry o Writing ans) (Entry p Writing ans') a a' same c =
+next_steps_do_not_clash n m law tr co s rem f e d ne can can' is is' (Entry o Writing ans) (Entry p Writing ans') a a' same c =
     let k : label m s e ≡ In o Writing (s.objects o).version (s.objects o).left = ap (λ z. emitted z (s.objects (target z))) a in
     let k' : label m s d ≡ In o Writing (s.objects o).version (s.objects o).left = ap (λ z. emitted z (s.objects (target z))) a'
     ∙ ap (λ z. In z Writing (s.objects z).version (s.objects z).left) same in
@@ -169,57 +169,57 @@ no_clash n m law tr co s rem f e d ne can can' is is' (Entry o Writing ans) (Ent
     (subst (λ z. At z 0 (In o Writing (s.objects o).version (s.objects o).left))
     (ap (λ z. logged z (unlogged (label m s d) (rem d.0))) (sym k') ∙ is') refl) in
     ne (co.writer e.0 i.0 d.0 j.0 o (s.objects o).version (s.objects o).left (s.objects o).left i.1 j.1).0
-no_clash n m law tr co s rem f e d ne can can' is is' (Entry o Writing ans) (Entry p Reading ans') a a' same c =
-    reader_waits n m tr co s rem f e d o ans ans' can is a (subst (λ z. act m s d ≡ Entry z Reading ans') same a') is'
-    (below_done m s n f.idle d can')
-no_clash n m law tr co s rem f e d ne can can' is is' (Entry o Reading ans) (Entry p Writing ans') a a' same c =
-    reader_waits n m tr co s rem f d e p ans' ans can' is' a' (subst (λ z. act m s e ≡ Entry z Reading ans) (sym same) a) is
-    (below_done m s n f.idle e can)
-no_clash n m law tr co s rem f e d ne can can' is is' (Entry o Reading ans) (Entry p Reading ans') a a' same c = c
-no_clash n m law tr co s rem f e d ne can can' is is' (Entry o Reading ans) _ a a' same c = absurd c
-no_clash n m law tr co s rem f e d ne can can' is is' (Entry o Writing ans) _ a a' same c = absurd c
-no_clash n m law tr co s rem f e d ne can can' is is' _ _ a a' same c = absurd c
+next_steps_do_not_clash n m law tr co s rem f e d ne can can' is is' (Entry o Writing ans) (Entry p Reading ans') a a' same c =
+    no_reader_next_beside_writer n m tr co s rem f e d o ans ans' can is a (subst (λ z. act m s d ≡ Entry z Reading ans') same a') is'
+    (stepping_thread_is_below_idle m s n f.idle d can')
+next_steps_do_not_clash n m law tr co s rem f e d ne can can' is is' (Entry o Reading ans) (Entry p Writing ans') a a' same c =
+    no_reader_next_beside_writer n m tr co s rem f d e p ans' ans can' is' a' (subst (λ z. act m s e ≡ Entry z Reading ans) (sym same) a) is
+    (stepping_thread_is_below_idle m s n f.idle e can)
+next_steps_do_not_clash n m law tr co s rem f e d ne can can' is is' (Entry o Reading ans) (Entry p Reading ans') a a' same c = c
+next_steps_do_not_clash n m law tr co s rem f e d ne can can' is is' (Entry o Reading ans) _ a a' same c = absurd c
+next_steps_do_not_clash n m law tr co s rem f e d ne can can' is is' (Entry o Writing ans) _ a a' same c = absurd c
+next_steps_do_not_clash n m law tr co s rem f e d ne can can' is is' _ _ a a' same c = absurd c
 
 -- a step that is not taken stays
-pub record Stays {T : Type 0} (m : Machine T) (s : State T) (run : List Step) (e : Step) : Type 0 where
+pub record StillPossible {T : Type 0} (m : Machine T) (s : State T) (run : List Step) (e : Step) : Type 0 where
   pub can : Can m (end m s run) e
   pub label_same : label m (end m s run) e ≡ label m s e
   pub now_same : (end m s run).now e.0 ≡ s.now e.0
 
-stays : {T : Type 0} (E : Ending T) (n : ℕ) (m : Machine T) → IsLawful m → (tr : Trace) → IsCoherent n tr
-    → (s : State T) (ns : ℕ → ℕ) (rem : ℕ → List Label) → Sofar n m tr s rem → (e : Step) → Can m s e
+untaken_step_stays_possible : {T : Type 0} (E : Ending T) (n : ℕ) (m : Machine T) → IsLawful m → (tr : Trace) → IsCoherent n tr
+    → (s : State T) (ns : ℕ → ℕ) (rem : ℕ → List Label) → FollowingInvariant n m tr s rem → (e : Step) → Can m s e
     → logged (label m s e) (unlogged (label m s e) (rem e.0)) ≡ rem e.0
-    → (run : List Step) → Goes_on E m s ns rem run → trail m s run e.0 ≡ [] → Stays m s run e
-stays E n m law tr co s ns rem f e can is [] h none = record { can = can; label_same = refl; now_same = refl }
-stays E n m law tr co s ns rem f e can is (d ∷ run) h none =
+    → (run : List Step) → FollowsRemainder E m s ns rem run → trail m s run e.0 ≡ [] → StillPossible m s run e
+untaken_step_stays_possible E n m law tr co s ns rem f e can is [] h none = record { can = can; label_same = refl; now_same = refl }
+untaken_step_stays_possible E n m law tr co s ns rem f e can is (d ∷ run) h none =
     let other : d.0 ≢ e.0 = λ p. cc (subst (λ b. join_if b (s.now e.0, label m s d) (trail m (after m s d) run e.0) ≡ [])
     (eq-eqb e.0 d.0 (sym p)) none) in
     let none' : trail m (after m s d) run e.0 ≡ [] =
     subst (λ b. join_if b (s.now e.0, label m s d) (trail m (after m s d) run e.0) ≡ []) (ne_eqb e.0 d.0 (λ p. other (sym p))) none in
-    let isd = first_fits E m s ns rem d run h in
-    let free : Clashes m s d e → ⊥ = λ c. no_clash n m law tr co s rem f d e other h.0.0 can isd.1 is (act m s d) (act m s e) refl refl c.0
+    let isd = first_step_follows_remainder E m s ns rem d run h in
+    let free : Clashes m s d e → ⊥ = λ c. next_steps_do_not_clash n m law tr co s rem f d e other h.0.0 can isd.1 is (act m s d) (act m s e) refl refl c.0
     c.1 in
-    let k : Keeps m s d e = keeps m law s f.good d e other h.0.0 can free in
+    let k : StepUnchanged m s d e = step_unchanged_after_other_step m law s f.good d e other h.0.0 can free in
     let rem' : ℕ → List Label = log_left rem d (label m s d) in
     let same : rem' e.0 ≡ rem e.0 = ap (λ b. cond b (unlogged (label m s d) (rem e.0)) (rem e.0)) (ne_eqb e.0 d.0 (λ p. other (sym p))) in
-    let g : Stays m (after m s d) run e = stays E n m law tr co (after m s d) (steps_left ns d) rem'
-    (sofar_step n m law tr s rem f d h.0.0 isd.1) e k.can
+    let g : StillPossible m (after m s d) run e = untaken_step_stays_possible E n m law tr co (after m s d) (steps_left ns d) rem'
+    (following_invariant_after_step n m law tr s rem f d h.0.0 isd.1) e k.can
     (subst (λ z. logged z (unlogged z (rem' e.0)) ≡ rem' e.0) (sym k.label_same)
     (subst (λ z. logged (label m s e) (unlogged (label m s e) z) ≡ z) (sym same) is))
-    run (rest_fits E m s ns rem d run h) none' in
+    run (later_steps_follow_remainder E m s ns rem d run h) none' in
     record { can = g.can; label_same = g.label_same ∙ k.label_same; now_same = g.now_same ∙ k.now_same }
 
-nothing_or : {A : Type 0} (xs : List A) → (xs ≡ []) ⊎ Starts xs
-nothing_or [] = inl refl
-nothing_or (x ∷ xs) = inr (record { head = x; rest = xs; is = refl })
+empty_or_non_empty : {A : Type 0} (xs : List A) → (xs ≡ []) ⊎ NonEmpty xs
+empty_or_non_empty [] = inl refl
+empty_or_non_empty (x ∷ xs) = inr (record { head = x; rest = xs; is = refl })
 
 -- a step that stays can be taken after the run
-behind : {T : Type 0} (E : Ending T) (m : Machine T) (s : State T) (ns : ℕ → ℕ) (rem : ℕ → List Label) (run : List Step)
-    → Goes_on E m s ns rem run → (e : Step) → trail m s run e.0 ≡ [] → Stays m s run e
+untaken_step_can_end_run : {T : Type 0} (E : Ending T) (m : Machine T) (s : State T) (ns : ℕ → ℕ) (rem : ℕ → List Label) (run : List Step)
+    → FollowsRemainder E m s ns rem run → (e : Step) → trail m s run e.0 ≡ [] → StillPossible m s run e
     → (0 < ns e.0) × (logged (label m s e) (unlogged (label m s e) (rem e.0)) ≡ rem e.0) × E e.0 (s.now e.0) (ns e.0) (rem e.0)
-    → Goes_on E m s ns rem (run ++ e ∷ [])
-behind E m s ns rem run h e none k fits = (
-  run_append m s run (e ∷ []) h.0 (k.can, tt),
+    → FollowsRemainder E m s ns rem (run ++ e ∷ [])
+untaken_step_can_end_run E m s ns rem run h e none k fits = (
+  append_of_runs_is_run m s run (e ∷ []) h.0 (k.can, tt),
   λ t. elim (cases_eq t e.0) [
     | inl same ↦ subst (λ w. Fits (E w) (ns w) (rem w) (trail m s (run ++ e ∷ []) w)) (sym same)
         (subst (Fits (E e.0) (ns e.0) (rem e.0))
@@ -237,100 +237,100 @@ behind E m s ns rem run h e none k fits = (
   ],
 )
 
-pub fits_join : {T : Type 0} (E : Check T) (n : ℕ) (es : List Label) (b : Bool) (x : T × Label) (xs : List (T × Label))
+pub join_if_fits : {T : Type 0} (E : Check T) (n : ℕ) (es : List Label) (b : Bool) (x : T × Label) (xs : List (T × Label))
     → (b ≡ true → (0 < n) × (logged x.1 (unlogged x.1 es) ≡ es) × E x.0 n es) → Fits E (cond b (pred n) n) (cond b (unlogged x.1 es) es) xs
     → Fits E n es (join_if b x xs)
-fits_join E n es true x xs f h = let g = f refl in (g.0, g.1, g.2, h)
-fits_join E n es false x xs f h = h
+join_if_fits E n es true x xs f h = let g = f refl in (g.0, g.1, g.2, h)
+join_if_fits E n es false x xs f h = h
 
 -- one that is maximal stays so when its first step is taken
-still_maximal : {T : Type 0} (E : Ending T) (m : Machine T) (s : State T) (ns : ℕ → ℕ) (rem : ℕ → List Label) (run : List Step)
+pulled_rest_is_maximal : {T : Type 0} (E : Ending T) (m : Machine T) (s : State T) (ns : ℕ → ℕ) (rem : ℕ → List Label) (run : List Step)
     → IsRun m s run → (e : Step) → (0 < ns e.0) × (logged (label m s e) (unlogged (label m s e) (rem e.0)) ≡ rem e.0)
     × E e.0 (s.now e.0) (ns e.0) (rem e.0)
-    → (p : Pulled m s run e.0 e.1) → ((x : Step) → Goes_on E m s ns rem (run ++ x ∷ []) → ⊥) → (x : Step)
-    → Goes_on E m (after m s e) (steps_left ns e) (log_left rem e (label m s e)) (p.rest ++ x ∷ []) → ⊥
-still_maximal E m s ns rem run ok e fits p top x h = top x (
-  run_append m s run (x ∷ []) ok (subst (λ z. Can m z x) p.same_end (run_last m (after m s e) p.rest x h.0), tt),
+    → (p : PulledFirst m s run e.0 e.1) → ((x : Step) → FollowsRemainder E m s ns rem (run ++ x ∷ []) → ⊥) → (x : Step)
+    → FollowsRemainder E m (after m s e) (steps_left ns e) (log_left rem e (label m s e)) (p.rest ++ x ∷ []) → ⊥
+pulled_rest_is_maximal E m s ns rem run ok e fits p top x h = top x (
+  append_of_runs_is_run m s run (x ∷ []) ok (subst (λ z. Can m z x) p.same_end (last_step_can_be_taken m (after m s e) p.rest x h.0), tt),
   λ t. subst (Fits (E t) (ns t) (rem t)) (whole t)
-      (fits_join (E t) (ns t) (rem t) (eqb t e.0) (s.now t, label m s e) (trail m (after m s e) (p.rest ++ x ∷ []) t)
+      (join_if_fits (E t) (ns t) (rem t) (eqb t e.0) (s.now t, label m s e) (trail m (after m s e) (p.rest ++ x ∷ []) t)
       (λ b. subst (λ w. (0 < ns w) × (logged (label m s e) (unlogged (label m s e) (rem w)) ≡ rem w) × E w (s.now w) (ns w) (rem w))
       (sym (eqb-true t e.0 b)) fits) (h.1 t)),
 )
   where
     whole : (t : ℕ) → join_if (eqb t e.0) (s.now t, label m s e) (trail m (after m s e) (p.rest ++ x ∷ []) t) ≡ trail m s (run ++ x ∷ []) t
     whole t = ap (join_if (eqb t e.0) (s.now t, label m s e)) (trail_append m (after m s e) p.rest (x ∷ []) t)
-        ∙ sym (join_append (eqb t e.0) (s.now t, label m s e) (trail m (after m s e) p.rest t)
+        ∙ sym (append_to_join_if (eqb t e.0) (s.now t, label m s e) (trail m (after m s e) p.rest t)
         (trail m (end m (after m s e) p.rest) (x ∷ []) t))
         ∙ ap (λ z. z ++ trail m (end m (after m s e) p.rest) (x ∷ []) t) (p.same_trail t)
         ∙ ap (λ z. trail m s run t ++ trail m z (x ∷ []) t) p.same_end
         ∙ sym (trail_append m s run (x ∷ []) t)
 
-same_logs : {T : Type 0} (E : Check T) (m : Machine T) (s : State T) (run : List Step) → IsRun m s run → (e : Step) → Can m s e
+first_label_logs_as_next_step : {T : Type 0} (E : Check T) (m : Machine T) (s : State T) (run : List Step) → IsRun m s run → (e : Step) → Can m s e
     → (n : ℕ) (es : List Label) (x : T) (j : Label) (xs : List (T × Label)) → trail m s run e.0 ≡ (x, j) ∷ xs
     → Fits E n es (trail m s run e.0)
     → logged (label m s e) (unlogged (label m s e) es) ≡ es → logged j [] ≡ logged (label m s e) []
-same_logs E m s run ok e can n es x j xs is h fits =
-    let k : Heads m s e.0 x j = heads m s run ok e.0 x j (subst (λ z. At z 0 (x, j)) (sym is) refl) in
+first_label_logs_as_next_step E m s run ok e can n es x j xs is h fits =
+    let k : FirstStepEmits m s e.0 x j = first_step_of_trail_emits m s run ok e.0 x j (subst (λ z. At z 0 (x, j)) (sym is) refl) in
     let g : Fits E n es ((x, j) ∷ xs) = subst (Fits E n es) is h in
     ap (λ z. logged z []) k.emits
-    ∙ agree m (asked m s e.0) e.1 k.result (s.objects (target (act m s e))) k.object (unlogged (label m s e) es) [] (unlogged j es) can
+    ∙ logs_of_same_ask_agree m (asked m s e.0) e.1 k.result (s.objects (target (act m s e))) k.object (unlogged (label m s e) es) [] (unlogged j es) can
     k.admits
     (append-nil _ ∙ fits ∙ sym g.1 ∙ ap (λ z. logged z (unlogged j es)) k.emits)
 
 -- A run that follows a coherent trace is the beginning of each maximal one.
-pub confluent : {T : Type 0} (E : Ending T) (n : ℕ) (m : Machine T) → IsLawful m → (tr : Trace) → IsCoherent n tr
-    → (s : State T) (ns : ℕ → ℕ) (rem : ℕ → List Label) → Sofar n m tr s rem → (run run' : List Step) → Goes_on E m s ns rem run
-    → Goes_on E m s ns rem run'
-    → ((x : Step) → Goes_on E m s ns rem (run' ++ x ∷ []) → ⊥) → Goes m s run run'
-confluent E n m law tr co s ns rem f [] run' h h' top = record { rest = run'; ok = h'.0; same_end = refl; same_trail = λ u. refl }
-confluent E n m law tr co s ns rem f (e ∷ run) run' h h' top = elim (nothing_or (trail m s run' e.0)) [
-  | inl none ↦ absurd (top e (behind E m s ns rem run' h' e none
-      (stays E n m law tr co s ns rem f e h.0.0 (first_fits E m s ns rem e run h).1 run' h' none) (first_fits E m s ns rem e run h)))
+pub following_run_begins_maximal_run : {T : Type 0} (E : Ending T) (n : ℕ) (m : Machine T) → IsLawful m → (tr : Trace) → IsCoherent n tr
+    → (s : State T) (ns : ℕ → ℕ) (rem : ℕ → List Label) → FollowingInvariant n m tr s rem → (run run' : List Step) → FollowsRemainder E m s ns rem run
+    → FollowsRemainder E m s ns rem run'
+    → ((x : Step) → FollowsRemainder E m s ns rem (run' ++ x ∷ []) → ⊥) → BeginsRun m s run run'
+following_run_begins_maximal_run E n m law tr co s ns rem f [] run' h h' top = record { rest = run'; ok = h'.0; same_end = refl; same_trail = λ u. refl }
+following_run_begins_maximal_run E n m law tr co s ns rem f (e ∷ run) run' h h' top = elim (empty_or_non_empty (trail m s run' e.0)) [
+  | inl none ↦ absurd (top e (untaken_step_can_end_run E m s ns rem run' h' e none
+      (untaken_step_stays_possible E n m law tr co s ns rem f e h.0.0 (first_step_follows_remainder E m s ns rem e run h).1 run' h' none) (first_step_follows_remainder E m s ns rem e run h)))
   | inr st ↦
-      let fits = first_fits E m s ns rem e run h in
-      let p : Pulled m s run' e.0 e.1 = pull m law s f.good run' h'.0 e.0 e.1 h.0.0 st.head.0 st.head.1
+      let fits = first_step_follows_remainder E m s ns rem e run h in
+      let p : PulledFirst m s run' e.0 e.1 = thread_step_can_come_first m law s f.good run' h'.0 e.0 e.1 h.0.0 st.head.0 st.head.1
       (subst (λ z. At z 0 st.head) (sym st.is) refl)
-      (same_logs (E e.0) m s run' h'.0 e h.0.0 (ns e.0) (rem e.0) st.head.0 st.head.1 st.rest st.is (h'.1 e.0) fits.1) in
-      let g : Goes m (after m s e) run p.rest =
-      confluent E n m law tr co (after m s e) (steps_left ns e) (log_left rem e (label m s e))
-      (sofar_step n m law tr s rem f e h.0.0 fits.1) run p.rest (rest_fits E m s ns rem e run h)
-      (rest_fits E m s ns rem e p.rest ((h.0.0, p.ok), λ t. subst (Fits (E t) (ns t) (rem t)) (sym (p.same_trail t)) (h'.1 t)))
-      (still_maximal E m s ns rem run' h'.0 e fits p top) in
+      (first_label_logs_as_next_step (E e.0) m s run' h'.0 e h.0.0 (ns e.0) (rem e.0) st.head.0 st.head.1 st.rest st.is (h'.1 e.0) fits.1) in
+      let g : BeginsRun m (after m s e) run p.rest =
+      following_run_begins_maximal_run E n m law tr co (after m s e) (steps_left ns e) (log_left rem e (label m s e))
+      (following_invariant_after_step n m law tr s rem f e h.0.0 fits.1) run p.rest (later_steps_follow_remainder E m s ns rem e run h)
+      (later_steps_follow_remainder E m s ns rem e p.rest ((h.0.0, p.ok), λ t. subst (Fits (E t) (ns t) (rem t)) (sym (p.same_trail t)) (h'.1 t)))
+      (pulled_rest_is_maximal E m s ns rem run' h'.0 e fits p top) in
       record {
         rest = g.rest;
         ok = g.ok;
         same_end = g.same_end ∙ p.same_end;
-        same_trail = λ u. join_append (eqb u e.0) (s.now u, label m s e) (trail m (after m s e) run u)
+        same_trail = λ u. append_to_join_if (eqb u e.0) (s.now u, label m s e) (trail m (after m s e) run u)
             (trail m (end m (after m s e) run) g.rest u)
             ∙ ap (join_if (eqb u e.0) (s.now u, label m s e)) (g.same_trail u) ∙ p.same_trail u;
       }
 ]
 
 -- where a maximal run stops nothing is left
-stops : {T : Type 0} (E : Ending T) (m : Machine T) (s : State T) (ns : ℕ → ℕ) (rem : ℕ → List Label) (run run' : List Step) → IsRun m s run
-    → ((t : ℕ) → Fits (E t) (ns t) (rem t) (trail m s run' t)) → ((x : Step) → Goes_on E m s ns rem (run ++ x ∷ []) → ⊥)
+nothing_left_after_maximal_run : {T : Type 0} (E : Ending T) (m : Machine T) (s : State T) (ns : ℕ → ℕ) (rem : ℕ → List Label) (run run' : List Step) → IsRun m s run
+    → ((t : ℕ) → Fits (E t) (ns t) (rem t) (trail m s run' t)) → ((x : Step) → FollowsRemainder E m s ns rem (run ++ x ∷ []) → ⊥)
     → (rest : List Step) → IsRun m (end m s run) rest → ((u : ℕ) → trail m s run u ++ trail m (end m s run) rest u ≡ trail m s run' u)
     → rest ≡ []
-stops E m s ns rem run run' ok fits top [] okr same = refl
-stops E m s ns rem run run' ok fits top (e ∷ rest) okr same = absurd (top e (
-  run_append m s run (e ∷ []) ok (okr.0, tt),
-  λ t. fits_part (E t) (ns t) (rem t) (trail m s (run ++ e ∷ []) t) (trail m (after m (end m s run) e) rest t)
+nothing_left_after_maximal_run E m s ns rem run run' ok fits top [] okr same = refl
+nothing_left_after_maximal_run E m s ns rem run run' ok fits top (e ∷ rest) okr same = absurd (top e (
+  append_of_runs_is_run m s run (e ∷ []) ok (okr.0, tt),
+  λ t. prefix_of_fitting_steps_fits (E t) (ns t) (rem t) (trail m s (run ++ e ∷ []) t) (trail m (after m (end m s run) e) rest t)
       (subst (Fits (E t) (ns t) (rem t)) (sym (same t) ∙ whole t) (fits t)),
 ))
   where
     whole : (t : ℕ) → trail m s run t ++ trail m (end m s run) (e ∷ rest) t ≡ trail m s (run ++ e ∷ []) t ++ trail m
         (after m (end m s run) e) rest t
-    whole t = ap (λ z. trail m s run t ++ z) (sym (join_append (eqb t e.0) ((end m s run).now t, label m (end m s run) e) []
+    whole t = ap (λ z. trail m s run t ++ z) (sym (append_to_join_if (eqb t e.0) ((end m s run).now t, label m (end m s run) e) []
         (trail m (after m (end m s run) e) rest t)))
         ∙ sym (append_assoc (trail m s run t) (trail m (end m s run) (e ∷ []) t) (trail m (after m (end m s run) e) rest t))
         ∙ ap (λ z. z ++ trail m (after m (end m s run) e) rest t) (sym (trail_append m s run (e ∷ []) t))
 
-pub start_sofar : (n : ℕ) {T : Type 0} (m : Machine T) (tr : Trace) (s : State T) → Good m s → IsStart m s → IsIdle m s n
-    → Sofar n m tr s tr.logs
-start_sofar n m tr s good st im = record {
+pub following_invariant_at_start : (n : ℕ) {T : Type 0} (m : Machine T) (tr : Trace) (s : State T) → StateInvariant m s → IsStart m s → IsIdle m s n
+    → FollowingInvariant n m tr s tr.logs
+following_invariant_at_start n m tr s good st im = record {
   good = good;
   counts = λ o v u. 0;
-  tally = tally_start m n s st;
+  tally = tally_at_start m n s st;
   total = λ o v t. zero_plus (reads o v (tr.logs t));
   within = λ t i k h. (i, h);
   idle = im;
@@ -340,12 +340,12 @@ start_sofar n m tr s good st im = record {
     zero_plus n = omega arith
 
 -- Maximal runs that follow one coherent trace are the same, up to the order of the steps.
-pub one_maximal : {T : Type 0} (E : Ending T) (n : ℕ) (m : Machine T) → IsLawful m → (tr : Trace) → IsCoherent n tr → (s : State T)
-    → Good m s → IsStart m s → IsIdle m s n → (run run' : List Step) → Follows E m s tr run → IsMaximal E m s tr run → Follows E m s tr run'
+pub maximal_followers_reach_same_end : {T : Type 0} (E : Ending T) (n : ℕ) (m : Machine T) → IsLawful m → (tr : Trace) → IsCoherent n tr → (s : State T)
+    → StateInvariant m s → IsStart m s → IsIdle m s n → (run run' : List Step) → Follows E m s tr run → IsMaximal E m s tr run → Follows E m s tr run'
     → IsMaximal E m s tr run' → Reaches m s run run'
-one_maximal E n m law tr co s good st im run run' h top h' top' =
-    let g : Goes m s run run' = confluent E n m law tr co s tr.steps tr.logs (start_sofar n m tr s good st im) run run' h h' top' in
-    let none : g.rest ≡ [] = stops E m s tr.steps tr.logs run run' h.0 h'.1 top g.rest g.ok g.same_trail in
+maximal_followers_reach_same_end E n m law tr co s good st im run run' h top h' top' =
+    let g : BeginsRun m s run run' = following_run_begins_maximal_run E n m law tr co s tr.steps tr.logs (following_invariant_at_start n m tr s good st im) run run' h h' top' in
+    let none : g.rest ≡ [] = nothing_left_after_maximal_run E m s tr.steps tr.logs run run' h.0 h'.1 top g.rest g.ok g.same_trail in
     record {
       trails = λ u. sym (append-nil _) ∙ ap (λ z. trail m s run u ++ trail m (end m s run) z u) (sym none) ∙ g.same_trail u;
       states = ap (end m (end m s run)) (sym none) ∙ g.same_end;

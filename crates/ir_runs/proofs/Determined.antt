@@ -5,85 +5,85 @@ use Rattle.ir_runs.specs.Machine.{Machine, Label}
 use Rattle.ir_runs.specs.Lawful.{IsLawful}
 use Rattle.ir_runs.specs.Run.{State, Step, Can, after, label, IsRun, end, join_if, trail, count, events, th, thread_in}
 use Rattle.ir_runs.specs.Bounds.{IsStart}
-use Rattle.ir_runs.proofs.Good.{Good}
+use Rattle.ir_runs.proofs.Good.{StateInvariant}
 use Rattle.ir_runs.proofs.Append.{events_append}
-use Rattle.ir_runs.proofs.Same.{Goes, goes, Alike, alike, now_other, no_steps}
-use Rattle.ir_runs.proofs.Sort.{Sorted, sort}
+use Rattle.ir_runs.proofs.Same.{BeginsRun, run_with_beginning_logs_begins_run, SameTrailsAndEnd, same_logs_give_same_trails, thread_after_step_of_other, run_without_counts_is_empty}
+use Rattle.ir_runs.proofs.Sort.{PartIsRun, part_in_consistent_cut_is_run}
 use Rattle.ir_runs.specs.Alike.{SameTrace, SameRun}
 use Rattle.ir_runs.specs.Cuts.{At, Emits, Cut, IsCut, Consistent, part}
 use Rattle.ir_runs.specs.Admitted.{AtCut, further, Admitted}
 
 -- the cuts of two runs with the same trails
-pub trails_cut : {T : Type 0} (m : Machine T) (s : State T) (run run' : List Step) → ((u : ℕ) → trail m s run u ≡ trail m s run' u)
+pub consistent_cut_if_same_trails : {T : Type 0} (m : Machine T) (s : State T) (run run' : List Step) → ((u : ℕ) → trail m s run u ≡ trail m s run' u)
     → (p : Cut) → Consistent m s run p → Consistent m s run' p
-trails_cut m s run run' same p c = λ t k u j a b h g n l. c t k u j a b (h.0, subst (λ z. At z k (h.0, a)) (sym (same t)) h.1)
+consistent_cut_if_same_trails m s run run' same p c = λ t k u j a b h g n l. c t k u j a b (h.0, subst (λ z. At z k (h.0, a)) (sym (same t)) h.1)
     (g.0, subst (λ z. At z j (g.0, b)) (sym (same u)) g.1) n l
 
 -- what the first steps log is a prefix of the log
 -- a part of the run, and then the rest
-pub part_goes : {T : Type 0} (m : Machine T) → IsLawful m → (s : State T) → Good m s → (prefix run : List Step) → IsRun m s prefix
-    → IsRun m s run → (n : ℕ → ℕ) → ((t : ℕ) → trail m s prefix t ≡ take (n t) (trail m s run t)) → Goes m s prefix run
-part_goes m law s good prefix run ok ok' n same = goes m law s good prefix run ok ok' (λ t. events (drop (n t) (trail m s run t)))
+pub run_with_taken_trails_begins_run : {T : Type 0} (m : Machine T) → IsLawful m → (s : State T) → StateInvariant m s → (prefix run : List Step) → IsRun m s prefix
+    → IsRun m s run → (n : ℕ → ℕ) → ((t : ℕ) → trail m s prefix t ≡ take (n t) (trail m s run t)) → BeginsRun m s prefix run
+run_with_taken_trails_begins_run m law s good prefix run ok ok' n same = run_with_beginning_logs_begins_run m law s good prefix run ok ok' (λ t. events (drop (n t) (trail m s run t)))
     (λ t. ap (λ z. events z ++ events (drop (n t) (trail m s run t))) (same t)
     ∙ sym (events_append (take (n t) (trail m s run t)) (drop (n t) (trail m s run t)))
     ∙ ap events (take-append-drop (n t) (trail m s run t)))
     (λ t. omega (arith, ap length (same t), length-take (n t) (trail m s run t)))
 
-first_thread : {T : Type 0} (m : Machine T) (s : State T) (run : List Step) (t : ℕ)
+thread_at_position_zero : {T : Type 0} (m : Machine T) (s : State T) (run : List Step) (t : ℕ)
     → thread_in (trail m s run t) 0 ((end m s run).now t) ≡ s.now t
-first_thread m s [] t = refl
-first_thread m s (e ∷ run) t = elim (cases_eq t e.0) [
+thread_at_position_zero m s [] t = refl
+thread_at_position_zero m s (e ∷ run) t = elim (cases_eq t e.0) [
   | inl same ↦ subst (λ b. thread_in (join_if b (s.now t, label m s e) (trail m (after m s e) run t)) 0 ((end m (after m s e) run).now t) ≡
       s.now t) (sym (eq-eqb t e.0 same)) refl
   | inr other ↦ subst (λ b. thread_in (join_if b (s.now t, label m s e) (trail m (after m s e) run t)) 0 ((end m (after m s e) run).now t) ≡
-      s.now t) (sym (ne_eqb t e.0 other)) (first_thread m (after m s e) run t ∙ now_other m s e t other)
+      s.now t) (sym (ne_eqb t e.0 other)) (thread_at_position_zero m (after m s e) run t ∙ thread_after_step_of_other m s e t other)
 ]
 
-thread_append : {T : Type 0} (xs ys : List (T × Label)) (k : ℕ) (last : T) → length xs ≡ k
+thread_in_append_at_length : {T : Type 0} (xs ys : List (T × Label)) (k : ℕ) (last : T) → length xs ≡ k
     → thread_in (xs ++ ys) k last ≡ thread_in ys 0 last
-thread_append [] ys zero last h = refl
-thread_append [] ys (suc k) last h = absurd (omega arith)
-thread_append (x ∷ xs) ys zero last h = absurd (omega arith)
-thread_append (x ∷ xs) ys (suc k) last h = thread_append xs ys k last (omega arith)
+thread_in_append_at_length [] ys zero last h = refl
+thread_in_append_at_length [] ys (suc k) last h = absurd (omega arith)
+thread_in_append_at_length (x ∷ xs) ys zero last h = absurd (omega arith)
+thread_in_append_at_length (x ∷ xs) ys (suc k) last h = thread_in_append_at_length xs ys k last (omega arith)
 
 -- the thread at a cut
-thread_at : {T : Type 0} (m : Machine T) (s : State T) (prefix run : List Step) → Goes m s prefix run → (t k : ℕ) → count m s prefix t ≡ k
+thread_at_end_of_beginning : {T : Type 0} (m : Machine T) (s : State T) (prefix run : List Step) → BeginsRun m s prefix run → (t k : ℕ) → count m s prefix t ≡ k
     → (end m s prefix).now t ≡ th m s run t k
-thread_at m s prefix run g t k h =
-    sym (first_thread m (end m s prefix) g.rest t)
-    ∙ sym (thread_append (trail m s prefix t) (trail m (end m s prefix) g.rest t) k ((end m (end m s prefix) g.rest).now t) h)
+thread_at_end_of_beginning m s prefix run g t k h =
+    sym (thread_at_position_zero m (end m s prefix) g.rest t)
+    ∙ sym (thread_in_append_at_length (trail m s prefix t) (trail m (end m s prefix) g.rest t) k ((end m (end m s prefix) g.rest).now t) h)
     ∙ ap (λ z. thread_in z k ((end m (end m s prefix) g.rest).now t)) (g.same_trail t)
     ∙ ap (λ z. thread_in (trail m s run t) k (z.now t)) g.same_end
 
 -- a run of one step
-pub record Single {T : Type 0} (m : Machine T) (s : State T) (run : List Step) (t : ℕ) : Type 0 where
+pub record SingleStep {T : Type 0} (m : Machine T) (s : State T) (run : List Step) (t : ℕ) : Type 0 where
   pub result : ℕ
   pub can : Can m s (t, result)
   pub same_end : after m s (t, result) ≡ end m s run
   pub emits : At (trail m s run t) 0 (s.now t, label m s (t, result))
 
-pub count_head : {T : Type 0} (m : Machine T) (s : State T) (e : Step) (run : List Step) (u : ℕ)
+pub count_of_cons : {T : Type 0} (m : Machine T) (s : State T) (e : Step) (run : List Step) (u : ℕ)
     → count m s (e ∷ run) u ≡ cond (eqb u e.0) (suc (count m (after m s e) run u)) (count m (after m s e) run u)
-count_head m s e run u = lengthen (eqb u e.0) (s.now u, label m s e) (trail m (after m s e) run u)
+count_of_cons m s e run u = lengthen (eqb u e.0) (s.now u, label m s e) (trail m (after m s e) run u)
   where
     lengthen : {A : Type 0} (b : Bool) (x : A) (xs : List A) → length (join_if b x xs) ≡ cond b (suc (length xs)) (length xs)
     lengthen true x xs = refl
     lengthen false x xs = refl
 
-single : {T : Type 0} (m : Machine T) (s : State T) (run : List Step) → IsRun m s run → (t : ℕ) → count m s run t ≡ 1
-    → ((u : ℕ) → u ≢ t → count m s run u ≡ 0) → Single m s run t
-single m s [] ok t one none = absurd (omega arith)
-single m s (e ∷ run) ok t one none = elim (cases_eq e.0 t) [
+run_with_one_step_is_single : {T : Type 0} (m : Machine T) (s : State T) (run : List Step) → IsRun m s run → (t : ℕ) → count m s run t ≡ 1
+    → ((u : ℕ) → u ≢ t → count m s run u ≡ 0) → SingleStep m s run t
+run_with_one_step_is_single m s [] ok t one none = absurd (omega arith)
+run_with_one_step_is_single m s (e ∷ run) ok t one none = elim (cases_eq e.0 t) [
   | inr other ↦ absurd (some_step (eqb e.0 e.0) (eq-eqb e.0 e.0 refl) (count m (after m s e) run e.0)
-      (sym (count_head m s e run e.0) ∙ none e.0 other))
+      (sym (count_of_cons m s e run e.0) ∙ none e.0 other))
   | inl same ↦
-      let empty : run ≡ [] = no_steps m (after m s e) run (λ u. elim (cases_eq u t) [
+      let empty : run ≡ [] = run_without_counts_is_empty m (after m s e) run (λ u. elim (cases_eq u t) [
         | inl p ↦ last_step (eqb u e.0) (eq-eqb u e.0 (p ∙ sym same)) (count m (after m s e) run u)
-            (sym (count_head m s e run u) ∙ ap (count m s (e ∷ run)) p ∙ one)
+            (sym (count_of_cons m s e run u) ∙ ap (count m s (e ∷ run)) p ∙ one)
         | inr p ↦ no_step (eqb u e.0) (ne_eqb u e.0 (λ q. p (q ∙ same))) (count m (after m s e) run u)
-            (sym (count_head m s e run u) ∙ none u p)
+            (sym (count_of_cons m s e run u) ∙ none u p)
       ]) in
-      subst (λ z. Single m s (e ∷ run) z) same (record {
+      subst (λ z. SingleStep m s (e ∷ run) z) same (record {
         result = e.1;
         can = ok.0;
         same_end = ap (end m (after m s e)) (sym empty);
@@ -104,17 +104,17 @@ single m s (e ∷ run) ok t one none = elim (cases_eq e.0 t) [
     no_step true p n h = absurd (cc p)
     no_step false p n h = h
 
-take_less : {A : Type 0} (n k : ℕ) (xs : List A) → n ≤ k → take n (take k xs) ≡ take n xs
-take_less zero k xs h = refl
-take_less (suc n) zero xs h = absurd (omega arith)
-take_less (suc n) (suc k) [] h = refl
-take_less (suc n) (suc k) (x ∷ xs) h = ap (λ z. x ∷ z) (take_less n k xs (omega arith))
+take_of_longer_take : {A : Type 0} (n k : ℕ) (xs : List A) → n ≤ k → take n (take k xs) ≡ take n xs
+take_of_longer_take zero k xs h = refl
+take_of_longer_take (suc n) zero xs h = absurd (omega arith)
+take_of_longer_take (suc n) (suc k) [] h = refl
+take_of_longer_take (suc n) (suc k) (x ∷ xs) h = ap (λ z. x ∷ z) (take_of_longer_take n k xs (omega arith))
 
-at_more : {A : Type 0} (xs ys : List A) (k n : ℕ) (x : A) → length xs ≡ n → At ys k x → At (xs ++ ys) (n + k) x
-at_more [] ys k n x h a = let e : k ≡ n + k = omega arith in subst (λ z. At ys z x) e a
-at_more (y ∷ xs) ys k zero x h a = absurd (omega arith)
-at_more (y ∷ xs) ys k (suc n) x h a = let e : suc (n + k) ≡ suc n + k = omega arith in
-    subst (λ z. At (y ∷ (xs ++ ys)) z x) e (at_more xs ys k n x (omega arith) a)
+at_after_prefix : {A : Type 0} (xs ys : List A) (k n : ℕ) (x : A) → length xs ≡ n → At ys k x → At (xs ++ ys) (n + k) x
+at_after_prefix [] ys k n x h a = let e : k ≡ n + k = omega arith in subst (λ z. At ys z x) e a
+at_after_prefix (y ∷ xs) ys k zero x h a = absurd (omega arith)
+at_after_prefix (y ∷ xs) ys k (suc n) x h a = let e : suc (n + k) ≡ suc n + k = omega arith in
+    subst (λ z. At (y ∷ (xs ++ ys)) z x) e (at_after_prefix xs ys k n x (omega arith) a)
 
 at_of_take : {A : Type 0} (n : ℕ) (xs : List A) (k : ℕ) (x : A) → At (take n xs) k x → At xs k x
 at_of_take zero xs k x h = absurd h
@@ -122,39 +122,39 @@ at_of_take (suc n) [] k x h = absurd h
 at_of_take (suc n) (y ∷ xs) zero x h = h
 at_of_take (suc n) (y ∷ xs) (suc k) x h = at_of_take n xs k x h
 
-further_more : (p : Cut) (t u : ℕ) → p u ≤ further p t u
-further_more p t u = more (eqb u t) (p u)
+cut_below_further : (p : Cut) (t u : ℕ) → p u ≤ further p t u
+cut_below_further p t u = more (eqb u t) (p u)
   where
     more : (b : Bool) (n : ℕ) → n ≤ cond b (suc n) n
     more true n = let g : n ≤ suc n = omega arith in g
     more false n = le_refl n
 
-pub further_same : (p : Cut) (t : ℕ) → further p t t ≡ suc (p t)
-further_same p t = rw (eq-eqb t t refl) refl
+pub further_at_own_thread : (p : Cut) (t : ℕ) → further p t t ≡ suc (p t)
+further_at_own_thread p t = rw (eq-eqb t t refl) refl
 
-pub further_other : (p : Cut) (t u : ℕ) → u ≢ t → further p t u ≡ p u
-further_other p t u ne = rw (ne_eqb u t ne) refl
+pub further_at_other_thread : (p : Cut) (t u : ℕ) → u ≢ t → further p t u ≡ p u
+further_at_other_thread p t u ne = rw (ne_eqb u t ne) refl
 
-pub at_cut : {T : Type 0} (m : Machine T) → IsLawful m → (s : State T) → Good m s → (run : List Step) → IsRun m s run → (p : Cut)
+pub state_at_consistent_cut : {T : Type 0} (m : Machine T) → IsLawful m → (s : State T) → StateInvariant m s → (run : List Step) → IsRun m s run → (p : Cut)
     → IsCut m s run p → Consistent m s run p → AtCut m s run p
-at_cut m law s good run ok p cut c =
-    let z : Sorted m s run p = sort m law s good run ok p c in
+state_at_consistent_cut m law s good run ok p cut c =
+    let z : PartIsRun m s run p = part_in_consistent_cut_is_run m law s good run ok p c in
     record {
       runs = z.ok;
-      threads = λ t. thread_at m s (part run p) run (part_goes m law s good (part run p) run z.ok ok p z.same_trail) t (p t)
+      threads = λ t. thread_at_end_of_beginning m s (part run p) run (run_with_taken_trails_begins_run m law s good (part run p) run z.ok ok p z.same_trail) t (p t)
           (omega (arith, ap length (z.same_trail t), length-take (p t) (trail m s run t), cut t));
       steps = λ t ad. one_step t ad z;
     }
   where
-    one_step : (t : ℕ) → Admitted m s run p t → Sorted m s run p → (r : ℕ) × Can m (end m s (part run p)) (t, r)
+    one_step : (t : ℕ) → Admitted m s run p t → PartIsRun m s run p → (r : ℕ) × Can m (end m s (part run p)) (t, r)
         × (after m (end m s (part run p)) (t, r) ≡ end m s (part run (further p t)))
         × Emits m s run t (p t) (label m (end m s (part run p)) (t, r))
     one_step t ad z =
         let q : Cut = further p t in
-        let y : Sorted m s run q = sort m law s good run ok q ad.1 in
-        let g : Goes m s (part run p) (part run q) =
-        part_goes m law s good (part run p) (part run q) z.ok y.ok p
-        (λ u. z.same_trail u ∙ sym (take_less (p u) (q u) (trail m s run u) (further_more p t u))
+        let y : PartIsRun m s run q = part_in_consistent_cut_is_run m law s good run ok q ad.1 in
+        let g : BeginsRun m s (part run p) (part run q) =
+        run_with_taken_trails_begins_run m law s good (part run p) (part run q) z.ok y.ok p
+        (λ u. z.same_trail u ∙ sym (take_of_longer_take (p u) (q u) (trail m s run u) (cut_below_further p t u))
         ∙ ap (take (p u)) (sym (y.same_trail u))) in
         let lengths : (u : ℕ) → p u + count m (end m s (part run p)) g.rest u ≡ min (q u) (count m s run u) =
         λ u. omega (
@@ -168,9 +168,9 @@ at_cut m law s good run ok p cut c =
           length-append (trail m s (part run p) u)
               (trail m (end m s (part run p)) g.rest u),
         ) in
-        let k : Single m (end m s (part run p)) g.rest t =
-        single m (end m s (part run p)) g.rest g.ok t (omega (arith, lengths t, further_same p t, ad.0))
-        (λ u ne. omega (arith, lengths u, further_other p t u ne, cut u)) in (
+        let k : SingleStep m (end m s (part run p)) g.rest t =
+        run_with_one_step_is_single m (end m s (part run p)) g.rest g.ok t (omega (arith, lengths t, further_at_own_thread p t, ad.0))
+        (λ u ne. omega (arith, lengths u, further_at_other_thread p t u ne, cut u)) in (
           k.result,
           k.can,
           k.same_end ∙ g.same_end,
@@ -181,7 +181,7 @@ at_cut m law s good run ok p cut c =
                 (at_of_take (q t) (trail m s run t) (p t + 0) _
                 (subst (λ w. At w (p t + 0) ((end m s (part run p)).now t, label m (end m s (part run p)) (t, k.result)))
                 (g.same_trail t ∙ y.same_trail t)
-                (at_more (trail m s (part run p) t) (trail m (end m s (part run p)) g.rest t) 0 (p t) _
+                (at_after_prefix (trail m s (part run p) t) (trail m (end m s (part run p)) g.rest t) 0 (p t) _
                 (omega (arith, ap length (z.same_trail t), length-take (p t) (trail m s run t), cut t)) k.emits))),
           ),
         )
@@ -189,20 +189,20 @@ at_cut m law s good run ok p cut c =
         add_zero : (n : ℕ) → n + 0 ≡ n
         add_zero n = omega arith
 
-pub determined : {T : Type 0} (m : Machine T) → IsLawful m → (s : State T) → Good m s → (run run' : List Step) → IsRun m s run
+pub same_trace_gives_same_run : {T : Type 0} (m : Machine T) → IsLawful m → (s : State T) → StateInvariant m s → (run run' : List Step) → IsRun m s run
     → IsRun m s run' → SameTrace m s run run' → SameRun m s run run'
-determined m law s good run run' ok ok' same =
-    let a : Alike m s run run' = alike m law s good run run' ok ok' (λ t. (same t).0) (λ t. (same t).1) in
+same_trace_gives_same_run m law s good run run' ok ok' same =
+    let a : SameTrailsAndEnd m s run run' = same_logs_give_same_trails m law s good run run' ok ok' (λ t. (same t).0) (λ t. (same t).1) in
     record {
       counts = λ t. (same t).1;
       threads = λ t k. ap (λ z. thread_in z k ((end m s run).now t)) (a.same_trail t)
           ∙ ap (λ z. thread_in (trail m s run' t) k (z.now t)) a.same_end;
-      cuts = λ p. (trails_cut m s run run' a.same_trail p, trails_cut m s run' run (λ u. sym (a.same_trail u)) p);
+      cuts = λ p. (consistent_cut_if_same_trails m s run run' a.same_trail p, consistent_cut_if_same_trails m s run' run (λ u. sym (a.same_trail u)) p);
       objects = λ p c o.
-          let z : Sorted m s run p = sort m law s good run ok p c in
-          let z' : Sorted m s run' p = sort m law s good run' ok' p (trails_cut m s run run' a.same_trail p c) in
+          let z : PartIsRun m s run p = part_in_consistent_cut_is_run m law s good run ok p c in
+          let z' : PartIsRun m s run' p = part_in_consistent_cut_is_run m law s good run' ok' p (consistent_cut_if_same_trails m s run run' a.same_trail p c) in
           let e : (u : ℕ) → trail m s (part run p) u ≡ trail m s (part run' p) u = λ u. z.same_trail u ∙ ap (take (p u)) (a.same_trail u)
           ∙ sym (z'.same_trail u) in
-          ap (λ y. y.objects o) (alike m law s good (part run p) (part run' p) z.ok z'.ok (λ u. ap events (e u))
+          ap (λ y. y.objects o) (same_logs_give_same_trails m law s good (part run p) (part run' p) z.ok z'.ok (λ u. ap events (e u))
           (λ u. ap length (e u))).same_end;
     }

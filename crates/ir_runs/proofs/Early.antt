@@ -6,12 +6,12 @@ use Rattle.ir_runs.specs.Machine.{Act, Silent, Result, Entry, Refusal, Exit, Loa
 use Rattle.ir_runs.specs.Lawful.{IsLawful}
 use Rattle.ir_runs.specs.declared.access.Access.{Access}
 use Rattle.ir_runs.specs.declared.access.Access.TheVariants.{Reading, Writing}
-use Rattle.ir_runs.proofs.Tables.{upd_same}
+use Rattle.ir_runs.proofs.Tables.{upd_at_own_place}
 use Rattle.ir_runs.specs.Run.{act, State, Step, Can, after, label, IsRun, join_if, trail}
-use Rattle.ir_runs.proofs.Good.{Inside, Good, stays_good, inside_now}
-use Rattle.ir_runs.proofs.Pull.{objects_after}
-use Rattle.ir_runs.proofs.Ratchet.{Taken, taken, Writes, Writes_kept, Least, Least_kept}
-use Rattle.ir_runs.specs.Cuts.{At, Emits, Needs, Cut, Consistent}
+use Rattle.ir_runs.proofs.Good.{InsideForAct, StateInvariant, state_invariant_after_step, inside_for_act_of_step}
+use Rattle.ir_runs.proofs.Pull.{target_object_after_step}
+use Rattle.ir_runs.proofs.Ratchet.{TakenStep, step_of_trail_was_taken, WritesOrPast, writes_or_past_is_kept, VersionAtLeast, version_at_least_is_kept}
+use Rattle.ir_runs.specs.Cuts.{At, Emits, IsNeededBy, Cut, Consistent}
 
 -- the cut after the first i steps of the run
 abbrev pub moment : List Step → ℕ → Cut
@@ -23,64 +23,64 @@ pub record Leaving (b : Object) (o : ℕ) (a : Access) (v : ℕ) (q : Act) : Typ
   pub does : q ≡ Exit o a
   pub version : b.version ≡ v
 
-emitted_out : (q : Act) (b : Object) (o : ℕ) (a : Access) (v : ℕ) → emitted q b ≡ Out o a v → Leaving b o a v q
-emitted_out Silent b o a v h = absurd (cc h)
-emitted_out (Refusal _) b o a v h = absurd (cc h)
-emitted_out (Result k x) b o a v h = absurd (cc h)
-emitted_out (Entry p Reading x) b o a v h = absurd (cc h)
-emitted_out (Entry p Writing x) b o a v h = absurd (cc h)
-emitted_out (Exit p c) b o a v h = record { does = cc h; version = cc h }
-emitted_out (Load p j) b o a v h = absurd (cc h)
-emitted_out (Store p j w) b o a v h = absurd (cc h)
-emitted_out Never b o a v h = absurd (cc h)
+emitted_leave_is_leaving : (q : Act) (b : Object) (o : ℕ) (a : Access) (v : ℕ) → emitted q b ≡ Out o a v → Leaving b o a v q
+emitted_leave_is_leaving Silent b o a v h = absurd (cc h)
+emitted_leave_is_leaving (Refusal _) b o a v h = absurd (cc h)
+emitted_leave_is_leaving (Result k x) b o a v h = absurd (cc h)
+emitted_leave_is_leaving (Entry p Reading x) b o a v h = absurd (cc h)
+emitted_leave_is_leaving (Entry p Writing x) b o a v h = absurd (cc h)
+emitted_leave_is_leaving (Exit p c) b o a v h = record { does = cc h; version = cc h }
+emitted_leave_is_leaving (Load p j) b o a v h = absurd (cc h)
+emitted_leave_is_leaving (Store p j w) b o a v h = absurd (cc h)
+emitted_leave_is_leaving Never b o a v h = absurd (cc h)
 
 -- a leave that was taken, as the object saw it
-pub record Left (R : Object → Type 0) (o : ℕ) (a : Access) (v t : ℕ) : Type 0 where
+pub record TakenLeave (R : Object → Type 0) (o : ℕ) (a : Access) (v t : ℕ) : Type 0 where
   pub object : Object
   pub kept : R object
   pub inside : object.inside t ≡ Some a
   pub exclusive : (u : ℕ) → u ≢ t → object.inside u ≡ Some Writing → object.inside t ≡ None
   pub version : object.version ≡ v
 
-left : {T : Type 0} (m : Machine T) → IsLawful m → (R : Object → Type 0) (o : ℕ) (a : Access) (v t : ℕ) → Taken m R o t (Out o a v)
-    → Left R o a v t
-left m law R o a v t k =
+taken_leave_saw_object : {T : Type 0} (m : Machine T) → IsLawful m → (R : Object → Type 0) (o : ℕ) (a : Access) (v t : ℕ) → TakenStep m R o t (Out o a v)
+    → TakenLeave R o a v t
+taken_leave_saw_object m law R o a v t k =
     let q : Act = act m k.state k.step in
-    let e : Leaving (k.state.objects (target q)) o a v q = emitted_out q (k.state.objects (target q)) o a v k.emits in
+    let e : Leaving (k.state.objects (target q)) o a v q = emitted_leave_is_leaving q (k.state.objects (target q)) o a v k.emits in
     record {
       object = k.state.objects o;
       kept = k.kept;
       inside = subst (λ z. (k.state.objects o).inside z ≡ Some a) k.who
-          (subst (λ z. Inside z ((k.state.objects (target z)).inside k.step.0)) e.does (inside_now m law k.state k.good k.step));
+          (subst (λ z. InsideForAct z ((k.state.objects (target z)).inside k.step.0)) e.does (inside_for_act_of_step m law k.state k.good k.step));
       exclusive = λ u ne w. k.good.exclusive o u t ne w;
       version = ap (λ z. (k.state.objects (target z)).version) (sym e.does) ∙ e.version;
     }
 
-past : {T : Type 0} (m : Machine T) → IsLawful m → (s : State T) → Good m s → (e : Step) → Can m s e → (run : List Step)
+no_past_leave_after_entry : {T : Type 0} (m : Machine T) → IsLawful m → (s : State T) → StateInvariant m s → (e : Step) → Can m s e → (run : List Step)
     → IsRun m (after m s e) run → (u j : ℕ) (x : T) (p o : ℕ) (a : Access) (w ans : ℕ) → act m s e ≡ Entry o a ans
     → At (trail m (after m s e) run u) j (x, Out p Writing w) → (p ≡ o) × ((s.objects o).version ≡ suc w) → ⊥
-past m law s good e can run ok u j x p o a w ans is h n =
-    let k : Left (Least (suc w)) o Writing w u = left m law (Least (suc w)) o Writing w u
-    (taken m law (Least (suc w)) (Least_kept m (suc w)) (after m s e) (stays_good m law s good e can) run ok o
-    (omega (arith, ap (λ z. z.version) (objects_after m s e (Entry o a ans) is), n.1))
+no_past_leave_after_entry m law s good e can run ok u j x p o a w ans is h n =
+    let k : TakenLeave (VersionAtLeast (suc w)) o Writing w u = taken_leave_saw_object m law (VersionAtLeast (suc w)) o Writing w u
+    (step_of_trail_was_taken m law (VersionAtLeast (suc w)) (version_at_least_is_kept m (suc w)) (after m s e) (state_invariant_after_step m law s good e can) run ok o
+    (omega (arith, ap (λ z. z.version) (target_object_after_step m s e (Entry o a ans) is), n.1))
     u j x (Out o Writing w) (subst (λ z. At (trail m (after m s e) run u) j (x, Out z Writing w)) n.0 h)) in
     omega (arith, k.kept, k.version)
 
 -- nothing that a step needs comes after it
-pub no_later : {T : Type 0} (m : Machine T) → IsLawful m → (s : State T) → Good m s → (e : Step) → Can m s e → (run : List Step)
+pub needed_step_is_not_later : {T : Type 0} (m : Machine T) → IsLawful m → (s : State T) → StateInvariant m s → (e : Step) → Can m s e → (run : List Step)
     → IsRun m (after m s e) run → (u j : ℕ) (x : T) (b : Label) (q : Act) → act m s e ≡ q
-    → At (trail m (after m s e) run u) j (x, b) → Needs b (emitted q (s.objects (target q))) → ⊥
-no_later m law s good e can run ok u j x (Out p Writing w) (Entry o Reading ans) is h n =
-    past m law s good e can run ok u j x p o Reading w ans is h n
-no_later m law s good e can run ok u j x (Out p Writing w) (Entry o Writing ans) is h n =
-    past m law s good e can run ok u j x p o Writing w ans is h n
-no_later m law s good e can run ok u j x (Out p Reading w) (Entry o Writing ans) is h n =
-    let k : Left (Writes w e.0) o Reading w u = left m law (Writes w e.0) o Reading w u
-    (taken m law (Writes w e.0) (Writes_kept m w e.0) (after m s e) (stays_good m law s good e can) run ok o
+    → At (trail m (after m s e) run u) j (x, b) → IsNeededBy b (emitted q (s.objects (target q))) → ⊥
+needed_step_is_not_later m law s good e can run ok u j x (Out p Writing w) (Entry o Reading ans) is h n =
+    no_past_leave_after_entry m law s good e can run ok u j x p o Reading w ans is h n
+needed_step_is_not_later m law s good e can run ok u j x (Out p Writing w) (Entry o Writing ans) is h n =
+    no_past_leave_after_entry m law s good e can run ok u j x p o Writing w ans is h n
+needed_step_is_not_later m law s good e can run ok u j x (Out p Reading w) (Entry o Writing ans) is h n =
+    let k : TakenLeave (WritesOrPast w e.0) o Reading w u = taken_leave_saw_object m law (WritesOrPast w e.0) o Reading w u
+    (step_of_trail_was_taken m law (WritesOrPast w e.0) (writes_or_past_is_kept m w e.0) (after m s e) (state_invariant_after_step m law s good e can) run ok o
     (inr (
-      ap (λ z. z.version) (objects_after m s e (Entry o Writing ans) is)
+      ap (λ z. z.version) (target_object_after_step m s e (Entry o Writing ans) is)
           ∙ n.1,
-      ap (λ z. z.inside e.0) (objects_after m s e (Entry o Writing ans) is) ∙ upd_same (s.objects o).inside e.0 (Some Writing),
+      ap (λ z. z.inside e.0) (target_object_after_step m s e (Entry o Writing ans) is) ∙ upd_at_own_place (s.objects o).inside e.0 (Some Writing),
     ))
     u j x (Out o Reading w) (subst (λ z. At (trail m (after m s e) run u) j (x, Out z Reading w)) n.0 h)) in
     elim k.kept [
@@ -88,51 +88,51 @@ no_later m law s good e can run ok u j x (Out p Reading w) (Entry o Writing ans)
       | inr g ↦ elim (cases_eq e.0 u)
           [ inl same ↦ cc (ap k.object.inside same, g.1, k.inside) | inr other ↦ cc (k.exclusive e.0 other g.1, k.inside) ]
     ]
-no_later m law s good e can run ok u j x (Out p Reading w) _ is h n = absurd n
-no_later m law s good e can run ok u j x (Out p Writing w) _ is h n = absurd n
-no_later m law s good e can run ok u j x _ _ is h n = absurd n
+needed_step_is_not_later m law s good e can run ok u j x (Out p Reading w) _ is h n = absurd n
+needed_step_is_not_later m law s good e can run ok u j x (Out p Writing w) _ is h n = absurd n
+needed_step_is_not_later m law s good e can run ok u j x _ _ is h n = absurd n
 
 -- where a step of a run is
-pub record Placed {T : Type 0} (m : Machine T) (s : State T) (e : Step) (run : List Step) (t k : ℕ) (a : Label) : Type 0 where
+pub record PlacedLater {T : Type 0} (m : Machine T) (s : State T) (e : Step) (run : List Step) (t k : ℕ) (a : Label) : Type 0 where
   pub place : ℕ
   pub is : k ≡ cond (eqb t e.0) (suc place) place
   pub emits : Emits m (after m s e) run t place a
 
-placed_in : {A : Type 0} (b : Bool) (x y : A) (xs : List A) (k : ℕ) → At (join_if b x xs) k y → ((b ≡ true) × (k ≡ 0) × (x ≡ y))
+at_of_join_if_with_place : {A : Type 0} (b : Bool) (x y : A) (xs : List A) (k : ℕ) → At (join_if b x xs) k y → ((b ≡ true) × (k ≡ 0) × (x ≡ y))
     ⊎ ((j : ℕ) × (k ≡ cond b (suc j) j) × At xs j y)
-placed_in true x y xs zero h = inl (refl, refl, h)
-placed_in true x y xs (suc k) h = inr (k, refl, h)
-placed_in false x y xs k h = inr (k, refl, h)
+at_of_join_if_with_place true x y xs zero h = inl (refl, refl, h)
+at_of_join_if_with_place true x y xs (suc k) h = inr (k, refl, h)
+at_of_join_if_with_place false x y xs k h = inr (k, refl, h)
 
-pub placed : {T : Type 0} (m : Machine T) (s : State T) (e : Step) (run : List Step) (t k : ℕ) (a : Label) → Emits m s (e ∷ run) t k a
-    → ((t ≡ e.0) × (k ≡ 0) × (a ≡ label m s e)) ⊎ Placed m s e run t k a
-placed m s e run t k a h = elim (placed_in (eqb t e.0) (s.now t, label m s e) (h.0, a) (trail m (after m s e) run t) k h.1) [
+pub emits_of_cons_cases : {T : Type 0} (m : Machine T) (s : State T) (e : Step) (run : List Step) (t k : ℕ) (a : Label) → Emits m s (e ∷ run) t k a
+    → ((t ≡ e.0) × (k ≡ 0) × (a ≡ label m s e)) ⊎ PlacedLater m s e run t k a
+emits_of_cons_cases m s e run t k a h = elim (at_of_join_if_with_place (eqb t e.0) (s.now t, label m s e) (h.0, a) (trail m (after m s e) run t) k h.1) [
   | inl p ↦ inl (eqb-true t e.0 p.0, p.1, sym (ap (λ z. z.1) p.2))
   | inr p ↦ inr (record { place = p.0; is = p.1; emits = (h.0, p.2) })
 ]
 
-pub both_up : (b : Bool) (k n : ℕ) → k < n → cond b (suc k) k < cond b (suc n) n
-both_up true k n h = let g : suc k < suc n = omega arith in g
-both_up false k n h = h
+pub suc_if_keeps_less : (b : Bool) (k n : ℕ) → k < n → cond b (suc k) k < cond b (suc n) n
+suc_if_keeps_less true k n h = let g : suc k < suc n = omega arith in g
+suc_if_keeps_less false k n h = h
 
-pub both_down : (b : Bool) (k n : ℕ) → cond b (suc k) k < cond b (suc n) n → k < n
-both_down true k n h = let g : suc k < suc n = h in omega arith
-both_down false k n h = h
+pub suc_if_reflects_less : (b : Bool) (k n : ℕ) → cond b (suc k) k < cond b (suc n) n → k < n
+suc_if_reflects_less true k n h = let g : suc k < suc n = h in omega arith
+suc_if_reflects_less false k n h = h
 
 -- each moment of the run is a consistent cut
-pub early : {T : Type 0} (m : Machine T) → IsLawful m → (s : State T) → Good m s → (run : List Step) → IsRun m s run → (i : ℕ)
+pub moment_is_consistent_cut : {T : Type 0} (m : Machine T) → IsLawful m → (s : State T) → StateInvariant m s → (run : List Step) → IsRun m s run → (i : ℕ)
     → Consistent m s run (moment run i)
-early m law s good run ok zero t k u j a b h g n l = absurd (omega arith)
-early m law s good [] ok (suc i) t k u j a b h g n l = absurd h.1
-early m law s good (e ∷ run) ok (suc i) t k u j a b h g n l = elim (placed m s e run u j b g) [
+moment_is_consistent_cut m law s good run ok zero t k u j a b h g n l = absurd (omega arith)
+moment_is_consistent_cut m law s good [] ok (suc i) t k u j a b h g n l = absurd h.1
+moment_is_consistent_cut m law s good (e ∷ run) ok (suc i) t k u j a b h g n l = elim (emits_of_cons_cases m s e run u j b g) [
   | inl p ↦ subst (λ z. z < cond (eqb u e.0) (suc (moment run i u)) (moment run i u)) (sym p.1)
       (subst (λ z. 0 < cond z (suc (moment run i u)) (moment run i u)) (sym (eq-eqb u e.0 p.0)) (zero_less (moment run i u)))
-  | inr p ↦ elim (placed m s e run t k a h) [
-    | inl c ↦ absurd (no_later m law s good e ok.0 run ok.1 u p.place p.emits.0 b (act m s e) refl p.emits.1 (subst (Needs b) c.2 n))
+  | inr p ↦ elim (emits_of_cons_cases m s e run t k a h) [
+    | inl c ↦ absurd (needed_step_is_not_later m law s good e ok.0 run ok.1 u p.place p.emits.0 b (act m s e) refl p.emits.1 (subst (IsNeededBy b) c.2 n))
     | inr c ↦ subst (λ z. z < cond (eqb u e.0) (suc (moment run i u)) (moment run i u)) (sym p.is)
-        (both_up (eqb u e.0) p.place (moment run i u)
-        (early m law (after m s e) (stays_good m law s good e ok.0) run ok.1 i t c.place u p.place a b c.emits p.emits n
-        (both_down (eqb t e.0) c.place (moment run i t)
+        (suc_if_keeps_less (eqb u e.0) p.place (moment run i u)
+        (moment_is_consistent_cut m law (after m s e) (state_invariant_after_step m law s good e ok.0) run ok.1 i t c.place u p.place a b c.emits p.emits n
+        (suc_if_reflects_less (eqb t e.0) c.place (moment run i t)
         (subst (λ z. z < cond (eqb t e.0) (suc (moment run i t)) (moment run i t)) c.is l))))
   ]
 ]

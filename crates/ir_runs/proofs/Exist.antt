@@ -5,54 +5,54 @@ use Rattle.ir_runs.specs.Machine.{Machine, Label, In, Out}
 use Rattle.ir_runs.specs.Lawful.{IsLawful}
 use Rattle.ir_runs.specs.declared.access.Access.TheVariants.{Reading, Writing}
 use Rattle.ir_runs.specs.Run.{act, State, Step, after, label, IsRun, count}
-use Rattle.ir_runs.proofs.Good.{Good, stays_good}
-use Rattle.ir_runs.specs.Cuts.{IsLeast, Emits, Needs, Cut, IsCut, Consistent, lower}
-use Rattle.ir_runs.proofs.Determined.{count_head}
-use Rattle.ir_runs.proofs.Early.{placed, no_later}
-use Rattle.ir_runs.proofs.Sort.{later, foremost, consistent_later, lower_up}
+use Rattle.ir_runs.proofs.Good.{StateInvariant, state_invariant_after_step}
+use Rattle.ir_runs.specs.Cuts.{IsLeast, Emits, IsNeededBy, Cut, IsCut, Consistent, lower}
+use Rattle.ir_runs.proofs.Determined.{count_of_cons}
+use Rattle.ir_runs.proofs.Early.{emits_of_cons_cases, needed_step_is_not_later}
+use Rattle.ir_runs.proofs.Sort.{emits_after_first_step, first_step_emits_own_label, consistent_cut_after_first_step, raised_place_below_number}
 use Rattle.ir_runs.specs.Admitted.{further}
 
-pub needs_or : (a b : Label) → Needs a b ⊎ (Needs a b → ⊥)
-needs_or (Out o Writing w) (In p c v l) = elim (cases_eq o p)
+pub needs_is_decidable : (a b : Label) → IsNeededBy a b ⊎ (IsNeededBy a b → ⊥)
+needs_is_decidable (Out o Writing w) (In p c v l) = elim (cases_eq o p)
     [ inl e ↦ elim (cases_eq v (suc w)) [ inl d ↦ inl (e, d) | inr ne ↦ inr (λ h. ne h.1) ] | inr ne ↦ inr (λ h. ne h.0) ]
-needs_or (Out o Reading w) (In p Writing v l) =
+needs_is_decidable (Out o Reading w) (In p Writing v l) =
     elim (cases_eq o p) [ inl e ↦ elim (cases_eq v w) [ inl d ↦ inl (e, d) | inr ne ↦ inr (λ h. ne h.1) ] | inr ne ↦ inr (λ h. ne h.0) ]
-needs_or (Out o Reading w) _ = inr (λ h. h)
-needs_or (Out o Writing w) _ = inr (λ h. h)
-needs_or _ _ = inr (λ h. h)
+needs_is_decidable (Out o Reading w) _ = inr (λ h. h)
+needs_is_decidable (Out o Writing w) _ = inr (λ h. h)
+needs_is_decidable _ _ = inr (λ h. h)
 
 -- a step of the cut that needs what k emits
-pub record Wants {T : Type 0} (m : Machine T) (s : State T) (run : List Step) (q : Cut) (k : Label) : Type 0 where
+pub record NeedingStep {T : Type 0} (m : Machine T) (s : State T) (run : List Step) (q : Cut) (k : Label) : Type 0 where
   pub thread : ℕ
   pub place : ℕ
   pub emitted : Label
   pub emits : Emits m s run thread place emitted
   pub inside : place < q thread
-  pub needs : Needs k emitted
+  pub needs : IsNeededBy k emitted
 
-wants_or : {T : Type 0} (m : Machine T) (s : State T) (run : List Step) (q : Cut) (k : Label) → Wants m s run q k
-    ⊎ ((t j : ℕ) (a : Label) → Emits m s run t j a → j < q t → Needs k a → ⊥)
-wants_or m s [] q k = inr (λ t j a h l n. h.1)
-wants_or m s (e ∷ run) q k = elim (wants_or m (after m s e) run (lower q e.0) k) [
+needing_step_or_none : {T : Type 0} (m : Machine T) (s : State T) (run : List Step) (q : Cut) (k : Label) → NeedingStep m s run q k
+    ⊎ ((t j : ℕ) (a : Label) → Emits m s run t j a → j < q t → IsNeededBy k a → ⊥)
+needing_step_or_none m s [] q k = inr (λ t j a h l n. h.1)
+needing_step_or_none m s (e ∷ run) q k = elim (needing_step_or_none m (after m s e) run (lower q e.0) k) [
   | inl w ↦ inl (record {
     thread = w.thread;
     place = cond (eqb w.thread e.0) (suc w.place) w.place;
     emitted = w.emitted;
     emits =
-        later m s e run w.thread w.place w.emitted w.emits;
-    inside = lower_up (eqb w.thread e.0) w.place (q w.thread) w.inside;
+        emits_after_first_step m s e run w.thread w.place w.emitted w.emits;
+    inside = raised_place_below_number (eqb w.thread e.0) w.place (q w.thread) w.inside;
     needs =
         w.needs;
   })
   | inr none ↦ elim (cases_lt 0 (q e.0)) [
-    | inr out ↦ inr (λ t j a h l n. elim (placed m s e run t j a h) [
+    | inr out ↦ inr (λ t j a h l n. elim (emits_of_cons_cases m s e run t j a h) [
       | inl p ↦ absurd (omega (arith, out, l, p.1, ap q p.0))
       | inr p ↦ none t p.place a p.emits (down (eqb t e.0) p.place (q t) (subst (λ z. z < q t) p.is l)) n
     ])
-    | inl inside ↦ elim (needs_or k (label m s e)) [
-      | inl n ↦ inl (record { thread = e.0; place = 0; emitted = label m s e; emits = foremost m s e run; inside = inside; needs = n })
-      | inr free ↦ inr (λ t j a h l n. elim (placed m s e run t j a h) [
-        | inl p ↦ free (subst (Needs k) p.2 n)
+    | inl inside ↦ elim (needs_is_decidable k (label m s e)) [
+      | inl n ↦ inl (record { thread = e.0; place = 0; emitted = label m s e; emits = first_step_emits_own_label m s e run; inside = inside; needs = n })
+      | inr free ↦ inr (λ t j a h l n. elim (emits_of_cons_cases m s e run t j a h) [
+        | inl p ↦ free (subst (IsNeededBy k) p.2 n)
         | inr p ↦ none t p.place a p.emits (down (eqb t e.0) p.place (q t) (subst (λ z. z < q t) p.is l)) n
       ])
     ]
@@ -64,27 +64,27 @@ wants_or m s (e ∷ run) q k = elim (wants_or m (after m s e) run (lower q e.0) 
     down false k n h = h
 
 -- the least consistent cut at or above b
-pub record Closed {T : Type 0} (m : Machine T) (s : State T) (run : List Step) (b q : Cut) : Type 0 where
+pub record LeastAbove {T : Type 0} (m : Machine T) (s : State T) (run : List Step) (b q : Cut) : Type 0 where
   pub cut : IsCut m s run q
   pub consistent : Consistent m s run q
   pub above : (u : ℕ) → b u ≤ q u
   pub least : (c : Cut) → Consistent m s run c → ((u : ℕ) → b u ≤ c u) → (u : ℕ) → q u ≤ c u
 
-below_lower : (b : Bool) (x y : ℕ) → x ≤ y → cond b (pred x) x ≤ cond b (pred y) y
-below_lower true x y h = let g : pred x ≤ pred y = omega arith in g
-below_lower false x y h = h
+pred_if_keeps_order : (b : Bool) (x y : ℕ) → x ≤ y → cond b (pred x) x ≤ cond b (pred y) y
+pred_if_keeps_order true x y h = let g : pred x ≤ pred y = omega arith in g
+pred_if_keeps_order false x y h = h
 
 -- with the first step
-with_first : {T : Type 0} (m : Machine T) → IsLawful m → (s : State T) → Good m s → (e : Step) (run : List Step) → IsRun m s (e ∷ run)
-    → (b q : Cut) → Closed m (after m s e) run (lower b e.0) q
+least_above_with_first_step : {T : Type 0} (m : Machine T) → IsLawful m → (s : State T) → StateInvariant m s → (e : Step) (run : List Step) → IsRun m s (e ∷ run)
+    → (b q : Cut) → LeastAbove m (after m s e) run (lower b e.0) q
     → ((c : Cut) → Consistent m s (e ∷ run) c → ((u : ℕ) → b u ≤ c u) → ((u : ℕ) → q u ≤ lower c e.0 u) → 0 < c e.0)
-    → Closed m s (e ∷ run) b (further q e.0)
-with_first m law s good e run ok b q k must = record {
-  cut = λ u. omega (arith, count_head m s e run u, up (eqb u e.0) (q u) (count m (after m s e) run u) (k.cut u));
-  consistent = λ t i u j a d h g n l. elim (placed m s e run u j d g) [
+    → LeastAbove m s (e ∷ run) b (further q e.0)
+least_above_with_first_step m law s good e run ok b q k must = record {
+  cut = λ u. omega (arith, count_of_cons m s e run u, up (eqb u e.0) (q u) (count m (after m s e) run u) (k.cut u));
+  consistent = λ t i u j a d h g n l. elim (emits_of_cons_cases m s e run u j d g) [
     | inl p ↦ subst (λ z. z < further q e.0 u) (sym p.1) (subst (λ z. 0 < cond z (suc (q u)) (q u)) (sym (eq-eqb u e.0 p.0)) (first (q u)))
-    | inr p ↦ elim (placed m s e run t i a h) [
-      | inl c ↦ absurd (no_later m law s good e ok.0 run ok.1 u p.place p.emits.0 d (act m s e) refl p.emits.1 (subst (Needs d) c.2 n))
+    | inr p ↦ elim (emits_of_cons_cases m s e run t i a h) [
+      | inl c ↦ absurd (needed_step_is_not_later m law s good e ok.0 run ok.1 u p.place p.emits.0 d (act m s e) refl p.emits.1 (subst (IsNeededBy d) c.2 n))
       | inr c ↦ subst (λ z. z < further q e.0 u) (sym p.is)
           (both_up (eqb u e.0) p.place (q u) (k.consistent t c.place u p.place a d c.emits p.emits n
           (both_down (eqb t e.0) c.place (q t) (subst (λ z. z < further q e.0 t) c.is l))))
@@ -92,7 +92,7 @@ with_first m law s good e run ok b q k must = record {
   ];
   above = λ u. over (eqb u e.0) (b u) (q u) (k.above u);
   least = λ c con up'. let low : (u : ℕ) → q u ≤ lower c e.0 u =
-      k.least (lower c e.0) (consistent_later m s e run c con) (λ u. below_lower (eqb u e.0) (b u) (c u) (up' u)) in
+      k.least (lower c e.0) (consistent_cut_after_first_step m s e run c con) (λ u. pred_if_keeps_order (eqb u e.0) (b u) (c u) (up' u)) in
       λ u. fill (eqb u e.0) (q u) (c u) (low u) (λ p. subst (λ z. 0 < c z) (sym (eqb-true u e.0 p)) (must c con up' low));
 }
   where
@@ -120,19 +120,19 @@ with_first m law s good e run ok b q k must = record {
     fill false x y h f = h
 
 -- without the first step
-without_first : {T : Type 0} (m : Machine T) (s : State T) (e : Step) (run : List Step) (b q : Cut)
-    → Closed m (after m s e) run (lower b e.0) q → b e.0 ≡ 0 → q e.0 ≡ 0
-    → ((t j : ℕ) (a : Label) → Emits m (after m s e) run t j a → j < q t → Needs (label m s e) a → ⊥) → Closed m s (e ∷ run) b q
-without_first m s e run b q k none zero' free = record {
-  cut = λ u. omega (arith, count_head m s e run u, more (eqb u e.0) (count m (after m s e) run u), k.cut u);
-  consistent = λ t i u j a d h g n l. elim (placed m s e run t i a h) [
+least_above_without_first_step : {T : Type 0} (m : Machine T) (s : State T) (e : Step) (run : List Step) (b q : Cut)
+    → LeastAbove m (after m s e) run (lower b e.0) q → b e.0 ≡ 0 → q e.0 ≡ 0
+    → ((t j : ℕ) (a : Label) → Emits m (after m s e) run t j a → j < q t → IsNeededBy (label m s e) a → ⊥) → LeastAbove m s (e ∷ run) b q
+least_above_without_first_step m s e run b q k none zero' free = record {
+  cut = λ u. omega (arith, count_of_cons m s e run u, more (eqb u e.0) (count m (after m s e) run u), k.cut u);
+  consistent = λ t i u j a d h g n l. elim (emits_of_cons_cases m s e run t i a h) [
     | inl c ↦ absurd (omega (arith, l, c.1, ap q c.0, zero'))
     | inr c ↦ elim (cases_eq t e.0) [
       | inl same ↦ absurd (omega (arith, l, ap q same, zero'))
       | inr other ↦
           let i' : i ≡ c.place = c.is ∙ ap (λ z. cond z (suc c.place) c.place) (ne_eqb t e.0 other) in
-          elim (placed m s e run u j d g) [
-            | inl p ↦ absurd (free t c.place a c.emits (omega (arith, l, i')) (subst (λ z. Needs z a) p.2 n))
+          elim (emits_of_cons_cases m s e run u j d g) [
+            | inl p ↦ absurd (free t c.place a c.emits (omega (arith, l, i')) (subst (λ z. IsNeededBy z a) p.2 n))
             | inr p ↦
                 let less : p.place < q u = k.consistent t c.place u p.place a d c.emits p.emits n (omega (arith, l, i')) in
                 elim (cases_eq u e.0) [
@@ -148,7 +148,7 @@ without_first m s e run b q k none zero' free = record {
         (ne_eqb u e.0 other) (k.above u)
   ];
   least = λ c con up u. lower_le (eqb u e.0) (q u) (c u)
-      (k.least (lower c e.0) (consistent_later m s e run c con) (λ u. below_lower (eqb u e.0) (b u) (c u) (up u)) u);
+      (k.least (lower c e.0) (consistent_cut_after_first_step m s e run c con) (λ u. pred_if_keeps_order (eqb u e.0) (b u) (c u) (up u)) u);
 }
   where
     more : (b : Bool) (n : ℕ) → n ≤ cond b (suc n) n
@@ -159,9 +159,9 @@ without_first m s e run b q k none zero' free = record {
     lower_le true x y h = let h' : x ≤ pred y = h in omega arith
     lower_le false x y h = h
 
-pub closed : {T : Type 0} (m : Machine T) → IsLawful m → (s : State T) → Good m s → (run : List Step) → IsRun m s run → (b : Cut)
-    → IsCut m s run b → (q : Cut) × Closed m s run b q
-closed m law s good [] ok b cut = (
+pub least_above_exists : {T : Type 0} (m : Machine T) → IsLawful m → (s : State T) → StateInvariant m s → (run : List Step) → IsRun m s run → (b : Cut)
+    → IsCut m s run b → (q : Cut) × LeastAbove m s run b q
+least_above_exists m law s good [] ok b cut = (
   (λ u. 0),
   record {
     cut = λ u. omega arith;
@@ -171,26 +171,26 @@ closed m law s good [] ok b cut = (
     least = λ c con up u. omega arith;
   },
 )
-closed m law s good (e ∷ run) ok b cut =
-    let k = closed m law (after m s e) (stays_good m law s good e ok.0) run ok.1 (lower b e.0)
-    (λ u. shorter (eqb u e.0) (b u) (count m (after m s e) run u) (subst (λ z. b u ≤ z) (count_head m s e run u) (cut u))) in
+least_above_exists m law s good (e ∷ run) ok b cut =
+    let k = least_above_exists m law (after m s e) (state_invariant_after_step m law s good e ok.0) run ok.1 (lower b e.0)
+    (λ u. shorter (eqb u e.0) (b u) (count m (after m s e) run u) (subst (λ z. b u ≤ z) (count_of_cons m s e run u) (cut u))) in
     elim (cases_lt 0 (b e.0)) [
-      | inl h ↦ (further k.0 e.0, with_first m law s good e run ok b k.0 k.1 (λ c con up low. omega (arith, h, up e.0)))
+      | inl h ↦ (further k.0 e.0, least_above_with_first_step m law s good e run ok b k.0 k.1 (λ c con up low. omega (arith, h, up e.0)))
       | inr h ↦ elim (cases_lt 0 (k.0 e.0)) [
         | inl g ↦ (
           further k.0 e.0,
-          with_first m law s good e run ok b k.0 k.1
+          least_above_with_first_step m law s good e run ok b k.0 k.1
               (λ c con up low. omega (arith, g, lower_le (eqb e.0 e.0) (k.0 e.0) (c e.0) (low e.0))),
         )
-        | inr g ↦ elim (wants_or m (after m s e) run k.0 (label m s e)) [
+        | inr g ↦ elim (needing_step_or_none m (after m s e) run k.0 (label m s e)) [
           | inl w ↦ (
             further k.0 e.0,
-            with_first m law s good e run ok b k.0 k.1 (λ c con up low.
+            least_above_with_first_step m law s good e run ok b k.0 k.1 (λ c con up low.
                 con w.thread (cond (eqb w.thread e.0) (suc w.place) w.place) e.0 0 w.emitted (label m s e)
-                (later m s e run w.thread w.place w.emitted w.emits) (foremost m s e run) w.needs
-                (lower_up (eqb w.thread e.0) w.place (c w.thread) (omega (arith, w.inside, low w.thread)))),
+                (emits_after_first_step m s e run w.thread w.place w.emitted w.emits) (first_step_emits_own_label m s e run) w.needs
+                (raised_place_below_number (eqb w.thread e.0) w.place (c w.thread) (omega (arith, w.inside, low w.thread)))),
           )
-          | inr free ↦ (k.0, without_first m s e run b k.0 k.1 (omega arith) (omega arith) free)
+          | inr free ↦ (k.0, least_above_without_first_step m s e run b k.0 k.1 (omega arith) (omega arith) free)
         ]
       ]
     ]
@@ -207,10 +207,10 @@ closed m law s good (e ∷ run) ok b cut =
 abbrev pub raised : Cut → ℕ → ℕ → Cut
 raised p t k u = max (p u) (cond (eqb u t) k 0)
 
-pub least_exists : {T : Type 0} (m : Machine T) → IsLawful m → (s : State T) → Good m s → (run : List Step) → IsRun m s run
+pub least_cut_exists : {T : Type 0} (m : Machine T) → IsLawful m → (s : State T) → StateInvariant m s → (run : List Step) → IsRun m s run
     → (p : Cut) (t k : ℕ) → IsCut m s run p → k ≤ count m s run t → (q : Cut) × IsLeast m s run p t k q
-least_exists m law s good run ok p t k cut hi =
-    let c = closed m law s good run ok (raised p t k)
+least_cut_exists m law s good run ok p t k cut hi =
+    let c = least_above_exists m law s good run ok (raised p t k)
     (λ u. most (eqb u t) (p u) k (count m s run u) (cut u) (λ h. subst (λ z. k ≤ count m s run z) (sym (eqb-true u t h)) hi)) in (
       c.0,
       record {

@@ -5,69 +5,69 @@ use Rattle.std.proofs.lemmas.Bool.{cases_eq, eqb-true, cases_lt}
 use Rattle.ir_runs.specs.Machine.{Machine, Label}
 use Rattle.ir_runs.specs.Lawful.{IsLawful}
 use Rattle.ir_runs.specs.Run.{act, State, Step, after, label, IsRun, count}
-use Rattle.ir_runs.proofs.Good.{Good, stays_good}
-use Rattle.ir_runs.specs.Cuts.{IsGreatest, Emits, Needs, Cut, IsCut, Consistent, lower}
-use Rattle.ir_runs.proofs.Determined.{count_head}
-use Rattle.ir_runs.proofs.Early.{placed, no_later, both_up, both_down}
-use Rattle.ir_runs.proofs.Exist.{needs_or}
-use Rattle.ir_runs.proofs.Sort.{later, foremost, consistent_later, lower_up}
+use Rattle.ir_runs.proofs.Good.{StateInvariant, state_invariant_after_step}
+use Rattle.ir_runs.specs.Cuts.{IsGreatest, Emits, IsNeededBy, Cut, IsCut, Consistent, lower}
+use Rattle.ir_runs.proofs.Determined.{count_of_cons}
+use Rattle.ir_runs.proofs.Early.{emits_of_cons_cases, needed_step_is_not_later, suc_if_keeps_less, suc_if_reflects_less}
+use Rattle.ir_runs.proofs.Exist.{needs_is_decidable}
+use Rattle.ir_runs.proofs.Sort.{emits_after_first_step, first_step_emits_own_label, consistent_cut_after_first_step, raised_place_below_number}
 use Rattle.ir_runs.specs.Admitted.{further}
 
 abbrev pub Among : Label → List Label → Type 0
 Among k [] = ⊥
 Among k (x ∷ xs) = (x ≡ k) ⊎ Among k xs
 
-needs_any : (out : List Label) (a : Label) → ((k : Label) × Among k out × Needs k a) ⊎ ((k : Label) → Among k out → Needs k a → ⊥)
-needs_any [] a = inr (λ k h n. h)
-needs_any (x ∷ xs) a = elim (needs_or x a) [
+needs_among_is_decidable : (out : List Label) (a : Label) → ((k : Label) × Among k out × IsNeededBy k a) ⊎ ((k : Label) → Among k out → IsNeededBy k a → ⊥)
+needs_among_is_decidable [] a = inr (λ k h n. h)
+needs_among_is_decidable (x ∷ xs) a = elim (needs_is_decidable x a) [
   | inl n ↦ inl (x, inl (λ i. x), n)
-  | inr free ↦ elim (needs_any xs a) [
+  | inr free ↦ elim (needs_among_is_decidable xs a) [
     | inl w ↦ inl (w.0, inr w.1, w.2)
-    | inr none ↦ inr (λ k h n. elim h [ inl e ↦ free (subst (λ z. Needs z a) (sym e) n) | inr g ↦ none k g n ])
+    | inr none ↦ inr (λ k h n. elim h [ inl e ↦ free (subst (λ z. IsNeededBy z a) (sym e) n) | inr g ↦ none k g n ])
   ]
 ]
 
 -- no step of the cut needs what is left out
 abbrev pub Avoids : {T : Type 0} → Machine T → State T → List Step → Cut → List Label → Type 0
-Avoids m s run q out = (t i : ℕ) (a k : Label) → Emits m s run t i a → i < q t → Among k out → Needs k a → ⊥
+Avoids m s run q out = (t i : ℕ) (a k : Label) → Emits m s run t i a → i < q t → Among k out → IsNeededBy k a → ⊥
 
 -- the greatest consistent cut at or below b that avoids what is left out
-pub record Highest {T : Type 0} (m : Machine T) (s : State T) (run : List Step) (b : Cut) (out : List Label) (q : Cut) : Type 0 where
+pub record GreatestAvoiding {T : Type 0} (m : Machine T) (s : State T) (run : List Step) (b : Cut) (out : List Label) (q : Cut) : Type 0 where
   pub consistent : Consistent m s run q
   pub avoids : Avoids m s run q out
   pub below : (u : ℕ) → q u ≤ b u
   pub greatest : (c : Cut) → Consistent m s run c → Avoids m s run c out → ((u : ℕ) → c u ≤ b u) → (u : ℕ) → c u ≤ q u
 
-avoids_later : {T : Type 0} (m : Machine T) (s : State T) (e : Step) (run : List Step) (c : Cut) (out : List Label)
+avoids_after_first_step : {T : Type 0} (m : Machine T) (s : State T) (e : Step) (run : List Step) (c : Cut) (out : List Label)
     → Avoids m s (e ∷ run) c out → Avoids m (after m s e) run (lower c e.0) out
-avoids_later m s e run c out f t i a k h l g n =
-    f t (cond (eqb t e.0) (suc i) i) a k (later m s e run t i a h) (lower_up (eqb t e.0) i (c t) l) g n
+avoids_after_first_step m s e run c out f t i a k h l g n =
+    f t (cond (eqb t e.0) (suc i) i) a k (emits_after_first_step m s e run t i a h) (raised_place_below_number (eqb t e.0) i (c t) l) g n
 
-first_less : (n : ℕ) → 0 < suc n
-first_less n = omega arith
+zero_below_suc : (n : ℕ) → 0 < suc n
+zero_below_suc n = omega arith
 
 -- with the first step
-with_first : {T : Type 0} (m : Machine T) → IsLawful m → (s : State T) → Good m s → (e : Step) (run : List Step) → IsRun m s (e ∷ run)
-    → (b q : Cut) (out : List Label) → 0 < b e.0 → ((k : Label) → Among k out → Needs k (label m s e) → ⊥)
-    → Highest m (after m s e) run (lower b e.0) out q → Highest m s (e ∷ run) b out (further q e.0)
-with_first m law s good e run ok b q out more free k = record {
-  consistent = λ t i u j a d h g n l. elim (placed m s e run u j d g) [
+greatest_avoiding_with_first_step : {T : Type 0} (m : Machine T) → IsLawful m → (s : State T) → StateInvariant m s → (e : Step) (run : List Step) → IsRun m s (e ∷ run)
+    → (b q : Cut) (out : List Label) → 0 < b e.0 → ((k : Label) → Among k out → IsNeededBy k (label m s e) → ⊥)
+    → GreatestAvoiding m (after m s e) run (lower b e.0) out q → GreatestAvoiding m s (e ∷ run) b out (further q e.0)
+greatest_avoiding_with_first_step m law s good e run ok b q out more free k = record {
+  consistent = λ t i u j a d h g n l. elim (emits_of_cons_cases m s e run u j d g) [
     | inl p ↦ subst (λ z. z < further q e.0 u) (sym p.1)
-        (subst (λ z. 0 < cond z (suc (q u)) (q u)) (sym (eq-eqb u e.0 p.0)) (first_less (q u)))
-    | inr p ↦ elim (placed m s e run t i a h) [
-      | inl c ↦ absurd (no_later m law s good e ok.0 run ok.1 u p.place p.emits.0 d (act m s e) refl p.emits.1 (subst (Needs d) c.2 n))
+        (subst (λ z. 0 < cond z (suc (q u)) (q u)) (sym (eq-eqb u e.0 p.0)) (zero_below_suc (q u)))
+    | inr p ↦ elim (emits_of_cons_cases m s e run t i a h) [
+      | inl c ↦ absurd (needed_step_is_not_later m law s good e ok.0 run ok.1 u p.place p.emits.0 d (act m s e) refl p.emits.1 (subst (IsNeededBy d) c.2 n))
       | inr c ↦ subst (λ z. z < further q e.0 u) (sym p.is)
-          (both_up (eqb u e.0) p.place (q u) (k.consistent t c.place u p.place a d c.emits p.emits n
-          (both_down (eqb t e.0) c.place (q t) (subst (λ z. z < further q e.0 t) c.is l))))
+          (suc_if_keeps_less (eqb u e.0) p.place (q u) (k.consistent t c.place u p.place a d c.emits p.emits n
+          (suc_if_reflects_less (eqb t e.0) c.place (q t) (subst (λ z. z < further q e.0 t) c.is l))))
     ]
   ];
-  avoids = λ t i a x h l g n. elim (placed m s e run t i a h) [
-    | inl c ↦ free x g (subst (Needs x) c.2 n)
-    | inr c ↦ k.avoids t c.place a x c.emits (both_down (eqb t e.0) c.place (q t) (subst (λ z. z < further q e.0 t) c.is l)) g n
+  avoids = λ t i a x h l g n. elim (emits_of_cons_cases m s e run t i a h) [
+    | inl c ↦ free x g (subst (IsNeededBy x) c.2 n)
+    | inr c ↦ k.avoids t c.place a x c.emits (suc_if_reflects_less (eqb t e.0) c.place (q t) (subst (λ z. z < further q e.0 t) c.is l)) g n
   ];
   below = λ u. under (eqb u e.0) (q u) (b u) (k.below u) (λ p. subst (λ z. 0 < b z) (sym (eqb-true u e.0 p)) more);
   greatest = λ c con av down u. over (eqb u e.0) (c u) (q u)
-      (k.greatest (lower c e.0) (consistent_later m s e run c con) (avoids_later m s e run c out av)
+      (k.greatest (lower c e.0) (consistent_cut_after_first_step m s e run c con) (avoids_after_first_step m s e run c out av)
       (λ w. below_lower (eqb w e.0) (c w) (b w) (down w)) u);
 }
   where
@@ -84,40 +84,40 @@ with_first m law s good e run ok b q out more free k = record {
     below_lower false x y h = h
 
 -- b, but 0 at t
-abbrev pub without : Cut → ℕ → Cut
-without b t u = cond (eqb u t) 0 (b u)
+abbrev pub with_zero_at : Cut → ℕ → Cut
+with_zero_at b t u = cond (eqb u t) 0 (b u)
 
 -- without the first step
-without_first : {T : Type 0} (m : Machine T) (s : State T) (e : Step) (run : List Step) (b q : Cut) (out : List Label)
+greatest_avoiding_without_first_step : {T : Type 0} (m : Machine T) (s : State T) (e : Step) (run : List Step) (b q : Cut) (out : List Label)
     → ((c : Cut) → Avoids m s (e ∷ run) c out → ((u : ℕ) → c u ≤ b u) → c e.0 ≡ 0)
-    → Highest m (after m s e) run (without b e.0) (label m s e ∷ out) q → Highest m s (e ∷ run) b out q
-without_first m s e run b q out never k = record {
-  consistent = λ t i u j a d h g n l. elim (placed m s e run t i a h) [
+    → GreatestAvoiding m (after m s e) run (with_zero_at b e.0) (label m s e ∷ out) q → GreatestAvoiding m s (e ∷ run) b out q
+greatest_avoiding_without_first_step m s e run b q out never k = record {
+  consistent = λ t i u j a d h g n l. elim (emits_of_cons_cases m s e run t i a h) [
     | inl c ↦ absurd (omega (arith, l, ap q c.0, none))
     | inr c ↦
         let l' : c.place < q t = at_other t i c.place c.is l in
-        elim (placed m s e run u j d g) [
+        elim (emits_of_cons_cases m s e run u j d g) [
           | inl p ↦ absurd (k.avoids t c.place a d c.emits l' (inl (sym p.2)) n)
           | inr p ↦ from_other u j p.place p.is (k.consistent t c.place u p.place a d c.emits p.emits n l')
         ]
   ];
-  avoids = λ t i a x h l g n. elim (placed m s e run t i a h) [
+  avoids = λ t i a x h l g n. elim (emits_of_cons_cases m s e run t i a h) [
     | inl c ↦ omega (arith, l, ap q c.0, none)
     | inr c ↦ k.avoids t c.place a x c.emits (at_other t i c.place c.is l) (inr g) n
   ];
   below = λ u. nothing_less (eqb u e.0) (q u) (b u) (k.below u);
   greatest = λ c con av down u. k.greatest c
       (λ t i w j a d h g n l. from_later c (never c av down) w j
-      (con t (cond (eqb t e.0) (suc i) i) w (cond (eqb w e.0) (suc j) j) a d (later m s e run t i a h) (later m s e run w j d g) n
+      (con t (cond (eqb t e.0) (suc i) i) w (cond (eqb w e.0) (suc j) j) a d (emits_after_first_step m s e run t i a h) (emits_after_first_step m s e run w j d g) n
       (to_later c (never c av down) t i l)))
       (λ t i a x h l g n. elim g [
         | inl same ↦ omega (
           arith,
           never c av down,
-          con t (cond (eqb t e.0) (suc i) i) e.0 0 a x (later m s e run t i a h)
-              (subst (Emits m s (e ∷ run) e.0 0) same (foremost m s e run)) n (to_later c (never c av down) t i l),
+          con t (cond (eqb t e.0) (suc i) i) e.0 0 a x (emits_after_first_step m s e run t i a h)
+              (subst (Emits m s (e ∷ run) e.0 0) same (first_step_emits_own_label m s e run)) n (to_later c (never c av down) t i l),
         )
-        | inr among ↦ av t (cond (eqb t e.0) (suc i) i) a x (later m s e run t i a h) (to_later c (never c av down) t i l) among n
+        | inr among ↦ av t (cond (eqb t e.0) (suc i) i) a x (emits_after_first_step m s e run t i a h) (to_later c (never c av down) t i l) among n
       ])
       (λ w. elim (cases_eq w e.0) [
         | inl same ↦ omega (arith, ap c same, never c av down)
@@ -161,9 +161,9 @@ without_first m s e run b q out never k = record {
         below_it true i n h = let h' : suc i < n = h in omega arith
         below_it false i n h = h
 
-pub highest : {T : Type 0} (m : Machine T) → IsLawful m → (s : State T) → Good m s → (run : List Step) → IsRun m s run
-    → (b : Cut) (out : List Label) → ((u : ℕ) → b u ≤ count m s run u) → (q : Cut) × Highest m s run b out q
-highest m law s good [] ok b out cut = (
+pub greatest_avoiding_exists : {T : Type 0} (m : Machine T) → IsLawful m → (s : State T) → StateInvariant m s → (run : List Step) → IsRun m s run
+    → (b : Cut) (out : List Label) → ((u : ℕ) → b u ≤ count m s run u) → (q : Cut) × GreatestAvoiding m s run b out q
+greatest_avoiding_exists m law s good [] ok b out cut = (
   b,
   record {
     consistent = λ t i u j a d h g n l. absurd h.1;
@@ -173,22 +173,22 @@ highest m law s good [] ok b out cut = (
     greatest = λ c con av down u. down u;
   },
 )
-highest m law s good (e ∷ run) ok b out cut =
-    let good' = stays_good m law s good e ok.0 in
-    let gone = highest m law (after m s e) good' run ok.1 (without b e.0) (label m s e ∷ out)
-    (λ u. cut_without (eqb u e.0) (b u) (count m (after m s e) run u) (subst (λ z. b u ≤ z) (count_head m s e run u) (cut u))) in
-    let kept = highest m law (after m s e) good' run ok.1 (lower b e.0) out
-    (λ u. shorter (eqb u e.0) (b u) (count m (after m s e) run u) (subst (λ z. b u ≤ z) (count_head m s e run u) (cut u))) in
+greatest_avoiding_exists m law s good (e ∷ run) ok b out cut =
+    let good' = state_invariant_after_step m law s good e ok.0 in
+    let gone = greatest_avoiding_exists m law (after m s e) good' run ok.1 (with_zero_at b e.0) (label m s e ∷ out)
+    (λ u. cut_without (eqb u e.0) (b u) (count m (after m s e) run u) (subst (λ z. b u ≤ z) (count_of_cons m s e run u) (cut u))) in
+    let kept = greatest_avoiding_exists m law (after m s e) good' run ok.1 (lower b e.0) out
+    (λ u. shorter (eqb u e.0) (b u) (count m (after m s e) run u) (subst (λ z. b u ≤ z) (count_of_cons m s e run u) (cut u))) in
     elim (cases_lt 0 (b e.0)) [
-      | inr h ↦ (gone.0, without_first m s e run b gone.0 out (λ c av down. omega (arith, h, down e.0)) gone.1)
-      | inl h ↦ elim (needs_any out (label m s e)) [
+      | inr h ↦ (gone.0, greatest_avoiding_without_first_step m s e run b gone.0 out (λ c av down. omega (arith, h, down e.0)) gone.1)
+      | inl h ↦ elim (needs_among_is_decidable out (label m s e)) [
         | inl w ↦ (
           gone.0,
-          without_first m s e run b gone.0 out
+          greatest_avoiding_without_first_step m s e run b gone.0 out
               (λ c av down. elim (cases_lt 0 (c e.0))
-              [ inl l ↦ absurd (av e.0 0 (label m s e) w.0 (foremost m s e run) l w.1 w.2) | inr l ↦ omega arith ]) gone.1,
+              [ inl l ↦ absurd (av e.0 0 (label m s e) w.0 (first_step_emits_own_label m s e run) l w.1 w.2) | inr l ↦ omega arith ]) gone.1,
         )
-        | inr free ↦ (further kept.0 e.0, with_first m law s good e run ok b kept.0 out h free kept.1)
+        | inr free ↦ (further kept.0 e.0, greatest_avoiding_with_first_step m law s good e run ok b kept.0 out h free kept.1)
       ]
     ]
   where
@@ -200,10 +200,10 @@ highest m law s good (e ∷ run) ok b out cut =
     cut_without true x n h = let g : 0 ≤ n = omega arith in g
     cut_without false x n h = h
 
-pub greatest_exists : {T : Type 0} (m : Machine T) → IsLawful m → (s : State T) → Good m s → (run : List Step) → IsRun m s run
+pub greatest_cut_exists : {T : Type 0} (m : Machine T) → IsLawful m → (s : State T) → StateInvariant m s → (run : List Step) → IsRun m s run
     → (p : Cut) (t k : ℕ) → IsCut m s run p → (q : Cut) × IsGreatest m s run p t k q
-greatest_exists m law s good run ok p t k cut =
-    let g = highest m law s good run ok (λ u. min (p u) (cond (eqb u t) k (p u))) [] (λ u. omega (arith, cut u)) in (
+greatest_cut_exists m law s good run ok p t k cut =
+    let g = greatest_avoiding_exists m law s good run ok (λ u. min (p u) (cond (eqb u t) k (p u))) [] (λ u. omega (arith, cut u)) in (
       g.0,
       record {
         cut = λ u. omega (arith, g.1.below u, cut u);

@@ -5,33 +5,33 @@ use Rattle.ir_runs.specs.Machine.{Done, Act, Silent, Result, Entry, Refusal, Exi
 use Rattle.ir_runs.specs.Lawful.{IsLawful}
 use Rattle.ir_runs.specs.declared.access.Access.TheVariants.{Reading, Writing}
 use Rattle.ir_runs.specs.Run.{act, State, Step, asked, Can, after, label, trail}
-use Rattle.ir_runs.proofs.Good.{Good, stays_good}
-use Rattle.ir_runs.proofs.Stuck.{search_below, is_writing, is_inside, not_inside}
-use Rattle.ir_runs.proofs.Confluent.{steps_left, log_left, Goes_on, first_fits, rest_fits, fits_join, below_done}
-use Rattle.ir_runs.proofs.Judge.{same_kind, both, all_three, is_met, same_access}
-use Rattle.ir_runs.proofs.OneResult.{one_act}
-use Rattle.ir_runs.proofs.Own.{below_idle}
-use Rattle.ir_runs.proofs.Tally.{sum_less}
+use Rattle.ir_runs.proofs.Good.{StateInvariant, state_invariant_after_step}
+use Rattle.ir_runs.proofs.Stuck.{search_for_value_below, writing_is_decidable, inside_is_decidable, done_thread_is_not_inside}
+use Rattle.ir_runs.proofs.Confluent.{steps_left, log_left, FollowsRemainder, first_step_follows_remainder, later_steps_follow_remainder, join_if_fits, stepping_thread_is_below_idle}
+use Rattle.ir_runs.proofs.Judge.{env_kind_equality_is_decidable, pair_is_decidable, triple_is_decidable, meets_is_decidable, access_equality_is_decidable}
+use Rattle.ir_runs.proofs.OneResult.{following_act_is_of_logged_result}
+use Rattle.ir_runs.proofs.Own.{step_below_idle_keeps_idle}
+use Rattle.ir_runs.proofs.Tally.{sum_below_less_if_one_less}
 use Rattle.ir_runs.specs.Coherent.{sum_below}
 use Rattle.ir_runs.specs.Following.{unlogged, ends_now, closing}
 use Rattle.ir_runs.specs.Events.{result_of}
 
-is_logged : (k : Label) (es : List Label) → (logged k (unlogged k es) ≡ es) ⊎ ((logged k (unlogged k es) ≡ es) → ⊥)
-is_logged Quiet es = inl refl
-is_logged (Answer i v) [] = inr (λ h. cc h)
-is_logged (Answer i v) (Quiet ∷ es) = inr (λ h. cc h)
-is_logged (Answer i v) (Answer j w ∷ es) = elim (same_kind i j) [
+logged_unlogged_is_decidable : (k : Label) (es : List Label) → (logged k (unlogged k es) ≡ es) ⊎ ((logged k (unlogged k es) ≡ es) → ⊥)
+logged_unlogged_is_decidable Quiet es = inl refl
+logged_unlogged_is_decidable (Answer i v) [] = inr (λ h. cc h)
+logged_unlogged_is_decidable (Answer i v) (Quiet ∷ es) = inr (λ h. cc h)
+logged_unlogged_is_decidable (Answer i v) (Answer j w ∷ es) = elim (env_kind_equality_is_decidable i j) [
   | inl p ↦ elim (cases_eq v w) [ inl q ↦ inl (λ z. Answer (p z) (q z) ∷ es) | inr f ↦ inr (λ h. f (cc h)) ]
   | inr f ↦ inr (λ h. f (cc h))
 ]
-is_logged (Answer i v) (In p c w j ∷ es) = inr (λ h. cc h)
-is_logged (Answer i v) (Refused p ∷ es) = inr (λ h. cc h)
-is_logged (Answer i v) (Out p c w ∷ es) = inr (λ h. cc h)
-is_logged (In o a v l) [] = inr (λ h. cc h)
-is_logged (In o a v l) (Quiet ∷ es) = inr (λ h. cc h)
-is_logged (In o a v l) (Answer j w ∷ es) = inr (λ h. cc h)
-is_logged (In o a v l) (In p c w j ∷ es) = elim (cases_eq o p) [
-  | inl e ↦ elim (same_access a c) [
+logged_unlogged_is_decidable (Answer i v) (In p c w j ∷ es) = inr (λ h. cc h)
+logged_unlogged_is_decidable (Answer i v) (Refused p ∷ es) = inr (λ h. cc h)
+logged_unlogged_is_decidable (Answer i v) (Out p c w ∷ es) = inr (λ h. cc h)
+logged_unlogged_is_decidable (In o a v l) [] = inr (λ h. cc h)
+logged_unlogged_is_decidable (In o a v l) (Quiet ∷ es) = inr (λ h. cc h)
+logged_unlogged_is_decidable (In o a v l) (Answer j w ∷ es) = inr (λ h. cc h)
+logged_unlogged_is_decidable (In o a v l) (In p c w j ∷ es) = elim (cases_eq o p) [
+  | inl e ↦ elim (access_equality_is_decidable a c) [
     | inl f ↦ elim (cases_eq v w) [
       | inl g ↦ elim (cases_eq l j) [ inl k ↦ inl (λ z. In (e z) (f z) (g z) (k z) ∷ es) | inr ne ↦ inr (λ h. ne (cc h)) ]
       | inr ne ↦ inr (λ h. ne (cc h))
@@ -40,104 +40,104 @@ is_logged (In o a v l) (In p c w j ∷ es) = elim (cases_eq o p) [
   ]
   | inr ne ↦ inr (λ h. ne (cc h))
 ]
-is_logged (In o a v l) (Refused p ∷ es) = inr (λ h. cc h)
-is_logged (In o a v l) (Out p c w ∷ es) = inr (λ h. cc h)
-is_logged (Refused o) [] = inr (λ h. cc h)
-is_logged (Refused o) (Quiet ∷ es) = inr (λ h. cc h)
-is_logged (Refused o) (Answer j w ∷ es) = inr (λ h. cc h)
-is_logged (Refused o) (In p c w j ∷ es) = inr (λ h. cc h)
-is_logged (Refused o) (Refused p ∷ es) = elim (cases_eq o p) [ inl e ↦ inl (λ z. Refused (e z) ∷ es) | inr ne ↦ inr (λ h. ne (cc h)) ]
-is_logged (Refused o) (Out p c w ∷ es) = inr (λ h. cc h)
-is_logged (Out o a v) es = inl refl
+logged_unlogged_is_decidable (In o a v l) (Refused p ∷ es) = inr (λ h. cc h)
+logged_unlogged_is_decidable (In o a v l) (Out p c w ∷ es) = inr (λ h. cc h)
+logged_unlogged_is_decidable (Refused o) [] = inr (λ h. cc h)
+logged_unlogged_is_decidable (Refused o) (Quiet ∷ es) = inr (λ h. cc h)
+logged_unlogged_is_decidable (Refused o) (Answer j w ∷ es) = inr (λ h. cc h)
+logged_unlogged_is_decidable (Refused o) (In p c w j ∷ es) = inr (λ h. cc h)
+logged_unlogged_is_decidable (Refused o) (Refused p ∷ es) = elim (cases_eq o p) [ inl e ↦ inl (λ z. Refused (e z) ∷ es) | inr ne ↦ inr (λ h. ne (cc h)) ]
+logged_unlogged_is_decidable (Refused o) (Out p c w ∷ es) = inr (λ h. cc h)
+logged_unlogged_is_decidable (Out o a v) es = inl refl
 
-is_true : (b : Bool) → (b ≡ true) ⊎ ((b ≡ true) → ⊥)
-is_true true = inl refl
-is_true false = inr (λ h. cc h)
+true_is_decidable : (b : Bool) → (b ≡ true) ⊎ ((b ≡ true) → ⊥)
+true_is_decidable true = inl refl
+true_is_decidable false = inr (λ h. cc h)
 
-is_admitted : {T : Type 0} (m : Machine T) → IsLawful m → (s : State T) → Good m s → (n : ℕ) → ((t : ℕ) → n ≤ t → asked m s t ≡ Done)
+admits_is_decidable : {T : Type 0} (m : Machine T) → IsLawful m → (s : State T) → StateInvariant m s → (n : ℕ) → ((t : ℕ) → n ≤ t → asked m s t ≡ Done)
     → (q : Act) → Admits m q (s.objects (target q)) ⊎ (Admits m q (s.objects (target q)) → ⊥)
-is_admitted m law s good n idle Silent = inl tt
-is_admitted m law s good n idle (Result k v) = is_true (m.fits k v)
-is_admitted m law s good n idle (Entry o Reading v) =
-    elim (search_below (λ x. x ≡ Some Writing) (λ x. x ≢ Some Writing) is_writing (s.objects o).inside n) [
+admits_is_decidable m law s good n idle Silent = inl tt
+admits_is_decidable m law s good n idle (Result k v) = true_is_decidable (m.fits k v)
+admits_is_decidable m law s good n idle (Entry o Reading v) =
+    elim (search_for_value_below (λ x. x ≡ Some Writing) (λ x. x ≢ Some Writing) writing_is_decidable (s.objects o).inside n) [
       | inl w ↦ inr (λ h. h w.0 w.1)
-      | inr none ↦ inl (λ u e. elim (cases_lt u n) [ inl l ↦ none u l e | inr g ↦ cc (not_inside m law s good u o (idle u g), e) ])
+      | inr none ↦ inl (λ u e. elim (cases_lt u n) [ inl l ↦ none u l e | inr g ↦ cc (done_thread_is_not_inside m law s good u o (idle u g), e) ])
     ]
-is_admitted m law s good n idle (Entry o Writing v) = elim (search_below (λ x. x ≢ None) (λ x. x ≡ None) is_inside (s.objects o).inside n) [
+admits_is_decidable m law s good n idle (Entry o Writing v) = elim (search_for_value_below (λ x. x ≢ None) (λ x. x ≡ None) inside_is_decidable (s.objects o).inside n) [
   | inl w ↦ inr (λ h. w.1 (h w.0))
-  | inr none ↦ inl (λ u. elim (cases_lt u n) [ inl l ↦ none u l | inr g ↦ not_inside m law s good u o (idle u g) ])
+  | inr none ↦ inl (λ u. elim (cases_lt u n) [ inl l ↦ none u l | inr g ↦ done_thread_is_not_inside m law s good u o (idle u g) ])
 ]
-is_admitted m law s good n idle (Refusal o) = inl tt
-is_admitted m law s good n idle (Exit o a) = inl tt
-is_admitted m law s good n idle (Load o i) = inl tt
-is_admitted m law s good n idle (Store o i w) = inl tt
-is_admitted m law s good n idle Never = inr (λ h. h)
+admits_is_decidable m law s good n idle (Refusal o) = inl tt
+admits_is_decidable m law s good n idle (Exit o a) = inl tt
+admits_is_decidable m law s good n idle (Load o i) = inl tt
+admits_is_decidable m law s good n idle (Store o i w) = inl tt
+admits_is_decidable m law s good n idle Never = inr (λ h. h)
 
-search_threads : (P : ℕ → Type 0) → ((t : ℕ) → P t ⊎ (P t → ⊥)) → (n : ℕ) → ((t : ℕ) × (t < n) × P t) ⊎ ((t : ℕ) → t < n → P t → ⊥)
-search_threads P decide zero = inr (λ t l h. omega arith)
-search_threads P decide (suc n) = elim (decide n) [
+search_for_thread_below : (P : ℕ → Type 0) → ((t : ℕ) → P t ⊎ (P t → ⊥)) → (n : ℕ) → ((t : ℕ) × (t < n) × P t) ⊎ ((t : ℕ) → t < n → P t → ⊥)
+search_for_thread_below P decide zero = inr (λ t l h. omega arith)
+search_for_thread_below P decide (suc n) = elim (decide n) [
   | inl p ↦ inl (n, omega arith, p)
-  | inr f ↦ elim (search_threads P decide n) [
+  | inr f ↦ elim (search_for_thread_below P decide n) [
     | inl w ↦ inl (w.0, omega (arith, w.1), w.2)
     | inr none ↦ inr (λ t l h. elim (cases_eq t n) [ inl e ↦ f (subst P e h) | inr ne ↦ none t (omega arith) h ])
   ]
 ]
 
 -- the step follows what is left
-abbrev Next : {T : Type 0} → Machine T → Trace → State T → (ℕ → ℕ) → (ℕ → List Label) → Step → Type 0
-Next m tr s ns rem e = Can m s e × ((0 < ns e.0) × (logged (label m s e) (unlogged (label m s e) (rem e.0)) ≡ rem e.0)
+abbrev NextStepFollows : {T : Type 0} → Machine T → Trace → State T → (ℕ → ℕ) → (ℕ → List Label) → Step → Type 0
+NextStepFollows m tr s ns rem e = Can m s e × ((0 < ns e.0) × (logged (label m s e) (unlogged (label m s e) (rem e.0)) ≡ rem e.0)
     × closing m tr e.0 (s.now e.0) (ns e.0) (rem e.0))
 
-pub record Built {T : Type 0} (m : Machine T) (tr : Trace) (s : State T) (ns : ℕ → ℕ) (rem : ℕ → List Label) : Type 0 where
+pub record MaximalRun {T : Type 0} (m : Machine T) (tr : Trace) (s : State T) (ns : ℕ → ℕ) (rem : ℕ → List Label) : Type 0 where
   pub run : List Step
-  pub ok : Goes_on (closing m tr) m s ns rem run
-  pub top : (x : Step) → Goes_on (closing m tr) m s ns rem (run ++ x ∷ []) → ⊥
+  pub ok : FollowsRemainder (closing m tr) m s ns rem run
+  pub top : (x : Step) → FollowsRemainder (closing m tr) m s ns rem (run ++ x ∷ []) → ⊥
 
-pred_least : (b : Bool) (n : ℕ) → cond b (pred n) n ≤ n
-pred_least true n = let g : pred n ≤ n = omega arith in g
-pred_least false n = let g : n ≤ n = omega arith in g
+pred_if_is_at_most : (b : Bool) (n : ℕ) → cond b (pred n) n ≤ n
+pred_if_is_at_most true n = let g : pred n ≤ n = omega arith in g
+pred_if_is_at_most false n = let g : n ≤ n = omega arith in g
 
-pred_less : (b : Bool) (n : ℕ) → b ≡ true → 0 < n → cond b (pred n) n < n
-pred_less true n p l = let g : pred n < n = omega (arith, l) in g
-pred_less false n p l = absurd (cc p)
+pred_if_is_below : (b : Bool) (n : ℕ) → b ≡ true → 0 < n → cond b (pred n) n < n
+pred_if_is_below true n p l = let g : pred n < n = omega (arith, l) in g
+pred_if_is_below false n p l = absurd (cc p)
 
-pub build : {T : Type 0} (fuel n : ℕ) (m : Machine T) → IsLawful m → (tr : Trace) (s : State T) → Good m s
-    → ((t : ℕ) → n ≤ t → asked m s t ≡ Done) → (ns : ℕ → ℕ) (rem : ℕ → List Label) → sum_below n ns < fuel → Built m tr s ns rem
-build zero n m law tr s good idle ns rem less = absurd (omega (arith, less))
-build (suc d) n m law tr s good idle ns rem less = elim (search_threads (λ t. Next m tr s ns rem (t, result_of (asked m s t) (rem t)))
-    (λ t. both (is_admitted m law s good n idle (act m s (t, result_of (asked m s t) (rem t))))
-    (all_three (positive (ns t)) (is_logged (label m s (t, result_of (asked m s t) (rem t))) (rem t))
-    (is_met (ends_now m (s.now t)) (tr.ends t) (m.size (s.now t)) (ns t) (rem t)))) n) [
+pub maximal_run_exists : {T : Type 0} (fuel n : ℕ) (m : Machine T) → IsLawful m → (tr : Trace) (s : State T) → StateInvariant m s
+    → ((t : ℕ) → n ≤ t → asked m s t ≡ Done) → (ns : ℕ → ℕ) (rem : ℕ → List Label) → sum_below n ns < fuel → MaximalRun m tr s ns rem
+maximal_run_exists zero n m law tr s good idle ns rem less = absurd (omega (arith, less))
+maximal_run_exists (suc d) n m law tr s good idle ns rem less = elim (search_for_thread_below (λ t. NextStepFollows m tr s ns rem (t, result_of (asked m s t) (rem t)))
+    (λ t. pair_is_decidable (admits_is_decidable m law s good n idle (act m s (t, result_of (asked m s t) (rem t))))
+    (triple_is_decidable (positive (ns t)) (logged_unlogged_is_decidable (label m s (t, result_of (asked m s t) (rem t))) (rem t))
+    (meets_is_decidable (ends_now m (s.now t)) (tr.ends t) (m.size (s.now t)) (ns t) (rem t)))) n) [
       | inl w ↦
           let e : Step = (w.0, result_of (asked m s w.0) (rem w.0)) in
-          let next : Next m tr s ns rem e = w.2 in
-          let b : Built m tr (after m s e) (steps_left ns e) (log_left rem e (label m s e)) =
-          build d n m law tr (after m s e) (stays_good m law s good e next.0) (below_idle m s n idle e next.0).1 (steps_left ns e)
+          let next : NextStepFollows m tr s ns rem e = w.2 in
+          let b : MaximalRun m tr (after m s e) (steps_left ns e) (log_left rem e (label m s e)) =
+          maximal_run_exists d n m law tr (after m s e) (state_invariant_after_step m law s good e next.0) (step_below_idle_keeps_idle m s n idle e next.0).1 (steps_left ns e)
           (log_left rem e (label m s e))
           (omega (
             arith,
             less,
-            sum_less n e.0 (steps_left ns e) ns w.1 (pred_less (eqb e.0 e.0) (ns e.0) (eq-eqb e.0 e.0 refl) next.1.0)
-                (λ u. pred_least (eqb u e.0) (ns u)),
+            sum_below_less_if_one_less n e.0 (steps_left ns e) ns w.1 (pred_if_is_below (eqb e.0 e.0) (ns e.0) (eq-eqb e.0 e.0 refl) next.1.0)
+                (λ u. pred_if_is_at_most (eqb u e.0) (ns u)),
           )) in
           record {
             run = e ∷ b.run;
             ok = (
               (next.0, b.ok.0),
-              λ t. fits_join (closing m tr t) (ns t) (rem t) (eqb t e.0) (s.now t, label m s e) (trail m (after m s e) b.run t)
+              λ t. join_if_fits (closing m tr t) (ns t) (rem t) (eqb t e.0) (s.now t, label m s e) (trail m (after m s e) b.run t)
                   (λ p. subst (λ z. (0 < ns z) × (logged (label m s e) (unlogged (label m s e) (rem z)) ≡ rem z)
                   × closing m tr z (s.now z) (ns z) (rem z)) (sym (eqb-true t e.0 p)) next.1) (b.ok.1 t),
             );
-            top = λ x h. b.top x (rest_fits (closing m tr) m s ns rem e (b.run ++ x ∷ []) h);
+            top = λ x h. b.top x (later_steps_follow_remainder (closing m tr) m s ns rem e (b.run ++ x ∷ []) h);
           }
       | inr none ↦ record {
         run = [];
         ok = (tt, λ t. tt);
         top = λ x h.
-            let f = first_fits (closing m tr) m s ns rem x [] h in
+            let f = first_step_follows_remainder (closing m tr) m s ns rem x [] h in
             let p : act m s x ≡ act m s (x.0, result_of (asked m s x.0) (rem x.0)) =
-            one_act m (asked m s x.0) x.1 (s.objects (target (act m s x))) (rem x.0) h.0.0 f.1 in
-            none x.0 (below_done m s n idle x h.0.0) (
+            following_act_is_of_logged_result m (asked m s x.0) x.1 (s.objects (target (act m s x))) (rem x.0) h.0.0 f.1 in
+            none x.0 (stepping_thread_is_below_idle m s n idle x h.0.0) (
               subst (λ z. Admits m z (s.objects (target z))) p h.0.0,
               (
                 f.0,

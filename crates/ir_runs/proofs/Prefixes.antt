@@ -4,15 +4,15 @@ use Rattle.std.proofs.Math.Seq.{take-append_seam}
 use Rattle.ir_runs.specs.Machine.{Machine, Label}
 use Rattle.ir_runs.specs.Lawful.{IsLawful}
 use Rattle.ir_runs.specs.Run.{State, Step, IsRun, end, trail, events, log, count}
-use Rattle.ir_runs.proofs.Append.{trail_append, run_append}
-use Rattle.ir_runs.proofs.Good.{Good}
+use Rattle.ir_runs.proofs.Append.{trail_append, append_of_runs_is_run}
+use Rattle.ir_runs.proofs.Good.{StateInvariant}
 use Rattle.ir_runs.specs.Cuts.{Cut, IsCut, Consistent, part}
-use Rattle.ir_runs.proofs.Determined.{trails_cut}
-use Rattle.ir_runs.proofs.Same.{Goes, goes, alike}
-use Rattle.ir_runs.proofs.Sort.{Sorted, sort}
-use Rattle.ir_runs.proofs.Early.{moment, early}
-use Rattle.ir_runs.proofs.Order.{whole, consistent_same}
-use Rattle.ir_runs.proofs.Admit.{moment_append}
+use Rattle.ir_runs.proofs.Determined.{consistent_cut_if_same_trails}
+use Rattle.ir_runs.proofs.Same.{BeginsRun, run_with_beginning_logs_begins_run, same_logs_give_same_trails}
+use Rattle.ir_runs.proofs.Sort.{PartIsRun, part_in_consistent_cut_is_run}
+use Rattle.ir_runs.proofs.Early.{moment, moment_is_consistent_cut}
+use Rattle.ir_runs.proofs.Order.{moment_at_length_is_count, equal_cut_is_consistent}
+use Rattle.ir_runs.proofs.Admit.{moment_of_append_at_length}
 
 -- the prefix leads to the cut p of the run, which is consistent
 pub record IsPrefix {T : Type 0} (m : Machine T) (s : State T) (run prefix : List Step) (p : Cut) : Type 0 where
@@ -21,33 +21,33 @@ pub record IsPrefix {T : Type 0} (m : Machine T) (s : State T) (run prefix : Lis
   pub same_end : end m s prefix ≡ end m s (part run p)
 
 -- the positions at its end are a consistent cut
-consistent_at : {T : Type 0} (m : Machine T) → IsLawful m → (s : State T) → Good m s → (run prefix : List Step) → IsRun m s prefix
-    → Goes m s prefix run → (p : Cut) → ((t : ℕ) → count m s prefix t ≡ p t) → Consistent m s run p
-consistent_at m law s good run prefix ok g p is =
-    trails_cut m s (prefix ++ g.rest) run (λ u. trail_append m s prefix g.rest u ∙ g.same_trail u) p
-    (consistent_same m s (prefix ++ g.rest) (moment (prefix ++ g.rest) (length prefix)) p
-    (λ u. moment_append prefix g.rest u ∙ whole m s prefix u ∙ is u)
-    (early m law s good (prefix ++ g.rest) (run_append m s prefix g.rest ok g.ok) (length prefix)))
+positions_of_beginning_are_consistent : {T : Type 0} (m : Machine T) → IsLawful m → (s : State T) → StateInvariant m s → (run prefix : List Step) → IsRun m s prefix
+    → BeginsRun m s prefix run → (p : Cut) → ((t : ℕ) → count m s prefix t ≡ p t) → Consistent m s run p
+positions_of_beginning_are_consistent m law s good run prefix ok g p is =
+    consistent_cut_if_same_trails m s (prefix ++ g.rest) run (λ u. trail_append m s prefix g.rest u ∙ g.same_trail u) p
+    (equal_cut_is_consistent m s (prefix ++ g.rest) (moment (prefix ++ g.rest) (length prefix)) p
+    (λ u. moment_of_append_at_length prefix g.rest u ∙ moment_at_length_is_count m s prefix u ∙ is u)
+    (moment_is_consistent_cut m law s good (prefix ++ g.rest) (append_of_runs_is_run m s prefix g.rest ok g.ok) (length prefix)))
 
 -- its steps are those in the cut
-same_steps : {T : Type 0} (m : Machine T) (s : State T) (run prefix : List Step) → Goes m s prefix run → (p : Cut)
+trail_of_beginning_is_taken : {T : Type 0} (m : Machine T) (s : State T) (run prefix : List Step) → BeginsRun m s prefix run → (p : Cut)
     → ((t : ℕ) → count m s prefix t ≡ p t) → (u : ℕ) → trail m s prefix u ≡ take (p u) (trail m s run u)
-same_steps m s run prefix g p is u =
+trail_of_beginning_is_taken m s run prefix g p is u =
     sym (take-append_seam (trail m s prefix u) (trail m (end m s prefix) g.rest u)) ∙ ap (take (count m s prefix u)) (g.same_trail u)
     ∙ ap (λ n. take n (trail m s run u)) (is u)
 
-pub prefix_at : {T : Type 0} (m : Machine T) → IsLawful m → (s : State T) → Good m s → (run prefix : List Step) → IsRun m s run
+pub run_with_beginning_logs_is_prefix : {T : Type 0} (m : Machine T) → IsLawful m → (s : State T) → StateInvariant m s → (run prefix : List Step) → IsRun m s run
     → IsRun m s prefix → (left : ℕ → List Label)
     → ((t : ℕ) → log m s prefix t ++ left t ≡ log m s run t) → ((t : ℕ) → count m s prefix t ≤ count m s run t) → (p : Cut)
     → ((t : ℕ) → count m s prefix t ≡ p t) → IsPrefix m s run prefix p
-prefix_at m law s good run prefix ok ok' left logs few p is =
-    let g : Goes m s prefix run = goes m law s good prefix run ok' ok left logs few in
-    let c : Consistent m s run p = consistent_at m law s good run prefix ok' g p is in
-    let z : Sorted m s run p = sort m law s good run ok p c in
+run_with_beginning_logs_is_prefix m law s good run prefix ok ok' left logs few p is =
+    let g : BeginsRun m s prefix run = run_with_beginning_logs_begins_run m law s good prefix run ok' ok left logs few in
+    let c : Consistent m s run p = positions_of_beginning_are_consistent m law s good run prefix ok' g p is in
+    let z : PartIsRun m s run p = part_in_consistent_cut_is_run m law s good run ok p c in
     record {
       cut = λ u. let a = few u in let b = is u in omega (arith, a, b);
       consistent = c;
-      same_end = (alike m law s good prefix (part run p) ok' z.ok
-          (λ u. ap events (same_steps m s run prefix g p is u ∙ sym (z.same_trail u)))
-          (λ u. ap length (same_steps m s run prefix g p is u ∙ sym (z.same_trail u)))).same_end;
+      same_end = (same_logs_give_same_trails m law s good prefix (part run p) ok' z.ok
+          (λ u. ap events (trail_of_beginning_is_taken m s run prefix g p is u ∙ sym (z.same_trail u)))
+          (λ u. ap length (trail_of_beginning_is_taken m s run prefix g p is u ∙ sym (z.same_trail u)))).same_end;
     }

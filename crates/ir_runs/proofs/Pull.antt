@@ -6,15 +6,15 @@ use Rattle.ir_runs.specs.Machine.{Ask, Private, Env, Enter, Try, Leave, Get, Put
 use Rattle.ir_runs.specs.Lawful.{IsLawful}
 use Rattle.ir_runs.specs.declared.access.Access.{Access}
 use Rattle.ir_runs.specs.declared.access.Access.TheVariants.{Reading, Writing}
-use Rattle.ir_runs.proofs.Tables.{upd_same}
-use Rattle.ir_runs.specs.Run.{act, State, moved, Step, asked, Can, after, label, IsRun, end, join_if, trail}
-use Rattle.ir_runs.proofs.Good.{Good, stays_good}
-use Rattle.ir_runs.proofs.Ratchet.{Taken, taken, Writes, Reads, Writes_kept, Reads_kept, Entering, emitted_in}
-use Rattle.ir_runs.proofs.Steps.{Clashes, Keeps, keeps, commute}
+use Rattle.ir_runs.proofs.Tables.{upd_at_own_place}
+use Rattle.ir_runs.specs.Run.{act, State, after_act, Step, asked, Can, after, label, IsRun, end, join_if, trail}
+use Rattle.ir_runs.proofs.Good.{StateInvariant, state_invariant_after_step}
+use Rattle.ir_runs.proofs.Ratchet.{TakenStep, step_of_trail_was_taken, WritesOrPast, ReadsOrPast, writes_or_past_is_kept, reads_or_past_is_kept, Entering, emitted_entry_is_entering}
+use Rattle.ir_runs.proofs.Steps.{Clashes, StepUnchanged, step_unchanged_after_other_step, steps_commute_unless_clash}
 use Rattle.ir_runs.proofs.Swap.{Clash}
 use Rattle.ir_runs.specs.Cuts.{At}
 
-pub record Entered {T : Type 0} (m : Machine T) (R : Object → Type 0) (o : ℕ) (a : Access) (v l : ℕ) : Type 0 where
+pub record TakenEntry {T : Type 0} (m : Machine T) (R : Object → Type 0) (o : ℕ) (a : Access) (v l : ℕ) : Type 0 where
   pub object : Object
   pub answer : ℕ
   pub kept : R object
@@ -22,11 +22,11 @@ pub record Entered {T : Type 0} (m : Machine T) (R : Object → Type 0) (o : ℕ
   pub version : object.version ≡ v
   pub left : a ≡ Writing → object.left ≡ l
 
-pub entered : {T : Type 0} (m : Machine T) (R : Object → Type 0) (o : ℕ) (a : Access) (v l t : ℕ) → Taken m R o t (In o a v l)
-    → Entered m R o a v l
-entered m R o a v l t k =
+pub taken_entry_saw_object : {T : Type 0} (m : Machine T) (R : Object → Type 0) (o : ℕ) (a : Access) (v l t : ℕ) → TakenStep m R o t (In o a v l)
+    → TakenEntry m R o a v l
+taken_entry_saw_object m R o a v l t k =
     let q : Act = act m k.state k.step in
-    let e : Entering m (k.state.objects (target q)) o a v l q = emitted_in m q (k.state.objects (target q)) o a v l k.emits in
+    let e : Entering m (k.state.objects (target q)) o a v l q = emitted_entry_is_entering m q (k.state.objects (target q)) o a v l k.emits in
     record {
       object = k.state.objects o;
       answer = e.answer;
@@ -36,134 +36,134 @@ entered m R o a v l t k =
       left = λ w. ap (λ z. (k.state.objects (target z)).left) (sym e.does) ∙ e.left w;
     }
 
-pub past_writer : {T : Type 0} (m : Machine T) (v u o : ℕ) (a : Access) (l : ℕ) → Entered m (Writes v u) o a v l → ⊥
-past_writer m v u o Reading l e = elim e.kept [ inl p ↦ omega (arith, p, e.version) | inr p ↦ e.admits u p.1 ]
-past_writer m v u o Writing l e = elim e.kept [ inl p ↦ omega (arith, p, e.version) | inr p ↦ cc (e.admits u, p.1) ]
+pub taken_entry_not_past_writer : {T : Type 0} (m : Machine T) (v u o : ℕ) (a : Access) (l : ℕ) → TakenEntry m (WritesOrPast v u) o a v l → ⊥
+taken_entry_not_past_writer m v u o Reading l e = elim e.kept [ inl p ↦ omega (arith, p, e.version) | inr p ↦ e.admits u p.1 ]
+taken_entry_not_past_writer m v u o Writing l e = elim e.kept [ inl p ↦ omega (arith, p, e.version) | inr p ↦ cc (e.admits u, p.1) ]
 
-pub past_reader : {T : Type 0} (m : Machine T) (v u o l : ℕ) → Entered m (Reads v l u) o Writing v l → ⊥
-past_reader m v u o l e = elim e.kept [
+pub taken_write_entry_not_past_reader : {T : Type 0} (m : Machine T) (v u o l : ℕ) → TakenEntry m (ReadsOrPast v l u) o Writing v l → ⊥
+taken_write_entry_not_past_reader m v u o l e = elim e.kept [
   | inl p ↦ omega (arith, p, e.version)
   | inr p ↦ elim p.1
       [ inl q ↦ omega (arith, q, e.left refl) | inr q ↦ cc (e.admits u, q.1) ]
 ]
 
-pub objects_after : {T : Type 0} (m : Machine T) (s : State T) (e : Step) (q : Act) → act m s e ≡ q
+pub target_object_after_step : {T : Type 0} (m : Machine T) (s : State T) (e : Step) (q : Act) → act m s e ≡ q
     → (after m s e).objects (target q) ≡ acted q e.0 (s.objects (target q))
 unfolding after
-objects_after m s e q p = subst (λ z. (after m s e).objects (target z) ≡ acted z e.0 (s.objects (target z))) p
-    (upd_same s.objects (target (act m s e)) _)
+target_object_after_step m s e q p = subst (λ z. (after m s e).objects (target z) ≡ acted z e.0 (s.objects (target z))) p
+    (upd_at_own_place s.objects (target (act m s e)) _)
 
 -- after an entry, another that clashed with it emits something else
-never : {T : Type 0} (m : Machine T) → IsLawful m → (s : State T) → Good m s → (e : Step) → Can m s e → (run : List Step)
+clashing_entry_does_not_recur : {T : Type 0} (m : Machine T) → IsLawful m → (s : State T) → StateInvariant m s → (e : Step) → Can m s e → (run : List Step)
     → IsRun m (after m s e) run → (t k : ℕ) (x : T)
     → (q' q : Act) → act m s e ≡ q' → target q ≡ target q' → Clash q' q
     → At (trail m (after m s e) run t) k (x, emitted q (s.objects (target q))) → ⊥
-never m law s good e can run ok t k x (Entry o Writing ans) (Entry p Reading ans') is same c h =
-    past_writer m (s.objects p).version e.0 p Reading 0 (entered m (Writes (s.objects p).version e.0) p Reading _ _ t
-    (taken m law (Writes (s.objects p).version e.0) (Writes_kept m _ _) (after m s e) (stays_good m law s good e can) run ok p
+clashing_entry_does_not_recur m law s good e can run ok t k x (Entry o Writing ans) (Entry p Reading ans') is same c h =
+    taken_entry_not_past_writer m (s.objects p).version e.0 p Reading 0 (taken_entry_saw_object m (WritesOrPast (s.objects p).version e.0) p Reading _ _ t
+    (step_of_trail_was_taken m law (WritesOrPast (s.objects p).version e.0) (writes_or_past_is_kept m _ _) (after m s e) (state_invariant_after_step m law s good e can) run ok p
     (inr (subst (λ z. (((after m s e).objects z).version ≡ (s.objects z).version) × (((after m s e).objects z).inside e.0 ≡ Some Writing))
     (sym same) (
-      ap (λ z. z.version) (objects_after m s e (Entry o Writing ans) is),
+      ap (λ z. z.version) (target_object_after_step m s e (Entry o Writing ans) is),
       ap (λ z. z.inside e.0)
-          (objects_after m s e (Entry o Writing ans) is) ∙ upd_same (s.objects o).inside e.0 (Some Writing),
+          (target_object_after_step m s e (Entry o Writing ans) is) ∙ upd_at_own_place (s.objects o).inside e.0 (Some Writing),
     )))
     t k x _ h))
-never m law s good e can run ok t k x (Entry o Writing ans) (Entry p Writing ans') is same c h =
-    past_writer m (s.objects p).version e.0 p Writing (s.objects p).left (entered m (Writes (s.objects p).version e.0) p Writing _ _ t
-    (taken m law (Writes (s.objects p).version e.0) (Writes_kept m _ _) (after m s e) (stays_good m law s good e can) run ok p
+clashing_entry_does_not_recur m law s good e can run ok t k x (Entry o Writing ans) (Entry p Writing ans') is same c h =
+    taken_entry_not_past_writer m (s.objects p).version e.0 p Writing (s.objects p).left (taken_entry_saw_object m (WritesOrPast (s.objects p).version e.0) p Writing _ _ t
+    (step_of_trail_was_taken m law (WritesOrPast (s.objects p).version e.0) (writes_or_past_is_kept m _ _) (after m s e) (state_invariant_after_step m law s good e can) run ok p
     (inr (subst (λ z. (((after m s e).objects z).version ≡ (s.objects z).version) × (((after m s e).objects z).inside e.0 ≡ Some Writing))
     (sym same) (
-      ap (λ z. z.version) (objects_after m s e (Entry o Writing ans) is),
+      ap (λ z. z.version) (target_object_after_step m s e (Entry o Writing ans) is),
       ap (λ z. z.inside e.0)
-          (objects_after m s e (Entry o Writing ans) is) ∙ upd_same (s.objects o).inside e.0 (Some Writing),
+          (target_object_after_step m s e (Entry o Writing ans) is) ∙ upd_at_own_place (s.objects o).inside e.0 (Some Writing),
     )))
     t k x _ h))
-never m law s good e can run ok t k x (Entry o Reading ans) (Entry p Writing ans') is same c h =
-    past_reader m (s.objects p).version e.0 p (s.objects p).left
-    (entered m (Reads (s.objects p).version (s.objects p).left e.0) p Writing _ _ t
-    (taken m law (Reads (s.objects p).version (s.objects p).left e.0) (Reads_kept m _ _ _) (after m s e) (stays_good m law s good e can) run
+clashing_entry_does_not_recur m law s good e can run ok t k x (Entry o Reading ans) (Entry p Writing ans') is same c h =
+    taken_write_entry_not_past_reader m (s.objects p).version e.0 p (s.objects p).left
+    (taken_entry_saw_object m (ReadsOrPast (s.objects p).version (s.objects p).left e.0) p Writing _ _ t
+    (step_of_trail_was_taken m law (ReadsOrPast (s.objects p).version (s.objects p).left e.0) (reads_or_past_is_kept m _ _ _) (after m s e) (state_invariant_after_step m law s good e can) run
     ok p
-    (subst (λ z. Reads (s.objects z).version (s.objects z).left e.0 ((after m s e).objects z)) (sym same)
+    (subst (λ z. ReadsOrPast (s.objects z).version (s.objects z).left e.0 ((after m s e).objects z)) (sym same)
     (inr (
-      ap (λ z. z.version) (objects_after m s e (Entry o Reading ans) is),
+      ap (λ z. z.version) (target_object_after_step m s e (Entry o Reading ans) is),
       inr (
-        ap (λ z. z.left) (objects_after m s e (Entry o Reading ans) is),
+        ap (λ z. z.left) (target_object_after_step m s e (Entry o Reading ans) is),
         ap (λ z. z.inside e.0)
-            (objects_after m s e (Entry o Reading ans) is) ∙ upd_same (s.objects o).inside e.0 (Some Reading),
+            (target_object_after_step m s e (Entry o Reading ans) is) ∙ upd_at_own_place (s.objects o).inside e.0 (Some Reading),
       ),
     )))
     t k x _ h))
-never m law s good e can run ok t k x (Entry o Reading ans) (Entry p Reading ans') is same c h = c
-never m law s good e can run ok t k x _ _ is same c h = absurd c
+clashing_entry_does_not_recur m law s good e can run ok t k x (Entry o Reading ans) (Entry p Reading ans') is same c h = c
+clashing_entry_does_not_recur m law s good e can run ok t k x _ _ is same c h = absurd c
 
-pub clash_sym : (q q' : Act) → Clash q q' → Clash q' q
-clash_sym (Entry o Writing ans) (Entry p Reading ans') c = tt
-clash_sym (Entry o Writing ans) (Entry p Writing ans') c = tt
-clash_sym (Entry o Reading ans) (Entry p Writing ans') c = tt
-clash_sym (Entry o Reading ans) (Entry p Reading ans') c = c
-clash_sym _ _ c = absurd c
+pub clash_is_symmetric : (q q' : Act) → Clash q q' → Clash q' q
+clash_is_symmetric (Entry o Writing ans) (Entry p Reading ans') c = tt
+clash_is_symmetric (Entry o Writing ans) (Entry p Writing ans') c = tt
+clash_is_symmetric (Entry o Reading ans) (Entry p Writing ans') c = tt
+clash_is_symmetric (Entry o Reading ans) (Entry p Reading ans') c = c
+clash_is_symmetric _ _ c = absurd c
 
 -- results with which an ask logs the same are one act
-pub same_act : {T : Type 0} (m : Machine T) (q : Ask) (r r' : ℕ) (b b' : Object) (xs ys zs : List Label) → Admits m (act_of q r) b
+pub act_same_if_logs_same : {T : Type 0} (m : Machine T) (q : Ask) (r r' : ℕ) (b b' : Object) (xs ys zs : List Label) → Admits m (act_of q r) b
     → Admits m (act_of q r') b' → logged (emitted (act_of q r) b) xs ++ ys ≡ logged (emitted (act_of q r') b') zs → act_of q r ≡ act_of q r'
-same_act m Private r r' b b' xs ys zs can can' h = refl
-same_act m (Env k) r r' b b' xs ys zs can can' h = cc h
-same_act m (Enter o a) r r' b b' xs ys zs can can' h = refl
-same_act m (Try o) zero zero b b' xs ys zs can can' h = refl
-same_act m (Try o) zero (suc zero) b b' xs ys zs can can' h = absurd (cc h)
-same_act m (Try o) zero (suc (suc r')) b b' xs ys zs can can' h = absurd can'
-same_act m (Try o) (suc zero) zero b b' xs ys zs can can' h = absurd (cc h)
-same_act m (Try o) (suc zero) (suc zero) b b' xs ys zs can can' h = refl
-same_act m (Try o) (suc zero) (suc (suc r')) b b' xs ys zs can can' h = absurd can'
-same_act m (Try o) (suc (suc r)) r' b b' xs ys zs can can' h = absurd can
-same_act m (Leave o a) r r' b b' xs ys zs can can' h = refl
-same_act m (Get o j) r r' b b' xs ys zs can can' h = refl
-same_act m (Put o j w) r r' b b' xs ys zs can can' h = refl
-same_act m Done r r' b b' xs ys zs can can' h = refl
+act_same_if_logs_same m Private r r' b b' xs ys zs can can' h = refl
+act_same_if_logs_same m (Env k) r r' b b' xs ys zs can can' h = cc h
+act_same_if_logs_same m (Enter o a) r r' b b' xs ys zs can can' h = refl
+act_same_if_logs_same m (Try o) zero zero b b' xs ys zs can can' h = refl
+act_same_if_logs_same m (Try o) zero (suc zero) b b' xs ys zs can can' h = absurd (cc h)
+act_same_if_logs_same m (Try o) zero (suc (suc r')) b b' xs ys zs can can' h = absurd can'
+act_same_if_logs_same m (Try o) (suc zero) zero b b' xs ys zs can can' h = absurd (cc h)
+act_same_if_logs_same m (Try o) (suc zero) (suc zero) b b' xs ys zs can can' h = refl
+act_same_if_logs_same m (Try o) (suc zero) (suc (suc r')) b b' xs ys zs can can' h = absurd can'
+act_same_if_logs_same m (Try o) (suc (suc r)) r' b b' xs ys zs can can' h = absurd can
+act_same_if_logs_same m (Leave o a) r r' b b' xs ys zs can can' h = refl
+act_same_if_logs_same m (Get o j) r r' b b' xs ys zs can can' h = refl
+act_same_if_logs_same m (Put o j w) r r' b b' xs ys zs can can' h = refl
+act_same_if_logs_same m Done r r' b b' xs ys zs can can' h = refl
 
-pub same_after : {T : Type 0} (m : Machine T) (s : State T) (t r r' : ℕ) → act m s (t, r) ≡ act m s (t, r')
+pub after_same_if_act_same : {T : Type 0} (m : Machine T) (s : State T) (t r r' : ℕ) → act m s (t, r) ≡ act m s (t, r')
     → after m s (t, r) ≡ after m s (t, r')
 unfolding after
-same_after m s t r r' h = ap (moved m s t (s.now t)) h
+after_same_if_act_same m s t r r' h = ap (after_act m s t (s.now t)) h
 
 -- the run with the step of t first
-pub record Pulled {T : Type 0} (m : Machine T) (s : State T) (run : List Step) (t r : ℕ) : Type 0 where
+pub record PulledFirst {T : Type 0} (m : Machine T) (s : State T) (run : List Step) (t r : ℕ) : Type 0 where
   pub rest : List Step
   pub ok : IsRun m (after m s (t, r)) rest
   pub same_end : end m (after m s (t, r)) rest ≡ end m s run
   pub same_trail : (u : ℕ) → trail m s ((t, r) ∷ rest) u ≡ trail m s run u
 
-join_swap : {A : Type 0} (b c : Bool) (x x' y y' : A) (xs : List A) → (b ≡ true → c ≡ true → ⊥) → (b ≡ true → x ≡ x') → (c ≡ true → y ≡ y')
+join_if_commutes : {A : Type 0} (b c : Bool) (x x' y y' : A) (xs : List A) → (b ≡ true → c ≡ true → ⊥) → (b ≡ true → x ≡ x') → (c ≡ true → y ≡ y')
     → join_if b x (join_if c y xs) ≡ join_if c y' (join_if b x' xs)
-join_swap true true x x' y y' xs f p q = absurd (f refl refl)
-join_swap true false x x' y y' xs f p q = ap (λ z. z ∷ xs) (p refl)
-join_swap false true x x' y y' xs f p q = ap (λ z. z ∷ xs) (q refl)
-join_swap false false x x' y y' xs f p q = refl
+join_if_commutes true true x x' y y' xs f p q = absurd (f refl refl)
+join_if_commutes true false x x' y y' xs f p q = ap (λ z. z ∷ xs) (p refl)
+join_if_commutes false true x x' y y' xs f p q = ap (λ z. z ∷ xs) (q refl)
+join_if_commutes false false x x' y y' xs f p q = refl
 
-head_at : {A : Type 0} (x y : A) (xs ys : List A) → (x ∷ xs) ≡ (y ∷ ys) → x ≡ y
-head_at x y xs ys h = cc h
+heads_equal_of_equal_lists : {A : Type 0} (x y : A) (xs ys : List A) → (x ∷ xs) ≡ (y ∷ ys) → x ≡ y
+heads_equal_of_equal_lists x y xs ys h = cc h
 
 -- what logs an entry is the entry
-logged_in : (k : Label) (o : ℕ) (a : Access) (v l : ℕ) → logged k [] ≡ In o a v l ∷ [] → k ≡ In o a v l
-logged_in Quiet o a v l h = absurd (cc h)
-logged_in (Answer i w) o a v l h = cc h
-logged_in (In p c v' l') o a v l h = cc h
-logged_in (Refused p) o a v l h = absurd (cc h)
-logged_in (Out p c v') o a v l h = absurd (cc h)
+label_is_entry_if_logs_entry : (k : Label) (o : ℕ) (a : Access) (v l : ℕ) → logged k [] ≡ In o a v l ∷ [] → k ≡ In o a v l
+label_is_entry_if_logs_entry Quiet o a v l h = absurd (cc h)
+label_is_entry_if_logs_entry (Answer i w) o a v l h = cc h
+label_is_entry_if_logs_entry (In p c v' l') o a v l h = cc h
+label_is_entry_if_logs_entry (Refused p) o a v l h = absurd (cc h)
+label_is_entry_if_logs_entry (Out p c v') o a v l h = absurd (cc h)
 
-clash_emitted : (q' q : Act) (b : Object) (k : Label) → Clash q' q → logged k [] ≡ logged (emitted q b) [] → k ≡ emitted q b
-clash_emitted q' (Entry o Reading x) b k c h = logged_in k o Reading _ _ h
-clash_emitted q' (Entry o Writing x) b k c h = logged_in k o Writing _ _ h
-clash_emitted (Entry p Reading x) _ b k c h = absurd c
-clash_emitted (Entry p Writing x) _ b k c h = absurd c
-clash_emitted _ _ b k c h = absurd c
+label_same_if_clashing_logs_same : (q' q : Act) (b : Object) (k : Label) → Clash q' q → logged k [] ≡ logged (emitted q b) [] → k ≡ emitted q b
+label_same_if_clashing_logs_same q' (Entry o Reading x) b k c h = label_is_entry_if_logs_entry k o Reading _ _ h
+label_same_if_clashing_logs_same q' (Entry o Writing x) b k c h = label_is_entry_if_logs_entry k o Writing _ _ h
+label_same_if_clashing_logs_same (Entry p Reading x) _ b k c h = absurd c
+label_same_if_clashing_logs_same (Entry p Writing x) _ b k c h = absurd c
+label_same_if_clashing_logs_same _ _ b k c h = absurd c
 
-pull_first : {T : Type 0} (m : Machine T) (s : State T) (e : Step) (run : List Step) → IsRun m s (e ∷ run) → (r : ℕ) → Can m s (e.0, r)
-    → logged (label m s e) [] ≡ logged (label m s (e.0, r)) [] → Pulled m s (e ∷ run) e.0 r
-pull_first m s e run ok r can h =
-    let a : act m s (e.0, r) ≡ act m s e = sym (same_act m (asked m s e.0) e.1 r (s.objects (target (act m s e)))
+pulled_first_if_own_step_first : {T : Type 0} (m : Machine T) (s : State T) (e : Step) (run : List Step) → IsRun m s (e ∷ run) → (r : ℕ) → Can m s (e.0, r)
+    → logged (label m s e) [] ≡ logged (label m s (e.0, r)) [] → PulledFirst m s (e ∷ run) e.0 r
+pulled_first_if_own_step_first m s e run ok r can h =
+    let a : act m s (e.0, r) ≡ act m s e = sym (act_same_if_logs_same m (asked m s e.0) e.1 r (s.objects (target (act m s e)))
     (s.objects (target (act m s (e.0, r)))) [] [] [] ok.0 can (append-nil _ ∙ h)) in
-    let p : after m s (e.0, r) ≡ after m s e = same_after m s e.0 r e.1 a in
+    let p : after m s (e.0, r) ≡ after m s e = after_same_if_act_same m s e.0 r e.1 a in
     record {
       rest = run;
       ok = subst (λ z. IsRun m z run) (sym p) ok.1;
@@ -172,20 +172,20 @@ pull_first m s e run ok r can h =
           ∙ ap (λ z. join_if (eqb u e.0) (s.now u, emitted z (s.objects (target z))) (trail m (after m s e) run u)) a;
     }
 
-pull_later : {T : Type 0} (m : Machine T) → IsLawful m → (s : State T) → Good m s → (e : Step) (run : List Step) → IsRun m s (e ∷ run)
+pulled_first_past_other_step : {T : Type 0} (m : Machine T) → IsLawful m → (s : State T) → StateInvariant m s → (e : Step) (run : List Step) → IsRun m s (e ∷ run)
     → (t r : ℕ) → t ≢ e.0 → Can m s (t, r) → (x : T) (j : Label) → At (trail m (after m s e) run t) 0 (x, j)
     → logged j [] ≡ logged (label m s (t, r)) []
-    → (Can m (after m s e) (t, r) → logged j [] ≡ logged (label m (after m s e) (t, r)) [] → Pulled m (after m s e) run t r)
-    → Pulled m s (e ∷ run) t r
-pull_later m law s good e run ok t r other can x j h l ih =
-    let free : Clashes m s e (t, r) → ⊥ = λ c. never m law s good e ok.0 run ok.1 t 0 x (act m s e) (act m s (t, r)) refl c.0 c.1
+    → (Can m (after m s e) (t, r) → logged j [] ≡ logged (label m (after m s e) (t, r)) [] → PulledFirst m (after m s e) run t r)
+    → PulledFirst m s (e ∷ run) t r
+pulled_first_past_other_step m law s good e run ok t r other can x j h l ih =
+    let free : Clashes m s e (t, r) → ⊥ = λ c. clashing_entry_does_not_recur m law s good e ok.0 run ok.1 t 0 x (act m s e) (act m s (t, r)) refl c.0 c.1
     (subst (λ z. At (trail m (after m s e) run t) 0 (x, z))
-    (clash_emitted (act m s e) (act m s (t, r)) (s.objects (target (act m s (t, r)))) j c.1 l) h) in
-    let free' : Clashes m s (t, r) e → ⊥ = λ c. free (sym c.0, clash_sym _ _ c.1) in
-    let k : Keeps m s e (t, r) = keeps m law s good e (t, r) (λ p. other (sym p)) ok.0 can free in
-    let k' : Keeps m s (t, r) e = keeps m law s good (t, r) e other can ok.0 free' in
-    let q : Pulled m (after m s e) run t r = ih k.can (l ∙ ap (λ z. logged z []) (sym k.label_same)) in
-    let p : after m (after m s (t, r)) e ≡ after m (after m s e) (t, r) = commute m law s good (t, r) e other can ok.0 free' free in
+    (label_same_if_clashing_logs_same (act m s e) (act m s (t, r)) (s.objects (target (act m s (t, r)))) j c.1 l) h) in
+    let free' : Clashes m s (t, r) e → ⊥ = λ c. free (sym c.0, clash_is_symmetric _ _ c.1) in
+    let k : StepUnchanged m s e (t, r) = step_unchanged_after_other_step m law s good e (t, r) (λ p. other (sym p)) ok.0 can free in
+    let k' : StepUnchanged m s (t, r) e = step_unchanged_after_other_step m law s good (t, r) e other can ok.0 free' in
+    let q : PulledFirst m (after m s e) run t r = ih k.can (l ∙ ap (λ z. logged z []) (sym k.label_same)) in
+    let p : after m (after m s (t, r)) e ≡ after m (after m s e) (t, r) = steps_commute_unless_clash m law s good (t, r) e other can ok.0 free' free in
     record {
       rest = e ∷ q.rest;
       ok = (k'.can, subst (λ z. IsRun m z q.rest) (sym p) q.ok);
@@ -193,7 +193,7 @@ pull_later m law s good e run ok t r other can x j h l ih =
       same_trail = λ u.
           ap (λ z. join_if (eqb u t) (s.now u, label m s (t, r))
           (join_if (eqb u e.0) ((after m s (t, r)).now u, label m (after m s (t, r)) e) (trail m z q.rest u))) p
-          ∙ join_swap (eqb u t) (eqb u e.0) (s.now u, label m s (t, r)) ((after m s e).now u, label m (after m s e) (t, r))
+          ∙ join_if_commutes (eqb u t) (eqb u e.0) (s.now u, label m s (t, r)) ((after m s e).now u, label m (after m s e) (t, r))
           ((after m s (t, r)).now u, label m (after m s (t, r)) e) (s.now u, label m s e) (trail m (after m (after m s e) (t, r)) q.rest u)
           (λ a b. other (sym (eqb-true u t a) ∙ eqb-true u e.0 b))
           (λ a. λ i. (subst (λ z. s.now z ≡ (after m s e).now z) (sym (eqb-true u t a)) (sym k.now_same) i, sym k.label_same i))
@@ -202,16 +202,16 @@ pull_later m law s good e run ok t r other can x j h l ih =
     }
 
 -- A step that can be taken, and that logs what the thread's first step in the run logs, may come first.
-pub pull : {T : Type 0} (m : Machine T) → IsLawful m → (s : State T) → Good m s → (run : List Step) → IsRun m s run → (t r : ℕ)
-    → Can m s (t, r) → (x : T) (j : Label) → At (trail m s run t) 0 (x, j) → logged j [] ≡ logged (label m s (t, r)) [] → Pulled m s run t r
-pull m law s good [] ok t r can x j h l = absurd h
-pull m law s good (e ∷ run) ok t r can x j h l = elim (cases_eq t e.0) [
-  | inl same ↦ subst (λ z. Pulled m s (e ∷ run) z r) (sym same) (pull_first m s e run ok r
+pub thread_step_can_come_first : {T : Type 0} (m : Machine T) → IsLawful m → (s : State T) → StateInvariant m s → (run : List Step) → IsRun m s run → (t r : ℕ)
+    → Can m s (t, r) → (x : T) (j : Label) → At (trail m s run t) 0 (x, j) → logged j [] ≡ logged (label m s (t, r)) [] → PulledFirst m s run t r
+thread_step_can_come_first m law s good [] ok t r can x j h l = absurd h
+thread_step_can_come_first m law s good (e ∷ run) ok t r can x j h l = elim (cases_eq t e.0) [
+  | inl same ↦ subst (λ z. PulledFirst m s (e ∷ run) z r) (sym same) (pulled_first_if_own_step_first m s e run ok r
       (subst (λ z. Can m s (z, r)) same can)
       (ap (λ z. logged z.1 []) (subst (λ b. At (join_if b (s.now t, label m s e) (trail m (after m s e) run t)) 0 (x, j))
       (eq-eqb t e.0 same) h) ∙ subst (λ z. logged j [] ≡ logged (label m s (z, r)) []) same l))
-  | inr other ↦ pull_later m law s good e run ok t r other can x j
+  | inr other ↦ pulled_first_past_other_step m law s good e run ok t r other can x j
       (subst (λ b. At (join_if b (s.now t, label m s e) (trail m (after m s e) run t)) 0 (x, j)) (ne_eqb t e.0 other) h) l
-      (λ c a. pull m law (after m s e) (stays_good m law s good e ok.0) run ok.1 t r c x j
+      (λ c a. thread_step_can_come_first m law (after m s e) (state_invariant_after_step m law s good e ok.0) run ok.1 t r c x j
       (subst (λ b. At (join_if b (s.now t, label m s e) (trail m (after m s e) run t)) 0 (x, j)) (ne_eqb t e.0 other) h) a)
 ]

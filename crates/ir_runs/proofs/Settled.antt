@@ -6,11 +6,11 @@ use Rattle.ir_runs.specs.Lawful.{IsLawful}
 use Rattle.ir_runs.specs.declared.access.Access.TheVariants.{Reading, Writing}
 use Rattle.ir_runs.specs.Run.{State, Step, asked, end, IsDone}
 use Rattle.ir_runs.specs.Bounds.{IsStart, IsIdle}
-use Rattle.ir_runs.proofs.Good.{Good}
-use Rattle.ir_runs.proofs.Stuck.{run_idle}
-use Rattle.ir_runs.proofs.Ending.{not_done}
-use Rattle.ir_runs.proofs.Judge.{judged}
-use Rattle.ir_runs.proofs.OneResult.{Last, last_of, one_step_each}
+use Rattle.ir_runs.proofs.Good.{StateInvariant}
+use Rattle.ir_runs.proofs.Stuck.{idle_after_run}
+use Rattle.ir_runs.proofs.Ending.{thread_that_steps_is_not_done}
+use Rattle.ir_runs.proofs.Judge.{verdict_exists_at_maximal_run}
+use Rattle.ir_runs.proofs.OneResult.{LastStepFollows, last_step_follows_trace, maximal_if_no_thread_goes_on}
 use Rattle.ir_runs.specs.Coherent.{IsCoherent}
 use Rattle.ir_runs.specs.Following.{unlogged, Follows, IsMaximal, closing}
 use Rattle.ir_runs.specs.Standing.{GoesOn, AgreesNow, StandsAs}
@@ -20,78 +20,78 @@ use Rattle.ir_runs.specs.declared.thread_verdict.ThreadVerdict.{ThreadVerdict}
 use Rattle.ir_runs.specs.declared.thread_verdict.ThreadVerdict.TheVariants.{Same, Disagrees, Starves}
 
 -- what is logged of a step that follows suits what was asked
-suits_of : {T : Type 0} (m : Machine T) (q : Ask) (r : ℕ) (b : Object) (es : List Label) → Admits m (act_of q r) b
+ask_suits_log_if_step_follows : {T : Type 0} (m : Machine T) (q : Ask) (r : ℕ) (b : Object) (es : List Label) → Admits m (act_of q r) b
     → logged (emitted (act_of q r) b) (unlogged (emitted (act_of q r) b) es) ≡ es → Suits q es
-suits_of m Private r b es can h = tt
-suits_of m (Env k) r b [] can h = absurd (cc h)
-suits_of m (Env k) r b (Quiet ∷ es) can h = absurd (cc h)
-suits_of m (Env k) r b (Answer j v ∷ es) can h = cc h
-suits_of m (Env k) r b (In p c v l ∷ es) can h = absurd (cc h)
-suits_of m (Env k) r b (Refused p ∷ es) can h = absurd (cc h)
-suits_of m (Env k) r b (Out p c v ∷ es) can h = absurd (cc h)
-suits_of m (Enter o Reading) r b [] can h = absurd (cc h)
-suits_of m (Enter o Reading) r b (Quiet ∷ es) can h = absurd (cc h)
-suits_of m (Enter o Reading) r b (Answer j v ∷ es) can h = absurd (cc h)
-suits_of m (Enter o Reading) r b (In p c v l ∷ es) can h = (cc h, cc h)
-suits_of m (Enter o Reading) r b (Refused p ∷ es) can h = absurd (cc h)
-suits_of m (Enter o Reading) r b (Out p c v ∷ es) can h = absurd (cc h)
-suits_of m (Enter o Writing) r b [] can h = absurd (cc h)
-suits_of m (Enter o Writing) r b (Quiet ∷ es) can h = absurd (cc h)
-suits_of m (Enter o Writing) r b (Answer j v ∷ es) can h = absurd (cc h)
-suits_of m (Enter o Writing) r b (In p c v l ∷ es) can h = (cc h, cc h)
-suits_of m (Enter o Writing) r b (Refused p ∷ es) can h = absurd (cc h)
-suits_of m (Enter o Writing) r b (Out p c v ∷ es) can h = absurd (cc h)
-suits_of m (Try o) zero b [] can h = absurd (cc h)
-suits_of m (Try o) zero b (Quiet ∷ es) can h = absurd (cc h)
-suits_of m (Try o) zero b (Answer j v ∷ es) can h = absurd (cc h)
-suits_of m (Try o) zero b (In p c v l ∷ es) can h = absurd (cc h)
-suits_of m (Try o) zero b (Refused p ∷ es) can h = cc h
-suits_of m (Try o) zero b (Out p c v ∷ es) can h = absurd (cc h)
-suits_of m (Try o) (suc zero) b [] can h = absurd (cc h)
-suits_of m (Try o) (suc zero) b (Quiet ∷ es) can h = absurd (cc h)
-suits_of m (Try o) (suc zero) b (Answer j v ∷ es) can h = absurd (cc h)
-suits_of m (Try o) (suc zero) b (In p c v l ∷ es) can h = (cc h, cc h)
-suits_of m (Try o) (suc zero) b (Refused p ∷ es) can h = absurd (cc h)
-suits_of m (Try o) (suc zero) b (Out p c v ∷ es) can h = absurd (cc h)
-suits_of m (Try o) (suc (suc r)) b es can h = absurd can
-suits_of m (Leave o a) r b es can h = tt
-suits_of m (Get o i) r b es can h = tt
-suits_of m (Put o i w) r b es can h = tt
-suits_of m Done r b es can h = tt
+ask_suits_log_if_step_follows m Private r b es can h = tt
+ask_suits_log_if_step_follows m (Env k) r b [] can h = absurd (cc h)
+ask_suits_log_if_step_follows m (Env k) r b (Quiet ∷ es) can h = absurd (cc h)
+ask_suits_log_if_step_follows m (Env k) r b (Answer j v ∷ es) can h = cc h
+ask_suits_log_if_step_follows m (Env k) r b (In p c v l ∷ es) can h = absurd (cc h)
+ask_suits_log_if_step_follows m (Env k) r b (Refused p ∷ es) can h = absurd (cc h)
+ask_suits_log_if_step_follows m (Env k) r b (Out p c v ∷ es) can h = absurd (cc h)
+ask_suits_log_if_step_follows m (Enter o Reading) r b [] can h = absurd (cc h)
+ask_suits_log_if_step_follows m (Enter o Reading) r b (Quiet ∷ es) can h = absurd (cc h)
+ask_suits_log_if_step_follows m (Enter o Reading) r b (Answer j v ∷ es) can h = absurd (cc h)
+ask_suits_log_if_step_follows m (Enter o Reading) r b (In p c v l ∷ es) can h = (cc h, cc h)
+ask_suits_log_if_step_follows m (Enter o Reading) r b (Refused p ∷ es) can h = absurd (cc h)
+ask_suits_log_if_step_follows m (Enter o Reading) r b (Out p c v ∷ es) can h = absurd (cc h)
+ask_suits_log_if_step_follows m (Enter o Writing) r b [] can h = absurd (cc h)
+ask_suits_log_if_step_follows m (Enter o Writing) r b (Quiet ∷ es) can h = absurd (cc h)
+ask_suits_log_if_step_follows m (Enter o Writing) r b (Answer j v ∷ es) can h = absurd (cc h)
+ask_suits_log_if_step_follows m (Enter o Writing) r b (In p c v l ∷ es) can h = (cc h, cc h)
+ask_suits_log_if_step_follows m (Enter o Writing) r b (Refused p ∷ es) can h = absurd (cc h)
+ask_suits_log_if_step_follows m (Enter o Writing) r b (Out p c v ∷ es) can h = absurd (cc h)
+ask_suits_log_if_step_follows m (Try o) zero b [] can h = absurd (cc h)
+ask_suits_log_if_step_follows m (Try o) zero b (Quiet ∷ es) can h = absurd (cc h)
+ask_suits_log_if_step_follows m (Try o) zero b (Answer j v ∷ es) can h = absurd (cc h)
+ask_suits_log_if_step_follows m (Try o) zero b (In p c v l ∷ es) can h = absurd (cc h)
+ask_suits_log_if_step_follows m (Try o) zero b (Refused p ∷ es) can h = cc h
+ask_suits_log_if_step_follows m (Try o) zero b (Out p c v ∷ es) can h = absurd (cc h)
+ask_suits_log_if_step_follows m (Try o) (suc zero) b [] can h = absurd (cc h)
+ask_suits_log_if_step_follows m (Try o) (suc zero) b (Quiet ∷ es) can h = absurd (cc h)
+ask_suits_log_if_step_follows m (Try o) (suc zero) b (Answer j v ∷ es) can h = absurd (cc h)
+ask_suits_log_if_step_follows m (Try o) (suc zero) b (In p c v l ∷ es) can h = (cc h, cc h)
+ask_suits_log_if_step_follows m (Try o) (suc zero) b (Refused p ∷ es) can h = absurd (cc h)
+ask_suits_log_if_step_follows m (Try o) (suc zero) b (Out p c v ∷ es) can h = absurd (cc h)
+ask_suits_log_if_step_follows m (Try o) (suc (suc r)) b es can h = absurd can
+ask_suits_log_if_step_follows m (Leave o a) r b es can h = tt
+ask_suits_log_if_step_follows m (Get o i) r b es can h = tt
+ask_suits_log_if_step_follows m (Put o i w) r b es can h = tt
+ask_suits_log_if_step_follows m Done r b es can h = tt
 
 -- a step that follows is the trace's
-pub agrees_last : {T : Type 0} (m : Machine T) (s : State T) (tr : Trace) (run : List Step) (e : Step) → Last m s tr run e
+pub last_step_agrees_with_trace : {T : Type 0} (m : Machine T) (s : State T) (tr : Trace) (run : List Step) (e : Step) → LastStepFollows m s tr run e
     → AgreesNow m s tr run e.0
-agrees_last m s tr run e last = (
+last_step_agrees_with_trace m s tr run e last = (
   last.left,
-  suits_of m (asked m (end m s run) e.0) e.1
+  ask_suits_log_if_step_follows m (asked m (end m s run) e.0) e.1
       ((end m s run).objects (target (act_of (asked m (end m s run) e.0) e.1))) _ last.can last.logs,
   last.closes,
 )
 
-stops : {T : Type 0} (m : Machine T) (s : State T) (tr : Trace) (run : List Step) (t : ℕ) (v : ThreadVerdict) → StandsAs m s tr run t v
+standing_thread_does_not_go_on : {T : Type 0} (m : Machine T) (s : State T) (tr : Trace) (run : List Step) (t : ℕ) (v : ThreadVerdict) → StandsAs m s tr run t v
     → GoesOn m s tr run t → ⊥
-stops m s tr run t Same h g = not_done m (end m s run) _ (last_of m tr s run _ g).can h
-stops m s tr run t (Disagrees j k) h g = h.1 (agrees_last m s tr run _ (last_of m tr s run _ g))
-stops m s tr run t (Starves j) h g = h.2 g
+standing_thread_does_not_go_on m s tr run t Same h g = thread_that_steps_is_not_done m (end m s run) _ (last_step_follows_trace m tr s run _ g).can h
+standing_thread_does_not_go_on m s tr run t (Disagrees j k) h g = h.1 (last_step_agrees_with_trace m s tr run _ (last_step_follows_trace m tr s run _ g))
+standing_thread_does_not_go_on m s tr run t (Starves j) h g = h.2 g
 
 -- a run has gone as far as any can if each thread is as its verdict says
-pub settled : {T : Type 0} (n : ℕ) (m : Machine T) (s : State T) → IsIdle m s n → (tr : Trace) (run : List Step)
+pub maximal_if_each_thread_stands : {T : Type 0} (n : ℕ) (m : Machine T) (s : State T) → IsIdle m s n → (tr : Trace) (run : List Step)
     → Follows (closing m tr) m s tr run → ((t : ℕ) → t < n → (v : ThreadVerdict) × StandsAs m s tr run t v)
     → IsMaximal (closing m tr) m s tr run
-settled n m s im tr run f stands = one_step_each m tr s run (λ t g. elim (cases_lt t n) [
-  | inl l ↦ stops m s tr run t (stands t l).0 (stands t l).1 g
-  | inr le ↦ not_done m (end m s run) _ (last_of m tr s run _ g).can (run_idle m s n im run f.0 t le)
+maximal_if_each_thread_stands n m s im tr run f stands = maximal_if_no_thread_goes_on m tr s run (λ t g. elim (cases_lt t n) [
+  | inl l ↦ standing_thread_does_not_go_on m s tr run t (stands t l).0 (stands t l).1 g
+  | inr le ↦ thread_that_steps_is_not_done m (end m s run) _ (last_step_follows_trace m tr s run _ g).can (idle_after_run m s n im run f.0 t le)
 ])
 
 -- at the end of a run that has gone as far as any can, how a thread is gives its verdict
-pub verdict_at : {T : Type 0} (n : ℕ) (m : Machine T) → IsLawful m → (tr : Trace) → IsCoherent n tr → HoldsEvents m tr → (s : State T)
-    → Good m s → IsStart m s → IsIdle m s n → (run : List Step) → Follows (closing m tr) m s tr run → IsMaximal (closing m tr) m s tr run
+pub verdict_from_standing : {T : Type 0} (n : ℕ) (m : Machine T) → IsLawful m → (tr : Trace) → IsCoherent n tr → HoldsEvents m tr → (s : State T)
+    → StateInvariant m s → IsStart m s → IsIdle m s n → (run : List Step) → Follows (closing m tr) m s tr run → IsMaximal (closing m tr) m s tr run
     → (t : ℕ) (v : ThreadVerdict) → StandsAs m s tr run t v → IsVerdict m s tr run t v
-verdict_at n m law tr co ev s good st im run f top t Same h = h
-verdict_at n m law tr co ev s good st im run f top t (Disagrees j k) h = h
-verdict_at n m law tr co ev s good st im run f top t (Starves j) h =
-    starving (judged n m law tr co ev s good st im run f top t).0 (judged n m law tr co ev s good st im run f top t).1
+verdict_from_standing n m law tr co ev s good st im run f top t Same h = h
+verdict_from_standing n m law tr co ev s good st im run f top t (Disagrees j k) h = h
+verdict_from_standing n m law tr co ev s good st im run f top t (Starves j) h =
+    starving (verdict_exists_at_maximal_run n m law tr co ev s good st im run f top t).0 (verdict_exists_at_maximal_run n m law tr co ev s good st im run f top t).1
   where
     starving : (v : ThreadVerdict) → IsVerdict m s tr run t v → IsVerdict m s tr run t (Starves j)
     starving Same g = absurd (h.0 g)
@@ -99,13 +99,13 @@ verdict_at n m law tr co ev s good st im run f top t (Starves j) h =
     starving (Starves i) g = (h.0, h.1, g.2, g.3, h.3)
 
 -- a thread that isn't the same has a step left
-pub goes_on : {T : Type 0} (m : Machine T) (s : State T) (tr : Trace) (run : List Step) (t : ℕ) (v : ThreadVerdict)
+pub thread_not_same_is_not_done : {T : Type 0} (m : Machine T) (s : State T) (tr : Trace) (run : List Step) (t : ℕ) (v : ThreadVerdict)
     → StandsAs m s tr run t v → v ≢ Same → asked m (end m s run) t ≢ Done
-goes_on m s tr run t Same h ne = absurd (ne refl)
-goes_on m s tr run t (Disagrees j k) h ne = h.0
-goes_on m s tr run t (Starves j) h ne = h.0
+thread_not_same_is_not_done m s tr run t Same h ne = absurd (ne refl)
+thread_not_same_is_not_done m s tr run t (Disagrees j k) h ne = h.0
+thread_not_same_is_not_done m s tr run t (Starves j) h ne = h.0
 
 -- where each of the n threads is the same, all are done
-pub all_done : {T : Type 0} (n : ℕ) (m : Machine T) (s : State T) → IsIdle m s n → (tr : Trace) (run : List Step)
+pub done_if_each_thread_is_same : {T : Type 0} (n : ℕ) (m : Machine T) (s : State T) → IsIdle m s n → (tr : Trace) (run : List Step)
     → Follows (closing m tr) m s tr run → ((t : ℕ) → t < n → StandsAs m s tr run t Same) → IsDone m (end m s run)
-all_done n m s im tr run f same t = elim (cases_lt t n) [ inl l ↦ same t l | inr le ↦ run_idle m s n im run f.0 t le ]
+done_if_each_thread_is_same n m s im tr run f same t = elim (cases_lt t n) [ inl l ↦ same t l | inr le ↦ idle_after_run m s n im run f.0 t le ]

@@ -5,15 +5,15 @@ use Rattle.std.proofs.lemmas.Bool.Decides.{nat_tests}
 use Rattle.ir_runs.specs.Machine.{Act, Silent, Result, Entry, Refusal, Exit, Load, Store, Never, Machine, upd, Object, Admits, acted, reply, emitted}
 use Rattle.ir_runs.specs.declared.access.Access.{Access}
 use Rattle.ir_runs.specs.declared.access.Access.TheVariants.{Reading, Writing}
-use Rattle.ir_runs.proofs.Good.{Exclusive, Inside}
+use Rattle.ir_runs.proofs.Good.{Exclusive, InsideForAct}
 
-pub upd_comm : {A : Type 0} (f : ℕ → A) (i j : ℕ) (v w : A) → i ≢ j → upd (upd f i v) j w ≡ upd (upd f j w) i v
+pub upd_at_different_places_commutes : {A : Type 0} (f : ℕ → A) (i j : ℕ) (v w : A) → i ≢ j → upd (upd f i v) j w ≡ upd (upd f j w) i v
 unfolding upd
-upd_comm f i j v w ne = fun_ext (λ k. grind (arith, nat_tests))
+upd_at_different_places_commutes f i j v w ne = fun_ext (λ k. grind (arith, nat_tests))
 
-pub upd_upd : {A : Type 0} (f : ℕ → A) (i : ℕ) (v w : A) → upd (upd f i v) i w ≡ upd f i w
+pub upd_twice_is_last_upd : {A : Type 0} (f : ℕ → A) (i : ℕ) (v w : A) → upd (upd f i v) i w ≡ upd f i w
 unfolding upd
-upd_upd f i v w = fun_ext (λ k. grind (arith, nat_tests))
+upd_twice_is_last_upd f i v w = fun_ext (λ k. grind (arith, nat_tests))
 
 -- the two asks can't both be met: both enter, and one for writing
 abbrev pub Clash : Act → Act → Type 0
@@ -35,59 +35,59 @@ pub record Commutes {T : Type 0} (m : Machine T) (b : Object) (f : Object → Ob
   pub order : acted q u (f b) ≡ f (acted q u b)
 
 -- one that changes nothing
-idle : {T : Type 0} (m : Machine T) (b : Object) (u : ℕ) (q : Act) → Admits m q b → Commutes m b (λ c. c) u q
-idle m b u q h = record { admits = h; emitted_same = refl; reply_same = refl; order = refl }
+act_commutes_with_no_change : {T : Type 0} (m : Machine T) (b : Object) (u : ℕ) (q : Act) → Admits m q b → Commutes m b (λ c. c) u q
+act_commutes_with_no_change m b u q h = record { admits = h; emitted_same = refl; reply_same = refl; order = refl }
 
 -- beside one that is alone inside there are only asks about nothing
-alone : {T : Type 0} (m : Machine T) (b : Object) (f : Object → Object) (u : ℕ) (q : Act) → b.inside u ≡ None → Inside q (b.inside u)
+act_commutes_if_not_inside : {T : Type 0} (m : Machine T) (b : Object) (f : Object → Object) (u : ℕ) (q : Act) → b.inside u ≡ None → InsideForAct q (b.inside u)
     → Admits m q b → (IsEntry q → ⊥) → Commutes m b f u q
-alone m b f u Silent none i h free = record { admits = tt; emitted_same = refl; reply_same = refl; order = refl }
-alone m b f u (Refusal _) none i h free = record { admits = tt; emitted_same = refl; reply_same = refl; order = refl }
-alone m b f u (Result k res) none i h free = record { admits = h; emitted_same = refl; reply_same = refl; order = refl }
-alone m b f u (Entry o a ans) none i h free = absurd (free tt)
-alone m b f u (Exit o a) none i h free = absurd (cc (none, i))
-alone m b f u (Load o j) none i h free = absurd (i none)
-alone m b f u (Store o j w) none i h free = absurd (cc (none, i))
-alone m b f u Never none i h free = absurd h
+act_commutes_if_not_inside m b f u Silent none i h free = record { admits = tt; emitted_same = refl; reply_same = refl; order = refl }
+act_commutes_if_not_inside m b f u (Refusal _) none i h free = record { admits = tt; emitted_same = refl; reply_same = refl; order = refl }
+act_commutes_if_not_inside m b f u (Result k res) none i h free = record { admits = h; emitted_same = refl; reply_same = refl; order = refl }
+act_commutes_if_not_inside m b f u (Entry o a ans) none i h free = absurd (free tt)
+act_commutes_if_not_inside m b f u (Exit o a) none i h free = absurd (cc (none, i))
+act_commutes_if_not_inside m b f u (Load o j) none i h free = absurd (i none)
+act_commutes_if_not_inside m b f u (Store o j w) none i h free = absurd (cc (none, i))
+act_commutes_if_not_inside m b f u Never none i h free = absurd h
 
 -- no entry is admitted while another writes
-no_entry : {T : Type 0} (m : Machine T) (b : Object) (t : ℕ) (q : Act) → b.inside t ≡ Some Writing → Admits m q b → IsEntry q → ⊥
-no_entry m b t (Entry o Reading ans) w h _ = h t w
-no_entry m b t (Entry o Writing ans) w h _ = cc (w, h t)
-no_entry m b t Silent w h e = e
-no_entry m b t (Refusal _) w h e = e
-no_entry m b t (Result k res) w h e = e
-no_entry m b t (Exit o a) w h e = e
-no_entry m b t (Load o j) w h e = e
-no_entry m b t (Store o j v) w h e = e
-no_entry m b t Never w h e = e
+no_entry_while_other_writes : {T : Type 0} (m : Machine T) (b : Object) (t : ℕ) (q : Act) → b.inside t ≡ Some Writing → Admits m q b → IsEntry q → ⊥
+no_entry_while_other_writes m b t (Entry o Reading ans) w h _ = h t w
+no_entry_while_other_writes m b t (Entry o Writing ans) w h _ = cc (w, h t)
+no_entry_while_other_writes m b t Silent w h e = e
+no_entry_while_other_writes m b t (Refusal _) w h e = e
+no_entry_while_other_writes m b t (Result k res) w h e = e
+no_entry_while_other_writes m b t (Exit o a) w h e = e
+no_entry_while_other_writes m b t (Load o j) w h e = e
+no_entry_while_other_writes m b t (Store o j v) w h e = e
+no_entry_while_other_writes m b t Never w h e = e
 
-some_path : (b c : Object) → b.version ≡ c.version → b.left ≡ c.left → b.inside ≡ c.inside → b.words ≡ c.words → b ≡ c
-some_path b c p q r s = λ i. record { version = p i; left = q i; inside = r i; words = s i }
+objects_equal_if_parts_equal : (b c : Object) → b.version ≡ c.version → b.left ≡ c.left → b.inside ≡ c.inside → b.words ≡ c.words → b ≡ c
+objects_equal_if_parts_equal b c p q r s = λ i. record { version = p i; left = q i; inside = r i; words = s i }
 
-reading≢writing : {x : Option Access} → x ≡ Some Reading → x ≡ Some Writing → ⊥
-reading≢writing p q = cc
+reading_is_not_writing : {x : Option Access} → x ≡ Some Reading → x ≡ Some Writing → ⊥
+reading_is_not_writing p q = cc
 
-entered_reading : (b : Object) (t : ℕ) → ((u : ℕ) → b.inside u ≢ Some Writing) → (u : ℕ) → upd b.inside t (Some Reading) u ≢ Some Writing
+no_writer_after_reading_entry : (b : Object) (t : ℕ) → ((u : ℕ) → b.inside u ≢ Some Writing) → (u : ℕ) → upd b.inside t (Some Reading) u ≢ Some Writing
 unfolding upd
-entered_reading b t h u = grind (arith, nat_tests, h u)
+no_writer_after_reading_entry b t h u = grind (arith, nat_tests, h u)
 
-left_reading : (b : Object) (t : ℕ) → ((u : ℕ) → b.inside u ≢ Some Writing) → (u : ℕ) → upd b.inside t None u ≢ Some Writing
+no_writer_after_leave : (b : Object) (t : ℕ) → ((u : ℕ) → b.inside u ≢ Some Writing) → (u : ℕ) → upd b.inside t None u ≢ Some Writing
 unfolding upd
-left_reading b t h u = grind (arith, nat_tests, h u)
+no_writer_after_leave b t h u = grind (arith, nat_tests, h u)
 
-pub swap1 : {T : Type 0} (m : Machine T) (b : Object) (ex : Exclusive b) (t u : ℕ) → t ≢ u → (q q' : Act) → Inside q (b.inside t)
-    → Inside q' (b.inside u) → Admits m q b → Admits m q' b → (Clash q q' → ⊥) → Commutes m b (acted q t) u q'
-swap1 m b ex t u ne Silent q' i i' h h' free = idle m b u q' h'
-swap1 m b ex t u ne (Refusal _) q' i i' h h' free = idle m b u q' h'
-swap1 m b ex t u ne (Result k res) q' i i' h h' free = idle m b u q' h'
-swap1 m b ex t u ne (Load o j) q' i i' h h' free = idle m b u q' h'
-swap1 m b ex t u ne Never q' i i' h h' free = absurd h
-swap1 m b ex t u ne (Store o j w) q' i i' h h' free = alone m b (acted (Store o j w) t) u q' (ex t u ne i) i' h' (no_entry m b t q' i h')
-swap1 m b ex t u ne (Exit o Writing) q' i i' h h' free =
-    alone m b (acted (Exit o Writing) t) u q' (ex t u ne i) i' h' (no_entry m b t q' i h')
-swap1 m b ex t u ne (Entry o Writing ans) q' i i' h h' free =
-    alone m b (acted (Entry o Writing ans) t) u q' (h u) i' h' (entry_clash q' free)
+pub acts_commute_unless_clash : {T : Type 0} (m : Machine T) (b : Object) (ex : Exclusive b) (t u : ℕ) → t ≢ u → (q q' : Act) → InsideForAct q (b.inside t)
+    → InsideForAct q' (b.inside u) → Admits m q b → Admits m q' b → (Clash q q' → ⊥) → Commutes m b (acted q t) u q'
+acts_commute_unless_clash m b ex t u ne Silent q' i i' h h' free = act_commutes_with_no_change m b u q' h'
+acts_commute_unless_clash m b ex t u ne (Refusal _) q' i i' h h' free = act_commutes_with_no_change m b u q' h'
+acts_commute_unless_clash m b ex t u ne (Result k res) q' i i' h h' free = act_commutes_with_no_change m b u q' h'
+acts_commute_unless_clash m b ex t u ne (Load o j) q' i i' h h' free = act_commutes_with_no_change m b u q' h'
+acts_commute_unless_clash m b ex t u ne Never q' i i' h h' free = absurd h
+acts_commute_unless_clash m b ex t u ne (Store o j w) q' i i' h h' free = act_commutes_if_not_inside m b (acted (Store o j w) t) u q' (ex t u ne i) i' h' (no_entry_while_other_writes m b t q' i h')
+acts_commute_unless_clash m b ex t u ne (Exit o Writing) q' i i' h h' free =
+    act_commutes_if_not_inside m b (acted (Exit o Writing) t) u q' (ex t u ne i) i' h' (no_entry_while_other_writes m b t q' i h')
+acts_commute_unless_clash m b ex t u ne (Entry o Writing ans) q' i i' h h' free =
+    act_commutes_if_not_inside m b (acted (Entry o Writing ans) t) u q' (h u) i' h' (entry_clash q' free)
   where
     entry_clash : (q' : Act) → (Clash (Entry o Writing ans) q' → ⊥) → IsEntry q' → ⊥
     entry_clash (Entry p a ans') free e = free tt
@@ -98,20 +98,20 @@ swap1 m b ex t u ne (Entry o Writing ans) q' i i' h h' free =
     entry_clash (Load o j) free e = e
     entry_clash (Store o j v) free e = e
     entry_clash Never free e = e
-swap1 m b ex t u ne (Entry o Reading ans) q' i i' h h' free = enter_read q' i' h' free
+acts_commute_unless_clash m b ex t u ne (Entry o Reading ans) q' i i' h h' free = enter_read q' i' h' free
   where
-    enter_read : (q' : Act) → Inside q' (b.inside u) → Admits m q' b → (Clash (Entry o Reading ans) q' → ⊥)
+    enter_read : (q' : Act) → InsideForAct q' (b.inside u) → Admits m q' b → (Clash (Entry o Reading ans) q' → ⊥)
         → Commutes m b (acted (Entry o Reading ans) t) u q'
     enter_read Silent i' h' free = record { admits = tt; emitted_same = refl; reply_same = refl; order = refl }
     enter_read (Refusal _) i' h' free = record { admits = tt; emitted_same = refl; reply_same = refl; order = refl }
     enter_read (Result k res) i' h' free = record { admits = h'; emitted_same = refl; reply_same = refl; order = refl }
     enter_read (Entry p Reading ans') i' h' free =
         record {
-          admits = entered_reading b t h';
+          admits = no_writer_after_reading_entry b t h';
           emitted_same = refl;
           reply_same = refl;
           order =
-              some_path _ _ refl refl (upd_comm b.inside t u _ _ ne) refl;
+              objects_equal_if_parts_equal _ _ refl refl (upd_at_different_places_commutes b.inside t u _ _ ne) refl;
         }
     enter_read (Entry p Writing ans') i' h' free = absurd (free tt)
     enter_read (Exit p Reading) i' h' free = record {
@@ -119,24 +119,24 @@ swap1 m b ex t u ne (Entry o Reading ans) q' i i' h h' free = enter_read q' i' h
       emitted_same = refl;
       reply_same = refl;
       order =
-          some_path _ _ refl refl (upd_comm b.inside t u _ _ ne) refl;
+          objects_equal_if_parts_equal _ _ refl refl (upd_at_different_places_commutes b.inside t u _ _ ne) refl;
     }
     enter_read (Exit p Writing) i' h' free = absurd (h u i')
     enter_read (Load p j) i' h' free = record { admits = tt; emitted_same = refl; reply_same = refl; order = refl }
     enter_read (Store p j w) i' h' free = absurd (h u i')
     enter_read Never i' h' free = absurd h'
-swap1 m b ex t u ne (Exit o Reading) q' i i' h h' free = leave_read q' i' h'
+acts_commute_unless_clash m b ex t u ne (Exit o Reading) q' i i' h h' free = leave_read q' i' h'
   where
-    leave_read : (q' : Act) → Inside q' (b.inside u) → Admits m q' b → Commutes m b (acted (Exit o Reading) t) u q'
+    leave_read : (q' : Act) → InsideForAct q' (b.inside u) → Admits m q' b → Commutes m b (acted (Exit o Reading) t) u q'
     leave_read Silent i' h' = record { admits = tt; emitted_same = refl; reply_same = refl; order = refl }
     leave_read (Refusal _) i' h' = record { admits = tt; emitted_same = refl; reply_same = refl; order = refl }
     leave_read (Result k res) i' h' = record { admits = h'; emitted_same = refl; reply_same = refl; order = refl }
     leave_read (Entry p Reading ans') i' h' = record {
-      admits = left_reading b t h';
+      admits = no_writer_after_leave b t h';
       emitted_same = refl;
       reply_same = refl;
       order =
-          some_path _ _ refl refl (upd_comm b.inside t u _ _ ne) refl;
+          objects_equal_if_parts_equal _ _ refl refl (upd_at_different_places_commutes b.inside t u _ _ ne) refl;
     }
     leave_read (Entry p Writing ans') i' h' = absurd (cc (i, h' t))
     leave_read (Exit p Reading) i' h' = record {
@@ -144,7 +144,7 @@ swap1 m b ex t u ne (Exit o Reading) q' i i' h h' free = leave_read q' i' h'
       emitted_same = refl;
       reply_same = refl;
       order =
-          some_path _ _ refl refl (upd_comm b.inside t u _ _ ne) refl;
+          objects_equal_if_parts_equal _ _ refl refl (upd_at_different_places_commutes b.inside t u _ _ ne) refl;
     }
     leave_read (Exit p Writing) i' h' = absurd (cc (ex u t (λ e. ne (sym e)) i', i))
     leave_read (Load p j) i' h' = record { admits = tt; emitted_same = refl; reply_same = refl; order = refl }

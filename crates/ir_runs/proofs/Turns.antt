@@ -5,10 +5,10 @@ use Rattle.ir_runs.specs.Run.{State, Step, Can, after, IsRun, end}
 use Rattle.ir_runs.specs.InOrder.{HasNone, EntersIfFree, InTurn}
 
 -- turns make a run
-pub turns_run : {T : Type 0} (m : Machine T) (s : State T) (order : List ℕ) (run : List Step) → InTurn m s order run → IsRun m s run
-turns_run m s [] run e = subst (IsRun m s) (sym e) tt
-turns_run m s (t ∷ order) run (inl none) = turns_run m s order run none.1
-turns_run m s (t ∷ order) run (inr some) = subst (IsRun m s) (sym some.2) (some.3, turns_run m (after m s (t, some.0)) order some.1 some.5)
+pub turns_are_run : {T : Type 0} (m : Machine T) (s : State T) (order : List ℕ) (run : List Step) → InTurn m s order run → IsRun m s run
+turns_are_run m s [] run e = subst (IsRun m s) (sym e) tt
+turns_are_run m s (t ∷ order) run (inl none) = turns_are_run m s order run none.1
+turns_are_run m s (t ∷ order) run (inr some) = subst (IsRun m s) (sym some.2) (some.3, turns_are_run m (after m s (t, some.0)) order some.1 some.5)
 
 -- turns, and then others
 pub turns_append : {T : Type 0} (m : Machine T) (s : State T) (order more : List ℕ) (run rest : List Step) → InTurn m s order run
@@ -25,12 +25,12 @@ turns_append m s (t ∷ order) more run rest (inr some) h = inr (
 )
 
 -- an entry more: a step of its thread
-pub turn_taken : {T : Type 0} (m : Machine T) (s : State T) (order : List ℕ) (run : List Step) (t r : ℕ) → InTurn m s order run
+pub turns_with_step_taken : {T : Type 0} (m : Machine T) (s : State T) (order : List ℕ) (run : List Step) (t r : ℕ) → InTurn m s order run
     → Can m (end m s run) (t, r) → EntersIfFree m (end m s run) (t, r) → InTurn m s (order ++ t ∷ []) (run ++ (t, r) ∷ [])
-turn_taken m s order run t r h can free = turns_append m s order (t ∷ []) run ((t, r) ∷ []) h (inr (r, [], refl, can, free, refl))
+turns_with_step_taken m s order run t r h can free = turns_append m s order (t ∷ []) run ((t, r) ∷ []) h (inr (r, [], refl, can, free, refl))
 
 -- an entry more, of a thread that has no step
-pub turn_skipped : {T : Type 0} (m : Machine T) (s : State T) (order : List ℕ) (run : List Step) (t : ℕ) → InTurn m s order run
+pub turns_with_thread_skipped : {T : Type 0} (m : Machine T) (s : State T) (order : List ℕ) (run : List Step) (t : ℕ) → InTurn m s order run
     → HasNone m (end m s run) t → InTurn m s (order ++ t ∷ []) run
-turn_skipped m s order run t h none = subst (InTurn m s (order ++ t ∷ [])) (append-nil run)
+turns_with_thread_skipped m s order run t h none = subst (InTurn m s (order ++ t ∷ [])) (append-nil run)
     (turns_append m s order (t ∷ []) run [] h (inl (none, refl)))

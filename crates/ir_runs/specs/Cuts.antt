@@ -16,11 +16,11 @@ Emits {T} m s run t k emitted = (x : T) × At (trail m s run t) k (x, emitted)
 
 -- what emits the second needs what emits the first: an entry needs the writer's leave that made its version, an entry for writing each
 -- reader's leave of its version
-abbrev pub Needs : Label → Label → Type 0
-Needs (Out o Writing w) (In p a v l) = (o ≡ p) × (v ≡ suc w)
-Needs (Out o Reading w) (In p Writing v l) = (o ≡ p) × (v ≡ w)
-Needs (Out o Reading w) _ = ⊥
-Needs _ _ = ⊥
+abbrev pub IsNeededBy : Label → Label → Type 0
+IsNeededBy (Out o Writing w) (In p a v l) = (o ≡ p) × (v ≡ suc w)
+IsNeededBy (Out o Reading w) (In p Writing v l) = (o ≡ p) × (v ≡ w)
+IsNeededBy (Out o Reading w) _ = ⊥
+IsNeededBy _ _ = ⊥
 
 -- a position for each thread
 abbrev pub Cut : Type 0
@@ -32,7 +32,7 @@ IsCut m s run p = (t : ℕ) → p t ≤ count m s run t
 
 -- what a step of the cut needs is in the cut
 abbrev pub Consistent : {T : Type 0} → Machine T → State T → List Step → Cut → Type 0
-Consistent m s run p = (t k u j : ℕ) (a b : Label) → Emits m s run t k a → Emits m s run u j b → Needs b a → k < p t → j < p u
+Consistent m s run p = (t k u j : ℕ) (a b : Label) → Emits m s run t k a → Emits m s run u j b → IsNeededBy b a → k < p t → j < p u
 
 -- the positions that are left after a step of thread t
 abbrev pub lower : Cut → ℕ → Cut

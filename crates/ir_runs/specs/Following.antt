@@ -56,7 +56,7 @@ abbrev pub ends_at : Option (ℕ × ℕ) → Option (ℕ × ℕ) → Option (ℕ
 ends_at None after = after
 ends_at (Some e) after = None
 
--- the end and code that the thread gets by its next step, if that ends it
+-- the end and code that the thread gets by its next step, if that ends it; a step that ends a thread looks at no reply
 abbrev pub ends_now : {T : Type 0} → Machine T → T → Option (ℕ × ℕ)
 ends_now m x = ends_at (m.ended x) (m.ended (m.take x 0))
 

@@ -4,7 +4,7 @@ use Rattle.ir_runs.specs.declared.access.Access.{Access}
 use Rattle.ir_runs.specs.declared.access.Access.TheVariants.{Writing, Reading}
 use Rattle.ir_runs.specs.declared.env_kind.EnvKind.{EnvKind}
 
--- what a thread asks for next; a try enters for writing if no thread is inside, and never waits
+-- what a thread asks for next; a try may enter for writing if no thread is inside, may always be refused, and never waits
 pub data Ask : Type 0 where
   Private : Ask
   Env : (kind : EnvKind) → Ask
@@ -39,14 +39,19 @@ act_of (Get o i) r = Load o i
 act_of (Put o i w) r = Store o i w
 act_of Done r = Never
 
--- a thread's machine, T being the thread's state: what it asks, the thread after a reply, what it holds, which results suit a call of
--- the environment, its end and code once ended, and how many objects it holds
+-- what a thread does, T being the thread's state
 pub record Machine (T : Type 0) : Type 0 where
+  -- what it asks next
   pub ask : T → Ask
+  -- the thread after its next step, with this reply
   pub take : T → ℕ → T
+  -- which objects it holds
   pub held : T → ℕ → Option Access
+  -- which results suit a call of the environment
   pub fits : EnvKind → ℕ → Bool
+  -- its end and code, once it has ended
   pub ended : T → Option (ℕ × ℕ)
+  -- how many objects it holds
   pub size : T → ℕ
 
 -- the table f, but v at i

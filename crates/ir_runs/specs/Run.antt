@@ -7,7 +7,7 @@ pub record State (T : Type 0) : Type 0 where
   pub now : ℕ → T
   pub objects : ℕ → Object
 
--- a step is a thread, and the result of its call of the environment or try, if it makes one
+-- a step is a thread, and the result of its call of the environment or try, if it makes one; else any number, at which nothing looks
 abbrev pub Step : Type 0
 Step = ℕ × ℕ
 
@@ -19,26 +19,26 @@ asked m s t = m.ask (s.now t)
 abbrev pub act : {T : Type 0} → Machine T → State T → Step → Act
 act m s e = act_of (asked m s e.0) e.1
 
--- whether there is such a step
+-- the step can be taken
 abbrev pub Can : {T : Type 0} → Machine T → State T → Step → Type 0
 Can m s e = Admits m (act m s e) (s.objects (target (act m s e)))
 
--- thread t, which is x, does this
-abbrev pub moved : {T : Type 0} → Machine T → State T → ℕ → T → Act → State T
-moved m s t x q = record {
+-- the state after thread t, whose state is x, did this
+abbrev pub after_act : {T : Type 0} → Machine T → State T → ℕ → T → Act → State T
+after_act m s t x q = record {
   now = upd s.now t (m.take x (reply q (s.objects (target q))));
   objects = upd s.objects (target q) (acted q t (s.objects (target q)));
 }
 
 -- the state after the step
 unfoldable pub after : {T : Type 0} → Machine T → State T → Step → State T
-after m s e = moved m s e.0 (s.now e.0) (act m s e)
+after m s e = after_act m s e.0 (s.now e.0) (act m s e)
 
 -- what the step emits
 abbrev pub label : {T : Type 0} → Machine T → State T → Step → Label
 label m s e = emitted (act m s e) (s.objects (target (act m s e)))
 
--- there is each step of the run, after those before it
+-- each step of the run can be taken after those before it
 abbrev pub IsRun : {T : Type 0} → Machine T → State T → List Step → Type 0
 IsRun m s [] = Unit {0}
 IsRun m s (e ∷ run) = Can m s e × IsRun m (after m s e) run
@@ -77,7 +77,7 @@ thread_in [] k last = last
 thread_in (x ∷ xs) zero last = x.0
 thread_in (x ∷ xs) (suc k) last = thread_in xs k last
 
--- thread t just after its k-th own step
+-- thread t after k of its steps
 abbrev pub th : {T : Type 0} → Machine T → State T → List Step → ℕ → ℕ → T
 th m s run t k = thread_in (trail m s run t) k ((end m s run).now t)
 

@@ -33,18 +33,18 @@ Awaits (Enter o a) es = Unit {0}
 Awaits (Try o) (In p c v l ∷ es) = Unit {0}
 Awaits _ _ = ⊥
 
--- the verdict on a thread whose state is x, with n steps and the log es left, after i events and k steps; none says that no run takes it
+-- the verdict on a thread whose state is x, with n steps and the log es left, after i events and k steps; stuck says that no run takes it
 -- further
 abbrev pub Judged : {T : Type 0} → Machine T → Option (ℕ × ℕ) → Type 0 → T → ℕ → List Label → ℕ → ℕ → ThreadVerdict → Type 0
-Judged m fin none x n es i k Same = m.ask x ≡ Done
-Judged m fin none x n es i k (Disagrees j h) = (m.ask x ≢ Done) × (Agrees m fin x n es → ⊥) × (j ≡ i) × (h ≡ k)
-Judged m fin none x n es i k (Starves j) = (m.ask x ≢ Done) × Agrees m fin x n es × Awaits (m.ask x) es × none × (j ≡ i)
+Judged m fin stuck x n es i k Same = m.ask x ≡ Done
+Judged m fin stuck x n es i k (Disagrees j h) = (m.ask x ≢ Done) × (Agrees m fin x n es → ⊥) × (j ≡ i) × (h ≡ k)
+Judged m fin stuck x n es i k (Starves j) = (m.ask x ≢ Done) × Agrees m fin x n es × Awaits (m.ask x) es × stuck × (j ≡ i)
 
 -- no run that follows the trace takes thread t further than k steps
 abbrev pub NoneTakes : {T : Type 0} → Machine T → State T → Trace → ℕ → ℕ → Type 0
 NoneTakes m s tr t k = (run : List Step) → Follows (closing m tr) m s tr run → count m s run t ≤ k
 
--- the verdict on thread t at the end of this run, a maximal one that follows the trace
+-- the verdict on thread t at the end of this run, which follows the trace so far that no step more does
 abbrev pub IsVerdict : {T : Type 0} → Machine T → State T → Trace → List Step → ℕ → ThreadVerdict → Type 0
 IsVerdict m s tr run t v = Judged m (tr.ends t) (NoneTakes m s tr t (count m s run t)) ((end m s run).now t)
     (left_steps (trail m s run t) (tr.steps t)) (left_log (trail m s run t) (tr.logs t)) (length (log m s run t)) (count m s run t) v

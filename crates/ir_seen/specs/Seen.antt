@@ -2,7 +2,7 @@
 use Rattle.std.specs.Prelude.{◌≡◌, ℕ, List, ◌⊎◌, Some, option_map}
 use Rattle.ir_runs.specs.Machine.{Machine, Done}
 use Rattle.ir_thread.specs.Calls.{ask_of, after_reply}
-use Rattle.ir_thread.specs.State.{end_number, end_code, State, held_at, held_count}
+use Rattle.ir_thread.specs.State.{end_number, end_code, ThreadState, held_at, held_count}
 use Rattle.ir_thread.specs.Instance.{shared_ask, reply_of, is_result, thread_machine}
 use Rattle.ir_thread.specs.declared.profile.Profile.{Profile}
 use Rattle.ir_image.specs.Guest.{Guest}
@@ -13,11 +13,11 @@ use Rattle.ir_states.specs.Sources.{Giving, Gives}
 use Rattle.ir_states.specs.Views.{viewed, beside, IsUnspoilt}
 
 -- a thread that has taken no step and logged nothing, and may take one
-abbrev pub view : State → State
+abbrev pub view : ThreadState → ThreadState
 view s = record s { steps = 0; events = 0; budget = 1 }
 
 -- a thread that runs this code, seen so after each step
-abbrev pub seen_machine : List ℕ → Machine State
+abbrev pub seen_machine : List ℕ → Machine ThreadState
 seen_machine code = record {
   ask = λ s. shared_ask (ask_of code s);
   take = λ s value. view (after_reply code s (reply_of (ask_of code s) value));
@@ -28,20 +28,20 @@ seen_machine code = record {
 }
 
 -- it asks what its view asks
-abbrev pub IsLive : List ℕ → State → Type 0
+abbrev pub IsLive : List ℕ → ThreadState → Type 0
 IsLive code s = ask_of code (view s) ≡ ask_of code s
 
 -- its end is that of a spent budget or a full log
-abbrev pub IsSpoilt : List ℕ → State → Type 0
+abbrev pub IsSpoilt : List ℕ → ThreadState → Type 0
 IsSpoilt code s = ((thread_machine code).ended s ≡ Some (13, 0)) ⊎ ((thread_machine code).ended s ≡ Some (14, 0))
 
 -- threads that look the same beside their sources: all is equal, or both are done, with one end and one output
-abbrev pub Same : {S : Type 0} → List ℕ → State × S → State × S → Type 0
+abbrev pub Same : {S : Type 0} → List ℕ → ThreadState × S → ThreadState × S → Type 0
 Same code x y = (x ≡ y) ⊎ ((shared_ask (ask_of code x.0) ≡ Done) × (shared_ask (ask_of code y.0) ≡ Done) × (x.0.ended ≡ y.0.ended)
     × (x.0.output ≡ y.0.output))
 
 -- a guest's start seen so, beside the sources of its threads, whatever its budget
-abbrev pub seen_start : {S : Type 0} → Guest → Profile → (ℕ → S) → run.State (State × S)
+abbrev pub seen_start : {S : Type 0} → Guest → Profile → (ℕ → S) → run.State (ThreadState × S)
 seen_start guest profile sources = beside (viewed view (tables (start_flat guest 1 profile))) sources
 
 -- a complete run of a guest that counts: each thread is answered by its own source, in turn, and no end is a spent budget's or a full log's

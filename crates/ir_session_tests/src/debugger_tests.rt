@@ -70,11 +70,7 @@ fn walk<R: Threads + Clock + Sync>(
     alloc: Global,
     commands: &[Command; 8],
 ) -> Result<[Sight; 8], Fail> {
-    let mut debugger = Debugger::open(
-        alloc,
-        fitted(alloc, TWO_COUNTERS, SECOND_FIRST)?,
-        Vec::new(alloc),
-    )?;
+    let mut debugger = Debugger::open(alloc, fitted(alloc, TWO_COUNTERS, SECOND_FIRST)?)?;
     let hands = Given::new(rt, alloc, &OpenGate);
     Ok(sights(&hands, &mut debugger, commands))
 }

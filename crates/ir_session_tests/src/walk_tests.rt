@@ -115,6 +115,6 @@ fn assert_same<R: AllocGlobal + Threads + Clock + Sync + Abort>(
 fn the_same_is_shown_both_ways(rt: HostRuntime) -> Result<(), Fail> {
     let order = [2, 2, 2, 2, 0, 1, 0, 1, 1, 2, 0, 0];
     let fitted = fitted_in_order(rt.alloc(), THREE_COUNTERS, &order, BUDGET)?;
-    let mut debugger = Debugger::open(rt.alloc(), fitted, Vec::new(rt.alloc()))?;
+    let mut debugger = Debugger::open(rt.alloc(), fitted)?;
     assert_same(&rt, &mut debugger)
 }

@@ -8,62 +8,62 @@ use Rattle.ir_record.specs.Worlds.{Answered}
 use Rattle.ir_sources.specs.Sources.{MadeWith, made_with, is_counted, seed_of, origin_of, origins, IsAnswered}
 use Rattle.ir_sources.specs.declared.time.Time.{Time}
 
-map_more : {A B : Type 0} (f : A → B) (xs : List A) (x : A) → map f (xs ++ x ∷ []) ≡ map f xs ++ f x ∷ []
-map_more f [] x = refl
-map_more f (y ∷ xs) x = ap (λ z. f y ∷ z) (map_more f xs x)
+map_of_append_item : {A B : Type 0} (f : A → B) (xs : List A) (x : A) → map f (xs ++ x ∷ []) ≡ map f xs ++ f x ∷ []
+map_of_append_item f [] x = refl
+map_of_append_item f (y ∷ xs) x = ap (λ z. f y ∷ z) (map_of_append_item f xs x)
 
-replicate_more : {A : Type 0} (n : ℕ) (x : A) → replicate n x ++ x ∷ [] ≡ replicate (suc n) x
-replicate_more zero x = refl
-replicate_more (suc n) x = ap (λ z. x ∷ z) (replicate_more n x)
+replicate_append_one : {A : Type 0} (n : ℕ) (x : A) → replicate n x ++ x ∷ [] ≡ replicate (suc n) x
+replicate_append_one zero x = refl
+replicate_append_one (suc n) x = ap (λ z. x ∷ z) (replicate_append_one n x)
 
 -- one world more
-pub origins_more : {W : Type 0} (made : W → MadeWith) (old new : List W) (w : W) (counted : Bool) (random : ℕ) (file : List ℕ) (n : ℕ)
+pub origins_step : {W : Type 0} (made : W → MadeWith) (old new : List W) (w : W) (counted : Bool) (random : ℕ) (file : List ℕ) (n : ℕ)
     → map made old ≡ origins counted random file n → made w ≡ origin_of counted random file n → new ≡ old ++ w ∷ []
     → map made new ≡ origins counted random file (n + 1)
-origins_more made old new w counted random file n before here e =
-    ap (map made) e ∙ map_more made old w ∙ ap (λ (z : List MadeWith). z ++ made w ∷ []) before
+origins_step made old new w counted random file n before here e =
+    ap (map made) e ∙ map_of_append_item made old w ∙ ap (λ (z : List MadeWith). z ++ made w ∷ []) before
     ∙ ap (λ (z : MadeWith). origins counted random file n ++ z ∷ []) here
     ∙ sym (map-range_with_len_more (origin_of counted random file) 0 n n (omega arith))
 
 -- what the new world is made with
-pub made_by : (time before : Time) (seed random : ℕ) (of file : List ℕ) (n : ℕ) → time ≡ before → seed ≡ seed_of random n → of ≡ file
+pub made_with_is_origin : (time before : Time) (seed random : ℕ) (of file : List ℕ) (n : ℕ) → time ≡ before → seed ≡ seed_of random n → of ≡ file
     → made_with time seed of ≡ origin_of (is_counted before) random file n
-made_by time before seed random of file n e s f = λ i. made_with (e i) (s i) (f i)
+made_with_is_origin time before seed random of file n e s f = λ i. made_with (e i) (s i) (f i)
 
-pub fresh_more : {W : Type 0} (answers : W → List Answered) (old new : List W) (w : W) (n : ℕ) → map answers old ≡ replicate n []
+pub fresh_answers_step : {W : Type 0} (answers : W → List Answered) (old new : List W) (w : W) (n : ℕ) → map answers old ≡ replicate n []
     → answers w ≡ [] → new ≡ old ++ w ∷ [] → map answers new ≡ replicate (n + 1) []
-fresh_more answers old new w n before s e =
-    ap (map answers) e ∙ map_more answers old w ∙ ap (λ (z : List (List Answered)). z ++ answers w ∷ []) before
-    ∙ ap (λ (z : List Answered). replicate n [] ++ z ∷ []) s ∙ replicate_more n []
+fresh_answers_step answers old new w n before s e =
+    ap (map answers) e ∙ map_of_append_item answers old w ∙ ap (λ (z : List (List Answered)). z ++ answers w ∷ []) before
+    ∙ ap (λ (z : List Answered). replicate n [] ++ z ∷ []) s ∙ replicate_append_one n []
     ∙ ap (λ (k : ℕ). replicate k []) (sym (add-one n))
 
 -- there is a world for each thread
-pub many : {W : Type 0} (made : W → MadeWith) (worlds : List W) (counted : Bool) (random : ℕ) (file : List ℕ) (n : ℕ)
+pub world_count_is_thread_count : {W : Type 0} (made : W → MadeWith) (worlds : List W) (counted : Bool) (random : ℕ) (file : List ℕ) (n : ℕ)
     → map made worlds ≡ origins counted random file n → length worlds ≡ n
-many made worlds counted random file n e = sym (length-map worlds made) ∙ ap (λ (z : List MadeWith). length z) e
+world_count_is_thread_count made worlds counted random file n e = sym (length-map worlds made) ∙ ap (λ (z : List MadeWith). length z) e
     ∙ length-map-range_with_len (origin_of counted random file) 0 n
 
-answered_from : {O : Type 0} (made : O → MadeWith) (answers : O → List Answered) → ((o : O) → IsAnswered (made o) (answers o))
+worlds_answered_by_origins_from : {O : Type 0} (made : O → MadeWith) (answers : O → List Answered) → ((o : O) → IsAnswered (made o) (answers o))
     → (counted : Bool) (random : ℕ) (file : List ℕ) (os : List O) (a n : ℕ)
     → map made os ≡ map (origin_of counted random file) (range_with_len a n)
     → (t : ℕ) → t < n → IsAnswered (origin_of counted random file (a + t)) (get_or (map answers os) t [])
-answered_from made answers gave counted random file os a zero e t l = absurd (omega (arith, l))
-answered_from made answers gave counted random file [] a (suc n) e t l = absurd (cc)
-answered_from made answers gave counted random file (o ∷ os) a (suc n) e zero l =
+worlds_answered_by_origins_from made answers gave counted random file os a zero e t l = absurd (omega (arith, l))
+worlds_answered_by_origins_from made answers gave counted random file [] a (suc n) e t l = absurd (cc)
+worlds_answered_by_origins_from made answers gave counted random file (o ∷ os) a (suc n) e zero l =
     let here : made o ≡ origin_of counted random file a = cc in
     let first : a ≡ a + zero = omega arith in
     subst (λ (m : MadeWith). IsAnswered m (answers o)) (here ∙ ap (origin_of counted random file) first) (gave o)
-answered_from made answers gave counted random file (o ∷ os) a (suc n) e (suc t) l =
+worlds_answered_by_origins_from made answers gave counted random file (o ∷ os) a (suc n) e (suc t) l =
     let rest : map made os ≡ map (origin_of counted random file) (range_with_len (a + 1) n) = cc in
     let place : a + 1 + t ≡ a + suc t = omega arith in
     subst (λ (k : ℕ). IsAnswered (origin_of counted random file k) (get_or (map answers os) t [])) place
-    (answered_from made answers gave counted random file os (a + 1) n rest t (omega (arith, l)))
+    (worlds_answered_by_origins_from made answers gave counted random file os (a + 1) n rest t (omega (arith, l)))
 
 -- each of the worlds was answered by its own sources
-pub answered_by : {O : Type 0} (made : O → MadeWith) (answers : O → List Answered) → ((o : O) → IsAnswered (made o) (answers o))
+pub worlds_answered_by_own_origins : {O : Type 0} (made : O → MadeWith) (answers : O → List Answered) → ((o : O) → IsAnswered (made o) (answers o))
     → (counted : Bool) (random : ℕ) (file : List ℕ) (os : List O) (n : ℕ) → map made os ≡ origins counted random file n
     → (t : ℕ) → t < n → IsAnswered (origin_of counted random file t) (get_or (map answers os) t [])
-answered_by made answers gave counted random file os n e t l =
+worlds_answered_by_own_origins made answers gave counted random file os n e t l =
     let place : 0 + t ≡ t = omega arith in
     subst (λ (k : ℕ). IsAnswered (origin_of counted random file k) (get_or (map answers os) t [])) place
-    (answered_from made answers gave counted random file os 0 n e t l)
+    (worlds_answered_by_origins_from made answers gave counted random file os 0 n e t l)

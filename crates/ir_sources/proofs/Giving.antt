@@ -9,61 +9,61 @@ use Rattle.ir_runs.specs.declared.env_kind.EnvKind.{EnvKind}
 use Rattle.ir_runs.specs.declared.env_kind.EnvKind.TheVariants.{Clock, Random, Input}
 
 -- one answer more
-pub gave_more : (s t u : Source) (answers : List Answered) (kind : EnvKind) (value : ℕ) → Gave s answers t
+pub gave_after_answer : (s t u : Source) (answers : List Answered) (kind : EnvKind) (value : ℕ) → Gave s answers t
     → ◌≡◌ {A = ℕ × Source} (value, u) (given kind t) → Gave s (answers ++ (kind, value) ∷ []) u
-gave_more s t u [] kind value same e =
+gave_after_answer s t u [] kind value same e =
     let h : ◌≡◌ {A = ℕ × Source} (value, u) (given kind s) = e ∙ ap (given kind) same in
     (ap (λ (p : ℕ × Source). p.0) h, ap (λ (p : ℕ × Source). p.1) h)
-gave_more s t u (a ∷ answers) kind value gave e = (gave.0, gave_more (given a.0 s).1 t u answers kind value gave.1 e)
+gave_after_answer s t u (a ∷ answers) kind value gave e = (gave.0, gave_after_answer (given a.0 s).1 t u answers kind value gave.1 e)
 
 -- an answer takes no more than one tick
-few_more : (kind : EnvKind) (s : Source) → (given kind s).1.ticks ≤ s.ticks + 1
-few_more Clock s = omega arith
-few_more Random s = omega arith
-few_more Input s = omega arith
+answer_takes_one_tick_at_most : (kind : EnvKind) (s : Source) → (given kind s).1.ticks ≤ s.ticks + 1
+answer_takes_one_tick_at_most Clock s = omega arith
+answer_takes_one_tick_at_most Random s = omega arith
+answer_takes_one_tick_at_most Input s = omega arith
 
 -- one answer more to a call for the time is none of the others
-untimed_kept : (answers : List Answered) (value : ℕ) → untimed (answers ++ (Clock, value) ∷ []) ≡ untimed answers
-untimed_kept [] value = refl
-untimed_kept ((Clock, other) ∷ answers) value = untimed_kept answers value
-untimed_kept ((Random, other) ∷ answers) value = ap (λ (z : List Answered). (Random, other) ∷ z) (untimed_kept answers value)
-untimed_kept ((Input, other) ∷ answers) value = ap (λ (z : List Answered). (Input, other) ∷ z) (untimed_kept answers value)
+untimed_ignores_clock_answer : (answers : List Answered) (value : ℕ) → untimed (answers ++ (Clock, value) ∷ []) ≡ untimed answers
+untimed_ignores_clock_answer [] value = refl
+untimed_ignores_clock_answer ((Clock, other) ∷ answers) value = untimed_ignores_clock_answer answers value
+untimed_ignores_clock_answer ((Random, other) ∷ answers) value = ap (λ (z : List Answered). (Random, other) ∷ z) (untimed_ignores_clock_answer answers value)
+untimed_ignores_clock_answer ((Input, other) ∷ answers) value = ap (λ (z : List Answered). (Input, other) ∷ z) (untimed_ignores_clock_answer answers value)
 
 -- one answer more to another call
-untimed_more : (answers : List Answered) (kind : EnvKind) (value : ℕ) → kind ≢ Clock
+untimed_after_other_answer : (answers : List Answered) (kind : EnvKind) (value : ℕ) → kind ≢ Clock
     → untimed (answers ++ (kind, value) ∷ []) ≡ untimed answers ++ (kind, value) ∷ []
-untimed_more [] Clock value other = absurd (other refl)
-untimed_more [] Random value other = refl
-untimed_more [] Input value other = refl
-untimed_more ((Clock, first) ∷ answers) kind value other = untimed_more answers kind value other
-untimed_more ((Random, first) ∷ answers) kind value other =
-    ap (λ (z : List Answered). (Random, first) ∷ z) (untimed_more answers kind value other)
-untimed_more ((Input, first) ∷ answers) kind value other =
-    ap (λ (z : List Answered). (Input, first) ∷ z) (untimed_more answers kind value other)
+untimed_after_other_answer [] Clock value other = absurd (other refl)
+untimed_after_other_answer [] Random value other = refl
+untimed_after_other_answer [] Input value other = refl
+untimed_after_other_answer ((Clock, first) ∷ answers) kind value other = untimed_after_other_answer answers kind value other
+untimed_after_other_answer ((Random, first) ∷ answers) kind value other =
+    ap (λ (z : List Answered). (Random, first) ∷ z) (untimed_after_other_answer answers kind value other)
+untimed_after_other_answer ((Input, first) ∷ answers) kind value other =
+    ap (λ (z : List Answered). (Input, first) ∷ z) (untimed_after_other_answer answers kind value other)
 
 -- the sources after a clock was read
-pub still_left : (s t : Source) (time : Time) (start : _) (answers new : List Answered) (kind : EnvKind) (value : ℕ) → time ≡ Since start
+pub gave_after_clock_read : (s t : Source) (time : Time) (start : _) (answers new : List Answered) (kind : EnvKind) (value : ℕ) → time ≡ Since start
     → kind ≡ Clock → Gave s (from_sources (is_counted time) answers) t → new ≡ answers ++ (kind, value) ∷ []
     → Gave s (from_sources (is_counted time) new) t
-still_left s t time start answers new kind value timed clock gave e =
+gave_after_clock_read s t time start answers new kind value timed clock gave e =
     let by_clock : is_counted time ≡ false = ap is_counted timed in
     let same : untimed new ≡ untimed answers = ap untimed (e ∙ ap (λ (k : EnvKind). answers ++ (k, value) ∷ []) clock)
-    ∙ untimed_kept answers value in
+    ∙ untimed_ignores_clock_answer answers value in
     subst (λ (c : Bool). Gave s (from_sources c new) t) (sym by_clock)
     (subst (λ (z : List Answered). Gave s z t) (sym same) (subst (λ (c : Bool). Gave s (from_sources c answers) t) by_clock gave))
 
 -- the sources after one answer of theirs more
-pub still_gave : (s t u : Source) (counted : Bool) (answers new : List Answered) (kind : EnvKind) (value : ℕ)
+pub gave_after_own_answer : (s t u : Source) (counted : Bool) (answers new : List Answered) (kind : EnvKind) (value : ℕ)
     → (counted ≡ false → kind ≢ Clock) → Gave s (from_sources counted answers) t → new ≡ answers ++ (kind, value) ∷ []
     → ◌≡◌ {A = ℕ × Source} (value, u) (given kind t)
     → Gave s (from_sources counted new) u
-still_gave s t u true answers new kind value other gave e h =
-    subst (λ (z : List Answered). Gave s z u) (sym e) (gave_more s t u answers kind value gave h)
-still_gave s t u false answers new kind value other gave e h =
-    let more : untimed new ≡ untimed answers ++ (kind, value) ∷ [] = ap untimed e ∙ untimed_more answers kind value (other refl) in
-    subst (λ (z : List Answered). Gave s z u) (sym more) (gave_more s t u (untimed answers) kind value gave h)
+gave_after_own_answer s t u true answers new kind value other gave e h =
+    subst (λ (z : List Answered). Gave s z u) (sym e) (gave_after_answer s t u answers kind value gave h)
+gave_after_own_answer s t u false answers new kind value other gave e h =
+    let more : untimed new ≡ untimed answers ++ (kind, value) ∷ [] = ap untimed e ∙ untimed_after_other_answer answers kind value (other refl) in
+    subst (λ (z : List Answered). Gave s z u) (sym more) (gave_after_answer s t u (untimed answers) kind value gave h)
 
-pub still_few : (t u : Source) (old new : ℕ) (kind : EnvKind) (value : ℕ) → t.ticks ≤ old → new ≡ old + 1
+pub ticks_bounded_after_answer : (t u : Source) (old new : ℕ) (kind : EnvKind) (value : ℕ) → t.ticks ≤ old → new ≡ old + 1
     → ◌≡◌ {A = ℕ × Source} (value, u) (given kind t) → u.ticks ≤ new
-still_few t u old new kind value few e h = let ticks : u.ticks ≡ (given kind t).1.ticks = ap (λ (p : ℕ × Source). p.1.ticks) h in
-    omega (arith, ticks, few, e, few_more kind t)
+ticks_bounded_after_answer t u old new kind value few e h = let ticks : u.ticks ≡ (given kind t).1.ticks = ap (λ (p : ℕ × Source). p.1.ticks) h in
+    omega (arith, ticks, few, e, answer_takes_one_tick_at_most kind t)

@@ -1,29 +1,29 @@
 -- What callers may cite of runs from entry to entry.
 -- what threads do between their entries may come first
-pub use Rattle.ir_states.proofs.First.{first}
+pub use Rattle.ir_states.proofs.First.{own_step_may_come_first}
 -- runs that count
-pub use Rattle.ir_states.proofs.Rest.{counts_runs, goes_counts, counts_append, goes_append, entering_append, goes_entering, counted_good, bring, done_stays, Whole, bring_whole, AnswersFit, Rests, rests}
+pub use Rattle.ir_states.proofs.Rest.{counting_run_is_run, goes_ahead_counts, counts_append, goes_ahead_append, entering_append, goes_ahead_enters_nothing, state_invariant_after_counting_run, steps_ahead_may_come_first, nothing_goes_ahead_if_done, BroughtWhole, steps_ahead_first_in_complete_run, AnswersFit, ComesToRest, complete_run_comes_to_rest}
 -- runs lead over nodes
-pub use Rattle.ir_states.proofs.Closed.{goes_alike, along, Walked, walk, shows}
+pub use Rattle.ir_states.proofs.Closed.{goes_ahead_from_alike_state, arrives_along_chain, RunByEntries, walk, shows}
 -- a finished search has the outcomes, all and no others
-pub use Rattle.ir_states.proofs.Finished.{arrive, arrived, done_alike, finds, found, exact}
+pub use Rattle.ir_states.proofs.Finished.{counting_run_arrives, end_alike_to_arrived_node, is_done_from_alike_state, finds, found, exact}
 -- what a search has met by levels
-pub use Rattle.ir_states.proofs.Within.{within, Levels, OpenBy, more_levels, IsFollowed, covers_start, covers_more, path_append, last_of, changes_more}
+pub use Rattle.ir_states.proofs.Within.{outcome_within_switches_is_done_node, Levels, OpenBy, more_levels, IsFollowed, covers_after_first_level, covers_after_next_level, path_append, last_thread_of, changes_after_turn_appended}
 -- hangs
-pub use Rattle.ir_states.proofs.Hangs.{Completes, back, hangs, no_way, done_way, way_before}
+pub use Rattle.ir_states.proofs.Hangs.{Completes, back, hangs, lost_node_has_no_way, done_node_has_way, node_has_way_if_next_has}
 -- states that look the same are alike
 pub use Rattle.ir_states.proofs.Looks.{looks_alike, looks_by}
 -- orders of threads, entries and their results, and threads alone
-pub use Rattle.ir_states.proofs.Orders.{in_turn, by_order, one_by_order, leads_by_act, entry_results, others_stay, alone_rests}
+pub use Rattle.ir_states.proofs.Orders.{run_is_in_turn, complete_run_is_by_order, end_by_order_is_unique, leads_to_by_equal_act, entry_act_has_two_results, others_kept_by_lone_run, at_rest_after_lone_run}
 -- threads beside their sources
-pub use Rattle.ir_states.proofs.Sources.{sourced_lawful, plain_end, AllGiven, sourced_counts, sourced_entering, sourced_live}
+pub use Rattle.ir_states.proofs.Sources.{sourced_machine_is_lawful, plain_end, AllGiven, sourced_counts, sourced_entering, sourced_live}
 -- a machine and its view
-pub use Rattle.ir_states.proofs.Views.{sourced_view, sourced_spoils, viewed_end, viewed_entering, viewed_counts, live_run, live_unspoilt}
+pub use Rattle.ir_states.proofs.Views.{sourced_view_is_view, sourced_machine_spoils, viewed_end, viewed_entering, viewed_counts, unspoilt_run_is_live, unspoilt_after_live_run}
 -- a guest's runs and those of its view beside its sources
 pub use Rattle.ir_states.proofs.Real.{seen, real_seen, seen_real, seen_good, real_all, real_shown}
 -- one state at rest, and all that can be reached
-pub use Rattle.ir_states.proofs.Every.{equal_alike, every, one_rest}
+pub use Rattle.ir_states.proofs.Every.{equality_tells_nothing, every, rest_state_is_unique}
 -- nodes opened one after the other
-pub use Rattle.ir_states.proofs.Opening.{Bits, IsOpened, IsFollowedBut, taken_up, passed_on, laid_down, covers_grown, followed_grown}
+pub use Rattle.ir_states.proofs.Opening.{OpenedPairs, IsOpened, IsFollowedBut, taken_up, passed_on, laid_down, covers_after_nodes_grown, followed_after_nodes_grown}
 -- a run by the entries of a path
 pub use Rattle.ir_states.proofs.Told.{told}

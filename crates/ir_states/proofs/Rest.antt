@@ -6,20 +6,20 @@ use Rattle.ir_runs.specs.Lawful.{IsLawful}
 use Rattle.ir_runs.specs.declared.env_kind.EnvKind.{EnvKind}
 use Rattle.ir_runs.specs.Run.{State, Step, asked, after, label, IsRun, end, join_if, trail, IsDone}
 use Rattle.ir_runs.specs.Bounds.{IsIdle}
-use Rattle.ir_runs.proofs.CallerLemmas.{Good, stays_good, stays_idle, end_append, trail_append}
+use Rattle.ir_runs.proofs.CallerLemmas.{StateInvariant, state_invariant_after_step, idle_after_step, end_append, trail_append}
 use Rattle.ir_states.specs.Counting.{Answers, IsAnswered, Takes, Counts, is_own, IsAtRest, GoesAhead, entering, Brought}
-use Rattle.ir_states.proofs.First.{first}
+use Rattle.ir_states.proofs.First.{own_step_may_come_first}
 
 -- a run that counts is a run
-pub counts_runs : {T : Type 0} (m : Machine T) (answers : Answers T) (s : State T) (run : List Step) → Counts m answers s run → IsRun m s run
-counts_runs m answers s [] ok = tt
-counts_runs m answers s (e ∷ run) ok = (ok.0.0, counts_runs m answers (after m s e) run ok.1)
+pub counting_run_is_run : {T : Type 0} (m : Machine T) (answers : Answers T) (s : State T) (run : List Step) → Counts m answers s run → IsRun m s run
+counting_run_is_run m answers s [] ok = tt
+counting_run_is_run m answers s (e ∷ run) ok = (ok.0.0, counting_run_is_run m answers (after m s e) run ok.1)
 
 -- steps that no other can refuse count
-pub goes_counts : {T : Type 0} (m : Machine T) (answers : Answers T) (s : State T) (run : List Step) → GoesAhead m answers s run
+pub goes_ahead_counts : {T : Type 0} (m : Machine T) (answers : Answers T) (s : State T) (run : List Step) → GoesAhead m answers s run
     → Counts m answers s run
-goes_counts m answers s [] ok = tt
-goes_counts m answers s (e ∷ run) ok = (ok.1, goes_counts m answers (after m s e) run ok.2)
+goes_ahead_counts m answers s [] ok = tt
+goes_ahead_counts m answers s (e ∷ run) ok = (ok.1, goes_ahead_counts m answers (after m s e) run ok.2)
 
 -- runs one after the other
 pub counts_append : {T : Type 0} (m : Machine T) (answers : Answers T) (s : State T) (run more : List Step) → Counts m answers s run
@@ -27,10 +27,10 @@ pub counts_append : {T : Type 0} (m : Machine T) (answers : Answers T) (s : Stat
 counts_append m answers s [] more ok ok' = ok'
 counts_append m answers s (e ∷ run) more ok ok' = (ok.0, counts_append m answers (after m s e) run more ok.1 ok')
 
-pub goes_append : {T : Type 0} (m : Machine T) (answers : Answers T) (s : State T) (run more : List Step) → GoesAhead m answers s run
+pub goes_ahead_append : {T : Type 0} (m : Machine T) (answers : Answers T) (s : State T) (run more : List Step) → GoesAhead m answers s run
     → GoesAhead m answers (end m s run) more → GoesAhead m answers s (run ++ more)
-goes_append m answers s [] more ok ok' = ok'
-goes_append m answers s (e ∷ run) more ok ok' = (ok.0, ok.1, goes_append m answers (after m s e) run more ok.2 ok')
+goes_ahead_append m answers s [] more ok ok' = ok'
+goes_ahead_append m answers s (e ∷ run) more ok ok' = (ok.0, ok.1, goes_ahead_append m answers (after m s e) run more ok.2 ok')
 
 -- the entries of runs one after the other
 pub entering_append : {T : Type 0} (m : Machine T) (s : State T) (run more : List Step)
@@ -46,23 +46,23 @@ entering_append m s (e ∷ run) more =
     join false ts = refl
 
 -- steps that no other can refuse enter nothing
-pub goes_entering : {T : Type 0} (m : Machine T) (answers : Answers T) (s : State T) (run : List Step) → GoesAhead m answers s run
+pub goes_ahead_enters_nothing : {T : Type 0} (m : Machine T) (answers : Answers T) (s : State T) (run : List Step) → GoesAhead m answers s run
     → entering m s run ≡ []
-goes_entering m answers s [] ok = refl
-goes_entering m answers s (e ∷ run) ok =
+goes_ahead_enters_nothing m answers s [] ok = refl
+goes_ahead_enters_nothing m answers s (e ∷ run) ok =
     ap (λ b. cond b (entering m (after m s e) run) (e.0 ∷ entering m (after m s e) run)) ok.0
-    ∙ goes_entering m answers (after m s e) run ok.2
+    ∙ goes_ahead_enters_nothing m answers (after m s e) run ok.2
 
-pub counted_good : {T : Type 0} (m : Machine T) → IsLawful m → (answers : Answers T) (s : State T) → Good m s → (run : List Step)
-    → Counts m answers s run → Good m (end m s run)
-counted_good m law answers s good [] ok = good
-counted_good m law answers s good (e ∷ run) ok =
-    counted_good m law answers (after m s e) (stays_good m law s good e ok.0.0) run ok.1
+pub state_invariant_after_counting_run : {T : Type 0} (m : Machine T) → IsLawful m → (answers : Answers T) (s : State T) → StateInvariant m s → (run : List Step)
+    → Counts m answers s run → StateInvariant m (end m s run)
+state_invariant_after_counting_run m law answers s good [] ok = good
+state_invariant_after_counting_run m law answers s good (e ∷ run) ok =
+    state_invariant_after_counting_run m law answers (after m s e) (state_invariant_after_step m law s good e ok.0.0) run ok.1
 
 -- In a run that counts, what the threads do up to their next entries may come first.
-pub bring : {T : Type 0} (m : Machine T) → IsLawful m → (answers : Answers T) (s : State T) → Good m s → (ahead : List Step)
+pub steps_ahead_may_come_first : {T : Type 0} (m : Machine T) → IsLawful m → (answers : Answers T) (s : State T) → StateInvariant m s → (ahead : List Step)
     → GoesAhead m answers s ahead → (run : List Step) → Counts m answers s run → Brought m answers s ahead run
-bring m law answers s good [] goes run ok = record {
+steps_ahead_may_come_first m law answers s good [] goes run ok = record {
   left = [];
   goes = tt;
   rest = run;
@@ -72,13 +72,13 @@ bring m law answers s good [] goes run ok = record {
   same_trail = λ u. ap (λ z. trail m s z u) (sym (append-nil run));
   same_length = omega arith;
 }
-bring m law answers s good (e ∷ ahead) goes run ok =
-    let p : Brought m answers s (e ∷ []) run = first m law answers s good run ok e.0 e.1 goes.0 goes.1 in
-    let q : Brought m answers (after m s e) ahead p.rest = bring m law answers (after m s e) (stays_good m law s good e goes.1.0) ahead
+steps_ahead_may_come_first m law answers s good (e ∷ ahead) goes run ok =
+    let p : Brought m answers s (e ∷ []) run = own_step_may_come_first m law answers s good run ok e.0 e.1 goes.0 goes.1 in
+    let q : Brought m answers (after m s e) ahead p.rest = steps_ahead_may_come_first m law answers (after m s e) (state_invariant_after_step m law s good e goes.1.0) ahead
     goes.2 p.rest p.counts in
     record {
       left = p.left ++ q.left;
-      goes = goes_append m answers (end m s run) p.left q.left p.goes (subst (λ z. GoesAhead m answers z q.left) p.same_end q.goes);
+      goes = goes_ahead_append m answers (end m s run) p.left q.left p.goes (subst (λ z. GoesAhead m answers z q.left) p.same_end q.goes);
       rest = q.rest;
       counts = q.counts;
       same_end = q.same_end ∙ ap (λ z. end m z q.left) p.same_end ∙ sym (end_append m (end m s run) p.left q.left);
@@ -95,13 +95,13 @@ bring m law answers s good (e ∷ ahead) goes run ok =
     }
 
 -- where all are done nothing goes on
-pub done_stays : {T : Type 0} (m : Machine T) (answers : Answers T) (s : State T) → IsDone m s → (left : List Step)
+pub nothing_goes_ahead_if_done : {T : Type 0} (m : Machine T) (answers : Answers T) (s : State T) → IsDone m s → (left : List Step)
     → GoesAhead m answers s left → left ≡ []
-done_stays m answers s done [] goes = refl
-done_stays m answers s done (e ∷ left) goes = absurd (subst (λ q. is_own q ≡ true → ⊥) (sym (done e.0)) (λ h. cc h) goes.0)
+nothing_goes_ahead_if_done m answers s done [] goes = refl
+nothing_goes_ahead_if_done m answers s done (e ∷ left) goes = absurd (subst (λ q. is_own q ≡ true → ⊥) (sym (done e.0)) (λ h. cc h) goes.0)
 
 -- the run with the steps `ahead` first, of a complete run
-pub record Whole {T : Type 0} (m : Machine T) (answers : Answers T) (s : State T) (ahead run : List Step) : Type 0 where
+pub record BroughtWhole {T : Type 0} (m : Machine T) (answers : Answers T) (s : State T) (ahead run : List Step) : Type 0 where
   pub rest : List Step
   pub counts : Counts m answers (end m s ahead) rest
   pub same_end : end m (end m s ahead) rest ≡ end m s run
@@ -110,11 +110,11 @@ pub record Whole {T : Type 0} (m : Machine T) (answers : Answers T) (s : State T
   pub same_length : length ahead + length rest ≡ length run
 
 -- In a complete run that counts, what the threads do up to their next entries may come first: each of its steps is among the run's.
-pub bring_whole : {T : Type 0} (m : Machine T) → IsLawful m → (answers : Answers T) (s : State T) → Good m s → (ahead : List Step)
-    → GoesAhead m answers s ahead → (run : List Step) → Counts m answers s run → IsDone m (end m s run) → Whole m answers s ahead run
-bring_whole m law answers s good ahead goes run ok done =
-    let b : Brought m answers s ahead run = bring m law answers s good ahead goes run ok in
-    let none : b.left ≡ [] = done_stays m answers (end m s run) done b.left b.goes in
+pub steps_ahead_first_in_complete_run : {T : Type 0} (m : Machine T) → IsLawful m → (answers : Answers T) (s : State T) → StateInvariant m s → (ahead : List Step)
+    → GoesAhead m answers s ahead → (run : List Step) → Counts m answers s run → IsDone m (end m s run) → BroughtWhole m answers s ahead run
+steps_ahead_first_in_complete_run m law answers s good ahead goes run ok done =
+    let b : Brought m answers s ahead run = steps_ahead_may_come_first m law answers s good ahead goes run ok in
+    let none : b.left ≡ [] = nothing_goes_ahead_if_done m answers (end m s run) done b.left b.goes in
     record {
       rest = b.rest;
       counts = b.counts;
@@ -128,9 +128,9 @@ bring_whole m law answers s good ahead goes run ok done =
 abbrev pub AnswersFit : {T : Type 0} → Machine T → Answers T → Type 0
 AnswersFit {T} m answers = (t : ℕ) (x : T) (k : EnvKind) → m.ask x ≡ Env k → m.fits k (answers t x) ≡ true
 
-own_takes : {T : Type 0} (m : Machine T) (answers : Answers T) → AnswersFit m answers → (s : State T) (t : ℕ)
+own_step_is_taken : {T : Type 0} (m : Machine T) (answers : Answers T) → AnswersFit m answers → (s : State T) (t : ℕ)
     → is_own (asked m s t) ≡ true → Takes m answers s (t, answers t (s.now t))
-own_takes m answers fit s t own = by_ask (asked m s t) (answers t (s.now t)) own (λ k is. fit t (s.now t) k is)
+own_step_is_taken m answers fit s t own = by_ask (asked m s t) (answers t (s.now t)) own (λ k is. fit t (s.now t) k is)
   where
     by_ask : (q : Ask) (a : ℕ) → is_own q ≡ true → ((k : EnvKind) → q ≡ Env k → m.fits k a ≡ true)
         → Admits m (act_of q a) (s.objects (target (act_of q a))) × IsAnswered q a a
@@ -144,10 +144,10 @@ own_takes m answers fit s t own = by_ask (asked m s t) (answers t (s.now t)) own
     by_ask Done a own fits = absurd (cc own)
 
 -- some thread has such a step, or none below n
-own_below : {T : Type 0} (m : Machine T) (s : State T) (n : ℕ) → ((t : ℕ) × (is_own (asked m s t) ≡ true))
+own_ask_exists_or_none_below : {T : Type 0} (m : Machine T) (s : State T) (n : ℕ) → ((t : ℕ) × (is_own (asked m s t) ≡ true))
     ⊎ ((t : ℕ) → t < n → is_own (asked m s t) ≡ false)
-own_below m s zero = inr (λ t h. absurd (omega arith))
-own_below m s (suc n) = elim (own_below m s n) [
+own_ask_exists_or_none_below m s zero = inr (λ t h. absurd (omega arith))
+own_ask_exists_or_none_below m s (suc n) = elim (own_ask_exists_or_none_below m s n) [
   | inl p ↦ inl p
   | inr none ↦ elim (true_or_false (is_own (asked m s n))) [
     | inl own ↦ inl (n, own)
@@ -163,27 +163,27 @@ own_below m s (suc n) = elim (own_below m s n) [
     true_or_false false = inr refl
 
 -- the threads can go on to their next entries or their ends
-pub record Rests {T : Type 0} (m : Machine T) (answers : Answers T) (s : State T) : Type 0 where
+pub record ComesToRest {T : Type 0} (m : Machine T) (answers : Answers T) (s : State T) : Type 0 where
   pub ahead : List Step
   pub goes : GoesAhead m answers s ahead
   pub at_rest : IsAtRest m (end m s ahead)
 
-done_rests : {T : Type 0} (m : Machine T) (s : State T) → IsDone m s → IsAtRest m s
-done_rests m s done t = ap is_own (done t)
+done_state_is_at_rest : {T : Type 0} (m : Machine T) (s : State T) → IsDone m s → IsAtRest m s
+done_state_is_at_rest m s done t = ap is_own (done t)
 
 -- where a complete run counts, they can
-pub rests : {T : Type 0} (m : Machine T) → IsLawful m → (answers : Answers T) → AnswersFit m answers → (n count : ℕ) (s : State T) → Good m s
-    → IsIdle m s n → (run : List Step) → Counts m answers s run → IsDone m (end m s run) → length run ≤ count → Rests m answers s
-rests m law answers fit n zero s good idle [] ok done few =
-    record { ahead = []; goes = tt; at_rest = done_rests m s done }
-rests m law answers fit n zero s good idle (e ∷ run) ok done few = absurd (omega (arith, few))
-rests m law answers fit n (suc count) s good idle run ok done few = elim (own_below m s n) [
+pub complete_run_comes_to_rest : {T : Type 0} (m : Machine T) → IsLawful m → (answers : Answers T) → AnswersFit m answers → (n count : ℕ) (s : State T) → StateInvariant m s
+    → IsIdle m s n → (run : List Step) → Counts m answers s run → IsDone m (end m s run) → length run ≤ count → ComesToRest m answers s
+complete_run_comes_to_rest m law answers fit n zero s good idle [] ok done few =
+    record { ahead = []; goes = tt; at_rest = done_state_is_at_rest m s done }
+complete_run_comes_to_rest m law answers fit n zero s good idle (e ∷ run) ok done few = absurd (omega (arith, few))
+complete_run_comes_to_rest m law answers fit n (suc count) s good idle run ok done few = elim (own_ask_exists_or_none_below m s n) [
   | inl own ↦
       let e : Step = (own.0, answers own.0 (s.now own.0)) in
-      let takes : Takes m answers s e = own_takes m answers fit s own.0 own.1 in
-      let b : Whole m answers s (e ∷ []) run = bring_whole m law answers s good (e ∷ []) (own.1, takes, tt) run ok done in
-      let r : Rests m answers (after m s e) = rests m law answers fit n count (after m s e) (stays_good m law s good e takes.0)
-      (stays_idle m s n idle e takes.0) b.rest b.counts (subst (IsDone m) (sym b.same_end) done)
+      let takes : Takes m answers s e = own_step_is_taken m answers fit s own.0 own.1 in
+      let b : BroughtWhole m answers s (e ∷ []) run = steps_ahead_first_in_complete_run m law answers s good (e ∷ []) (own.1, takes, tt) run ok done in
+      let r : ComesToRest m answers (after m s e) = complete_run_comes_to_rest m law answers fit n count (after m s e) (state_invariant_after_step m law s good e takes.0)
+      (idle_after_step m s n idle e takes.0) b.rest b.counts (subst (IsDone m) (sym b.same_end) done)
       (let h = b.same_length in omega (arith, few, h)) in
       record { ahead = e ∷ r.ahead; goes = (own.1, takes, r.goes); at_rest = r.at_rest }
   | inr none ↦ record {

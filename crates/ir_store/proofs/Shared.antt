@@ -5,39 +5,39 @@ use Rattle.std.proofs.lemmas.List.{map_push}
 use Rattle.ir_flat.specs.Flat.{Flat, IsFlat, idle}
 use Rattle.ir_store.specs.declared.spot.Spot.{Spot}
 use Rattle.ir_store.specs.Nodes.{Shared, Node, cell_in, flat_in, IsWithin, IsNode, AreKept, Grows}
-use Rattle.ir_store.proofs.Lists.{at_kept, within_kept, all_weaker, map_same, all_put}
+use Rattle.ir_store.proofs.Lists.{kept_element_is_equal, place_below_length_kept, all_by_recursion_weaker, map_equal_if_functions_equal, all_by_recursion_after_put}
 
-pub numbers_kept : {X : Type 0} (old new : List X) (d : X) → ((n : ℕ) → n < length old → n < length new) → (numbers : List ℕ)
+pub numbers_within_after_growth : {X : Type 0} (old new : List X) (d : X) → ((n : ℕ) → n < length old → n < length new) → (numbers : List ℕ)
     → AllByRecursion (λ n. n < length old) numbers → AllByRecursion (λ n. n < length new) numbers
-numbers_kept old new d within numbers all = all_weaker (λ n. n < length old) (λ n. n < length new) numbers within all
+numbers_within_after_growth old new d within numbers all = all_by_recursion_weaker (λ n. n < length old) (λ n. n < length new) numbers within all
 
 module _ (old new : Shared) (grows : Grows old new) where
   pub within_grown : (node : Node) → IsWithin old node → IsWithin new node
   within_grown node is = record {
-    threads = all_weaker (λ n. n < length old.threads) (λ n. n < length new.threads) node.threads
-        (within_kept old.threads new.threads idle grows.threads) is.threads;
-    words = all_weaker (λ (s : Spot). s.words < length old.words) (λ (s : Spot). s.words < length new.words) node.objects
-        (λ s. within_kept old.words new.words [] grows.words s.words) is.words;
+    threads = all_by_recursion_weaker (λ n. n < length old.threads) (λ n. n < length new.threads) node.threads
+        (place_below_length_kept old.threads new.threads idle grows.threads) is.threads;
+    words = all_by_recursion_weaker (λ (s : Spot). s.words < length old.words) (λ (s : Spot). s.words < length new.words) node.objects
+        (λ s. place_below_length_kept old.words new.words [] grows.words s.words) is.words;
   }
 
   pub flat_grown : (node : Node) → IsWithin old node → flat_in new node ≡ flat_in old node
   flat_grown node is = λ i. record {
     code = node.code;
-    threads = map_same (λ n. get_or new.threads n idle) (λ n. get_or old.threads n idle) (λ n. n < length old.threads) node.threads
-        (at_kept old.threads new.threads idle grows.threads) is.threads i;
-    objects = map_same (cell_in new.words) (cell_in old.words) (λ (s : Spot). s.words < length old.words) node.objects
-        (λ s lt j. record { fields = (cell_in old.words s).fields; words = at_kept old.words new.words [] grows.words s.words lt j }) is.words i;
+    threads = map_equal_if_functions_equal (λ n. get_or new.threads n idle) (λ n. get_or old.threads n idle) (λ n. n < length old.threads) node.threads
+        (kept_element_is_equal old.threads new.threads idle grows.threads) is.threads i;
+    objects = map_equal_if_functions_equal (cell_in new.words) (cell_in old.words) (λ (s : Spot). s.words < length old.words) node.objects
+        (λ s lt j. record { fields = (cell_in old.words s).fields; words = kept_element_is_equal old.words new.words [] grows.words s.words lt j }) is.words i;
   }
 
   pub nodes_grown : (nodes : List Node) → AreKept old nodes → AreKept new nodes
-  nodes_grown nodes all = all_weaker (IsNode old) (IsNode new) nodes
+  nodes_grown nodes all = all_by_recursion_weaker (IsNode old) (IsNode new) nodes
       (λ node is. record { within = within_grown node is.within; flat = subst IsFlat (sym (flat_grown node is.within)) is.flat }) all
 
   pub flats_grown : (nodes : List Node) → AreKept old nodes → map (flat_in new) nodes ≡ map (flat_in old) nodes
-  flats_grown nodes all = map_same (flat_in new) (flat_in old) (IsNode old) nodes (λ node is. flat_grown node is.within) all
+  flats_grown nodes all = map_equal_if_functions_equal (flat_in new) (flat_in old) (IsNode old) nodes (λ node is. flat_grown node is.within) all
 
-pub grows_both : (old new : Shared) (mid : Shared) → Grows old mid → Grows mid new → Grows old new
-grows_both old new mid a b = record {
+pub grows_transitive : (old new : Shared) (mid : Shared) → Grows old mid → Grows mid new → Grows old new
+grows_transitive old new mid a b = record {
   threads = λ n s e. b.threads n s (a.threads n s e);
   words = λ n s e. b.words n s (a.words n s e);
 }

@@ -5,17 +5,17 @@ use Rattle.std.specs.List.{AllByRecursion}
 use Rattle.std.specs.Option.{option_map}
 use Rattle.std.proofs.lemmas.List.{map-set}
 use Rattle.std.proofs.lemmas.Option.{same_Some, slice_get-map, slice_get-get_or}
-use Rattle.ir_thread.specs.State.{State}
+use Rattle.ir_thread.specs.State.{ThreadState}
 use Rattle.ir_flat.specs.Flat.{Flat, IsFlat, idle, empty, thread_of, cell_of}
 use Rattle.ir_flat.specs.Next.{with_thread, with_object}
 use Rattle.ir_store.specs.declared.spot.Spot.{Spot}
 use Rattle.ir_store.specs.Nodes.{Shared, Node, cell_in, flat_in, IsWithin, IsNode, AreKept}
-use Rattle.ir_store.proofs.Lists.{all_at, length_map}
+use Rattle.ir_store.proofs.Lists.{element_of_all_by_recursion, length_map}
 
 -- what is at a place of a list of what elements give
-pub map_at : {X Y : Type 0} (f : X → Y) (xs : List X) (i : ℕ) (x d : X) (y : Y) → i < length xs → x ≡ get_or xs i d
+pub mapped_element_at_place : {X Y : Type 0} (f : X → Y) (xs : List X) (i : ℕ) (x d : X) (y : Y) → i < length xs → x ≡ get_or xs i d
     → slice_get (map f xs) i ≡ Some y → f x ≡ y
-map_at f xs i x d y lt is at =
+mapped_element_at_place f xs i x d y lt is at =
     same_Some (f x) y (sym (slice_get-map f xs i ∙ ap (option_map f) (slice_get-get_or xs i d lt ∙ ap Some (sym is))) ∙ at)
 
 pub get_or_map : {X Y : Type 0} (f : X → Y) (xs : List X) (i : ℕ) (d : X) (e : Y) → i < length xs → get_or (map f xs) i e ≡ f (get_or xs i d)
@@ -31,10 +31,10 @@ module _ (shared : Shared) (nodes : List Node) (kept : AreKept shared nodes) (v 
   node_less = subst (λ k. v < k) (length_map (flat_in shared) nodes) less
 
   pub node_is : IsNode shared node
-  node_is = subst (IsNode shared) (sym is) (all_at (IsNode shared) nodes v node kept node_less)
+  node_is = subst (IsNode shared) (sym is) (element_of_all_by_recursion (IsNode shared) nodes v node kept node_less)
 
   pub flat_is : flat_in shared node ≡ f
-  flat_is = map_at (flat_in shared) nodes v node node f node_less is at
+  flat_is = mapped_element_at_place (flat_in shared) nodes v node node f node_less is at
 
   pub node_threads : length node.threads ≡ length f.threads
   node_threads = sym (length_map (λ n. get_or shared.threads n idle) node.threads) ∙ ap (λ z. length z.threads) flat_is
@@ -62,7 +62,7 @@ module _ (shared : Shared) (nodes : List Node) (kept : AreKept shared nodes) (v 
       })
       ∙ ap (λ z. with_object (with_thread z t (get_or shared.threads n idle)) o (cell_in shared.words s)) flat_is
 
-pub all_set : {X : Type 0} (P : X → Type 0) (xs : List X) (i : ℕ) (x : X) → AllByRecursion P xs → P x → AllByRecursion P (set xs i x)
-all_set P [] i x all is = tt
-all_set P (y ∷ xs) zero x all is = (is, all.1)
-all_set P (y ∷ xs) (suc i) x all is = (all.0, all_set P xs i x all.1 is)
+pub all_by_recursion_after_set : {X : Type 0} (P : X → Type 0) (xs : List X) (i : ℕ) (x : X) → AllByRecursion P xs → P x → AllByRecursion P (set xs i x)
+all_by_recursion_after_set P [] i x all is = tt
+all_by_recursion_after_set P (y ∷ xs) zero x all is = (is, all.1)
+all_by_recursion_after_set P (y ∷ xs) (suc i) x all is = (all.0, all_by_recursion_after_set P xs i x all.1 is)

@@ -2,7 +2,7 @@
 use Rattle.std.specs.Prelude.{◌≡◌, ◌<◌, ℕ, List, [], length, map}
 use Rattle.std.specs.List.{AllByRecursion, slice_index_or}
 use Rattle.ir_image.specs.declared.form.ImageForm.{ImageForm}
-use Rattle.ir_thread.specs.State.{State}
+use Rattle.ir_thread.specs.State.{ThreadState}
 use Rattle.ir_object.specs.Cell.{Cell}
 use Rattle.ir_object.specs.Word.{fields_of}
 use Rattle.ir_flat.specs.Flat.{Flat, IsFlat, thread_of, cell_of}
@@ -13,7 +13,7 @@ use Rattle.ir_store.specs.Table.{threads_at, AreIn, Keeps}
 
 -- the threads and the words of objects that states have, by their numbers
 pub record Shared : Type 0 where
-  pub threads : List State
+  pub threads : List ThreadState
   pub words : List (List ℕ)
 
 -- a state: its code, the numbers of its threads, and its objects, each with the number of its words
@@ -66,7 +66,7 @@ pub record Stored : Type 0 where
   pub nodes : List Node
 
 -- two moments of a thread look the same to it
-abbrev pub LookSame : State → State → Type 0
+abbrev pub LookSame : ThreadState → ThreadState → Type 0
 LookSame x y = AreTwins x y → (code : List ℕ) → Same {S = List ℕ} code (view x, []) (view y, [])
 
 -- two moments of a guest look the same to its threads

@@ -1,7 +1,7 @@
 -- A thread without the private memory that is as at the start.
 use Rattle.std.specs.Prelude.{◌≡◌, ℕ, Bool, List}
 use Rattle.ir_thread.specs.Frames.{ThreadFrame}
-use Rattle.ir_thread.specs.State.{State}
+use Rattle.ir_thread.specs.State.{ThreadState}
 use Rattle.ir_freeze.specs.Frozen.{is_over}
 use Rattle.ir_freeze.specs.Thawed.{thawed}
 
@@ -13,7 +13,7 @@ pub record Row : Type 0 where
   pub over : Bool
 
 -- the thread whose private memory was `start` at first
-abbrev pub thread_in : List ℕ → Row → State
+abbrev pub thread_in : List ℕ → Row → ThreadState
 thread_in start row = thawed start row.frame 0 row.changes
 
 -- of each row it is known whether its thread is over

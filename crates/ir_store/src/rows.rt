@@ -8,7 +8,7 @@ ghost use Rattle.ir_mach.specs.Core.{memory_size};
 ghost use Rattle.ir_store.specs.Rows.{thread_in, look_of, KnowsOver};
 ghost use Rattle.ir_store.specs.Table.{HaveForm, HasBytes, AreLooks};
 ghost use Rattle.ir_store.specs.Table as table;
-ghost use Rattle.ir_thread.specs.State.{State};
+ghost use Rattle.ir_thread.specs.State.{ThreadState};
 
 use crate::bounds::bounded;
 use crate::put::put;
@@ -109,7 +109,7 @@ impl Rows {
     /// Whether the thread of a number has ended and holds nothing.
     pub fn over(&self, n: usize) -> bool
         requires { n < length self.now.items }
-        ensures { (x : State) → slice_get self.now.items n ≡ Some x → result ≡ is_over x }
+        ensures { (x : ThreadState) → slice_get self.now.items n ≡ Some x → result ≡ is_over x }
     {
         let row = &self.rows[n];
         row.over()

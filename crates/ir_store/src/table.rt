@@ -8,7 +8,7 @@ ghost use Rattle.ir_mach.specs.Core.{memory_size};
 ghost use Rattle.ir_store.specs.Nodes.{LookSame};
 ghost use Rattle.ir_store.specs.Table.{HaveForm, threads_at, all_over, AreIn, Keeps, HasBytes};
 ghost use Rattle.ir_store.specs.Table as table;
-ghost use Rattle.ir_thread.specs.State.{State};
+ghost use Rattle.ir_thread.specs.State.{ThreadState};
 
 use crate::hash::{after_bytes, after_number, empty_hash};
 use crate::hints::Hints;
@@ -194,7 +194,7 @@ impl Table {
     pub fn same_look(&self, m: usize, n: usize) -> bool
         requires first { m < length self.now.items }
         requires second { n < length self.now.items }
-        ensures { result ≡ true → (x y : State) → slice_get self.now.items m ≡ Some x → slice_get self.now.items n ≡ Some y → LookSame x y }
+        ensures { result ≡ true → (x y : ThreadState) → slice_get self.now.items m ≡ Some x → slice_get self.now.items n ≡ Some y → LookSame x y }
     {
         tells_apart();
         same_number(self.rows.look(m), self.rows.look(n))

@@ -1,7 +1,7 @@
 -- What callers may cite of answers that were written.
 -- a prefix of a text is one of a longer text, and after all of a first text one of both
-pub use Rattle.ir_stream.proofs.Replies.{prefix_after, prefix_longer}
+pub use Rattle.ir_stream.proofs.Replies.{prefix_after_whole_text, prefix_of_longer_text}
 -- the last line, which may be empty
-pub use Rattle.ir_stream.proofs.Replies.{wrote_none, wrote_some, some_quits_empty, some_quits_some}
+pub use Rattle.ir_stream.proofs.Replies.{wrote_nothing_for_empty_end, wrote_reply_to_last_line, some_quits_of_empty_end, some_quits_of_nonempty_end}
 -- where a loop over lines is, byte by byte, and what it leaves at each of its exits
-pub use Rattle.ir_stream.proofs.Exits.{At, at_other, at_start, at_byte, at_feed, quit_ended, quit_known, feed_failed, finish_ended, finish_known, finish_failed, long_ended, long_known}
+pub use Rattle.ir_stream.proofs.Exits.{IsSessionAt, session_at_equal_line_and_count, at_start, at_byte, at_feed, quit_ended, quit_known, feed_failed, finish_ended, finish_known, finish_failed, long_ended, long_known}

@@ -1,39 +1,39 @@
 -- Lines of bytes that are joined.
 use Rattle.std.proofs.Common.{◌≡◌, ℕ, suc, zero, Bool, true, false, cond, eqb, List, [], ◌∷◌, ◌++◌, take, refl, ap, ◌∙◌}
-use Rattle.ir_stream.specs.Answers.{Cut, cut_of, onto, cut}
+use Rattle.ir_stream.specs.Answers.{SplitBytes, split_of, onto, split_lines}
 
-abbrev by_test : Bool → ℕ → Cut → Cut
-by_test t x k = cond t (cut_of ([] ∷ k.whole) k.rest) (onto x k.whole k.rest)
+abbrev split_by_feed_test : Bool → ℕ → SplitBytes → SplitBytes
+split_by_feed_test t x k = cond t (split_of ([] ∷ k.whole) k.rest) (onto x k.whole k.rest)
 
-feed_by : (t : Bool) (x : ℕ) (ws : List (List ℕ)) (r : List ℕ) (vs : List (List ℕ)) (q : List ℕ)
-    → by_test t x (cut_of (ws ++ r ∷ vs) q) ≡ cut_of ((by_test t x (cut_of ws r)).whole ++ (by_test t x (cut_of ws r)).rest ∷ vs) q
-feed_by true x ws r vs q = refl
-feed_by false x [] r vs q = refl
-feed_by false x (w ∷ ws) r vs q = refl
+split_by_test_before_line_feed : (t : Bool) (x : ℕ) (ws : List (List ℕ)) (r : List ℕ) (vs : List (List ℕ)) (q : List ℕ)
+    → split_by_feed_test t x (split_of (ws ++ r ∷ vs) q) ≡ split_of ((split_by_feed_test t x (split_of ws r)).whole ++ (split_by_feed_test t x (split_of ws r)).rest ∷ vs) q
+split_by_test_before_line_feed true x ws r vs q = refl
+split_by_test_before_line_feed false x [] r vs q = refl
+split_by_test_before_line_feed false x (w ∷ ws) r vs q = refl
 
 -- a line feed ends a line
-pub cut-feed : (bytes more : List ℕ) → cut (bytes ++ 10 ∷ more) ≡ cut_of ((cut bytes).whole ++ (cut bytes).rest ∷ (cut more).whole)
-    (cut more).rest
-unfolding cut
-cut-feed [] more = refl
-cut-feed (x ∷ bytes) more = ap (λ (k : Cut). by_test (eqb x 10) x k) (cut-feed bytes more)
-    ∙ feed_by (eqb x 10) x (cut bytes).whole (cut bytes).rest (cut more).whole (cut more).rest
+pub split_lines_of_line_feed : (bytes more : List ℕ) → split_lines (bytes ++ 10 ∷ more) ≡ split_of ((split_lines bytes).whole ++ (split_lines bytes).rest ∷ (split_lines more).whole)
+    (split_lines more).rest
+unfolding split_lines
+split_lines_of_line_feed [] more = refl
+split_lines_of_line_feed (x ∷ bytes) more = ap (λ (k : SplitBytes). split_by_feed_test (eqb x 10) x k) (split_lines_of_line_feed bytes more)
+    ∙ split_by_test_before_line_feed (eqb x 10) x (split_lines bytes).whole (split_lines bytes).rest (split_lines more).whole (split_lines more).rest
 
-other_by : (t : Bool) (x : ℕ) (ws : List (List ℕ)) (r : List ℕ) (b : ℕ)
-    → by_test t x (cut_of ws (r ++ b ∷ [])) ≡ cut_of (by_test t x (cut_of ws r)).whole ((by_test t x (cut_of ws r)).rest ++ b ∷ [])
-other_by true x ws r b = refl
-other_by false x [] r b = refl
-other_by false x (w ∷ ws) r b = refl
+split_by_test_before_other_byte : (t : Bool) (x : ℕ) (ws : List (List ℕ)) (r : List ℕ) (b : ℕ)
+    → split_by_feed_test t x (split_of ws (r ++ b ∷ [])) ≡ split_of (split_by_feed_test t x (split_of ws r)).whole ((split_by_feed_test t x (split_of ws r)).rest ++ b ∷ [])
+split_by_test_before_other_byte true x ws r b = refl
+split_by_test_before_other_byte false x [] r b = refl
+split_by_test_before_other_byte false x (w ∷ ws) r b = refl
 
 -- any other byte goes onto the last line
-pub cut-other : (bytes : List ℕ) (b : ℕ) → eqb b 10 ≡ false → cut (bytes ++ b ∷ []) ≡ cut_of (cut bytes).whole ((cut bytes).rest ++ b ∷ [])
-unfolding cut
-cut-other [] b e = rw e refl
-cut-other (x ∷ bytes) b e = ap (λ (k : Cut). by_test (eqb x 10) x k) (cut-other bytes b e)
-    ∙ other_by (eqb x 10) x (cut bytes).whole (cut bytes).rest b
+pub split_lines_of_other_byte : (bytes : List ℕ) (b : ℕ) → eqb b 10 ≡ false → split_lines (bytes ++ b ∷ []) ≡ split_of (split_lines bytes).whole ((split_lines bytes).rest ++ b ∷ [])
+unfolding split_lines
+split_lines_of_other_byte [] b e = rw e refl
+split_lines_of_other_byte (x ∷ bytes) b e = ap (λ (k : SplitBytes). split_by_feed_test (eqb x 10) x k) (split_lines_of_other_byte bytes b e)
+    ∙ split_by_test_before_other_byte (eqb x 10) x (split_lines bytes).whole (split_lines bytes).rest b
 
 -- only the prefix of a line is kept
-pub take-again : (n : ℕ) (xs ys : List ℕ) → take n (take n xs ++ ys) ≡ take n (xs ++ ys)
-take-again zero xs ys = refl
-take-again (suc n) [] ys = refl
-take-again (suc n) (x ∷ xs) ys = ap (λ (zs : List ℕ). x ∷ zs) (take-again n xs ys)
+pub take_of_append_to_take : (n : ℕ) (xs ys : List ℕ) → take n (take n xs ++ ys) ≡ take n (xs ++ ys)
+take_of_append_to_take zero xs ys = refl
+take_of_append_to_take (suc n) [] ys = refl
+take_of_append_to_take (suc n) (x ∷ xs) ys = ap (λ (zs : List ℕ). x ∷ zs) (take_of_append_to_take n xs ys)

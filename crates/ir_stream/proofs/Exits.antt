@@ -8,29 +8,29 @@ use Rattle.ir_stream.specs.declared.serving.Served.{Served}
 use Rattle.ir_stream.specs.declared.serving.Served.TheVariants.{Quit}
 use Rattle.ir_stream.specs.declared.serving.Fault.{Fault}
 use Rattle.ir_stream.specs.declared.serving.Fault.TheVariants.{Read, Write, TooLong}
-use Rattle.ir_stream.specs.Answers.{most_kept_bytes, Cut, cut, last_line, lines_of, Replying, Answered, Wrote, WroteInPart, Replied, RepliedPrefix, through, some_quits, Reads}
+use Rattle.ir_stream.specs.Answers.{most_kept_bytes, SplitBytes, split_lines, last_line, lines_of, Replying, LinesAnswered, Wrote, WroteInPart, Replied, RepliedPrefix, through, some_quits, ReadsUpTo}
 use Rattle.ir_stream.specs.Endings.{served_after, IfEnded, LeadsTo}
-use Rattle.ir_stream.proofs.Cuts.{cut-feed, cut-other, take-again}
-use Rattle.ir_stream.proofs.Replies.{last_some, answered-append, answered-nil, answered-one, answered_prefix, some_quits-append, some_quits-one, some_quits-nil, through-append, through-last, through-one, some_quits_prefix}
-use Rattle.ir_stream.proofs.Hearing.{consumed_any, leads_quit, leads_end, leads_long}
+use Rattle.ir_stream.proofs.Cuts.{split_lines_of_line_feed, split_lines_of_other_byte, take_of_append_to_take}
+use Rattle.ir_stream.proofs.Replies.{last_line_of_nonempty, answered_append, answered_no_lines, answered_one_line, answered_last_line_if_prefix_answered, some_quits_of_append, some_quits_of_one_line, some_quits_of_no_lines, through_of_append, through_of_last_line, through_of_one_line, some_quits_by_line_prefix}
+use Rattle.ir_stream.proofs.Hearing.{property_of_all_consumed, leads_quit, leads_end, leads_long}
 
 -- after these bytes: what is left, what was written, the machine and the line that has begun
-pub record At {S : Type 0} (R : Replying S) (quits : List ℕ → Bool) (s0 : S) (input w0 left written : Option (List ℕ)) (s : S)
+pub record IsSessionAt {S : Type 0} (R : Replying S) (quits : List ℕ → Bool) (s0 : S) (input w0 left written : Option (List ℕ)) (s : S)
     (line : List ℕ) (n : ℕ) : Type 0 where
   pub bytes : List ℕ
   pub count : length bytes ≡ n
   pub parts : Consumes input left bytes
   pub text : List ℕ
-  pub answered : Answered R s0 (cut bytes).whole text s
+  pub answered : LinesAnswered R s0 (split_lines bytes).whole text s
   pub grown : Appends w0 written text
-  pub begun : line ≡ take most_kept_bytes (cut bytes).rest
-  pub quiet : some_quits quits (cut bytes).whole ≡ false
+  pub begun : line ≡ take most_kept_bytes (split_lines bytes).rest
+  pub quiet : some_quits quits (split_lines bytes).whole ≡ false
 
 -- the line and the count under other names
-pub at_other : {S : Type 0} (R : Replying S) (quits : List ℕ → Bool) (s0 : S) (input w0 left written : Option (List ℕ)) (s : S)
+pub session_at_equal_line_and_count : {S : Type 0} (R : Replying S) (quits : List ℕ → Bool) (s0 : S) (input w0 left written : Option (List ℕ)) (s : S)
     (line line' : List ℕ) (n n' : ℕ)
-    → At R quits s0 input w0 left written s line n → line' ≡ line → n ≡ n' → At R quits s0 input w0 left written s line' n'
-at_other R quits s0 input w0 left written s line line' n n' at e f =
+    → IsSessionAt R quits s0 input w0 left written s line n → line' ≡ line → n ≡ n' → IsSessionAt R quits s0 input w0 left written s line' n'
+session_at_equal_line_and_count R quits s0 input w0 left written s line line' n n' at e f =
     record {
       bytes = at.bytes;
       count = at.count ∙ f;
@@ -46,27 +46,27 @@ at_other R quits s0 input w0 left written s line line' n n' at e f =
 module _ {S : Type 0} (R : Replying S) (quits : List ℕ → Bool)
     (long_replies : (s : S) (line text : List ℕ) (next : S) → R s (take most_kept_bytes line) text next → R s line text next)
     (long_quits : (line : List ℕ) → quits (take most_kept_bytes line) ≡ quits line) (s0 : S) (input w0 : Option (List ℕ)) where
-  pub at_start : At R quits s0 input w0 input w0 s0 [] 0
-  unfolding cut
+  pub at_start : IsSessionAt R quits s0 input w0 input w0 s0 [] 0
+  unfolding split_lines
   at_start = record {
     bytes = [];
     count = refl;
     parts = Consumes-nil input;
     text = [];
-    answered = answered-nil R s0;
+    answered = answered_no_lines R s0;
     grown =
         Appends-nil w0;
     begun = refl;
-    quiet = some_quits-nil quits;
+    quiet = some_quits_of_no_lines quits;
   }
 
-  module _ (left left' written : Option (List ℕ)) (s : S) (line : List ℕ) (n : ℕ) (at : At R quits s0 input w0 left written s line n) where
+  module _ (left left' written : Option (List ℕ)) (s : S) (line : List ℕ) (n : ℕ) (at : IsSessionAt R quits s0 input w0 left written s line n) where
     -- a byte that is no line feed
     pub at_byte : (line' : List ℕ) (b : ℕ) → Consumes left left' (b ∷ []) → eqb b 10 ≡ false → line' ≡ take most_kept_bytes (line ++ b ∷ [])
-        → At R quits s0 input w0 left' written s line' (n + 1)
+        → IsSessionAt R quits s0 input w0 left' written s line' (n + 1)
     at_byte line' b took ne kept =
-        let k = cut-other at.bytes b ne in
-        let P : Cut → Type 0 = λ c. Answered R s0 c.whole at.text s in
+        let k = split_lines_of_other_byte at.bytes b ne in
+        let P : SplitBytes → Type 0 = λ c. LinesAnswered R s0 c.whole at.text s in
         record {
           bytes = at.bytes ++ b ∷ [];
           count = omega (arith, length-append at.bytes (b ∷ []), at.count);
@@ -74,27 +74,27 @@ module _ {S : Type 0} (R : Replying S) (quits : List ℕ → Bool)
           text = at.text;
           answered = subst P (sym k) at.answered;
           grown = at.grown;
-          begun = kept ∙ ap (λ (r : List ℕ). take most_kept_bytes (r ++ b ∷ [])) at.begun ∙ take-again most_kept_bytes (cut at.bytes).rest (b ∷ [])
-              ∙ ap (λ (c : Cut). take most_kept_bytes c.rest) (sym k);
-          quiet = ap (λ (c : Cut). some_quits quits c.whole) k ∙ at.quiet;
+          begun = kept ∙ ap (λ (r : List ℕ). take most_kept_bytes (r ++ b ∷ [])) at.begun ∙ take_of_append_to_take most_kept_bytes (split_lines at.bytes).rest (b ∷ [])
+              ∙ ap (λ (c : SplitBytes). take most_kept_bytes c.rest) (sym k);
+          quiet = ap (λ (c : SplitBytes). some_quits quits c.whole) k ∙ at.quiet;
         }
 
     -- the whole line may be answered as what was kept of it
-    whole_reply : (text : List ℕ) (next : S) → R s line text next → R s (cut at.bytes).rest text next
+    whole_reply : (text : List ℕ) (next : S) → R s line text next → R s (split_lines at.bytes).rest text next
     whole_reply text next is = let P : List ℕ → Type 0 = λ l. R s l text next in
-        long_replies s (cut at.bytes).rest text next (subst P at.begun is)
+        long_replies s (split_lines at.bytes).rest text next (subst P at.begun is)
 
-    same_quits : quits line ≡ quits (cut at.bytes).rest
-    same_quits = ap quits at.begun ∙ long_quits (cut at.bytes).rest
+    same_quits : quits line ≡ quits (split_lines at.bytes).rest
+    same_quits = ap quits at.begun ∙ long_quits (split_lines at.bytes).rest
 
     -- the answers with that to the line whose line feed comes
     fed : (text : List ℕ) (next : S) → R s line text next
-        → Answered R s0 ((cut at.bytes).whole ++ (cut at.bytes).rest ∷ []) (at.text ++ text) next
-    fed text next is = answered-append R s0 (cut at.bytes).whole ((cut at.bytes).rest ∷ []) at.text text s next at.answered
-        (answered-one R s (cut at.bytes).rest text next (whole_reply text next is))
+        → LinesAnswered R s0 ((split_lines at.bytes).whole ++ (split_lines at.bytes).rest ∷ []) (at.text ++ text) next
+    fed text next is = answered_append R s0 (split_lines at.bytes).whole ((split_lines at.bytes).rest ∷ []) at.text text s next at.answered
+        (answered_one_line R s (split_lines at.bytes).rest text next (whole_reply text next is))
 
     fed_wrote : (next : S) (written' : Option (List ℕ)) → Replied R s line next written written'
-        → Wrote R s0 ((cut at.bytes).whole ++ (cut at.bytes).rest ∷ []) w0 written'
+        → Wrote R s0 ((split_lines at.bytes).whole ++ (split_lines at.bytes).rest ∷ []) w0 written'
     fed_wrote next written' p = record {
       text = at.text ++ p.text;
       last = next;
@@ -104,10 +104,10 @@ module _ {S : Type 0} (R : Replying S) (quits : List ℕ → Bool)
     }
 
     fed_part : (written' : Option (List ℕ)) → RepliedPrefix R s line written written'
-        → WroteInPart R s0 ((cut at.bytes).whole ++ (cut at.bytes).rest ∷ []) w0 written'
+        → WroteInPart R s0 ((split_lines at.bytes).whole ++ (split_lines at.bytes).rest ∷ []) w0 written'
     fed_part written' p = record {
-      before = (cut at.bytes).whole;
-      line = (cut at.bytes).rest;
+      before = (split_lines at.bytes).whole;
+      line = (split_lines at.bytes).rest;
       are = refl;
       between = written;
       all = record { text = at.text; last = s; answered = at.answered; grown = at.grown };
@@ -116,11 +116,11 @@ module _ {S : Type 0} (R : Replying S) (quits : List ℕ → Bool)
 
     -- a line feed, whose line was answered and doesn't quit
     pub at_feed : (written' : Option (List ℕ)) (s' : S) → Consumes left left' (10 ∷ []) → Replied R s line s' written written'
-        → quits line ≡ false → At R quits s0 input w0 left' written' s' [] (n + 1)
-    unfolding cut
+        → quits line ≡ false → IsSessionAt R quits s0 input w0 left' written' s' [] (n + 1)
+    unfolding split_lines
     at_feed written' s' took p q =
-        let k = cut-feed at.bytes [] in
-        let P : Cut → Type 0 = λ c. Answered R s0 c.whole (at.text ++ p.text) s' in
+        let k = split_lines_of_line_feed at.bytes [] in
+        let P : SplitBytes → Type 0 = λ c. LinesAnswered R s0 c.whole (at.text ++ p.text) s' in
         record {
           bytes = at.bytes ++ 10 ∷ [];
           count = omega (arith, length-append at.bytes (10 ∷ []), at.count);
@@ -128,9 +128,9 @@ module _ {S : Type 0} (R : Replying S) (quits : List ℕ → Bool)
           text = at.text ++ p.text;
           answered = subst P (sym k) (fed p.text s' p.is);
           grown = Appends-trans w0 written written' at.text p.text at.grown p.grown;
-          begun = ap (λ (c : Cut). take most_kept_bytes c.rest) (sym k);
-          quiet = ap (λ (c : Cut). some_quits quits c.whole) k
-              ∙ some_quits-append quits (cut at.bytes).whole ((cut at.bytes).rest ∷ []) at.quiet ∙ some_quits-one quits (cut at.bytes).rest
+          begun = ap (λ (c : SplitBytes). take most_kept_bytes c.rest) (sym k);
+          quiet = ap (λ (c : SplitBytes). some_quits quits c.whole) k
+              ∙ some_quits_of_append quits (split_lines at.bytes).whole ((split_lines at.bytes).rest ∷ []) at.quiet ∙ some_quits_of_one_line quits (split_lines at.bytes).rest
               ∙ sym same_quits ∙ q;
         }
 
@@ -140,7 +140,7 @@ module _ {S : Type 0} (R : Replying S) (quits : List ℕ → Bool)
 
       -- a line feed, whose line was answered and quits
       pub quit_ended : (next : S) (written' : Option (List ℕ)) → Consumes left left' (10 ∷ []) → Replied R s line next written written'
-          → quits line ≡ true → Reads limit input left' (LeadsTo R quits s0 limit (Ok Quit) w0 written')
+          → quits line ≡ true → ReadsUpTo limit input left' (LeadsTo R quits s0 limit (Ok Quit) w0 written')
       quit_ended next written' took p q = record {
         consumed = at.bytes ++ 10 ∷ [];
         taken = Consumes-trans input left left' at.bytes (10 ∷ []) at.parts took;
@@ -150,37 +150,37 @@ module _ {S : Type 0} (R : Replying S) (quits : List ℕ → Bool)
 
       pub quit_known : (next : S) (written' : Option (List ℕ)) → Consumes left left' (10 ∷ []) → Replied R s line next written written'
           → quits line ≡ true → IfSome input (LeadsTo R quits s0 limit (Ok Quit) w0 written')
-      quit_known next written' took p q = consumed_any input left' (at.bytes ++ 10 ∷ []) (LeadsTo R quits s0 limit (Ok Quit) w0 written')
+      quit_known next written' took p q = property_of_all_consumed input left' (at.bytes ++ 10 ∷ []) (LeadsTo R quits s0 limit (Ok Quit) w0 written')
           (Consumes-trans input left left' at.bytes (10 ∷ []) at.parts took)
           (λ (r : List ℕ). subst (LeadsTo R quits s0 limit (Ok Quit) w0 written') (sym (append_assoc at.bytes (10 ∷ []) r))
           (leads_quit R quits s0 limit w0 written' at.bytes at.quiet r short (sym same_quits ∙ q) (fed_wrote next written' p)))
 
       -- the writer failed in the answer to a line whose line feed came
       pub feed_failed : (written' : Option (List ℕ)) → Consumes left left' (10 ∷ []) → RepliedPrefix R s line written written'
-          → Reads limit input left' (λ consumed. (through quits (lines_of consumed) ≡ lines_of consumed)
-          × (((cut consumed).rest ≡ [] → ⊥) → IsAtEnd left') × WroteInPart R s0 (lines_of consumed) w0 written')
-      unfolding cut
+          → ReadsUpTo limit input left' (λ consumed. (through quits (lines_of consumed) ≡ lines_of consumed)
+          × (((split_lines consumed).rest ≡ [] → ⊥) → IsAtEnd left') × WroteInPart R s0 (lines_of consumed) w0 written')
+      unfolding split_lines
       feed_failed written' took p =
-          let k = cut-feed at.bytes [] in
-          let lines : lines_of (at.bytes ++ 10 ∷ []) ≡ (cut at.bytes).whole ++ (cut at.bytes).rest ∷ [] =
-          ap (λ (c : Cut). c.whole ++ last_line c.rest) k ∙ append-nil ((cut at.bytes).whole ++ (cut at.bytes).rest ∷ []) in
-          let none : (cut (at.bytes ++ 10 ∷ [])).rest ≡ [] = ap (λ (c : Cut). c.rest) k in
+          let k = split_lines_of_line_feed at.bytes [] in
+          let lines : lines_of (at.bytes ++ 10 ∷ []) ≡ (split_lines at.bytes).whole ++ (split_lines at.bytes).rest ∷ [] =
+          ap (λ (c : SplitBytes). c.whole ++ last_line c.rest) k ∙ append-nil ((split_lines at.bytes).whole ++ (split_lines at.bytes).rest ∷ []) in
+          let none : (split_lines (at.bytes ++ 10 ∷ [])).rest ≡ [] = ap (λ (c : SplitBytes). c.rest) k in
           let P : List (List ℕ) → Type 0 = λ x. WroteInPart R s0 x w0 written' in
           record {
             consumed = at.bytes ++ 10 ∷ [];
             taken = Consumes-trans input left left' at.bytes (10 ∷ []) at.parts took;
             within = omega (arith, length-append at.bytes (10 ∷ []), at.count);
             holds = (
-              ap (through quits) lines ∙ through-append quits (cut at.bytes).whole ((cut at.bytes).rest ∷ []) at.quiet
-                  ∙ ap (λ (t : List (List ℕ)). (cut at.bytes).whole ++ t) (through-one quits (cut at.bytes).rest) ∙ sym lines,
+              ap (through quits) lines ∙ through_of_append quits (split_lines at.bytes).whole ((split_lines at.bytes).rest ∷ []) at.quiet
+                  ∙ ap (λ (t : List (List ℕ)). (split_lines at.bytes).whole ++ t) (through_of_one_line quits (split_lines at.bytes).rest) ∙ sym lines,
               λ some. absurd (some none),
               subst P (sym lines) (fed_part written' p),
             );
           }
 
       -- the reader failed
-      pub read_failed : Keeps left left' → Reads limit input left'
-          (λ consumed. (some_quits quits (cut consumed).whole ≡ false) × Wrote R s0 (cut consumed).whole w0 written)
+      pub read_failed : Keeps left left' → ReadsUpTo limit input left'
+          (λ consumed. (some_quits quits (split_lines consumed).whole ≡ false) × Wrote R s0 (split_lines consumed).whole w0 written)
       read_failed kept = record {
         consumed = at.bytes;
         taken = Consumes-kept input left left' at.bytes at.parts kept;
@@ -188,16 +188,16 @@ module _ {S : Type 0} (R : Replying S) (quits : List ℕ → Bool)
         holds = (at.quiet, record { text = at.text; last = s; answered = at.answered; grown = at.grown });
       }
 
-      last_quits : some_quits quits (last_line line) ≡ some_quits quits (last_line (cut at.bytes).rest)
+      last_quits : some_quits quits (last_line line) ≡ some_quits quits (last_line (split_lines at.bytes).rest)
       last_quits = ap (λ (l : List ℕ). some_quits quits (last_line l)) at.begun
-          ∙ some_quits_prefix quits 1024 (cut at.bytes).rest long_quits
+          ∙ some_quits_by_line_prefix quits 1024 (split_lines at.bytes).rest long_quits
 
       -- the answers with that to what the input ended in
-      all : (text : List ℕ) (last : S) → Answered R s (last_line line) text last → Answered R s0 (lines_of at.bytes) (at.text ++ text) last
+      all : (text : List ℕ) (last : S) → LinesAnswered R s (last_line line) text last → LinesAnswered R s0 (lines_of at.bytes) (at.text ++ text) last
       all text last done =
-          let P : List ℕ → Type 0 = λ l. Answered R s (last_line l) text last in
-          answered-append R s0 (cut at.bytes).whole (last_line (cut at.bytes).rest) at.text text s last at.answered
-          (answered_prefix R long_replies s (cut at.bytes).rest text last (subst P at.begun done))
+          let P : List ℕ → Type 0 = λ l. LinesAnswered R s (last_line l) text last in
+          answered_append R s0 (split_lines at.bytes).whole (last_line (split_lines at.bytes).rest) at.text text s last at.answered
+          (answered_last_line_if_prefix_answered R long_replies s (split_lines at.bytes).rest text last (subst P at.begun done))
 
       all_wrote : (written' : Option (List ℕ)) → Wrote R s (last_line line) written written' → Wrote R s0 (lines_of at.bytes) w0 written'
       all_wrote written' p = record {
@@ -209,9 +209,9 @@ module _ {S : Type 0} (R : Replying S) (quits : List ℕ → Bool)
       }
 
       -- what the input ended in isn't empty, as what was kept of it isn't
-      ended_line : (line ≡ [] → ⊥) → lines_of at.bytes ≡ (cut at.bytes).whole ++ (cut at.bytes).rest ∷ []
-      ended_line some = ap (λ (ls : List (List ℕ)). (cut at.bytes).whole ++ ls)
-          (last_some (cut at.bytes).rest (λ none. some (at.begun ∙ ap (take most_kept_bytes) none)))
+      ended_line : (line ≡ [] → ⊥) → lines_of at.bytes ≡ (split_lines at.bytes).whole ++ (split_lines at.bytes).rest ∷ []
+      ended_line some = ap (λ (ls : List (List ℕ)). (split_lines at.bytes).whole ++ ls)
+          (last_line_of_nonempty (split_lines at.bytes).rest (λ none. some (at.begun ∙ ap (take most_kept_bytes) none)))
 
       module _ (took : Consumes left left' []) where
         ended_bytes : Consumes input left' at.bytes
@@ -224,7 +224,7 @@ module _ {S : Type 0} (R : Replying S) (quits : List ℕ → Bool)
             (served ∙ ap served_after last_quits) (all_wrote written' p)
 
         pub end_ended : (e : Served) (written' : Option (List ℕ)) → Wrote R s (last_line line) written written'
-            → e ≡ served_after (some_quits quits (last_line line)) → Reads limit input left' (LeadsTo R quits s0 limit (Ok e) w0 written')
+            → e ≡ served_after (some_quits quits (last_line line)) → ReadsUpTo limit input left' (LeadsTo R quits s0 limit (Ok e) w0 written')
         end_ended e written' p served = record {
           consumed = at.bytes;
           taken = ended_bytes;
@@ -240,8 +240,8 @@ module _ {S : Type 0} (R : Replying S) (quits : List ℕ → Bool)
 
         -- the writer failed in the answer to what the input ended in
         pub end_failed : (written' : Option (List ℕ)) → IsAtEnd left' → (line ≡ [] → ⊥) → RepliedPrefix R s line written written'
-            → Reads limit input left' (λ consumed. (through quits (lines_of consumed) ≡ lines_of consumed)
-            × (((cut consumed).rest ≡ [] → ⊥) → IsAtEnd left') × WroteInPart R s0 (lines_of consumed) w0 written')
+            → ReadsUpTo limit input left' (λ consumed. (through quits (lines_of consumed) ≡ lines_of consumed)
+            × (((split_lines consumed).rest ≡ [] → ⊥) → IsAtEnd left') × WroteInPart R s0 (lines_of consumed) w0 written')
         end_failed written' gone some p =
             let P : List (List ℕ) → Type 0 = λ x. WroteInPart R s0 x w0 written' in
             record {
@@ -249,8 +249,8 @@ module _ {S : Type 0} (R : Replying S) (quits : List ℕ → Bool)
               taken = ended_bytes;
               within = omega (arith, at.count);
               holds = (
-                through-append quits (cut at.bytes).whole (last_line (cut at.bytes).rest) at.quiet
-                    ∙ ap (λ (t : List (List ℕ)). (cut at.bytes).whole ++ t) (through-last quits (cut at.bytes).rest),
+                through_of_append quits (split_lines at.bytes).whole (last_line (split_lines at.bytes).rest) at.quiet
+                    ∙ ap (λ (t : List (List ℕ)). (split_lines at.bytes).whole ++ t) (through_of_last_line quits (split_lines at.bytes).rest),
                 λ _. gone,
                 subst P (sym (ended_line some)) (fed_part written' p),
               );
@@ -260,7 +260,7 @@ module _ {S : Type 0} (R : Replying S) (quits : List ℕ → Bool)
         pub finish_ended : (result : Result Served Fault) (written' : Option (List ℕ))
             → OnOk result (Wrote R s (last_line line) written written')
             → IfOk result (λ e. e ≡ served_after (some_quits quits (last_line line)))
-            → IfErr result (λ f. f ≡ Write) → IfEnded result (Reads limit input left' (LeadsTo R quits s0 limit result w0 written'))
+            → IfErr result (λ f. f ≡ Write) → IfEnded result (ReadsUpTo limit input left' (LeadsTo R quits s0 limit result w0 written'))
         finish_ended (Ok e) written' p served fault = end_ended e written' p served
         finish_ended (Err Read) written' p served fault = tt
         finish_ended (Err Write) written' p served fault = tt
@@ -277,18 +277,18 @@ module _ {S : Type 0} (R : Replying S) (quits : List ℕ → Bool)
 
         pub finish_failed : (result : Result Served Fault) (written' : Option (List ℕ)) → IsAtEnd left' → result ≡ Err Write
             → OnErr result (line ≡ [] → ⊥) → OnErr result (RepliedPrefix R s line written written')
-            → Reads limit input left' (λ consumed. (through quits (lines_of consumed) ≡ lines_of consumed)
-            × (((cut consumed).rest ≡ [] → ⊥) → IsAtEnd left') × WroteInPart R s0 (lines_of consumed) w0 written')
+            → ReadsUpTo limit input left' (λ consumed. (through quits (lines_of consumed) ≡ lines_of consumed)
+            × (((split_lines consumed).rest ≡ [] → ⊥) → IsAtEnd left') × WroteInPart R s0 (lines_of consumed) w0 written')
         finish_failed (Ok e) written' gone failed some p = absurd cc
         finish_failed (Err x) written' gone failed some p = end_failed written' gone some p
 
   -- the limit came
   module _ (left written : Option (List ℕ)) (s : S) (line : List ℕ) (limit : ℕ)
-      (at : At R quits s0 input w0 left written s line limit) where
-    so_far : Wrote R s0 (cut at.bytes).whole w0 written
+      (at : IsSessionAt R quits s0 input w0 left written s line limit) where
+    so_far : Wrote R s0 (split_lines at.bytes).whole w0 written
     so_far = record { text = at.text; last = s; answered = at.answered; grown = at.grown }
 
-    pub long_ended : Reads limit input left (LeadsTo R quits s0 limit (Err TooLong) w0 written)
+    pub long_ended : ReadsUpTo limit input left (LeadsTo R quits s0 limit (Err TooLong) w0 written)
     long_ended = record {
       consumed = at.bytes;
       taken = at.parts;
@@ -298,5 +298,5 @@ module _ {S : Type 0} (R : Replying S) (quits : List ℕ → Bool)
     }
 
     pub long_known : IfSome input (LeadsTo R quits s0 limit (Err TooLong) w0 written)
-    long_known = consumed_any input left at.bytes (LeadsTo R quits s0 limit (Err TooLong) w0 written) at.parts
+    long_known = property_of_all_consumed input left at.bytes (LeadsTo R quits s0 limit (Err TooLong) w0 written) at.parts
         (λ (r : List ℕ). leads_long R quits s0 limit w0 written at.bytes at.quiet r at.count so_far)

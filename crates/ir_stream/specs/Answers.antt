@@ -8,21 +8,21 @@ use Rattle.ir_stream.specs.declared.serving.Served.TheVariants.{Quit, InputEnd}
 use Rattle.ir_stream.specs.declared.serving.Fault.{Fault}
 use Rattle.ir_stream.specs.declared.serving.Fault.TheVariants.{TooLong}
 
--- what a machine may do: as the first it answers a line by a text, and is then the second
+-- what a machine may do: in the first state it may answer the line by the text, and is then in the second state
 abbrev pub Replying : Type 0 → Type 1
 Replying S = S → List ℕ → List ℕ → S → Type 0
 
--- the machine may answer the lines in turn, with a state between any two, by texts that are joined to this one, and is then the second
-unfoldable pub Answered : {S : Type 0} → Replying S → S → List (List ℕ) → List ℕ → S → Type 0
-Answered R s [] text last = (text ≡ []) × (last ≡ s)
-Answered {S} R s (l ∷ ls) text last = (first : List ℕ) × (next : S) × (rest : List ℕ) × R s l first next × Answered R next ls rest last
+-- from state s the machine may answer the lines in turn: text is its answers joined, last its state after them
+unfoldable pub LinesAnswered : {S : Type 0} → Replying S → S → List (List ℕ) → List ℕ → S → Type 0
+LinesAnswered R s [] text last = (text ≡ []) × (last ≡ s)
+LinesAnswered {S} R s (l ∷ ls) text last = (first : List ℕ) × (next : S) × (rest : List ℕ) × R s l first next × LinesAnswered R next ls rest last
     × (text ≡ first ++ rest)
 
 -- the machine answered the lines, and the writer took the answers
 pub record Wrote {S : Type 0} (R : Replying S) (s : S) (lines : List (List ℕ)) (old new : Option (List ℕ)) : Type 0 where
   pub text : List ℕ
   pub last : S
-  pub answered : Answered R s lines text last
+  pub answered : LinesAnswered R s lines text last
   pub grown : Appends old new text
 
 -- the machine answered a line and is then the second, and the writer took the answer
@@ -65,22 +65,22 @@ some_quits quits [] = false
 some_quits quits (l ∷ ls) = if quits l then true else some_quits quits ls
 
 -- whole lines, without their line feeds, and the bytes after the last line feed
-pub record Cut : Type 0 where
+pub record SplitBytes : Type 0 where
   pub whole : List (List ℕ)
   pub rest : List ℕ
 
-abbrev pub cut_of : List (List ℕ) → List ℕ → Cut
-cut_of lines bytes = record { whole = lines; rest = bytes }
+abbrev pub split_of : List (List ℕ) → List ℕ → SplitBytes
+split_of lines bytes = record { whole = lines; rest = bytes }
 
 -- a byte put before the first line
-abbrev pub onto : ℕ → List (List ℕ) → List ℕ → Cut
-onto b [] r = cut_of [] (b ∷ r)
-onto b (l ∷ ls) r = cut_of ((b ∷ l) ∷ ls) r
+abbrev pub onto : ℕ → List (List ℕ) → List ℕ → SplitBytes
+onto b [] r = split_of [] (b ∷ r)
+onto b (l ∷ ls) r = split_of ((b ∷ l) ∷ ls) r
 
 -- the whole lines of the bytes, and what comes after the last line feed
-unfoldable pub cut : List ℕ → Cut
-cut [] = cut_of [] []
-cut (b ∷ bytes) = if b == 10 then cut_of ([] ∷ (cut bytes).whole) (cut bytes).rest else onto b (cut bytes).whole (cut bytes).rest
+unfoldable pub split_lines : List ℕ → SplitBytes
+split_lines [] = split_of [] []
+split_lines (b ∷ bytes) = if b == 10 then split_of ([] ∷ (split_lines bytes).whole) (split_lines bytes).rest else onto b (split_lines bytes).whole (split_lines bytes).rest
 
 -- what an input ends in is a line if it isn't empty
 abbrev pub last_line : List ℕ → List (List ℕ)
@@ -89,19 +89,19 @@ last_line (b ∷ bytes) = (b ∷ bytes) ∷ []
 
 -- the lines of a whole input
 abbrev pub lines_of : List ℕ → List (List ℕ)
-lines_of input = (cut input).whole ++ last_line (cut input).rest
+lines_of input = (split_lines input).whole ++ last_line (split_lines input).rest
 
 -- the lines that count: all where the input is shorter than the limit, else those that are whole within it
 abbrev pub heard : ℕ → List ℕ → List (List ℕ)
-heard limit input = if nat_lt (length input) limit then lines_of input else (cut (take limit input)).whole
+heard limit input = if nat_lt (length input) limit then lines_of input else (split_lines (take limit input)).whole
 
--- how a session over the input ends where no device fails
+-- how reading the lines of the input ends where no device fails
 abbrev pub ends : (List ℕ → Bool) → ℕ → List ℕ → Result Served Fault
 ends quits limit input = if some_quits quits (heard limit input) then Ok Quit else if nat_lt (length input) limit then Ok InputEnd else Err
     TooLong
 
 -- the bytes that were read, at most limit, and what holds of them
-pub record Reads (limit : ℕ) (old new : Option (List ℕ)) (P : List ℕ → Type 0) : Type 0 where
+pub record ReadsUpTo (limit : ℕ) (old new : Option (List ℕ)) (P : List ℕ → Type 0) : Type 0 where
   pub consumed : List ℕ
   pub taken : Consumes old new consumed
   pub within : length consumed ≤ limit

@@ -11,12 +11,12 @@ IsCountBelow symbols address n = IsPartitionPoint (λ s. address_of s < address)
 abbrev pub IsCountUpTo : List Symbol → ℕ → ℕ → Type 0
 IsCountUpTo symbols address n = IsPartitionPoint (λ s. address_of s ≤ address) (λ s. address < address_of s) symbols n
 
-pub below_by_test : (symbols : List Symbol) (address n : ℕ)
+pub count_below_by_partition : (symbols : List Symbol) (address n : ℕ)
     → IsPartitionPoint (λ s. ltb (address_of s) address ≡ true) (λ s. ltb (address_of s) address ≡ false) symbols n
     → IsCountBelow symbols address n
-below_by_test symbols address n h = (λ k d l u. ltb-true _ _ (h.0 k d l u), λ k d l u. ltb-false _ _ (h.1 k d l u))
+count_below_by_partition symbols address n h = (λ k d l u. ltb-true _ _ (h.0 k d l u), λ k d l u. ltb-false _ _ (h.1 k d l u))
 
-pub up_to_by_test : (symbols : List Symbol) (address n : ℕ)
+pub count_up_to_by_partition : (symbols : List Symbol) (address n : ℕ)
     → IsPartitionPoint (λ s. leb (address_of s) address ≡ true) (λ s. leb (address_of s) address ≡ false) symbols n
     → IsCountUpTo symbols address n
-up_to_by_test symbols address n h = (λ k d l u. leb-true _ _ (h.0 k d l u), λ k d l u. leb-false _ _ (h.1 k d l u))
+count_up_to_by_partition symbols address n h = (λ k d l u. leb-true _ _ (h.0 k d l u), λ k d l u. leb-false _ _ (h.1 k d l u))

@@ -8,20 +8,20 @@ use Rattle.std.proofs.lemmas.List.{length-drop, length-take-le, get_or-take, get
 use Rattle.ir_symbols.specs.Symbols.{Symbol, address_of}
 use Rattle.ir_symbols.specs.Tables.{reaches, IsNearest}
 use Rattle.ir_symbols.proofs.Counts.{IsCountBelow, IsCountUpTo}
-use Rattle.ir_symbols.proofs.Nearest.{NoneReaches, not_both}
+use Rattle.ir_symbols.proofs.Nearest.{NoneReaches, not_both_true_and_negated}
 
 -- the last of the first n symbols
-pub last_counted : (symbols : List Symbol) (n : ℕ) (last : Symbol) → n ≤ length symbols → 0 < length (take n symbols)
+pub last_of_counted_symbols : (symbols : List Symbol) (n : ℕ) (last : Symbol) → n ≤ length symbols → 0 < length (take n symbols)
     → ((d : Symbol) → last ≡ get_or (take n symbols) (length (take n symbols) - 1) d) → (0 < n) × (last ≡ get_or symbols (n - 1) last)
-last_counted symbols n last le some at =
+last_of_counted_symbols symbols n last le some at =
     let size : length (take n symbols) ≡ n = length-take-le n symbols le in
     let more : 0 < n = omega (arith, some, size) in
     (more, at last ∙ ap (λ (k : ℕ). get_or (take n symbols) (k - 1) last) size ∙ get_or-take n symbols (n - 1) last (omega (arith, more)))
 
 -- fewer symbols than those are below the last of them
-pub fewer_below : (symbols : List Symbol) (n i : ℕ) (last : Symbol) → n ≤ length symbols → 0 < n → last ≡ get_or symbols (n - 1) last
+pub fewer_symbols_below_last : (symbols : List Symbol) (n i : ℕ) (last : Symbol) → n ≤ length symbols → 0 < n → last ≡ get_or symbols (n - 1) last
     → IsCountBelow (take n symbols) last.address i → i ≤ length (take n symbols) → i < n
-fewer_below symbols n i last le some at below most =
+fewer_symbols_below_last symbols n i last le some at below most =
     let size : length (take n symbols) ≡ n = length-take-le n symbols le in
     elim (cases_lt i n) [
       | inl under ↦ under
@@ -33,41 +33,41 @@ fewer_below symbols n i last le some at below most =
     ]
 
 -- a symbol above the address doesn't reach it
-above_unreached : (address : ℕ) (s : Symbol) → address < s.address → not (reaches address s) ≡ true
-above_unreached address s h = grind (arith, nat_tests)
+symbol_above_address_not_reaching : (address : ℕ) (s : Symbol) → address < s.address → not (reaches address s) ≡ true
+symbol_above_address_not_reaching address s h = grind (arith, nat_tests)
 
 -- nor does one below a symbol at or before the address that doesn't
-below_unreached : (address highest : ℕ) (s : Symbol) → s.address ≤ highest → highest ≤ address
+symbol_below_range_not_reaching : (address highest : ℕ) (s : Symbol) → s.address ≤ highest → highest ≤ address
     → (highest / 65536 ≡ address / 65536 → ⊥) → not (reaches address s) ≡ true
-below_unreached address highest s h k other =
+symbol_below_range_not_reaching address highest s h k other =
     let apart : s.address / 65536 ≡ address / 65536 → ⊥ = λ e. other (omega (arith, e)) in
     grind (arith, nat_tests, apart)
 
 -- of symbols of which the last at or before the address is in other 64 KiB, none reaches it
-pub none_found : (symbols : List Symbol) (address n : ℕ) (last : Symbol) → IsNonDecreasingBy address_of symbols → n ≤ length symbols
+pub none_reaches_past_range : (symbols : List Symbol) (address n : ℕ) (last : Symbol) → IsNonDecreasingBy address_of symbols → n ≤ length symbols
     → IsCountUpTo symbols address n → 0 < n → last ≡ get_or symbols (n - 1) last
     → (last.address / 65536 ≡ address / 65536 → ⊥) → NoneReaches address symbols
-none_found symbols address n last rising le count some at other k d l =
+none_reaches_past_range symbols address n last rising le count some at other k d l =
     elim (cases_lt k n) [
       | inl under ↦
           let there : get_or symbols (n - 1) d ≡ last = get_or_default symbols (n - 1) d last (omega (arith, le, some)) ∙ sym at in
           let top : address_of (get_or symbols (n - 1) d) ≤ address = count.0 (n - 1) d (omega arith) (omega (arith, some)) in
           let order : address_of (get_or symbols k d) ≤ address_of (get_or symbols (n - 1) d) = rising k (n - 1) d (omega (arith, under)) (omega (arith, le, some)) in
-          below_unreached address last.address (get_or symbols k d)
+          symbol_below_range_not_reaching address last.address (get_or symbols k d)
           (subst (λ (s : Symbol). address_of (get_or symbols k d) ≤ address_of s) there order)
           (subst (λ (s : Symbol). address_of s ≤ address) there top) other
-      | inr over ↦ above_unreached address (get_or symbols k d) (count.1 k d over l)
+      | inr over ↦ symbol_above_address_not_reaching address (get_or symbols k d) (count.1 k d over l)
     ]
 
 -- of no symbol at or before the address, none reaches it
-pub none_counted : (symbols : List Symbol) (address n : ℕ) → IsCountUpTo symbols address n → n ≡ 0 → NoneReaches address symbols
-none_counted symbols address n count none k d l = above_unreached address (get_or symbols k d) (count.1 k d (omega (arith, none)) l)
+pub none_reaches_if_none_counted : (symbols : List Symbol) (address n : ℕ) → IsCountUpTo symbols address n → n ≡ 0 → NoneReaches address symbols
+none_reaches_if_none_counted symbols address n count none k d l = symbol_above_address_not_reaching address (get_or symbols k d) (count.1 k d (omega (arith, none)) l)
 
 -- no symbol that reaches the address is above the last one at or before it
-last_is_top : (symbols : List Symbol) (address n k : ℕ) (last s d : Symbol) → IsNonDecreasingBy address_of symbols → n ≤ length symbols
+reaching_symbol_at_most_last_address : (symbols : List Symbol) (address n k : ℕ) (last s d : Symbol) → IsNonDecreasingBy address_of symbols → n ≤ length symbols
     → IsCountUpTo symbols address n → last ≡ get_or symbols (n - 1) last → k < length symbols → s.address ≡ last.address
     → IsTrue (reaches address (get_or symbols k d)) → (get_or symbols k d).address ≤ s.address
-last_is_top symbols address n k last s d rising le count at fits same reach =
+reaching_symbol_at_most_last_address symbols address n k last s d rising le count at fits same reach =
     elim (cases_lt k n) [
       | inl under ↦
           let there : get_or symbols (n - 1) d ≡ last = get_or_default symbols (n - 1) d last (omega (arith, le, under)) ∙ sym at in
@@ -76,14 +76,14 @@ last_is_top symbols address n k last s d rising le count at fits same reach =
           omega (arith, order_last, same)
       | inr over ↦
           let far : address < address_of (get_or symbols k d) = count.1 k d over fits in
-          absurd (not_both (reaches address (get_or symbols k d)) reach (above_unreached address (get_or symbols k d) far))
+          absurd (not_both_true_and_negated (reaches address (get_or symbols k d)) reach (symbol_above_address_not_reaching address (get_or symbols k d) far))
     ]
 
 -- the first symbol at the address of the last one at or before the address
-pub first_found : (symbols : List Symbol) (address n i : ℕ) (last s : Symbol) → IsNonDecreasingBy address_of symbols → n ≤ length symbols
+pub first_at_last_address_is_nearest : (symbols : List Symbol) (address n i : ℕ) (last s : Symbol) → IsNonDecreasingBy address_of symbols → n ≤ length symbols
     → IsCountUpTo symbols address n → 0 < n → last ≡ get_or symbols (n - 1) last → last.address / 65536 ≡ address / 65536
     → IsCountBelow (take n symbols) last.address i → i < n → s ≡ get_or (take n symbols) i s → IsNearest symbols address s
-first_found symbols address n i last s rising le count some at near below inside is =
+first_at_last_address_is_nearest symbols address n i last s rising le count some at near below inside is =
     let size : length (take n symbols) ≡ n = length-take-le n symbols le in
     let here : s ≡ get_or symbols i s = is ∙ get_or-take n symbols i s inside in
     let fits : i < length symbols = omega (arith, inside, le) in
@@ -105,6 +105,6 @@ first_found symbols address n i last s rising le count some at near below inside
           (subst (λ (t : Symbol). address_of t < last.address) (get_or-take n symbols k d (omega (arith, k_inside, inside))) (below.0 k d (omega arith) k_inside));
       greatest = λ k d l reach.
           rw (get_or-drop (i + 1) symbols k d)
-          (last_is_top symbols address n (i + 1 + k) last s d rising le count at (omega (arith, l, length-drop (i + 1) symbols)) same
+          (reaching_symbol_at_most_last_address symbols address n (i + 1 + k) last s d rising le count at (omega (arith, l, length-drop (i + 1) symbols)) same
           (subst (λ (t : Symbol). IsTrue (reaches address t)) (get_or-drop (i + 1) symbols k d) reach));
     }

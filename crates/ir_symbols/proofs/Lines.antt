@@ -14,42 +14,42 @@ use Rattle.ir_symbols.specs.declared.entry.Entry.TheVariants.{Nothing, Names, Fa
 -- ---- cutting
 
 -- a line feed
-abbrev is_feed : ℕ → Bool
-is_feed b = b == 10
+abbrev is_line_feed : ℕ → Bool
+is_line_feed b = b == 10
 
-place_by : (b : Bool) (m n : ℕ) → cond b (Some m) None ≡ Some n → (b ≡ true) × (m ≡ n)
-place_by true m n e = (refl, cc e)
-place_by false m n e = cc e
+conditional_place_is_some : (b : Bool) (m n : ℕ) → cond b (Some m) None ≡ Some n → (b ≡ true) × (m ≡ n)
+conditional_place_is_some true m n e = (refl, cc e)
+conditional_place_is_some false m n e = cc e
 
-no_place_by : (b : Bool) (m : ℕ) → cond b (Some m) None ≡ None → b ≡ false
-no_place_by true m e = cc e
-no_place_by false m e = refl
+conditional_place_is_none : (b : Bool) (m : ℕ) → cond b (Some m) None ≡ None → b ≡ false
+conditional_place_is_none true m e = cc e
+conditional_place_is_none false m e = refl
 
-split_found : (text : List ℕ) (n : ℕ) → position is_feed text ≡ Some n
-    → slice_split is_feed text ≡ take n text ∷ slice_split is_feed (drop (n + 1) text)
-split_found text n e =
-    let p = place_by (ltb (position_or_len is_feed text) (length text)) (position_or_len is_feed text) n e in
-    slice_split_first is_feed text 0 (ltb-true _ _ p.0)
-    ∙ ap (λ (k : ℕ). take k text ∷ slice_split is_feed (drop (k + 1) text)) p.1
+split_at_found_line_feed : (text : List ℕ) (n : ℕ) → position is_line_feed text ≡ Some n
+    → slice_split is_line_feed text ≡ take n text ∷ slice_split is_line_feed (drop (n + 1) text)
+split_at_found_line_feed text n e =
+    let p = conditional_place_is_some (ltb (position_or_len is_line_feed text) (length text)) (position_or_len is_line_feed text) n e in
+    slice_split_first is_line_feed text 0 (ltb-true _ _ p.0)
+    ∙ ap (λ (k : ℕ). take k text ∷ slice_split is_line_feed (drop (k + 1) text)) p.1
 
-split_single : (text : List ℕ) → position is_feed text ≡ None → slice_split is_feed text ≡ text ∷ []
-split_single text e =
-    let past : length text ≤ position_or_len is_feed text =
-    ltb-false _ _ (no_place_by (ltb (position_or_len is_feed text) (length text)) (position_or_len is_feed text) e) in
-    slice_split_none is_feed text (λ k d l. fails_before_first is_feed text k d (omega (arith, past, l)))
+split_without_line_feed : (text : List ℕ) → position is_line_feed text ≡ None → slice_split is_line_feed text ≡ text ∷ []
+split_without_line_feed text e =
+    let past : length text ≤ position_or_len is_line_feed text =
+    ltb-false _ _ (conditional_place_is_none (ltb (position_or_len is_line_feed text) (length text)) (position_or_len is_line_feed text) e) in
+    slice_split_none is_line_feed text (λ k d l. fails_before_first is_line_feed text k d (omega (arith, past, l)))
 
 -- the first line, where a line feed ends it
-pub line_taken : (text line : List ℕ) (n : ℕ) → position is_feed text ≡ Some n → line ≡ strip_carriage_return (take n text)
+pub lines_of_text_by_first_line : (text line : List ℕ) (n : ℕ) → position is_line_feed text ≡ Some n → line ≡ strip_carriage_return (take n text)
     → lines_of text ≡ line ∷ lines_of (take (length text - (n + 1)) (drop (n + 1) text))
-line_taken text line n e f =
-    ap (λ (parts : List (List ℕ)). map strip_carriage_return parts) (split_found text n e)
+lines_of_text_by_first_line text line n e f =
+    ap (λ (parts : List (List ℕ)). map strip_carriage_return parts) (split_at_found_line_feed text n e)
     ∙ ap (λ (first : List ℕ). first ∷ lines_of (drop (n + 1) text)) (sym f)
     ∙ ap (λ (rest : List ℕ). line ∷ lines_of rest) (sym (take_rest text (n + 1)))
 
 -- the last line
-pub line_alone : (text line : List ℕ) → position is_feed text ≡ None → line ≡ strip_carriage_return text → lines_of text ≡ line ∷ []
-line_alone text line e f =
-    ap (λ (parts : List (List ℕ)). map strip_carriage_return parts) (split_single text e) ∙ ap (λ (first : List ℕ). first ∷ []) (sym f)
+pub lines_of_text_without_line_feed : (text line : List ℕ) → position is_line_feed text ≡ None → line ≡ strip_carriage_return text → lines_of text ≡ line ∷ []
+lines_of_text_without_line_feed text line e f =
+    ap (λ (parts : List (List ℕ)). map strip_carriage_return parts) (split_without_line_feed text e) ∙ ap (λ (first : List ℕ). first ∷ []) (sym f)
 
 -- ---- reading
 
@@ -68,62 +68,62 @@ abbrev pub with_all : List Symbol → Result (List Symbol) ℕ → Result (List 
 with_all first (Ok symbols) = Ok (first ++ symbols)
 with_all first (Err number) = Err number
 
-with_all-with_first : (first : List Symbol) (s : Symbol) (read : Result (List Symbol) ℕ)
+with_all_of_with_first : (first : List Symbol) (s : Symbol) (read : Result (List Symbol) ℕ)
     → with_all first (with_first s read) ≡ with_all (first ++ s ∷ []) read
-with_all-with_first first s (Ok symbols) = ap (λ (l : List Symbol). Ok l) (sym (append_assoc first (s ∷ []) symbols))
-with_all-with_first first s (Err number) = refl
+with_all_of_with_first first s (Ok symbols) = ap (λ (l : List Symbol). Ok l) (sym (append_assoc first (s ∷ []) symbols))
+with_all_of_with_first first s (Err number) = refl
 
 -- the next of the lines that are left
-next_left : (left after : Option (Bor (List ℕ))) (text : Bor (List ℕ)) (line : List ℕ) → left ≡ Some text
+lines_left_by_next_line : (left after : Option (Bor (List ℕ))) (text : Bor (List ℕ)) (line : List ℕ) → left ≡ Some text
     → MatchOption after (lines_of text.now ≡ line ∷ []) (λ rest. lines_of text.now ≡ line ∷ lines_of rest.now)
     → lines_left left ≡ line ∷ lines_left after
-next_left left None text line e h = ap lines_left e ∙ h
-next_left left (Some rest) text line e h = ap lines_left e ∙ h
+lines_left_by_next_line left None text line e h = ap lines_left e ∙ h
+lines_left_by_next_line left (Some rest) text line e h = ap lines_left e ∙ h
 
 -- what it says, and the others
-next_read : (number : ℕ) (left after : Option (Bor (List ℕ))) (text : Bor (List ℕ)) (line : List ℕ) (entry : Entry) → left ≡ Some text
+symbols_from_by_next_line : (number : ℕ) (left after : Option (Bor (List ℕ))) (text : Bor (List ℕ)) (line : List ℕ) (entry : Entry) → left ≡ Some text
     → MatchOption after (lines_of text.now ≡ line ∷ []) (λ rest. lines_of text.now ≡ line ∷ lines_of rest.now)
     → entry ≡ entry_of line
     → symbols_from (number + 1) (lines_left left) ≡ with_entry (number + 1) entry (symbols_from (number + 1 + 1) (lines_left after))
 unfolding symbols_from
-next_read number left after text line entry e h f =
-    ap (symbols_from (number + 1)) (next_left left after text line e h)
+symbols_from_by_next_line number left after text line entry e h f =
+    ap (symbols_from (number + 1)) (lines_left_by_next_line left after text line e h)
     ∙ ap (λ (said : Entry). with_entry (number + 1) said (symbols_from (number + 1 + 1) (lines_left after))) (sym f)
 
 -- of an empty rest
-pub none_left : (number : ℕ) (left : Option (Bor (List ℕ))) → ((text : Bor (List ℕ)) → left ≡ Some text → ⊥)
+pub symbols_from_no_lines_left : (number : ℕ) (left : Option (Bor (List ℕ))) → ((text : Bor (List ℕ)) → left ≡ Some text → ⊥)
     → symbols_from number (lines_left left) ≡ Ok []
 unfolding symbols_from
-none_left number None h = refl
-none_left number (Some text) h = absurd (h text refl)
+symbols_from_no_lines_left number None h = refl
+symbols_from_no_lines_left number (Some text) h = absurd (h text refl)
 
 -- a line that says nothing, one of a symbol, and a faulty one
-pub nothing_read : (whole : Result (List Symbol) ℕ) (first : List Symbol) (number : ℕ) (left after : Option (Bor (List ℕ))) (text : Bor (List ℕ))
+pub symbols_after_empty_line : (whole : Result (List Symbol) ℕ) (first : List Symbol) (number : ℕ) (left after : Option (Bor (List ℕ))) (text : Bor (List ℕ))
     (line : List ℕ) → left ≡ Some text
     → MatchOption after (lines_of text.now ≡ line ∷ []) (λ rest. lines_of text.now ≡ line ∷ lines_of rest.now) → Nothing ≡ entry_of line
     → with_all first (symbols_from (number + 1) (lines_left left)) ≡ whole
     → with_all first (symbols_from (number + 1 + 1) (lines_left after)) ≡ whole
-nothing_read whole first number left after text line e h f done =
-    sym (ap (with_all first) (next_read number left after text line Nothing e h f)) ∙ done
+symbols_after_empty_line whole first number left after text line e h f done =
+    sym (ap (with_all first) (symbols_from_by_next_line number left after text line Nothing e h f)) ∙ done
 
-pub symbol_read : (whole : Result (List Symbol) ℕ) (first : List Symbol) (number : ℕ) (left after : Option (Bor (List ℕ))) (text : Bor (List ℕ))
+pub symbols_after_symbol_line : (whole : Result (List Symbol) ℕ) (first : List Symbol) (number : ℕ) (left after : Option (Bor (List ℕ))) (text : Bor (List ℕ))
     (line : List ℕ) (s : Symbol) → left ≡ Some text
     → MatchOption after (lines_of text.now ≡ line ∷ []) (λ rest. lines_of text.now ≡ line ∷ lines_of rest.now) → Names s ≡ entry_of line
     → with_all first (symbols_from (number + 1) (lines_left left)) ≡ whole
     → with_all (first ++ s ∷ []) (symbols_from (number + 1 + 1) (lines_left after)) ≡ whole
-symbol_read whole first number left after text line s e h f done =
-    sym (ap (with_all first) (next_read number left after text line (Names s) e h f)
-    ∙ with_all-with_first first s (symbols_from (number + 1 + 1) (lines_left after))) ∙ done
+symbols_after_symbol_line whole first number left after text line s e h f done =
+    sym (ap (with_all first) (symbols_from_by_next_line number left after text line (Names s) e h f)
+    ∙ with_all_of_with_first first s (symbols_from (number + 1 + 1) (lines_left after))) ∙ done
 
-pub fault_read : (whole : Result (List Symbol) ℕ) (first : List Symbol) (number : ℕ) (left after : Option (Bor (List ℕ))) (text : Bor (List ℕ))
+pub symbols_after_faulty_line : (whole : Result (List Symbol) ℕ) (first : List Symbol) (number : ℕ) (left after : Option (Bor (List ℕ))) (text : Bor (List ℕ))
     (line : List ℕ) → left ≡ Some text
     → MatchOption after (lines_of text.now ≡ line ∷ []) (λ rest. lines_of text.now ≡ line ∷ lines_of rest.now) → Faulty ≡ entry_of line
     → with_all first (symbols_from (number + 1) (lines_left left)) ≡ whole → whole ≡ Err (number + 1)
-fault_read whole first number left after text line e h f done =
-    sym done ∙ ap (with_all first) (next_read number left after text line Faulty e h f)
+symbols_after_faulty_line whole first number left after text line e h f done =
+    sym done ∙ ap (with_all first) (symbols_from_by_next_line number left after text line Faulty e h f)
 
 -- there are fewer bytes left
-pub less_left : (left after : Option (Bor (List ℕ))) (text : Bor (List ℕ)) → left ≡ Some text
+pub size_left_falls : (left after : Option (Bor (List ℕ))) (text : Bor (List ℕ)) → left ≡ Some text
     → IfSome after (λ rest. length rest.now < length text.now) → size_left after < size_left left
-less_left left None text e h = let size : size_left left ≡ suc (length text.now) = ap size_left e in omega (arith, size)
-less_left left (Some rest) text e h = let size : size_left left ≡ suc (length text.now) = ap size_left e in omega (arith, size, h)
+size_left_falls left None text e h = let size : size_left left ≡ suc (length text.now) = ap size_left e in omega (arith, size)
+size_left_falls left (Some rest) text e h = let size : size_left left ≡ suc (length text.now) = ap size_left e in omega (arith, size, h)

@@ -8,69 +8,69 @@ use Rattle.std.proofs.lemmas.Bool.Decides.{nat_tests}
 use Rattle.std.proofs.lemmas.List.Sorted.{IsPermutation-refl}
 use Rattle.ir_symbols.specs.Symbols.{Symbol, address_of}
 use Rattle.ir_symbols.specs.Tables.{IsSortOf}
-use Rattle.ir_symbols.proofs.Ranges.{filter_empty}
+use Rattle.ir_symbols.proofs.Ranges.{filter_of_none_passing}
 
 -- two symbols have one address
-abbrev at_one : Symbol → Symbol → Bool
-at_one = ties (λ x y. is_lt (nat_cmp (address_of x) (address_of y)))
+abbrev have_one_address : Symbol → Symbol → Bool
+have_one_address = ties (λ x y. is_lt (nat_cmp (address_of x) (address_of y)))
 
-at_one-itself : (s t : Symbol) → s.address ≡ t.address → at_one s t ≡ true
-at_one-itself s t e = grind (arith, nat_tests)
+have_one_address_if_equal : (s t : Symbol) → s.address ≡ t.address → have_one_address s t ≡ true
+have_one_address_if_equal s t e = grind (arith, nat_tests)
 
-at_one-below : (s t : Symbol) → s.address < t.address → at_one s t ≡ false
-at_one-below s t l = grind (arith, nat_tests)
+have_not_one_address_if_below : (s t : Symbol) → s.address < t.address → have_one_address s t ≡ false
+have_not_one_address_if_below s t l = grind (arith, nat_tests)
 
 -- of symbols that are all above another, none has its address
-none_at : (s t : Symbol) (symbols : List Symbol) → IsNonDecreasingBy address_of (t ∷ symbols) → s.address < t.address
-    → filter (at_one s) (t ∷ symbols) ≡ []
-none_at s t symbols rising l = filter_empty (at_one s) (t ∷ symbols)
-    (λ k d m. at_one-below s (get_or (t ∷ symbols) k d)
+no_symbol_at_lower_address : (s t : Symbol) (symbols : List Symbol) → IsNonDecreasingBy address_of (t ∷ symbols) → s.address < t.address
+    → filter (have_one_address s) (t ∷ symbols) ≡ []
+no_symbol_at_lower_address s t symbols rising l = filter_of_none_passing (have_one_address s) (t ∷ symbols)
+    (λ k d m. have_not_one_address_if_below s (get_or (t ∷ symbols) k d)
     (let up : t.address ≤ address_of (get_or (t ∷ symbols) k d) = rising 0 k d (omega arith) m in omega (arith, l, up)))
 
-tail_rises : (s : Symbol) (symbols : List Symbol) → IsNonDecreasingBy address_of (s ∷ symbols) → IsNonDecreasingBy address_of symbols
-tail_rises s symbols rising i j d le l = rising (suc i) (suc j) d (omega (arith, le)) (omega (arith, l))
+tail_is_nondecreasing : (s : Symbol) (symbols : List Symbol) → IsNonDecreasingBy address_of (s ∷ symbols) → IsNonDecreasingBy address_of symbols
+tail_is_nondecreasing s symbols rising i j d le l = rising (suc i) (suc j) d (omega (arith, le)) (omega (arith, l))
 
 -- the first symbols of two sorts are at one address
-first_not_below : (s t : Symbol) (first second : List Symbol) → IsNonDecreasingBy address_of (t ∷ second)
-    → filter (at_one s) (s ∷ first) ≡ filter (at_one s) (t ∷ second) → t.address ≤ s.address
-first_not_below s t first second rising same = elim (cases_lt s.address t.address) [
-  | inl l ↦ absurd (some_none s (filter (at_one s) first)
-      (ap (λ (b : Bool). cond b (s ∷ filter (at_one s) first) (filter (at_one s) first)) (sym (at_one-itself s s refl))
-      ∙ same ∙ none_at s t second rising l))
+first_address_not_above_other_first : (s t : Symbol) (first second : List Symbol) → IsNonDecreasingBy address_of (t ∷ second)
+    → filter (have_one_address s) (s ∷ first) ≡ filter (have_one_address s) (t ∷ second) → t.address ≤ s.address
+first_address_not_above_other_first s t first second rising same = elim (cases_lt s.address t.address) [
+  | inl l ↦ absurd (some_none s (filter (have_one_address s) first)
+      (ap (λ (b : Bool). cond b (s ∷ filter (have_one_address s) first) (filter (have_one_address s) first)) (sym (have_one_address_if_equal s s refl))
+      ∙ same ∙ no_symbol_at_lower_address s t second rising l))
   | inr le ↦ le
 ]
   where
     some_none : (x : Symbol) (l : List Symbol) → x ∷ l ≡ [] → ⊥
     some_none x l e = cc e
 
-rest_same : (s : Symbol) (b : Bool) (first second : List Symbol) → cond b (s ∷ first) first ≡ cond b (s ∷ second) second → first ≡ second
-rest_same s true first second e = cc e
-rest_same s false first second e = e
+tails_equal_if_conditional_lists_equal : (s : Symbol) (b : Bool) (first second : List Symbol) → cond b (s ∷ first) first ≡ cond b (s ∷ second) second → first ≡ second
+tails_equal_if_conditional_lists_equal s true first second e = cc e
+tails_equal_if_conditional_lists_equal s false first second e = e
 
-head_same : (s t : Symbol) (b c : Bool) (first second : List Symbol) → b ≡ true → c ≡ true
+heads_equal_if_conditional_lists_equal : (s t : Symbol) (b c : Bool) (first second : List Symbol) → b ≡ true → c ≡ true
     → cond b (s ∷ first) first ≡ cond c (t ∷ second) second → s ≡ t
-head_same s t true true first second e f g = cc g
-head_same s t true false first second e f g = cc f
-head_same s t false c first second e f g = cc e
+heads_equal_if_conditional_lists_equal s t true true first second e f g = cc g
+heads_equal_if_conditional_lists_equal s t true false first second e f g = cc f
+heads_equal_if_conditional_lists_equal s t false c first second e f g = cc e
 
-one_order : (first second : List Symbol) → IsNonDecreasingBy address_of first → IsNonDecreasingBy address_of second
-    → ((s : Symbol) → filter (at_one s) first ≡ filter (at_one s) second) → first ≡ second
-one_order [] [] up rising same = refl
-one_order [] (t ∷ second) up rising same = cc (same t ∙ ap (λ (b : Bool). cond b (t ∷ filter (at_one t) second) (filter (at_one t) second)) (at_one-itself t t refl))
-one_order (s ∷ first) [] up rising same = cc (sym (same s) ∙ ap (λ (b : Bool). cond b (s ∷ filter (at_one s) first) (filter (at_one s) first)) (at_one-itself s s refl))
-one_order (s ∷ first) (t ∷ second) up rising same =
-    let low : t.address ≤ s.address = first_not_below s t first second rising (same s) in
-    let high : s.address ≤ t.address = first_not_below t s second first up (sym (same t)) in
-    let head : s ≡ t = head_same s t (at_one s s) (at_one s t) (filter (at_one s) first) (filter (at_one s) second)
-    (at_one-itself s s refl) (at_one-itself s t (omega (arith, low, high))) (same s) in
-    let rest : first ≡ second = one_order first second (tail_rises s first up) (tail_rises t second rising)
-    (λ z. rest_same s (at_one z s) (filter (at_one z) first) (filter (at_one z) second)
-    (subst (λ (x : Symbol). filter (at_one z) (s ∷ first) ≡ filter (at_one z) (x ∷ second)) (sym head) (same z))) in
+sorted_lists_equal_by_addresses : (first second : List Symbol) → IsNonDecreasingBy address_of first → IsNonDecreasingBy address_of second
+    → ((s : Symbol) → filter (have_one_address s) first ≡ filter (have_one_address s) second) → first ≡ second
+sorted_lists_equal_by_addresses [] [] up rising same = refl
+sorted_lists_equal_by_addresses [] (t ∷ second) up rising same = cc (same t ∙ ap (λ (b : Bool). cond b (t ∷ filter (have_one_address t) second) (filter (have_one_address t) second)) (have_one_address_if_equal t t refl))
+sorted_lists_equal_by_addresses (s ∷ first) [] up rising same = cc (sym (same s) ∙ ap (λ (b : Bool). cond b (s ∷ filter (have_one_address s) first) (filter (have_one_address s) first)) (have_one_address_if_equal s s refl))
+sorted_lists_equal_by_addresses (s ∷ first) (t ∷ second) up rising same =
+    let low : t.address ≤ s.address = first_address_not_above_other_first s t first second rising (same s) in
+    let high : s.address ≤ t.address = first_address_not_above_other_first t s second first up (sym (same t)) in
+    let head : s ≡ t = heads_equal_if_conditional_lists_equal s t (have_one_address s s) (have_one_address s t) (filter (have_one_address s) first) (filter (have_one_address s) second)
+    (have_one_address_if_equal s s refl) (have_one_address_if_equal s t (omega (arith, low, high))) (same s) in
+    let rest : first ≡ second = sorted_lists_equal_by_addresses first second (tail_is_nondecreasing s first up) (tail_is_nondecreasing t second rising)
+    (λ z. tails_equal_if_conditional_lists_equal s (have_one_address z s) (filter (have_one_address z) first) (filter (have_one_address z) second)
+    (subst (λ (x : Symbol). filter (have_one_address z) (s ∷ first) ≡ filter (have_one_address z) (x ∷ second)) (sym head) (same z))) in
     ap (λ (x : Symbol). x ∷ first) head ∙ ap (λ (l : List Symbol). t ∷ l) rest
 
-pub one_sort : (given first second : List Symbol) → IsSortOf given first → IsSortOf given second → first ≡ second
-one_sort given first second f g = one_order first second f.rising g.rising (λ s. f.stable s ∙ sym (g.stable s))
+pub sorts_of_symbols_equal : (given first second : List Symbol) → IsSortOf given first → IsSortOf given second → first ≡ second
+sorts_of_symbols_equal given first second f g = sorted_lists_equal_by_addresses first second f.rising g.rising (λ s. f.stable s ∙ sym (g.stable s))
 
 -- sorted symbols are their own sort
-pub own_sort : (symbols : List Symbol) → IsNonDecreasingBy address_of symbols → IsSortOf symbols symbols
-own_sort symbols rising = record { permutation = IsPermutation-refl symbols; rising = rising; stable = λ s. refl }
+pub sorted_symbols_are_own_sort : (symbols : List Symbol) → IsNonDecreasingBy address_of symbols → IsSortOf symbols symbols
+sorted_symbols_are_own_sort symbols rising = record { permutation = IsPermutation-refl symbols; rising = rising; stable = λ s. refl }

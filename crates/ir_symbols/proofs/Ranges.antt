@@ -10,30 +10,30 @@ use Rattle.ir_symbols.specs.Tables.{is_within, symbols_within}
 use Rattle.ir_symbols.proofs.Counts.{IsCountBelow}
 
 -- where each passes, all are kept
-filter_whole : (p : Symbol → Bool) (xs : List Symbol) → AllPass p xs → filter p xs ≡ xs
-filter_whole p [] h = refl
-filter_whole p (x ∷ xs) h = rw (All-head (λ y. p y ≡ true) x xs h) (ap (λ (l : List Symbol). x ∷ l) (filter_whole p xs (All-tail (λ y. p y ≡ true) x xs h)))
+filter_of_all_passing : (p : Symbol → Bool) (xs : List Symbol) → AllPass p xs → filter p xs ≡ xs
+filter_of_all_passing p [] h = refl
+filter_of_all_passing p (x ∷ xs) h = rw (All-head (λ y. p y ≡ true) x xs h) (ap (λ (l : List Symbol). x ∷ l) (filter_of_all_passing p xs (All-tail (λ y. p y ≡ true) x xs h)))
 
 -- where none passes, none is kept
-pub filter_empty : (p : Symbol → Bool) (xs : List Symbol) → ((k : ℕ) (d : Symbol) → k < length xs → p (get_or xs k d) ≡ false) → filter p xs ≡ []
-filter_empty p [] h = refl
-filter_empty p (x ∷ xs) h = rw (h 0 x (omega arith)) (filter_empty p xs (λ k d l. h (suc k) d (omega (arith, l))))
+pub filter_of_none_passing : (p : Symbol → Bool) (xs : List Symbol) → ((k : ℕ) (d : Symbol) → k < length xs → p (get_or xs k d) ≡ false) → filter p xs ≡ []
+filter_of_none_passing p [] h = refl
+filter_of_none_passing p (x ∷ xs) h = rw (h 0 x (omega arith)) (filter_of_none_passing p xs (λ k d l. h (suc k) d (omega (arith, l))))
 
 -- those below the range, those in it and those above
-pub within_counted : (xs : List Symbol) (start end n i : ℕ) → n ≤ length xs → IsCountBelow xs end n → i ≤ length (take n xs)
+pub symbols_within_by_counts : (xs : List Symbol) (start end n i : ℕ) → n ≤ length xs → IsCountBelow xs end n → i ≤ length (take n xs)
     → IsCountBelow (take n xs) start i → drop i (take n xs) ≡ symbols_within start end xs
-within_counted xs start end n i le high le2 low =
+symbols_within_by_counts xs start end n i le high le2 low =
     let p : Symbol → Bool = is_within start end in
     let ys : List Symbol = take n xs in
     let size : length ys ≡ n = length-take-le n xs le in
-    let above : filter p (drop n xs) ≡ [] = filter_empty p (drop n xs) (λ k d l.
+    let above : filter p (drop n xs) ≡ [] = filter_of_none_passing p (drop n xs) (λ k d l.
     rw (get_or-drop n xs k d)
     (let far : end ≤ address_of (get_or xs (n + k) d) = high.1 (n + k) d (omega arith) (omega (arith, l, length-drop n xs, le)) in grind (arith, nat_tests))) in
-    let below : filter p (take i ys) ≡ [] = filter_empty p (take i ys) (λ k d l.
+    let below : filter p (take i ys) ≡ [] = filter_of_none_passing p (take i ys) (λ k d l.
     let here : k < i = omega (arith, l, length-take-le i ys le2) in
     rw (get_or-take i ys k d here)
     (let near : address_of (get_or ys k d) < start = low.0 k d (omega arith) here in grind (arith, nat_tests))) in
-    let inside : filter p (drop i ys) ≡ drop i ys = filter_whole p (drop i ys) (λ k d l.
+    let inside : filter p (drop i ys) ≡ drop i ys = filter_of_all_passing p (drop i ys) (λ k d l.
     let there : i + k < length ys = omega (arith, l, length-drop i ys, le2) in
     let first : start ≤ address_of (get_or ys (i + k) d) = low.1 (i + k) d (omega arith) there in
     let second : address_of (get_or ys (i + k) d) < end = subst (λ (s : Symbol). address_of s < end) (sym (get_or-take n xs (i + k) d (omega (arith, there, size)))) (high.0 (i + k) d (omega arith) (omega (arith, there, size))) in

@@ -10,9 +10,9 @@ use Rattle.ir_fit.specs.Fit.{IsRunOf}
 use Rattle.ir_runs.specs.Verdicts.{IsWhole}
 
 -- what is recorded of a run is its trace, under the recorded budget and profile
-pub emitted_whole : (guest : Guest) (budget : ℕ) (profile : Profile) (run : List Step) (trace : Recorded)
+pub trace_of_run_has_run : (guest : Guest) (budget : ℕ) (profile : Profile) (run : List Step) (trace : Recorded)
     → IsTraceOf guest budget profile run trace → IsRunOf guest trace run
-emitted_whole guest budget profile run trace emitted = (
+trace_of_run_has_run guest budget profile run trace emitted = (
   record { threads = emitted.threads; objects = emitted.objects },
   subst (λ (z : ℕ × Profile). IsWhole (machine (start_flat guest z.0 z.1)) (tables (start_flat guest z.0 z.1)) (length guest.entries)
       (trace_of trace) run) (λ i. (sym emitted.limit i, sym emitted.profile_is i)) emitted.whole,

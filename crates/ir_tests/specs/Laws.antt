@@ -4,7 +4,7 @@ use Rattle.ir_image.specs.Guest.{Guest}
 use Rattle.ir_thread.specs.declared.profile.Profile.{Profile}
 use Rattle.ir_runs.specs.Run.{Step}
 use Rattle.ir_trace.specs.Recorded.{Recorded}
-use Rattle.ir_record.specs.Recording.{IsRecordingOfSome, IsRecording}
+use Rattle.ir_record.specs.Recording.{IsRecordingOfSome, IsRecordingInOrder}
 use Rattle.ir_record.specs.Worlds.{Answered}
 use Rattle.ir_fit.specs.Fit.{IsRunOf, IsRefused}
 use Rattle.ir_fit.specs.declared.fit_err.FitErr.{FitErr}
@@ -24,7 +24,7 @@ RecordingsFit = (guest : Guest) (budget : ℕ) (profile : Profile) (before : Lis
 abbrev pub OrdersFit : Type 0
 OrdersFit = (guest : Guest) (budget : ℕ) (profile : Profile) (order : List ℕ) (before : List (List Answered)) (trace : Recorded) (outputs : List (List ℕ))
     (answers : List (List Answered))
-    → IsRecording guest budget profile order before trace outputs answers → HasTrace guest trace
+    → IsRecordingInOrder guest budget profile order before trace outputs answers → HasTrace guest trace
 
 -- where a run has the trace, judging it gives up only where memory runs out
 abbrev pub NoRefusal : Type 0

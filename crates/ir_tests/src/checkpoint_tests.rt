@@ -235,20 +235,34 @@ fn keep_two(alloc: Global, fitted: &Fitted, checkpoints: &mut Checkpoints) -> Re
     Ok(())
 }
 
-// Drops the start, which stays, the state kept as 1, and one that there isn't.
-fn drop_three(fitted: &Fitted, checkpoints: &mut Checkpoints)
-    requires { AreCheckpoints fitted.now checkpoints.old }
-{
-    checkpoints.drop_kept(fitted, 0);
-    checkpoints.drop_kept(fitted, 1);
-    checkpoints.drop_kept(fitted, 3);
+// The cut with all threads at a position.
+fn all_at(alloc: Global, fitted: &Fitted, position: u64) -> Result<Cut, Fail> {
+    let positions = vec![in alloc; position; fitted.image().entries().len()]?;
+    Ok(Cut::new(positions))
 }
 
-// Which of three states are kept then.
-fn left(alloc: Global, fitted: &Fitted) -> Result<[bool; 3], Fail> {
-    let mut checkpoints = Checkpoints::new(alloc, fitted)?;
-    keep_two(alloc, fitted, &mut checkpoints)?;
-    drop_three(fitted, &mut checkpoints);
+// Drops a state at each of three such cuts, one after the other.
+fn drop_three(
+    alloc: Global,
+    fitted: &Fitted,
+    checkpoints: &mut Checkpoints,
+    positions: [u64; 3],
+) -> Result<(), Fail>
+    requires { AreCheckpoints fitted.now checkpoints.old }
+{
+    let [first, second, third] = positions;
+    checkpoints.drop_kept(fitted, &all_at(alloc, fitted, first)?);
+    checkpoints.drop_kept(fitted, &all_at(alloc, fitted, second)?);
+    checkpoints.drop_kept(fitted, &all_at(alloc, fitted, third)?);
+    Ok(())
+}
+
+// Which of three states, all at the start, are kept then.
+fn left(alloc: Global, dropped: [u64; 3]) -> Result<[bool; 3], Fail> {
+    let fitted = fitted(alloc, COUNTDOWN, COUNTED_DOWN)?;
+    let mut checkpoints = Checkpoints::new(alloc, &fitted)?;
+    keep_two(alloc, &fitted, &mut checkpoints)?;
+    drop_three(alloc, &fitted, &mut checkpoints, dropped)?;
     Ok([
         is_kept(&checkpoints, 0),
         is_kept(&checkpoints, 1),
@@ -256,14 +270,15 @@ fn left(alloc: Global, fitted: &Fitted) -> Result<[bool; 3], Fail> {
     ])
 }
 
-// The same of the guest.
-fn kept_and_dropped(alloc: Global) -> Result<[bool; 3], Fail> {
-    let fitted = fitted(alloc, COUNTDOWN, COUNTED_DOWN)?;
-    left(alloc, &fitted)
+#[test]
+fn states_are_kept_until_they_are_dropped(rt: HostRuntime) -> Result<(), Fail> {
+    assert_eq!(rt; left(rt.alloc(), [1, 1, 1])?, [true, true, true]);
+    assert_eq!(rt; left(rt.alloc(), [1, 0, 1])?, [true, true, false]);
+    Ok(())
 }
 
 #[test]
-fn states_are_kept_until_they_are_dropped(rt: HostRuntime) -> Result<(), Fail> {
-    assert_eq!(rt; kept_and_dropped(rt.alloc())?, [true, false, true]);
+fn the_start_is_not_dropped(rt: HostRuntime) -> Result<(), Fail> {
+    assert_eq!(rt; left(rt.alloc(), [0, 0, 0])?, [true, false, false]);
     Ok(())
 }

@@ -3,26 +3,26 @@ use Rattle.std.proofs.Common.{◌≡◌, ℕ, List, [], ◌++◌, Option, Result
 use Rattle.std.proofs.lemmas.Result.{on_ok_weaker, on_err_weaker}
 use Rattle.std.specs.Io.KnownBytes.{Appends}
 use Rattle.std.proofs.KnownBytes.{Appends-nil, Appends-trans}
-use Rattle.ir_stream.proofs.CallerLemmas.{prefix_after, prefix_longer}
+use Rattle.ir_stream.proofs.CallerLemmas.{prefix_after_whole_text, prefix_of_longer_text}
 use Rattle.ir_stream.specs.Answers.{AppendsPrefix}
 use Rattle.ir_text.specs.Buffered.{Buffered}
 
 -- nothing was written yet
-pub none_written : (a : Option (List ℕ)) (rest text : List ℕ) → rest ≡ text → Buffered a a rest text
-none_written a rest text e = record { part = []; written = Appends-nil a; others = e }
+pub buffered_at_start : (a : Option (List ℕ)) (rest text : List ℕ) → rest ≡ text → Buffered a a rest text
+buffered_at_start a rest text e = record { part = []; written = Appends-nil a; others = e }
 
 -- the whole buffer was written
-pub all_written : (a b : Option (List ℕ)) (buffer after : List ℕ) → Appends a b buffer → after ≡ [] → Buffered a b after buffer
-all_written a b buffer after done none = record {
+pub buffered_after_whole_write : (a b : Option (List ℕ)) (buffer after : List ℕ) → Appends a b buffer → after ≡ [] → Buffered a b after buffer
+buffered_after_whole_write a b buffer after done none = record {
   part = buffer;
   written = done;
   others = ap (λ (x : List ℕ). buffer ++ x) none ∙ append-nil buffer;
 }
 
 -- room was made in the buffer, and a line was put there
-pub line_put : (a b c : Option (List ℕ)) (buffer kept after line left more text : List ℕ) → Buffered a b (buffer ++ left) text
+pub buffered_after_line_put : (a b c : Option (List ℕ)) (buffer kept after line left more text : List ℕ) → Buffered a b (buffer ++ left) text
     → Buffered b c kept buffer → after ≡ kept ++ line → left ≡ line ++ more → Buffered a c (after ++ more) text
-line_put a b c buffer kept after line left more text f g put e = record {
+buffered_after_line_put a b c buffer kept after line left more text f g put e = record {
   part = f.part ++ g.part;
   written = Appends-trans a b c f.part g.part f.written g.written;
   others =
@@ -36,49 +36,49 @@ line_put a b c buffer kept after line left more text f g put e = record {
 }
 
 -- of what is left, the first line was written
-pub line_written : (a b c : Option (List ℕ)) (left line more text : List ℕ) → Buffered a b left text → left ≡ line ++ more
+pub buffered_after_line_written : (a b c : Option (List ℕ)) (left line more text : List ℕ) → Buffered a b left text → left ≡ line ++ more
     → Appends b c line → Buffered a c more text
-line_written a b c left line more text f e done = record {
+buffered_after_line_written a b c left line more text f e done = record {
   part = f.part ++ line;
   written = Appends-trans a b c f.part line f.written done;
   others = append_assoc f.part line more ∙ ap (λ (x : List ℕ). f.part ++ x) (sym e) ∙ f.others;
 }
 
 -- nothing is left
-pub none_left : (a b : Option (List ℕ)) (left text : List ℕ) → Buffered a b left text → left ≡ [] → Appends a b text
-none_left a b left text f none =
+pub text_written_if_nothing_left : (a b : Option (List ℕ)) (left text : List ℕ) → Buffered a b left text → left ≡ [] → Appends a b text
+text_written_if_nothing_left a b left text f none =
     subst (Appends a b) (sym (append-nil f.part) ∙ ap (λ (x : List ℕ). f.part ++ x) (sym none) ∙ f.others) f.written
 
 -- the buffer was written at the end
-pub last_written : (a b c : Option (List ℕ)) (buffer left text : List ℕ) → Buffered a b (buffer ++ left) text → Appends b c buffer
+pub text_written_after_last_write : (a b c : Option (List ℕ)) (buffer left text : List ℕ) → Buffered a b (buffer ++ left) text → Appends b c buffer
     → left ≡ [] → Appends a c text
-last_written a b c buffer left text f done none =
-    none_left a c left text (line_written a b c (buffer ++ left) buffer left text f refl done) none
+text_written_after_last_write a b c buffer left text f done none =
+    text_written_if_nothing_left a c left text (buffered_after_line_written a b c (buffer ++ left) buffer left text f refl done) none
 
 -- a write of the buffer failed
-pub write_failed : (a b c : Option (List ℕ)) (buffer left text : List ℕ) → Buffered a b (buffer ++ left) text → AppendsPrefix b c buffer
+pub prefix_written_if_write_fails : (a b c : Option (List ℕ)) (buffer left text : List ℕ) → Buffered a b (buffer ++ left) text → AppendsPrefix b c buffer
     → AppendsPrefix a c text
-write_failed a b c buffer left text f prefix =
+prefix_written_if_write_fails a b c buffer left text f prefix =
     subst (AppendsPrefix a c) (append_assoc f.part buffer left ∙ f.others)
-    (prefix_longer a c (f.part ++ buffer) left (prefix_after a b c f.part buffer f.written prefix))
+    (prefix_of_longer_text a c (f.part ++ buffer) left (prefix_after_whole_text a b c f.part buffer f.written prefix))
 
 -- ---- the same by the results of writes
 
-pub fails : {X E : Type 0} (r : Result X E) (a b c : Option (List ℕ)) (buffer left text : List ℕ) → Buffered a b (buffer ++ left) text
+pub prefix_written_on_error : {X E : Type 0} (r : Result X E) (a b c : Option (List ℕ)) (buffer left text : List ℕ) → Buffered a b (buffer ++ left) text
     → AppendsPrefix b c buffer → OnErr r (AppendsPrefix a c text)
-fails (Ok x) a b c buffer left text f prefix = tt
-fails (Err e) a b c buffer left text f prefix = write_failed a b c buffer left text f prefix
+prefix_written_on_error (Ok x) a b c buffer left text f prefix = tt
+prefix_written_on_error (Err e) a b c buffer left text f prefix = prefix_written_if_write_fails a b c buffer left text f prefix
 
-pub line_failed : {X E : Type 0} (r : Result X E) (a b c : Option (List ℕ)) (left line more text : List ℕ) → Buffered a b left text
+pub prefix_written_on_line_error : {X E : Type 0} (r : Result X E) (a b c : Option (List ℕ)) (left line more text : List ℕ) → Buffered a b left text
     → left ≡ line ++ more → AppendsPrefix b c line → OnErr r (AppendsPrefix a c text)
-line_failed r a b c left line more text f e prefix = fails r a b c line more text (subst (λ (x : List ℕ). Buffered a b x text) e f) prefix
+prefix_written_on_line_error r a b c left line more text f e prefix = prefix_written_on_error r a b c line more text (subst (λ (x : List ℕ). Buffered a b x text) e f) prefix
 
-pub ends_ok : {X E : Type 0} (r : Result X E) (a b c : Option (List ℕ)) (buffer left text slice : List ℕ)
+pub text_written_on_last_ok : {X E : Type 0} (r : Result X E) (a b c : Option (List ℕ)) (buffer left text slice : List ℕ)
     → Buffered a b (buffer ++ left) text → left ≡ [] → slice ≡ buffer → OnOk r (Appends b c slice) → OnOk r (Appends a c text)
-ends_ok r a b c buffer left text slice f none same =
-    on_ok_weaker r (λ done. last_written a b c buffer left text f (subst (Appends b c) same done) none)
+text_written_on_last_ok r a b c buffer left text slice f none same =
+    on_ok_weaker r (λ done. text_written_after_last_write a b c buffer left text f (subst (Appends b c) same done) none)
 
-pub ends_err : {X E : Type 0} (r : Result X E) (a b c : Option (List ℕ)) (buffer left text slice : List ℕ)
+pub prefix_written_on_last_error : {X E : Type 0} (r : Result X E) (a b c : Option (List ℕ)) (buffer left text slice : List ℕ)
     → Buffered a b (buffer ++ left) text → slice ≡ buffer → OnErr r (AppendsPrefix b c slice) → OnErr r (AppendsPrefix a c text)
-ends_err r a b c buffer left text slice f same =
-    on_err_weaker r (λ prefix. write_failed a b c buffer left text f (subst (AppendsPrefix b c) same prefix))
+prefix_written_on_last_error r a b c buffer left text slice f same =
+    on_err_weaker r (λ prefix. prefix_written_if_write_fails a b c buffer left text f (subst (AppendsPrefix b c) same prefix))

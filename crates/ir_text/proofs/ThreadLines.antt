@@ -6,27 +6,27 @@ use Rattle.ir_runs.specs.declared.thread_verdict.ThreadVerdict.{ThreadVerdict}
 use Rattle.ir_text.specs.Texts.{thread_line, threads_text}
 
 -- the first line and the others
-split : (t : ℕ) (vs : List ThreadVerdict) (d : ThreadVerdict) → t < length vs
+threads_text_by_first_line : (t : ℕ) (vs : List ThreadVerdict) (d : ThreadVerdict) → t < length vs
     → threads_text t (drop t vs) ≡ thread_line t (slice_index_or vs t d) ++ threads_text (t + 1) (drop (t + 1) vs)
 unfolding threads_text
-split t vs d some = at_drop_more (threads_text t) vs t d some
+threads_text_by_first_line t vs d some = at_drop_more (threads_text t) vs t d some
 
 -- the same, if the first is in a text that was empty
-pub threads-next : (t : ℕ) (vs : List ThreadVerdict) (d : ThreadVerdict) (first line : List ℕ) → t < length vs → first ≡ []
+pub threads_text_step : (t : ℕ) (vs : List ThreadVerdict) (d : ThreadVerdict) (first line : List ℕ) → t < length vs → first ≡ []
     → line ≡ first ++ thread_line t (slice_index_or vs t d)
     → threads_text t (drop t vs) ≡ line ++ threads_text (t + 1) (drop (t + 1) vs)
-threads-next t vs d first line some none same =
+threads_text_step t vs d first line some none same =
     let rest : List ℕ = threads_text (t + 1) (drop (t + 1) vs) in
     let is : line ≡ thread_line t (slice_index_or vs t d) = same ∙ ap (λ (x : List ℕ). x ++ thread_line t (slice_index_or vs t d)) none in
-    split t vs d some ∙ ap (λ (x : List ℕ). x ++ rest) (sym is)
+    threads_text_by_first_line t vs d some ∙ ap (λ (x : List ℕ). x ++ rest) (sym is)
 
-drop_all : (n : ℕ) (vs : List ThreadVerdict) → n ≡ length vs → drop n vs ≡ []
-drop_all zero [] e = refl
-drop_all zero (v ∷ vs) e = absurd cc
-drop_all (suc n) [] e = absurd cc
-drop_all (suc n) (v ∷ vs) e = drop_all n vs (omega (arith, e))
+drop_of_all_verdicts : (n : ℕ) (vs : List ThreadVerdict) → n ≡ length vs → drop n vs ≡ []
+drop_of_all_verdicts zero [] e = refl
+drop_of_all_verdicts zero (v ∷ vs) e = absurd cc
+drop_of_all_verdicts (suc n) [] e = absurd cc
+drop_of_all_verdicts (suc n) (v ∷ vs) e = drop_of_all_verdicts n vs (omega (arith, e))
 
 -- no line is left after the last
-pub threads-none : (t : ℕ) (vs : List ThreadVerdict) → t ≡ length vs → threads_text t (drop t vs) ≡ []
+pub threads_text_at_end : (t : ℕ) (vs : List ThreadVerdict) → t ≡ length vs → threads_text t (drop t vs) ≡ []
 unfolding threads_text
-threads-none t vs end = ap (λ (x : List ThreadVerdict). threads_text t x) (drop_all t vs end)
+threads_text_at_end t vs end = ap (λ (x : List ThreadVerdict). threads_text t x) (drop_of_all_verdicts t vs end)

@@ -10,7 +10,7 @@ use Rattle.ir_runs.specs.Machine.{Object}
 use Rattle.ir_text.specs.Texts.{inside_for, joined}
 
 -- what a thread is inside an object for, if it is inside
-abbrev pub held_by : List thread.State → ℕ → ℕ → Option Access
+abbrev pub held_by : List thread.ThreadState → ℕ → ℕ → Option Access
 held_by threads o t = held_at (slice_index_or threads t idle).held o
 
 -- the first line of an object by the number of threads

@@ -1,7 +1,7 @@
 -- The texts of answers, by what is at the cut.
 use Rattle.std.specs.Prelude.{◌==◌, ℕ, zero, suc, ◌+◌, ◌/◌, List, [], ◌∷◌, ◌++◌, take, drop, length, flat_map, codes, decimal, Option, Some, None, if◌then◌else◌, ◌%◌}
 use Rattle.hex.specs.Hex.{encode_lower}
-use Rattle.ir_image.specs.Guest.{word_at}
+use Rattle.ir_image.specs.Guest.{word_at_pc}
 use Rattle.ir_mach.specs.Memory.{byte_at}
 use Rattle.ir_thread.specs.State.{highest}
 use Rattle.ir_runs.specs.Machine.{Label, Quiet, Answer, In, Out, Object}
@@ -153,12 +153,12 @@ abbrev pub released : Option (ℕ × Access) → List ℕ
 released (Some top) = number_line (codes "next give back ") top.0
 released None = codes "next done\n"
 
-abbrev pub next_by : Option End → List ℕ → thread.State → List ℕ
-next_by None code s = codes "next " ++ hex_word s.core.pc ++ codes " " ++ disassembled s.core.pc (word_at code s.core.pc) ++ codes "\n"
+abbrev pub next_by : Option End → List ℕ → thread.ThreadState → List ℕ
+next_by None code s = codes "next " ++ hex_word s.core.pc ++ codes " " ++ disassembled s.core.pc (word_at_pc code s.core.pc) ++ codes "\n"
 next_by (Some e) code s = released (highest s.held)
 
--- the next step of a thread: at its pc, or what it releases after its end
-abbrev pub next_text : List ℕ → thread.State → List ℕ
+-- the word at a thread's pc, which its next step carries out unless its budget is spent; or what it releases after its end
+abbrev pub next_text : List ℕ → thread.ThreadState → List ℕ
 next_text code s = next_by s.ended code s
 
 abbrev pub thread_verdict_text : ThreadVerdict → List ℕ

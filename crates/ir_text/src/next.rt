@@ -1,7 +1,7 @@
 //! The next step of a thread.
 
 ghost use Rattle.std.specs.Prelude.{◌≡◌, ◌++◌, IfOk, codes};
-ghost use Rattle.ir_image.specs.Guest.{word_at};
+ghost use Rattle.ir_image.specs.Guest.{word_at_pc};
 ghost use Rattle.ir_thread.specs.declared.ask.Ask.{Ask};
 ghost use Rattle.ir_text.specs.Texts.{hex_word, number_line, disassembled, next_text};
 
@@ -14,7 +14,7 @@ use std::alloc::{AllocError, Global};
 
 /// The word of the code in which an address lies.
 pub fn code_word(code: &Code, address: u32) -> Option<u32>
-    ensures { result ≡ word_at code.now address }
+    ensures { result ≡ word_at_pc code.now address }
 {
     if address < CODE_START {
         return None;
@@ -25,7 +25,7 @@ pub fn code_word(code: &Code, address: u32) -> Option<u32>
 }
 
 fn instruction(alloc: Global, code: &Code, pc: u32) -> Result<Vec<u8>, AllocError>
-    ensures { IfOk result (λ text. text.items ≡ disassembled pc (word_at code.now pc)) }
+    ensures { IfOk result (λ text. text.items ≡ disassembled pc (word_at_pc code.now pc)) }
 {
     match code_word(code, pc) {
         Some(word) => Ok(disassemble(alloc, word, pc)?.into_bytes()),
@@ -35,7 +35,7 @@ fn instruction(alloc: Global, code: &Code, pc: u32) -> Result<Vec<u8>, AllocErro
 
 // The line of the instruction at pc.
 fn instruction_line(alloc: Global, code: &Code, pc: u32) -> Result<Vec<u8>, AllocError>
-    ensures { IfOk result (λ line. line.items ≡ codes "next " ++ hex_word pc ++ codes " " ++ disassembled pc (word_at code.now pc) ++ codes "\n") }
+    ensures { IfOk result (λ line. line.items ≡ codes "next " ++ hex_word pc ++ codes " " ++ disassembled pc (word_at_pc code.now pc) ++ codes "\n") }
 {
     let mut prefix = Text::new();
     append(&mut prefix, b"next ");
@@ -61,7 +61,7 @@ fn release_line(alloc: Global, object: u8) -> Result<Vec<u8>, AllocError>
 ///
 /// # Errors
 /// Out of memory.
-#[tactic(auto, using(crate::proofs::Releases::by_ask))]
+#[tactic(auto, using(crate::proofs::Releases::next_text_of_ended_thread))]
 pub fn next_line(alloc: Global, code: &Code, thread: &Thread) -> Result<Vec<u8>, AllocError>
     ensures { IfOk result (λ line. line.items ≡ next_text code.now thread.now) }
 {

@@ -4,7 +4,7 @@ use Rattle.std.proofs.lemmas.Bool.{cases_eq}
 use Rattle.std.specs.Prelude.{option_map}
 use Rattle.ir_thread.specs.Calls.{ask_of, held_after_try, after_ask, after_reply}
 use Rattle.ir_thread.specs.Permitted.{Permits}
-use Rattle.ir_thread.specs.State.{end_number, end_code, State, held_at, held_count}
+use Rattle.ir_thread.specs.State.{end_number, end_code, ThreadState, held_at, held_count}
 use Rattle.ir_thread.specs.Instance.{shared_ask, reply_of, thread_machine}
 use Rattle.ir_runs.specs.Machine.{Machine, act_of, upd}
 use Rattle.ir_runs.specs.Lawful.{held_after, Holds, IsLawful, IsClosing}
@@ -16,136 +16,136 @@ use Rattle.ir_thread.specs.declared.ask.Ask.TheVariants.{Private, Env, Enter, Tr
 use Rattle.ir_thread.specs.declared.ask.Reply.{Reply}
 use Rattle.ir_thread.specs.declared.ask.Reply.TheVariants.{Value}
 use Rattle.ir_thread.specs.declared.end.End as end
-use Rattle.ir_thread.proofs.Asked.{ask_permits}
-use Rattle.ir_thread.proofs.Highest.{none_held, none_counted, above_held, one_fewer}
+use Rattle.ir_thread.proofs.Asked.{ask_of_permitted}
+use Rattle.ir_thread.proofs.Highest.{nothing_held_if_no_highest, held_count_zero_if_no_highest, nothing_held_above_highest, held_count_after_leave}
 
 -- a write to the list is a change of the table
-pub held_at-set : (held : List (Option Access)) (o : ℕ) (x : Option Access) (i : ℕ) → o < length held
+pub held_at_after_set : (held : List (Option Access)) (o : ℕ) (x : Option Access) (i : ℕ) → o < length held
     → held_at (set held o x) i ≡ upd (held_at held) o x i
 unfolding upd
-held_at-set held o x i l = elim (cases_eq i o) [
+held_at_after_set held o x i l = elim (cases_eq i o) [
   | inl e ↦ subst (λ z. get_or (set held o x) z None ≡ cond (eqb z o) x (held_at held z)) (sym e)
       (get_or-set_same held o x None l ∙ sym (ap (λ b. cond b x (held_at held o)) (eq-eqb o o refl)))
   | inr ne ↦ get_or-set_other held o i x None ne ∙ sym (ap (λ b. cond b x (held_at held i)) (ne_eqb i o ne))
 ]
 
-asks_hold : (s : State) (q : Ask) → Permits s q → Holds (shared_ask q) (held_at s.held)
-asks_hold s Private p = tt
-asks_hold s (Env kind) p = tt
-asks_hold s (Enter object access) p = above_held s.held object p.3
-asks_hold s (Try object) p = above_held s.held object p.3
-asks_hold s (Leave object access) p = p.2
-asks_hold s (Get object index) p = p.3
-asks_hold s (Put object index value) p = p.3
-asks_hold s Print p = tt
-asks_hold s (End e) p = tt
-asks_hold s Done p = none_held s.held p.1
+permitted_ask_holds : (s : ThreadState) (q : Ask) → Permits s q → Holds (shared_ask q) (held_at s.held)
+permitted_ask_holds s Private p = tt
+permitted_ask_holds s (Env kind) p = tt
+permitted_ask_holds s (Enter object access) p = nothing_held_above_highest s.held object p.3
+permitted_ask_holds s (Try object) p = nothing_held_above_highest s.held object p.3
+permitted_ask_holds s (Leave object access) p = p.2
+permitted_ask_holds s (Get object index) p = p.3
+permitted_ask_holds s (Put object index value) p = p.3
+permitted_ask_holds s Print p = tt
+permitted_ask_holds s (End e) p = tt
+permitted_ask_holds s Done p = nothing_held_if_no_highest s.held p.1
 
 -- any other value than 1 leaves what is held
-pub not_entered : (held : List (Option Access)) (object value : ℕ) → held_after_try (Value (suc (suc value))) object held ≡ held
-not_entered held object value = ap (λ b. cond b (set held object (Some Writing)) held) (ne_eqb (suc (suc value)) 1 (λ e. omega (arith, e)))
+pub held_after_other_try_answer : (held : List (Option Access)) (object value : ℕ) → held_after_try (Value (suc (suc value))) object held ≡ held
+held_after_other_try_answer held object value = ap (λ b. cond b (set held object (Some Writing)) held) (ne_eqb (suc (suc value)) 1 (λ e. omega (arith, e)))
 
 -- a try that is answered 1 enters, any other leaves what is held
-try_takes : (s : State) (object r i : ℕ) → object < length s.held
+held_after_try_by_act : (s : ThreadState) (object r i : ℕ) → object < length s.held
     → held_at (held_after_try (Value r) object s.held) i ≡ held_after (act_of (machine.Try object) r) (held_at s.held) i
-try_takes s object zero i l = refl
-try_takes s object (suc zero) i l = held_at-set s.held object (Some Writing) i l
-try_takes s object (suc (suc r)) i l = ap (λ held. held_at held i) (not_entered s.held object r)
+held_after_try_by_act s object zero i l = refl
+held_after_try_by_act s object (suc zero) i l = held_at_after_set s.held object (Some Writing) i l
+held_after_try_by_act s object (suc (suc r)) i l = ap (λ held. held_at held i) (held_after_other_try_answer s.held object r)
 
-asks_take : (code : List ℕ) (s : State) (r i : ℕ) (q : Ask) → Permits s q
+held_after_ask_by_act : (code : List ℕ) (s : ThreadState) (r i : ℕ) (q : Ask) → Permits s q
     → held_at (after_ask code s q (reply_of q r)).held i ≡ held_after (act_of (shared_ask q) r) (held_at s.held) i
-asks_take code s r i Private p = refl
-asks_take code s r i (Env kind) p = refl
-asks_take code s r i (Enter object access) p = held_at-set s.held object (Some access) i p.2
-asks_take code s r i (Try object) p = try_takes s object r i p.2
-asks_take code s r i (Leave object access) p = held_at-set s.held object None i p.1
-asks_take code s r i (Get object index) p = refl
-asks_take code s r i (Put object index value) p = refl
-asks_take code s r i Print p = refl
-asks_take code s r i (End e) p = refl
-asks_take code s r i Done p = refl
+held_after_ask_by_act code s r i Private p = refl
+held_after_ask_by_act code s r i (Env kind) p = refl
+held_after_ask_by_act code s r i (Enter object access) p = held_at_after_set s.held object (Some access) i p.2
+held_after_ask_by_act code s r i (Try object) p = held_after_try_by_act s object r i p.2
+held_after_ask_by_act code s r i (Leave object access) p = held_at_after_set s.held object None i p.1
+held_after_ask_by_act code s r i (Get object index) p = refl
+held_after_ask_by_act code s r i (Put object index value) p = refl
+held_after_ask_by_act code s r i Print p = refl
+held_after_ask_by_act code s r i (End e) p = refl
+held_after_ask_by_act code s r i Done p = refl
 
-pub lawful : (code : List ℕ) → IsLawful (thread_machine code)
+pub thread_machine_is_lawful : (code : List ℕ) → IsLawful (thread_machine code)
 unfolding after_reply
-lawful code = record {
-  holds = λ s. asks_hold s (ask_of code s) (ask_permits code s);
-  takes = λ s r i. asks_take code s r i (ask_of code s) (ask_permits code s);
+thread_machine_is_lawful code = record {
+  holds = λ s. permitted_ask_holds s (ask_of code s) (ask_of_permitted code s);
+  takes = λ s r i. held_after_ask_by_act code s r i (ask_of code s) (ask_of_permitted code s);
 }
 
 -- the end's number and code, once there is one
-abbrev pub over : Option end.End → Option (ℕ × ℕ)
-over e = option_map (λ x. (end_number x, end_code x)) e
+abbrev pub end_number_and_code : Option end.End → Option (ℕ × ℕ)
+end_number_and_code e = option_map (λ x. (end_number x, end_code x)) e
 
-over_none : (e : Option end.End) → over e ≡ None → e ≡ None
-over_none None h = refl
-over_none (Some x) h = absurd (cc h)
+no_end_if_no_end_code : (e : Option end.End) → end_number_and_code e ≡ None → e ≡ None
+no_end_if_no_end_code None h = refl
+no_end_if_no_end_code (Some x) h = absurd (cc h)
 
-over_some : (e : Option end.End) → e ≢ None → (p : ℕ × ℕ) × (over e ≡ Some p)
-over_some None h = absurd (h refl)
-over_some (Some x) h = ((end_number x, end_code x), refl)
+end_code_if_end : (e : Option end.End) → e ≢ None → (p : ℕ × ℕ) × (end_number_and_code e ≡ Some p)
+end_code_if_end None h = absurd (h refl)
+end_code_if_end (Some x) h = ((end_number x, end_code x), refl)
 
-clash : (e : Option end.End) (p : ℕ × ℕ) → over e ≡ Some p → e ≢ None
-clash e p h none = cc (h, none)
+end_if_end_code : (e : Option end.End) (p : ℕ × ℕ) → end_number_and_code e ≡ Some p → e ≢ None
+end_if_end_code e p h none = cc (h, none)
 
-ends_by : (code : List ℕ) (s : State) (reply : Reply) (q : Ask) (p : ℕ × ℕ) → over s.ended ≡ None
-    → over (after_ask code s q reply).ended ≡ Some p → (shared_ask q ≡ machine.Private)
+ending_ask_is_private : (code : List ℕ) (s : ThreadState) (reply : Reply) (q : Ask) (p : ℕ × ℕ) → end_number_and_code s.ended ≡ None
+    → end_number_and_code (after_ask code s q reply).ended ≡ Some p → (shared_ask q ≡ machine.Private)
     × (held_count (after_ask code s q reply).held ≡ held_count s.held)
-ends_by code s reply Private p h g = (refl, refl)
-ends_by code s reply (Env kind) p h g = absurd (clash s.ended p g (over_none s.ended h))
-ends_by code s reply (Enter object access) p h g = absurd (clash s.ended p g (over_none s.ended h))
-ends_by code s reply (Try object) p h g = absurd (clash s.ended p g (over_none s.ended h))
-ends_by code s reply (Leave object access) p h g = absurd (clash s.ended p g (over_none s.ended h))
-ends_by code s reply (Get object index) p h g = absurd (clash s.ended p g (over_none s.ended h))
-ends_by code s reply (Put object index value) p h g = absurd (clash s.ended p g (over_none s.ended h))
-ends_by code s reply Print p h g = (refl, refl)
-ends_by code s reply (End e) p h g = (refl, refl)
-ends_by code s reply Done p h g = absurd (clash s.ended p g (over_none s.ended h))
+ending_ask_is_private code s reply Private p h g = (refl, refl)
+ending_ask_is_private code s reply (Env kind) p h g = absurd (end_if_end_code s.ended p g (no_end_if_no_end_code s.ended h))
+ending_ask_is_private code s reply (Enter object access) p h g = absurd (end_if_end_code s.ended p g (no_end_if_no_end_code s.ended h))
+ending_ask_is_private code s reply (Try object) p h g = absurd (end_if_end_code s.ended p g (no_end_if_no_end_code s.ended h))
+ending_ask_is_private code s reply (Leave object access) p h g = absurd (end_if_end_code s.ended p g (no_end_if_no_end_code s.ended h))
+ending_ask_is_private code s reply (Get object index) p h g = absurd (end_if_end_code s.ended p g (no_end_if_no_end_code s.ended h))
+ending_ask_is_private code s reply (Put object index value) p h g = absurd (end_if_end_code s.ended p g (no_end_if_no_end_code s.ended h))
+ending_ask_is_private code s reply Print p h g = (refl, refl)
+ending_ask_is_private code s reply (End e) p h g = (refl, refl)
+ending_ask_is_private code s reply Done p h g = absurd (end_if_end_code s.ended p g (no_end_if_no_end_code s.ended h))
 
-stays_by : (code : List ℕ) (s : State) (reply : Reply) (q : Ask) (p : ℕ × ℕ) → Permits s q → over s.ended ≡ Some p
-    → over (after_ask code s q reply).ended ≡ Some p
-stays_by code s reply Private p k h = h
-stays_by code s reply (Env kind) p k h = h
-stays_by code s reply (Enter object access) p k h = h
-stays_by code s reply (Try object) p k h = h
-stays_by code s reply (Leave object access) p k h = h
-stays_by code s reply (Get object index) p k h = h
-stays_by code s reply (Put object index value) p k h = h
-stays_by code s reply Print p k h = h
-stays_by code s reply (End e) p k h = absurd (clash s.ended p h k)
-stays_by code s reply Done p k h = h
+ended_thread_stays_ended : (code : List ℕ) (s : ThreadState) (reply : Reply) (q : Ask) (p : ℕ × ℕ) → Permits s q → end_number_and_code s.ended ≡ Some p
+    → end_number_and_code (after_ask code s q reply).ended ≡ Some p
+ended_thread_stays_ended code s reply Private p k h = h
+ended_thread_stays_ended code s reply (Env kind) p k h = h
+ended_thread_stays_ended code s reply (Enter object access) p k h = h
+ended_thread_stays_ended code s reply (Try object) p k h = h
+ended_thread_stays_ended code s reply (Leave object access) p k h = h
+ended_thread_stays_ended code s reply (Get object index) p k h = h
+ended_thread_stays_ended code s reply (Put object index value) p k h = h
+ended_thread_stays_ended code s reply Print p k h = h
+ended_thread_stays_ended code s reply (End e) p k h = absurd (end_if_end_code s.ended p h k)
+ended_thread_stays_ended code s reply Done p k h = h
 
-leaves_by : (code : List ℕ) (s : State) (reply : Reply) (q : Ask) (p : ℕ × ℕ) → Permits s q → over s.ended ≡ Some p
+ask_of_ended_thread_is_leave : (code : List ℕ) (s : ThreadState) (reply : Reply) (q : Ask) (p : ℕ × ℕ) → Permits s q → end_number_and_code s.ended ≡ Some p
     → shared_ask q ≢ machine.Done
     → (o : ℕ) × (a : Access) × (shared_ask q ≡ machine.Leave o a) × (held_count s.held ≡ suc (held_count (after_ask code s q reply).held))
-leaves_by code s reply Private p k h ne = absurd (clash s.ended p h k.lives)
-leaves_by code s reply (Env kind) p k h ne = absurd (clash s.ended p h k.0.lives)
-leaves_by code s reply (Enter object access) p k h ne = absurd (clash s.ended p h k.0.lives)
-leaves_by code s reply (Try object) p k h ne = absurd (clash s.ended p h k.0.lives)
-leaves_by code s reply (Leave object access) p k h ne = (object, access, refl, one_fewer s.held object k.1 (λ none. cc (k.2, none)))
-leaves_by code s reply (Get object index) p k h ne = absurd (clash s.ended p h k.0.lives)
-leaves_by code s reply (Put object index value) p k h ne = absurd (clash s.ended p h k.0.lives)
-leaves_by code s reply Print p k h ne = absurd (clash s.ended p h k.0.lives)
-leaves_by code s reply (End e) p k h ne = absurd (clash s.ended p h k)
-leaves_by code s reply Done p k h ne = absurd (ne refl)
+ask_of_ended_thread_is_leave code s reply Private p k h ne = absurd (end_if_end_code s.ended p h k.lives)
+ask_of_ended_thread_is_leave code s reply (Env kind) p k h ne = absurd (end_if_end_code s.ended p h k.0.lives)
+ask_of_ended_thread_is_leave code s reply (Enter object access) p k h ne = absurd (end_if_end_code s.ended p h k.0.lives)
+ask_of_ended_thread_is_leave code s reply (Try object) p k h ne = absurd (end_if_end_code s.ended p h k.0.lives)
+ask_of_ended_thread_is_leave code s reply (Leave object access) p k h ne = (object, access, refl, held_count_after_leave s.held object k.1 (λ none. cc (k.2, none)))
+ask_of_ended_thread_is_leave code s reply (Get object index) p k h ne = absurd (end_if_end_code s.ended p h k.0.lives)
+ask_of_ended_thread_is_leave code s reply (Put object index value) p k h ne = absurd (end_if_end_code s.ended p h k.0.lives)
+ask_of_ended_thread_is_leave code s reply Print p k h ne = absurd (end_if_end_code s.ended p h k.0.lives)
+ask_of_ended_thread_is_leave code s reply (End e) p k h ne = absurd (end_if_end_code s.ended p h k)
+ask_of_ended_thread_is_leave code s reply Done p k h ne = absurd (ne refl)
 
-done_by : (s : State) (q : Ask) → Permits s q → shared_ask q ≡ machine.Done → (p : ℕ × ℕ) × (over s.ended ≡ Some p)
+done_thread_holds_nothing : (s : ThreadState) (q : Ask) → Permits s q → shared_ask q ≡ machine.Done → (p : ℕ × ℕ) × (end_number_and_code s.ended ≡ Some p)
     × (held_count s.held ≡ 0)
-done_by s Private k h = absurd (cc h)
-done_by s (Env kind) k h = absurd (cc h)
-done_by s (Enter object access) k h = absurd (cc h)
-done_by s (Try object) k h = absurd (cc h)
-done_by s (Leave object access) k h = absurd (cc h)
-done_by s (Get object index) k h = absurd (cc h)
-done_by s (Put object index value) k h = absurd (cc h)
-done_by s Print k h = absurd (cc h)
-done_by s (End e) k h = absurd (cc h)
-done_by s Done k h = let o = over_some s.ended k.0 in (o.0, o.1, none_counted s.held k.1)
+done_thread_holds_nothing s Private k h = absurd (cc h)
+done_thread_holds_nothing s (Env kind) k h = absurd (cc h)
+done_thread_holds_nothing s (Enter object access) k h = absurd (cc h)
+done_thread_holds_nothing s (Try object) k h = absurd (cc h)
+done_thread_holds_nothing s (Leave object access) k h = absurd (cc h)
+done_thread_holds_nothing s (Get object index) k h = absurd (cc h)
+done_thread_holds_nothing s (Put object index value) k h = absurd (cc h)
+done_thread_holds_nothing s Print k h = absurd (cc h)
+done_thread_holds_nothing s (End e) k h = absurd (cc h)
+done_thread_holds_nothing s Done k h = let o = end_code_if_end s.ended k.0 in (o.0, o.1, held_count_zero_if_no_highest s.held k.1)
 
-pub closing : (code : List ℕ) → IsClosing (thread_machine code)
+pub thread_machine_is_closing : (code : List ℕ) → IsClosing (thread_machine code)
 unfolding after_reply
-closing code = record {
-  ends = λ s r p h g. ends_by code s (reply_of (ask_of code s) r) (ask_of code s) p h g;
-  stays = λ s r p h. stays_by code s (reply_of (ask_of code s) r) (ask_of code s) p (ask_permits code s) h;
-  leaves = λ s r p h ne. leaves_by code s (reply_of (ask_of code s) r) (ask_of code s) p (ask_permits code s) h ne;
-  done = λ s h. done_by s (ask_of code s) (ask_permits code s) h;
+thread_machine_is_closing code = record {
+  ends = λ s r p h g. ending_ask_is_private code s (reply_of (ask_of code s) r) (ask_of code s) p h g;
+  stays = λ s r p h. ended_thread_stays_ended code s (reply_of (ask_of code s) r) (ask_of code s) p (ask_of_permitted code s) h;
+  leaves = λ s r p h ne. ask_of_ended_thread_is_leave code s (reply_of (ask_of code s) r) (ask_of code s) p (ask_of_permitted code s) h ne;
+  done = λ s h. done_thread_holds_nothing s (ask_of code s) (ask_of_permitted code s) h;
 }

@@ -7,27 +7,27 @@ use Rattle.ir_mach.specs.Core.{Core, Outcome, Goes, Calls, Ends}
 use Rattle.ir_mach.specs.Execution.{outcome_of, past_call}
 use Rattle.ir_mach.specs.Steps.{ran_of}
 use Rattle.ir_mach.specs.Run.{core_after as machine_after, core_of}
-use Rattle.ir_thread.specs.State.{State, end_of_fault}
+use Rattle.ir_thread.specs.State.{ThreadState, end_of_fault}
 use Rattle.ir_thread.specs.Calls.{ask_of, after_ask, after_reply, core_after}
 use Rattle.ir_thread.specs.Permitted.{step_of, run_of, IsRunning, Permits}
 use Rattle.ir_thread.specs.Private.{PrivateSteps, NoInstruction}
 use Rattle.ir_thread.specs.declared.ask.Ask.TheVariants as ask
 use Rattle.ir_thread.specs.declared.ask.Reply.TheVariants.{Go}
 use Rattle.ir_thread.specs.declared.end.End.{End}
-use Rattle.ir_thread.proofs.Asked.{ask_permits}
+use Rattle.ir_thread.proofs.Asked.{ask_of_permitted}
 
 -- a thread that hasn't ended has a step for each that its budget leaves
-pub running : (ended : Option End) → is_some ended ≡ false → ended ≡ None
-running None e = refl
-running (Some end) e = absurd cc
+pub ended_is_none_if_not_some : (ended : Option End) → is_some ended ≡ false → ended ≡ None
+ended_is_none_if_not_some None e = refl
+ended_is_none_if_not_some (Some end) e = absurd cc
 
-pub within_budget : (ended : Option End) (P Q : Type 0) → ended ≡ None → MatchOption ended P (λ _. Q) → P
-within_budget None P Q e p = p
-within_budget (Some end) P Q e p = absurd cc
+pub match_case_if_none : (ended : Option End) (P Q : Type 0) → ended ≡ None → MatchOption ended P (λ _. Q) → P
+match_case_if_none None P Q e p = p
+match_case_if_none (Some end) P Q e p = absurd cc
 
 -- the thread with another machine and n steps more
-abbrev pub advanced : State → Core → ℕ → State
-advanced s core n = record {
+abbrev pub thread_after_private_steps : ThreadState → Core → ℕ → ThreadState
+thread_after_private_steps s core n = record {
   core = core;
   number = s.number;
   held = s.held;
@@ -41,72 +41,72 @@ advanced s core n = record {
   ended = s.ended;
 }
 
-asks : (code : List ℕ) (s : State) (earlier core : Core) (n : ℕ) → s.ended ≡ None → s.steps + n < s.budget
-    → outcome_of code earlier ≡ Goes core → ask_of code (advanced s earlier n) ≡ ask.Private
-asks code s earlier core n running lt goes =
+advanced_thread_asks_private : (code : List ℕ) (s : ThreadState) (earlier core : Core) (n : ℕ) → s.ended ≡ None → s.steps + n < s.budget
+    → outcome_of code earlier ≡ Goes core → ask_of code (thread_after_private_steps s earlier n) ≡ ask.Private
+advanced_thread_asks_private code s earlier core n ended_is_none_if_not_some lt goes =
     let within : leb s.budget (s.steps + n) ≡ false = lt-leb s.budget (s.steps + n) lt in
-    rw (running, within, goes) refl
+    rw (ended_is_none_if_not_some, within, goes) refl
 
-takes : (code : List ℕ) (s : State) (earlier core : Core) (n : ℕ) → s.ended ≡ None → s.steps + n < s.budget
-    → outcome_of code earlier ≡ Goes core → step_of code (advanced s earlier n) ≡ advanced s core (n + 1)
+step_of_advanced_thread : (code : List ℕ) (s : ThreadState) (earlier core : Core) (n : ℕ) → s.ended ≡ None → s.steps + n < s.budget
+    → outcome_of code earlier ≡ Goes core → step_of code (thread_after_private_steps s earlier n) ≡ thread_after_private_steps s core (n + 1)
 unfolding step_of after_reply
-takes code s earlier core n running lt goes =
+step_of_advanced_thread code s earlier core n ended_is_none_if_not_some lt goes =
     let e : s.steps + n + 1 ≡ s.steps + (n + 1) = omega arith in
-    ap (λ a. after_ask code (advanced s earlier n) a Go) (asks code s earlier core n running lt goes) ∙ rw (goes, e) refl
+    ap (λ a. after_ask code (thread_after_private_steps s earlier n) a Go) (advanced_thread_asks_private code s earlier core n ended_is_none_if_not_some lt goes) ∙ rw (goes, e) refl
 
-goes_of : (o : Outcome) (core : Core) → core_of o ≡ Some core → o ≡ Goes core
-goes_of (Goes m) core e = let f : m ≡ core = cc in ap Goes f
-goes_of Calls core e = absurd cc
-goes_of (Ends fault) core e = absurd cc
+outcome_goes_if_core : (o : Outcome) (core : Core) → core_of o ≡ Some core → o ≡ Goes core
+outcome_goes_if_core (Goes m) core e = let f : m ≡ core = cc in ap Goes f
+outcome_goes_if_core Calls core e = absurd cc
+outcome_goes_if_core (Ends fault) core e = absurd cc
 
-pub record Ran (code : List ℕ) (s : State) (core : Core) (n : ℕ) : Type 0 where
-  pub ends : run_of code n s ≡ advanced s core n
+pub record IsPrivateRun (code : List ℕ) (s : ThreadState) (core : Core) (n : ℕ) : Type 0 where
+  pub ends : run_of code n s ≡ thread_after_private_steps s core n
   pub each : (k : ℕ) → k < n → ask_of code (run_of code k s) ≡ ask.Private
 
-one_more : (code : List ℕ) (s : State) (earlier core : Core) (n : ℕ) → s.ended ≡ None → s.steps + n < s.budget
-    → outcome_of code earlier ≡ Goes core → Ran code s earlier n → Ran code s core (suc n)
+private_run_step : (code : List ℕ) (s : ThreadState) (earlier core : Core) (n : ℕ) → s.ended ≡ None → s.steps + n < s.budget
+    → outcome_of code earlier ≡ Goes core → IsPrivateRun code s earlier n → IsPrivateRun code s core (suc n)
 unfolding run_of
-one_more code s earlier core n running lt goes before =
+private_run_step code s earlier core n ended_is_none_if_not_some lt goes before =
     let here : ask_of code (run_of code n s) ≡ ask.Private = ap (λ t. ask_of code t) before.ends
-    ∙ asks code s earlier core n running lt goes in
+    ∙ advanced_thread_asks_private code s earlier core n ended_is_none_if_not_some lt goes in
     record {
-      ends = ap (λ t. step_of code t) before.ends ∙ takes code s earlier core n running lt goes
-          ∙ ap (λ (m : ℕ). advanced s core m) (add-one n);
+      ends = ap (λ t. step_of code t) before.ends ∙ step_of_advanced_thread code s earlier core n ended_is_none_if_not_some lt goes
+          ∙ ap (λ (m : ℕ). thread_after_private_steps s core m) (add-one n);
       each = λ k below. below_more (λ (j : ℕ). ask_of code (run_of code j s) ≡ ask.Private) n before.each here k (omega arith);
     }
 
-pub runs : (code : List ℕ) (s : State) (n : ℕ) (core : Core) → s.ended ≡ None → s.steps + n ≤ s.budget
-    → machine_after n code s.core ≡ Some core → Ran code s core n
+pub private_run_of_machine_steps : (code : List ℕ) (s : ThreadState) (n : ℕ) (core : Core) → s.ended ≡ None → s.steps + n ≤ s.budget
+    → machine_after n code s.core ≡ Some core → IsPrivateRun code s core n
 unfolding run_of machine_after
-runs code s zero core running le e =
+private_run_of_machine_steps code s zero core ended_is_none_if_not_some le e =
     let same : s.core ≡ core = cc in
-    let whole : s ≡ advanced s s.core 0 = rw (add-zero s.steps) refl in
-    record { ends = whole ∙ ap (λ (c : Core). advanced s c 0) same; each = λ k below. absurd (omega arith) }
-runs code s (suc n) core running le e =
+    let whole : s ≡ thread_after_private_steps s s.core 0 = rw (add-zero s.steps) refl in
+    record { ends = whole ∙ ap (λ (c : Core). thread_after_private_steps s c 0) same; each = λ k below. absurd (omega arith) }
+private_run_of_machine_steps code s (suc n) core ended_is_none_if_not_some le e =
     option_and_then_some (λ earlier. core_of (outcome_of code earlier)) (machine_after n code s.core) core e
-    (λ earlier g k. one_more code s earlier core n running (omega arith) (goes_of (outcome_of code earlier) core k)
-    (runs code s n earlier running (omega arith) g))
+    (λ earlier g k. private_run_step code s earlier core n ended_is_none_if_not_some (omega arith) (outcome_goes_if_core (outcome_of code earlier) core k)
+    (private_run_of_machine_steps code s n earlier ended_is_none_if_not_some (omega arith) g))
 
 -- the thread that has taken no step
-pub none_taken : (code : List ℕ) (s : State) → PrivateSteps code 0 s s
+pub zero_private_steps : (code : List ℕ) (s : ThreadState) → PrivateSteps code 0 s s
 unfolding run_of
-none_taken code s = record { steps = refl; each = λ k below. absurd (omega arith) }
+zero_private_steps code s = record { steps = refl; each = λ k below. absurd (omega arith) }
 
-pub private_steps : (code : List ℕ) (s : State) (n : ℕ) (core : Core) → s.ended ≡ None → s.steps + n ≤ s.budget
-    → machine_after n code s.core ≡ Some core → PrivateSteps code n s (advanced s core n)
-private_steps code s n core running le e = let ran = runs code s n core running le e in record { steps = sym ran.ends; each = ran.each }
+pub private_steps_of_machine_steps : (code : List ℕ) (s : ThreadState) (n : ℕ) (core : Core) → s.ended ≡ None → s.steps + n ≤ s.budget
+    → machine_after n code s.core ≡ Some core → PrivateSteps code n s (thread_after_private_steps s core n)
+private_steps_of_machine_steps code s n core ended_is_none_if_not_some le e = let ran = private_run_of_machine_steps code s n core ended_is_none_if_not_some le e in record { steps = sym ran.ends; each = ran.each }
 
 -- ---- private steps after others
 
-run_together : (code : List ℕ) (first more : ℕ) (s : State) → run_of code (first + more) s ≡ run_of code more (run_of code first s)
+run_of_sum : (code : List ℕ) (first more : ℕ) (s : ThreadState) → run_of code (first + more) s ≡ run_of code more (run_of code first s)
 unfolding run_of
-run_together code first zero s = rw (add-zero first) refl
-run_together code first (suc more) s = rw (add-suc first more) (ap (λ t. step_of code t) (run_together code first more s))
+run_of_sum code first zero s = rw (add-zero first) refl
+run_of_sum code first (suc more) s = rw (add-suc first more) (ap (λ t. step_of code t) (run_of_sum code first more s))
 
-pub then_others : (code : List ℕ) (first more : ℕ) (s middle t : State) → PrivateSteps code first s middle → PrivateSteps code more middle t
+pub private_steps_after_steps : (code : List ℕ) (first more : ℕ) (s middle t : ThreadState) → PrivateSteps code first s middle → PrivateSteps code more middle t
     → PrivateSteps code (first + more) s t
-then_others code first more s middle t before after = record {
-  steps = after.steps ∙ ap (λ m. run_of code more m) before.steps ∙ sym (run_together code first more s);
+private_steps_after_steps code first more s middle t before after = record {
+  steps = after.steps ∙ ap (λ m. run_of code more m) before.steps ∙ sym (run_of_sum code first more s);
   each = λ k below. by k below (nat_lt k first) refl;
 }
   where
@@ -116,29 +116,29 @@ then_others code first more s middle t before after = record {
         let past : first ≤ k = ltb-false k first e in
         let split : first + (k - first) ≡ k = omega (arith, past) in
         let there : run_of code k s ≡ run_of code (k - first) middle =
-        ap (λ (n : ℕ). run_of code n s) (sym split) ∙ run_together code first (k - first) s
+        ap (λ (n : ℕ). run_of code n s) (sym split) ∙ run_of_sum code first (k - first) s
         ∙ ap (λ m. run_of code (k - first) m) (sym before.steps) in
         ap (λ u. ask_of code u) there ∙ after.each (k - first) (omega (arith, past, below))
 
 -- a private step more
-pub then_one : (code : List ℕ) (first : ℕ) (s middle t : State) → PrivateSteps code first s middle → ask_of code middle ≡ ask.Private
+pub private_step_after_steps : (code : List ℕ) (first : ℕ) (s middle t : ThreadState) → PrivateSteps code first s middle → ask_of code middle ≡ ask.Private
     → t ≡ after_reply code middle Go
     → PrivateSteps code (first + 1) s t
 unfolding run_of step_of
-then_one code first s middle t before asks goes =
+private_step_after_steps code first s middle t before advanced_thread_asks_private goes =
     let here : middle ≡ run_of code first s = before.steps in
     record {
       steps = goes ∙ ap (λ m. after_reply code m Go) here ∙ ap (λ (n : ℕ). run_of code n s) (sym (add-one first));
       each = λ k below. below_more (λ (j : ℕ). ask_of code (run_of code j s) ≡ ask.Private) first before.each
-          (ap (λ m. ask_of code m) (sym here) ∙ asks) k (omega arith);
+          (ap (λ m. ask_of code m) (sym here) ∙ advanced_thread_asks_private) k (omega arith);
     }
 
 -- a private step that is no instruction goes past the call that answers the thread's number
-pub own_number : (code : List ℕ) (s : State) (number : ℕ) → s.number ≡ number → ask_of code s ≡ ask.Private → NoInstruction code s
+pub after_reply_of_own_number_call : (code : List ℕ) (s : ThreadState) (number : ℕ) → s.number ≡ number → ask_of code s ≡ ask.Private → NoInstruction code s
     → after_reply code s Go ≡ record s { core = past_call s.core (Some number); steps = s.steps + 1 }
 unfolding after_reply
-own_number code s number is private none =
-    let lives : IsRunning s = subst (Permits s) private (ask_permits code s) in
+after_reply_of_own_number_call code s number is private none =
+    let lives : IsRunning s = subst (Permits s) private (ask_of_permitted code s) in
     ap (λ a. after_ask code s a Go) private
     ∙ ap (λ (c : Core). record s { core = c; steps = s.steps + 1 }) (by lives (outcome_of code s.core) refl)
   where
@@ -153,11 +153,11 @@ own_number code s number is private none =
 
 -- ---- the first of them, and what they leave as it is
 
-pub private_first : (code : List ℕ) (k n : ℕ) (s t : State) → k ≤ n → PrivateSteps code n s t → PrivateSteps code k s (run_of code k s)
-private_first code k n s t le p = record { steps = refl; each = λ j l. p.each j (omega (arith, l, le)) }
+pub private_steps_prefix : (code : List ℕ) (k n : ℕ) (s t : ThreadState) → k ≤ n → PrivateSteps code n s t → PrivateSteps code k s (run_of code k s)
+private_steps_prefix code k n s t le p = record { steps = refl; each = λ j l. p.each j (omega (arith, l, le)) }
 
 -- all of a thread but its machine and its position
-pub record IsKept (s t : State) : Type 0 where
+pub record KeepsOwnParts (s t : ThreadState) : Type 0 where
   pub number : t.number ≡ s.number
   pub held : t.held ≡ s.held
   pub budget : t.budget ≡ s.budget
@@ -167,9 +167,9 @@ pub record IsKept (s t : State) : Type 0 where
   pub output : t.output ≡ s.output
   pub ended : t.ended ≡ s.ended
 
-one_kept : (code : List ℕ) (s : State) → ask_of code s ≡ ask.Private → IsKept s (step_of code s)
+private_step_keeps_parts : (code : List ℕ) (s : ThreadState) → ask_of code s ≡ ask.Private → KeepsOwnParts s (step_of code s)
 unfolding step_of after_reply
-one_kept code s is = record {
+private_step_keeps_parts code s is = record {
   number = ap (λ a. (after_ask code s a Go).number) is;
   held = ap (λ a. (after_ask code s a Go).held) is;
   budget = ap (λ a. (after_ask code s a Go).budget) is;
@@ -180,8 +180,8 @@ one_kept code s is = record {
   ended = ap (λ a. (after_ask code s a Go).ended) is;
 }
 
-kept_on : (s m t : State) → IsKept s m → IsKept m t → IsKept s t
-kept_on s m t a b = record {
+kept_parts_transitive : (s m t : ThreadState) → KeepsOwnParts s m → KeepsOwnParts m t → KeepsOwnParts s t
+kept_parts_transitive s m t a b = record {
   number = b.number ∙ a.number;
   held = b.held ∙ a.held;
   budget = b.budget ∙ a.budget;
@@ -192,17 +192,17 @@ kept_on s m t a b = record {
   ended = b.ended ∙ a.ended;
 }
 
-run_keeps : (code : List ℕ) (n : ℕ) (s : State) → ((k : ℕ) → k < n → ask_of code (run_of code k s) ≡ ask.Private)
-    → IsKept s (run_of code n s)
+private_run_keeps_parts : (code : List ℕ) (n : ℕ) (s : ThreadState) → ((k : ℕ) → k < n → ask_of code (run_of code k s) ≡ ask.Private)
+    → KeepsOwnParts s (run_of code n s)
 unfolding run_of
-run_keeps code zero s each = record { number = refl; held = refl; budget = refl; profile = refl; form = refl; events = refl; output = refl; ended = refl }
-run_keeps code (suc n) s each =
-    kept_on s (run_of code n s) (step_of code (run_of code n s)) (run_keeps code n s (λ k l. each k (omega (arith, l))))
-    (one_kept code (run_of code n s) (each n (omega arith)))
+private_run_keeps_parts code zero s each = record { number = refl; held = refl; budget = refl; profile = refl; form = refl; events = refl; output = refl; ended = refl }
+private_run_keeps_parts code (suc n) s each =
+    kept_parts_transitive s (run_of code n s) (step_of code (run_of code n s)) (private_run_keeps_parts code n s (λ k l. each k (omega (arith, l))))
+    (private_step_keeps_parts code (run_of code n s) (each n (omega arith)))
 
-pub private_keep : (code : List ℕ) (n : ℕ) (s t : State) → PrivateSteps code n s t → IsKept s t
-private_keep code n s t p = subst (IsKept s) (sym p.steps) (run_keeps code n s p.each)
+pub private_steps_keep_parts : (code : List ℕ) (n : ℕ) (s t : ThreadState) → PrivateSteps code n s t → KeepsOwnParts s t
+private_steps_keep_parts code n s t p = subst (KeepsOwnParts s) (sym p.steps) (private_run_keeps_parts code n s p.each)
 
 -- what is held stays held
-pub private_held : (code : List ℕ) (n : ℕ) (s t : State) → PrivateSteps code n s t → t.held ≡ s.held
-private_held code n s t p = (private_keep code n s t p).held
+pub held_after_private_steps : (code : List ℕ) (n : ℕ) (s t : ThreadState) → PrivateSteps code n s t → t.held ≡ s.held
+held_after_private_steps code n s t p = (private_steps_keep_parts code n s t p).held

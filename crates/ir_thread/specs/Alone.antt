@@ -2,7 +2,7 @@
 use Rattle.std.specs.Prelude.{◌≡◌, ℕ, zero, suc, List, [], ◌∷◌, length, Option, Some, None, option_and_then, ⊤}
 use Rattle.ir_thread.specs.Calls.{ask_of, after_reply}
 use Rattle.ir_thread.specs.Permitted.{Suits}
-use Rattle.ir_thread.specs.State.{State}
+use Rattle.ir_thread.specs.State.{ThreadState}
 use Rattle.ir_thread.specs.declared.ask.Ask.{Ask}
 use Rattle.ir_thread.specs.declared.ask.Ask.TheVariants as ask
 use Rattle.ir_thread.specs.declared.ask.Reply.{Reply}
@@ -10,7 +10,7 @@ use Rattle.ir_thread.specs.declared.ask.Reply.TheVariants.{Go, Value}
 
 -- a thread, and the values that its calls of the environment, its tries and its reads of objects are still to be answered
 pub record Lone : Type 0 where
-  pub thread : State
+  pub thread : ThreadState
   pub values : List ℕ
 
 -- the reply with the next value, and the values after it
@@ -27,7 +27,7 @@ lone_reply ask.Done values = None
 lone_reply _ values = Some (Go, values)
 
 -- the thread after the reply, if there is one
-abbrev pub lone_after : List ℕ → State → Option (Reply × List ℕ) → Option Lone
+abbrev pub lone_after : List ℕ → ThreadState → Option (Reply × List ℕ) → Option Lone
 lone_after code s None = None
 lone_after code s (Some next) = Some (record { thread = after_reply code s next.0; values = next.1 })
 
@@ -41,12 +41,12 @@ lone_run code zero l = Some l
 lone_run code (suc steps) l = option_and_then (lone_run code steps) (lone_step code l)
 
 -- each reply fits what the thread asks when it comes
-abbrev pub AllSuit : List ℕ → State → List Reply → Type 0
+abbrev pub AllSuit : List ℕ → ThreadState → List Reply → Type 0
 AllSuit code s [] = ⊤
 AllSuit code s (reply ∷ replies) = Suits (ask_of code s) reply × AllSuit code (after_reply code s reply) replies
 
 -- the thread after these replies
-abbrev pub after_replies : List ℕ → State → List Reply → State
+abbrev pub after_replies : List ℕ → ThreadState → List Reply → ThreadState
 after_replies code s [] = s
 after_replies code s (reply ∷ replies) = after_replies code (after_reply code s reply) replies
 
@@ -62,6 +62,6 @@ values_of (reply ∷ replies) = value_before reply (values_of replies)
 
 -- whoever answers a thread, it is the thread run alone with the values that it was answered
 abbrev pub RunsAlone : Type 0
-RunsAlone = (code : List ℕ) (s : State) (replies : List Reply) → AllSuit code s replies
+RunsAlone = (code : List ℕ) (s : ThreadState) (replies : List Reply) → AllSuit code s replies
     → lone_run code (length replies) (record { thread = s; values = values_of replies }) ≡ Some
     (record { thread = after_replies code s replies; values = [] })

@@ -5,7 +5,7 @@ use Rattle.ir_image.specs.Guest.{limits_of}
 use Rattle.ir_mach.specs.Arithmetic.{signed}
 use Rattle.ir_mach.specs.Core.{Core, Outcome, Goes, Calls, Ends, register}
 use Rattle.ir_mach.specs.Execution.{outcome_of, past_call}
-use Rattle.ir_thread.specs.State.{end_of_fault, State, held_at, highest, is_above}
+use Rattle.ir_thread.specs.State.{end_of_fault, ThreadState, held_at, highest, is_above}
 use Rattle.ir_runs.specs.declared.access.Access.{Access}
 use Rattle.ir_runs.specs.declared.access.Access.TheVariants.{Reading, Writing}
 use Rattle.ir_thread.specs.declared.ask.Ask.{Ask}
@@ -43,23 +43,23 @@ call_of profile number =
     if number == 13 then try_call profile else None
 
 -- the register that holds a call's number
-abbrev pub a7 : State → ℕ
+abbrev pub a7 : ThreadState → ℕ
 a7 s = register s.core 17
 
 -- the first argument of a call
-abbrev pub a0 : State → ℕ
+abbrev pub a0 : ThreadState → ℕ
 a0 s = register s.core 10
 
 -- the second argument
-abbrev pub a1 : State → ℕ
+abbrev pub a1 : ThreadState → ℕ
 a1 s = register s.core 11
 
 -- the third argument
-abbrev pub a2 : State → ℕ
+abbrev pub a2 : ThreadState → ℕ
 a2 s = register s.core 12
 
 -- the call that the thread makes if it is at one
-abbrev pub call_at : State → Option Call
+abbrev pub call_at : ThreadState → Option Call
 call_at s = call_of s.profile (a7 s)
 
 -- the most bytes that a thread may print
@@ -75,37 +75,37 @@ abbrev pub most_budget : ℕ
 most_budget = 1000000000000
 
 -- the low byte of a0
-abbrev pub byte_text : State → List ℕ
+abbrev pub byte_text : ThreadState → List ℕ
 byte_text s = (a0 s % 2 ^ 8) ∷ []
 
 -- a0 as a signed decimal number, and a line feed
-abbrev pub number_text : State → List ℕ
+abbrev pub number_text : ThreadState → List ℕ
 number_text s = signed_decimal (signed (a0 s)) ++ 10 ∷ []
 
 -- what a call prints
-abbrev pub printed_by : Option Call → State → List ℕ
-printed_by (Some call.PutByte) s = byte_text s
-printed_by (Some call.PutNumber) s = number_text s
-printed_by _ s = []
+abbrev pub call_output : Option Call → ThreadState → List ℕ
+call_output (Some call.PutByte) s = byte_text s
+call_output (Some call.PutNumber) s = number_text s
+call_output _ s = []
 
 -- what the call that the thread makes prints
-abbrev pub printed : State → List ℕ
-printed s = printed_by (call_at s) s
+abbrev pub next_output : ThreadState → List ℕ
+next_output s = call_output (call_at s) s
 
 -- printing `count` bytes, if there is room for them
-abbrev pub print_ask : State → ℕ → Ask
+abbrev pub print_ask : ThreadState → ℕ → Ask
 print_ask s count = if nat_le (length s.output + count) most_output then ask.Print else ask.End end.OutputFull
 
 -- a call that is logged, where there is room for it
-abbrev pub logged_ask : State → Ask → Ask
+abbrev pub logged_ask : ThreadState → Ask → Ask
 logged_ask s q = if nat_lt s.events most_events then q else ask.End end.LogFull
 
 -- whether the guest has an object of this number
-abbrev pub is_object : State → ℕ → Bool
+abbrev pub is_object : ThreadState → ℕ → Bool
 is_object s object = nat_lt object (length s.held)
 
 -- an entry to object a0, where it is above all that are held
-abbrev pub entry_ask : State → Ask → Ask
+abbrev pub entry_ask : ThreadState → Ask → Ask
 entry_ask s q =
     if is_object s (a0 s)
     then (if is_above (highest s.held) (a0 s) then logged_ask s q else ask.End end.EntryOutOfOrder)
@@ -117,11 +117,11 @@ leave_held object None = ask.End end.NotHeld
 leave_held object (Some access) = ask.Leave object access
 
 -- leaving an object that is held
-abbrev pub leave_ask : State → Ask
+abbrev pub leave_ask : ThreadState → Ask
 leave_ask s = if is_object s (a0 s) then leave_held (a0 s) (held_at s.held (a0 s)) else ask.End end.NoSuchObject
 
 -- whether object a0 has a word a1
-abbrev pub has_word : State → Bool
+abbrev pub has_word : ThreadState → Bool
 has_word s = is_object s (a0 s) && nat_lt (a1 s) (limits_of s.form).words
 
 -- reading, by how the object is held
@@ -130,7 +130,7 @@ get_held object index None = ask.End end.NotHeld
 get_held object index (Some access) = ask.Get object index
 
 -- reading a word of an object that is held
-abbrev pub get_ask : State → Ask
+abbrev pub get_ask : ThreadState → Ask
 get_ask s = if has_word s then get_held (a0 s) (a1 s) (held_at s.held (a0 s)) else ask.End end.NoSuchObject
 
 -- writing, by how the object is held
@@ -140,11 +140,11 @@ put_held object index value (Some Reading) = ask.End end.NotHeld
 put_held object index value (Some Writing) = ask.Put object index value
 
 -- writing a word of an object that is held for writing
-abbrev pub put_ask : State → Ask
+abbrev pub put_ask : ThreadState → Ask
 put_ask s = if has_word s then put_held (a0 s) (a1 s) (a2 s) (held_at s.held (a0 s)) else ask.End end.NoSuchObject
 
 -- what a system call asks
-abbrev pub call_ask : Option Call → State → Ask
+abbrev pub call_ask : Option Call → ThreadState → Ask
 call_ask None s = ask.End end.UnknownCall
 call_ask (Some call.End) s = ask.End (end.Exit (a0 s))
 call_ask (Some call.PutByte) s = print_ask s (length (byte_text s))
@@ -158,13 +158,13 @@ call_ask (Some call.OwnNumber) s = ask.Private
 call_ask (Some call.TryWrite) s = entry_ask s (ask.Try (a0 s))
 
 -- what is asked by what the next instruction comes to
-abbrev pub outcome_ask : Outcome → State → Ask
+abbrev pub outcome_ask : Outcome → ThreadState → Ask
 outcome_ask (Goes core) s = ask.Private
 outcome_ask (Ends fault) s = ask.End (end_of_fault fault)
 outcome_ask Calls s = call_ask (call_at s) s
 
 -- what a thread that hasn't ended asks: the budget is tested first
-abbrev pub running_ask : List ℕ → State → Ask
+abbrev pub running_ask : List ℕ → ThreadState → Ask
 running_ask code s = if nat_le s.budget s.steps then ask.End end.BudgetSpent else outcome_ask (outcome_of code s.core) s
 
 -- after its end a thread leaves what it holds, the greatest object first
@@ -173,12 +173,12 @@ release_ask None = ask.Done
 release_ask (Some top) = ask.Leave top.0 top.1
 
 -- what is asked by whether the thread has ended
-abbrev pub ask_by : List ℕ → Option End → State → Ask
+abbrev pub ask_by : List ℕ → Option End → ThreadState → Ask
 ask_by code (Some e) s = release_ask (highest s.held)
 ask_by code None s = running_ask code s
 
 -- what a thread asks
-abbrev pub ask_of : List ℕ → State → Ask
+abbrev pub ask_of : List ℕ → ThreadState → Ask
 ask_of code s = ask_by code s.ended s
 
 -- what goes into a0
@@ -203,7 +203,7 @@ held_after_try Go object held = held
 held_after_try (Value value) object held = if value == 1 then slice_set held object (Some Writing) else held
 
 -- the thread after what it asked; an end changes no register, no memory and no pc
-abbrev pub after_ask : List ℕ → State → Ask → Reply → State
+abbrev pub after_ask : List ℕ → ThreadState → Ask → Reply → ThreadState
 after_ask code s ask.Private reply = record s { core = core_after s.number (outcome_of code s.core) s.core; steps = s.steps + 1 }
 after_ask code s (ask.Env kind) reply = record s { core = past_call s.core (answer_of reply); steps = s.steps + 1; events = s.events + 1 }
 after_ask code s (ask.Enter object access) reply =
@@ -214,10 +214,10 @@ after_ask code s (ask.Leave object access) reply =
     record s { core = core_left s.ended s.core; steps = s.steps + 1; held = slice_set s.held object None }
 after_ask code s (ask.Get object index) reply = record s { core = past_call s.core (answer_of reply); steps = s.steps + 1 }
 after_ask code s (ask.Put object index value) reply = record s { core = past_call s.core None; steps = s.steps + 1 }
-after_ask code s ask.Print reply = record s { core = past_call s.core None; steps = s.steps + 1; output = s.output ++ printed s }
+after_ask code s ask.Print reply = record s { core = past_call s.core None; steps = s.steps + 1; output = s.output ++ next_output s }
 after_ask code s (ask.End e) reply = record s { steps = s.steps + 1; ended = Some e }
 after_ask code s ask.Done reply = s
 
 -- the thread after its next step and the reply to what it asked; one that is done stays
-unfoldable pub after_reply : List ℕ → State → Reply → State
+unfoldable pub after_reply : List ℕ → ThreadState → Reply → ThreadState
 after_reply code s reply = after_ask code s (ask_of code s) reply

@@ -5,7 +5,7 @@ use Rattle.ir_mach.specs.Pages.{RegisterFile, register_file, core_of}
 use Rattle.ir_runs.specs.declared.access.Access.{Access}
 use Rattle.ir_thread.specs.declared.end.End.{End}
 use Rattle.ir_thread.specs.declared.profile.Profile.{Profile}
-use Rattle.ir_thread.specs.State.{State}
+use Rattle.ir_thread.specs.State.{ThreadState}
 
 -- a thread without its private memory
 pub record ThreadFrame : Type 0 where
@@ -20,7 +20,7 @@ pub record ThreadFrame : Type 0 where
   pub output : List ℕ
   pub ended : Option End
 
-abbrev pub frame_of : State → ThreadFrame
+abbrev pub frame_of : ThreadState → ThreadFrame
 frame_of s = record {
   registers = register_file s.core;
   number = s.number;
@@ -35,7 +35,7 @@ frame_of s = record {
 }
 
 -- the thread with this frame and these pages
-abbrev pub thread_of : ThreadFrame → List (List ℕ) → State
+abbrev pub thread_of : ThreadFrame → List (List ℕ) → ThreadState
 thread_of frame pages = record {
   core = core_of frame.registers pages;
   number = frame.number;

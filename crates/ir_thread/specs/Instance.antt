@@ -1,7 +1,7 @@
 -- The thread of a guest as a machine that asks and is answered.
 use Rattle.std.specs.Prelude.{ℕ, ◌^◌, ◌==◌, Bool, ◌||◌, List, nat_lt, option_map}
 use Rattle.ir_thread.specs.Calls.{ask_of, after_reply}
-use Rattle.ir_thread.specs.State.{end_number, end_code, State, held_at, held_count}
+use Rattle.ir_thread.specs.State.{end_number, end_code, ThreadState, held_at, held_count}
 use Rattle.ir_runs.specs.Machine.{Machine}
 use Rattle.ir_runs.specs.Lawful.{IsLawful, IsClosing}
 use Rattle.ir_runs.specs.Machine as machine
@@ -39,7 +39,7 @@ is_result Random value = nat_lt value (2 ^ 32)
 is_result Input value = nat_lt value (2 ^ 8) || (value == 0xFFFFFFFF)
 
 -- a thread that runs this code
-abbrev pub thread_machine : List ℕ → Machine State
+abbrev pub thread_machine : List ℕ → Machine ThreadState
 thread_machine code = record {
   ask = λ s. shared_ask (ask_of code s);
   take = λ s value. after_reply code s (reply_of (ask_of code s) value);

@@ -1,7 +1,7 @@
 -- Replies that suit what a thread asks, and steps that are permitted.
 use Rattle.std.specs.Prelude.{◌≡◌, ◌⊎◌, ℕ, zero, suc, ◌+◌, ◌≢◌, ◌<◌, ◌≤◌, true, List, length, Some, None, ⊤}
 use Rattle.ir_image.specs.Guest.{most_objects, most_object_words}
-use Rattle.ir_thread.specs.State.{held_at, highest, is_above, State}
+use Rattle.ir_thread.specs.State.{held_at, highest, is_above, ThreadState}
 use Rattle.ir_runs.specs.declared.access.Access.TheVariants.{Writing}
 use Rattle.ir_thread.specs.declared.ask.Ask.{Ask}
 use Rattle.ir_thread.specs.declared.ask.Ask.TheVariants as ask
@@ -9,7 +9,7 @@ use Rattle.ir_thread.specs.declared.ask.Reply.{Reply}
 use Rattle.ir_thread.specs.declared.ask.Reply.TheVariants.{Go, Value}
 use Rattle.ir_thread.specs.declared.end.End.{End}
 use Rattle.ir_thread.specs.declared.profile.Profile.TheVariants.{Two}
-use Rattle.ir_thread.specs.Calls.{most_output, most_events, most_budget, printed, after_reply}
+use Rattle.ir_thread.specs.Calls.{most_output, most_events, most_budget, next_output, after_reply}
 
 -- the most steps that a thread takes once its budget is spent: its end, and a leave for each object
 abbrev pub most_closing : ℕ
@@ -22,16 +22,16 @@ most_steps = most_budget + most_closing
 -- ---- what a thread asks
 
 -- a thread that hasn't ended, and has a step left
-pub record IsRunning (s : State) : Type 0 where
+pub record IsRunning (s : ThreadState) : Type 0 where
   pub lives : s.ended ≡ None
   pub has_budget : s.steps < s.budget
 
 -- there is room for an event
-abbrev pub CanLog : State → Type 0
+abbrev pub CanLog : ThreadState → Type 0
 CanLog s = s.events < most_events
 
 -- where a thread asks so: what it holds and has room for, and that its profile has the call
-abbrev pub Permits : State → Ask → Type 0
+abbrev pub Permits : ThreadState → Ask → Type 0
 Permits s ask.Private = IsRunning s
 Permits s (ask.Env kind) = IsRunning s × CanLog s
 Permits s (ask.Enter object access) = IsRunning s × CanLog s × (object < length s.held) × (is_above (highest s.held) object ≡ true)
@@ -42,7 +42,7 @@ Permits s (ask.Leave object access) = (s.ended ≡ None → s.steps < s.budget) 
 Permits s (ask.Get object index) = IsRunning s × (object < length s.held) × (index < most_object_words) × (held_at s.held object ≢ None)
 Permits s (ask.Put object index value) = IsRunning s × (object < length s.held) × (index < most_object_words)
     × (held_at s.held object ≡ Some Writing)
-Permits s ask.Print = IsRunning s × (length s.output + length (printed s) ≤ most_output)
+Permits s ask.Print = IsRunning s × (length s.output + length (next_output s) ≤ most_output)
 Permits s (ask.End e) = s.ended ≡ None
 Permits s ask.Done = (s.ended ≢ None) × (highest s.held ≡ None)
 
@@ -62,10 +62,10 @@ Suits ask.Done reply = ⊥
 Suits _ reply = reply ≡ Go
 
 -- the thread after a step that is answered no value
-unfoldable pub step_of : List ℕ → State → State
+unfoldable pub step_of : List ℕ → ThreadState → ThreadState
 step_of code s = after_reply code s Go
 
 -- the thread after n steps that are answered no value
-unfoldable pub run_of : List ℕ → ℕ → State → State
+unfoldable pub run_of : List ℕ → ℕ → ThreadState → ThreadState
 run_of code zero s = s
 run_of code (suc k) s = step_of code (run_of code k s)

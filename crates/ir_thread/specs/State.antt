@@ -1,4 +1,4 @@
--- A thread apart from where it lies in memory.
+-- A thread, however the code keeps it.
 use Rattle.std.specs.Prelude.{ℕ, List, [], replicate, Option, None, ◌==◌, ◌&&◌, ◌∷◌, find, suc, Bool, true, Some, nat_lt, ◌≤◌, length}
 use Rattle.ir_image.specs.Guest.{Guest, object_count, limits_of}
 use Rattle.ir_image.specs.declared.form.ImageForm.{ImageForm}
@@ -14,7 +14,7 @@ use Rattle.ir_image.specs.declared.form.ImageForm.TheVariants.{Small, Large}
 use Rattle.ir_thread.specs.declared.profile.Profile.TheVariants.{One, Two}
 
 -- a thread at one moment
-pub record State : Type 0 where
+pub record ThreadState : Type 0 where
   pub core : Core
   -- the thread's number
   pub number : ℕ
@@ -35,7 +35,7 @@ pub record State : Type 0 where
   pub ended : Option End
 
 -- a thread of the guest at its start
-abbrev pub start_state : Guest → ℕ → ℕ → Profile → State
+abbrev pub start_state : Guest → ℕ → ℕ → Profile → ThreadState
 start_state guest thread budget profile = record {
   core = start_core guest thread;
   number = thread;

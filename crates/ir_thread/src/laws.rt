@@ -7,7 +7,7 @@ ghost use Rattle.ir_thread.specs.Alone.{RunsAlone};
 ghost use Rattle.ir_thread.specs.Conditions.{EndsByTheFirst};
 ghost use Rattle.ir_thread.specs.Frames.{frame_of, thread_of};
 ghost use Rattle.ir_thread.specs.Instance.{ThreadsClose};
-ghost use Rattle.ir_thread.specs.State.{State};
+ghost use Rattle.ir_thread.specs.State.{ThreadState};
 
 /// A thread enters objects in rising order, uses only what it holds, releases all that it holds
 /// after its end, and is done when it holds nothing.
@@ -28,6 +28,6 @@ pub fn ends_by_the_first()
 
 /// A thread's private memory is 16 pages of 4,096 bytes, and building from its frame and these pages gives that thread.
 pub fn built_again()
-    ensures pages { (s : State) → length s.core.memory ≡ memory_size → ArePages (pages_of s.core.memory) }
-    ensures same { (s : State) → length s.core.memory ≡ memory_size → thread_of (frame_of s) (pages_of s.core.memory) ≡ s }
+    ensures pages { (s : ThreadState) → length s.core.memory ≡ memory_size → ArePages (pages_of s.core.memory) }
+    ensures same { (s : ThreadState) → length s.core.memory ≡ memory_size → thread_of (frame_of s) (pages_of s.core.memory) ≡ s }
 {}

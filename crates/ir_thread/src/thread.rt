@@ -4,7 +4,7 @@ ghost use Rattle.std.specs.Prelude.{◌≡◌, ◌≢◌, ℕ, ◌+◌, ◌<◌,
 ghost use Rattle.ir_image.specs.Guest.{most_objects, object_count};
 ghost use Rattle.ir_thread.specs.Calls.{most_budget, most_events, most_output};
 ghost use Rattle.ir_thread.specs.Permitted.{most_steps};
-ghost use Rattle.ir_thread.specs.State.{held_count, State, start_state};
+ghost use Rattle.ir_thread.specs.State.{held_count, ThreadState, start_state};
 
 use crate::end::End;
 use crate::limits::MOST_OUTPUT;
@@ -36,7 +36,7 @@ pub struct Thread {
 }
 
 impl Model for Thread {
-    ghost Value = { State };
+    ghost Value = { ThreadState };
 
     ghost view = { λ t. record {
       core = t.mach;
@@ -62,7 +62,7 @@ impl Thread {
     ///
     /// # Errors
     /// Out of memory.
-    #[tactic(auto, using(ir_image::proofs::CallerLemmas::few_threads))]
+    #[tactic(auto, using(ir_image::proofs::CallerLemmas::guest_threads_at_most_limit))]
     pub fn new(
         alloc: Global,
         image: &Image,
@@ -95,7 +95,7 @@ impl Thread {
     }
 
     /// Becomes the thread of this number at its start, as `new` makes it, in the memory that it has.
-    #[tactic(auto, using(ir_image::proofs::CallerLemmas::few_threads))]
+    #[tactic(auto, using(ir_image::proofs::CallerLemmas::guest_threads_at_most_limit))]
     pub fn restart(&mut self, image: &Image, thread: usize, budget: u64, profile: Profile)
         requires thread { thread < length image.now.entries }
         requires budget { budget ≤ most_budget }

@@ -4,81 +4,81 @@ use Rattle.std.specs.Prelude.{replicate}
 use Rattle.std.proofs.Math.Path.{fun_ext}
 use Rattle.std.proofs.lemmas.Bool.{cases_lt}
 use Rattle.std.proofs.lemmas.List.{get_or_past}
-use Rattle.ir_flat.proofs.CallerLemmas.{start_idle}
+use Rattle.ir_flat.proofs.CallerLemmas.{guest_start_is_idle}
 use Rattle.ir_runs.specs.Run.{Step, trail, count}
 use Rattle.ir_runs.specs.Cuts.{Cut}
 use Rattle.ir_fit.specs.Fit.{FittedTrace, IsRunOf}
-use Rattle.ir_fit.proofs.CallerLemmas.{idle_trail, get_at}
+use Rattle.ir_fit.proofs.CallerLemmas.{idle_thread_has_empty_trail, get_or_of_at}
 use Rattle.ir_cut.specs.Positions.{machine_of, start_of, cut_of, IsConsistentCut}
 use Rattle.ir_weave.specs.Standing.{Standing, StandsAt}
 use Rattle.ir_timeline.specs.Positions.{threads_of, last_of, first_cut, last_positions, last_cut}
 
 -- ---- the first
 
-first_number : (n t : ℕ) → cut_of (replicate n 0) t ≡ 0
-first_number zero t = refl
-first_number (suc n) zero = refl
-first_number (suc n) (suc t) = first_number n t
+cut_of_zeros_is_zero : (n t : ℕ) → cut_of (replicate n 0) t ≡ 0
+cut_of_zeros_is_zero zero t = refl
+cut_of_zeros_is_zero (suc n) zero = refl
+cut_of_zeros_is_zero (suc n) (suc t) = cut_of_zeros_is_zero n t
 
-pub first_consistent : (f : FittedTrace) → IsConsistentCut f (first_cut f)
-first_consistent f run whole = (
-  λ t. let none = first_number (threads_of f) t in omega (arith, none),
-  λ t k u j a b emitted needed needs less. let none = first_number (threads_of f) t in absurd (omega (arith, none, less)),
+pub first_cut_is_consistent : (f : FittedTrace) → IsConsistentCut f (first_cut f)
+first_cut_is_consistent f run whole = (
+  λ t. let none = cut_of_zeros_is_zero (threads_of f) t in omega (arith, none),
+  λ t k u j a b emitted needed needs less. let none = cut_of_zeros_is_zero (threads_of f) t in absurd (omega (arith, none, less)),
 )
 
-first_zero : (f : FittedTrace) (at : List ℕ) (t : ℕ) → at ≡ first_cut f → cut_of at t ≡ 0
-first_zero f at t is = ap (λ xs. cut_of xs t) is ∙ first_number (threads_of f) t
+first_cut_position_is_zero : (f : FittedTrace) (at : List ℕ) (t : ℕ) → at ≡ first_cut f → cut_of at t ≡ 0
+first_cut_position_is_zero f at t is = ap (λ xs. cut_of xs t) is ∙ cut_of_zeros_is_zero (threads_of f) t
 
 -- the guest at its start is at the first cut
-pub first_there : (f : FittedTrace) (s : Standing) (at : List ℕ) → at ≡ first_cut f → StandsAt f (λ t. 0) s → StandsAt f (cut_of at) s
-first_there f s at is h = subst (λ (p : Cut). StandsAt f p s) (fun_ext (λ t. sym (first_zero f at t is))) h
+pub start_stands_at_first_cut : (f : FittedTrace) (s : Standing) (at : List ℕ) → at ≡ first_cut f → StandsAt f (λ t. 0) s → StandsAt f (cut_of at) s
+start_stands_at_first_cut f s at is h = subst (λ (p : Cut). StandsAt f p s) (fun_ext (λ t. sym (first_cut_position_is_zero f at t is))) h
 
 -- ---- the last
 
-pub last_length : (f : FittedTrace) (from n : ℕ) → length (last_positions f from n) ≡ n
+pub length_of_last_positions : (f : FittedTrace) (from n : ℕ) → length (last_positions f from n) ≡ n
 unfolding last_positions
-last_length f from zero = refl
-last_length f from (suc n) = ap suc (last_length f (from + 1) n)
+length_of_last_positions f from zero = refl
+length_of_last_positions f from (suc n) = ap suc (length_of_last_positions f (from + 1) n)
 
-last_number : (f : FittedTrace) (from n t : ℕ) → t < n → cut_of (last_positions f from n) t ≡ last_of f (from + t)
+last_position_of_thread : (f : FittedTrace) (from n t : ℕ) → t < n → cut_of (last_positions f from n) t ≡ last_of f (from + t)
 unfolding last_positions
-last_number f from zero t l = absurd (omega (arith, l))
-last_number f from (suc n) zero l = ap (last_of f) (let e : from ≡ from + 0 = omega arith in e)
-last_number f from (suc n) (suc t) l =
-    last_number f (from + 1) n t (omega (arith, l)) ∙ ap (last_of f) (let e : from + 1 + t ≡ from + suc t = omega arith in e)
+last_position_of_thread f from zero t l = absurd (omega (arith, l))
+last_position_of_thread f from (suc n) zero l = ap (last_of f) (let e : from ≡ from + 0 = omega arith in e)
+last_position_of_thread f from (suc n) (suc t) l =
+    last_position_of_thread f (from + 1) n t (omega (arith, l)) ∙ ap (last_of f) (let e : from + 1 + t ≡ from + suc t = omega arith in e)
 
-pub last_none : (f : FittedTrace) (xs : List ℕ) → xs ≡ [] → xs ≡ last_positions f 0 0
+pub no_last_positions : (f : FittedTrace) (xs : List ℕ) → xs ≡ [] → xs ≡ last_positions f 0 0
 unfolding last_positions
-last_none f xs is = is
+no_last_positions f xs is = is
 
-last_more : (f : FittedTrace) (from n : ℕ) → last_positions f from n ++ last_of f (from + n) ∷ [] ≡ last_positions f from (suc n)
+last_positions_step : (f : FittedTrace) (from n : ℕ) → last_positions f from n ++ last_of f (from + n) ∷ [] ≡ last_positions f from (suc n)
 unfolding last_positions
-last_more f from zero = ap (λ t. last_of f t ∷ []) (let e : from + 0 ≡ from = omega arith in e)
-last_more f from (suc n) = ap (λ xs. last_of f from ∷ xs)
+last_positions_step f from zero = ap (λ t. last_of f t ∷ []) (let e : from + 0 ≡ from = omega arith in e)
+last_positions_step f from (suc n) = ap (λ xs. last_of f from ∷ xs)
     (ap (λ t. last_positions f (from + 1) n ++ last_of f t ∷ []) (let e : from + suc n ≡ from + 1 + n = omega arith in e)
-    ∙ last_more f (from + 1) n)
+    ∙ last_positions_step f (from + 1) n)
 
 -- one more thread
-pub last_one : (f : FittedTrace) (n : ℕ) (xs ys : List ℕ) (last : ℕ) → last ≡ last_of f n → ys ≡ xs ++ last ∷ []
+pub last_positions_after_push : (f : FittedTrace) (n : ℕ) (xs ys : List ℕ) (last : ℕ) → last ≡ last_of f n → ys ≡ xs ++ last ∷ []
     → xs ≡ last_positions f 0 n → ys ≡ last_positions f 0 (n + 1)
-last_one f n xs ys last is more so_far =
+last_positions_after_push f n xs ys last is more so_far =
     more ∙ ap (λ z. xs ++ z ∷ []) is ∙ ap (λ zs. zs ++ last_of f n ∷ []) so_far
-    ∙ ap (λ t. last_positions f 0 n ++ last_of f t ∷ []) (let e : n ≡ 0 + n = omega arith in e) ∙ last_more f 0 n
+    ∙ ap (λ t. last_positions f 0 n ++ last_of f t ∷ []) (let e : n ≡ 0 + n = omega arith in e) ∙ last_positions_step f 0 n
     ∙ ap (last_positions f 0) (let e : suc n ≡ n + 1 = omega arith in e)
 
 -- each thread's position is the number of its steps
-last_steps : (f : FittedTrace) (run : List Step) → IsRunOf f.guest f.recorded run → (t : ℕ)
+last_cut_position_is_step_count : (f : FittedTrace) (run : List Step) → IsRunOf f.guest f.recorded run → (t : ℕ)
     → cut_of (last_cut f) t ≡ count (machine_of f) (start_of f) run t
-last_steps f run whole t = elim (cases_lt t (threads_of f)) [
-  | inl l ↦ last_number f 0 (threads_of f) t l ∙ ap (last_of f) (let e : 0 + t ≡ t = omega arith in e) ∙ sym (whole.1.steps t l)
-  | inr past ↦ get_or_past (last_cut f) t 0 (let n = last_length f 0 (threads_of f) in omega (arith, n, past)) ∙
-      sym (ap length (idle_trail (machine_of f) (start_of f) (threads_of f) (start_idle f.guest f.recorded.budget f.recorded.profile) run whole.1.runs t past))
+last_cut_position_is_step_count f run whole t = elim (cases_lt t (threads_of f)) [
+  | inl l ↦ last_position_of_thread f 0 (threads_of f) t l ∙ ap (last_of f) (let e : 0 + t ≡ t = omega arith in e) ∙ sym (whole.1.steps t l)
+  | inr past ↦ get_or_past (last_cut f) t 0 (let n = length_of_last_positions f 0 (threads_of f) in omega (arith, n, past)) ∙
+      sym (ap length (idle_thread_has_empty_trail (machine_of f) (start_of f) (threads_of f) (guest_start_is_idle f.guest f.recorded.budget f.recorded.profile) run whole.1.runs t past))
 ]
 
-pub last_consistent : (f : FittedTrace) → IsConsistentCut f (last_cut f)
-last_consistent f run whole = (
-  λ t. let all = last_steps f run whole t in omega (arith, all),
-  λ t k u j a b emitted needed needs less. let all = last_steps f run whole u in
-      let within = (get_at (trail (machine_of f) (start_of f) run u) j (needed.0, b) needed.1).0 in
+pub last_cut_is_consistent : (f : FittedTrace) → IsConsistentCut f (last_cut f)
+last_cut_is_consistent f run whole = (
+  λ t. let all = last_cut_position_is_step_count f run whole t in omega (arith, all),
+  λ t k u j a b emitted needed needs less. let all = last_cut_position_is_step_count f run whole u in
+      let within = (get_or_of_at (trail (machine_of f) (start_of f) run u) j (needed.0, b) needed.1).0 in
       omega (arith, all, within),
 )

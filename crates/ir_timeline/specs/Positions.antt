@@ -1,4 +1,4 @@
--- Positions of the threads of a guest with a trace.
+-- The first and the last cut of a guest with a trace, and what a thread finds.
 use Rattle.std.specs.Prelude.{◌≡◌, ℕ, zero, suc, ◌+◌, List, [], ◌∷◌, length, replicate, Option}
 use Rattle.ir_runs.specs.Run.{Step}
 use Rattle.ir_trace.specs.Recorded.{recorded_thread}
@@ -31,8 +31,8 @@ abbrev pub last_cut : FittedTrace → List ℕ
 last_cut f = last_positions f 0 (threads_of f)
 
 -- a consistent cut of the guest's threads
-abbrev pub Cuts : FittedTrace → List ℕ → Type 0
-Cuts f c = (length c ≡ threads_of f) × IsConsistentCut f c
+abbrev pub IsCutOf : FittedTrace → List ℕ → Type 0
+IsCutOf f c = (length c ≡ threads_of f) × IsConsistentCut f c
 
 -- the hit that thread t finds from a position in this direction
 abbrev pub Finds : List Step → FittedTrace → List Numbered → ℕ → ℕ → Direction → Option Hit → Type 0

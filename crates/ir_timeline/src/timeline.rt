@@ -52,7 +52,7 @@ impl Timeline {
     ghost use Rattle.ir_cut.specs.Positions.{EachRun, cut_of};
     ghost use Rattle.ir_hits.specs.Hits.{AreWatchable};
     ghost use Rattle.ir_hits.specs.Searching.{IsNextHit};
-    ghost use Rattle.ir_timeline.specs.Positions.{Cuts, Finds, first_cut, last_of, threads_of};
+    ghost use Rattle.ir_timeline.specs.Positions.{IsCutOf, Finds, first_cut, last_of, threads_of};
     ghost use Rattle.ir_timeline.specs.Replaying.{IsThere};
 
     /// The guest at its start, with states that a run along the trace passed. Those for which memory runs out aren't kept.
@@ -103,7 +103,7 @@ impl Timeline {
     /// # Errors
     /// Out of memory, which doesn't happen if they are there, with the threads and objects at some consistent cut.
     pub fn go_to<H: Hands>(&mut self, hands: &H, to: &Cut) -> Result<(), AllocError>
-        requires { Cuts self.old.fitted to.now }
+        requires { IsCutOf self.old.fitted to.now }
         ensures fitted { self.new.fitted ≡ self.old.fitted }
         ensures there { OnOk result (IsThere self.new to.now) }
         ensures already { IsThere self.old to.now → IsOk result }
@@ -121,7 +121,7 @@ impl Timeline {
         direction: Direction,
         points: &[NumberedPoint],
     ) -> Result<Option<Hit>, AllocError>
-        requires cut { Cuts self.old.fitted at.now }
+        requires cut { IsCutOf self.old.fitted at.now }
         requires thread { thread < threads_of self.old.fitted }
         requires points { AreWatchable points.now }
         ensures fitted { self.new.fitted ≡ self.old.fitted }
@@ -153,7 +153,7 @@ impl Timeline {
         direction: Direction,
         points: &[NumberedPoint],
     ) -> Result<Option<Hit>, AllocError>
-        requires cut { Cuts self.old.fitted at.now }
+        requires cut { IsCutOf self.old.fitted at.now }
         requires thread { thread < threads_of self.old.fitted }
         requires points { AreWatchable points.now }
         ensures fitted { self.new.fitted ≡ self.old.fitted }
@@ -181,7 +181,7 @@ impl Timeline {
         to: u64,
         points: &[NumberedPoint],
     ) -> Result<Option<Hit>, AllocError>
-        requires cut { Cuts self.old.fitted at.now }
+        requires cut { IsCutOf self.old.fitted at.now }
         requires thread { thread < threads_of self.old.fitted }
         requires within { (cut_of at.now thread ≤ to) × (to ≤ last_of self.old.fitted thread) }
         requires points { AreWatchable points.now }
@@ -193,7 +193,7 @@ impl Timeline {
         hit_up_to(hands, &self.fitted, &mut self.hand, t, to, points)
     }
 
-    /// Keeps the state in hand, under the next number from 1 on. Beside the start 64 are kept at most.
+    /// Keeps the state in hand, for moves and searches to begin at. Beside the start 64 are kept at most.
     ///
     /// # Errors
     /// Out of memory.
@@ -203,10 +203,10 @@ impl Timeline {
         self.hand.checkpoints.keep(&self.fitted, &self.hand.state)
     }
 
-    /// Gives up the state that is kept under a number, if there is one, and it isn't the start.
-    pub fn drop_kept(&mut self, number: u32)
+    /// Gives up a state that was kept at this cut by `keep`, if there is one.
+    pub fn drop_kept(&mut self, cut: &Cut)
         ensures { self.new ≡ self.old }
     {
-        self.hand.checkpoints.drop_kept(&self.fitted, number);
+        self.hand.checkpoints.drop_kept(&self.fitted, cut);
     }
 }

@@ -1,3 +1,3 @@
 -- What callers may cite of traces.
 -- what is recorded is within the limits of any profile
-pub use Rattle.ir_trace.proofs.Limits.{most_recorded_threads, most_recorded_objects}
+pub use Rattle.ir_trace.proofs.Limits.{recorded_threads_at_most_limit, recorded_objects_at_most_limit}

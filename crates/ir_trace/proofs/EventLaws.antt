@@ -4,7 +4,7 @@ use Rattle.std.specs.Prelude.{◌||◌}
 use Rattle.std.proofs.lemmas.Bool.{ltb-true, lt-ltb, eqb-true}
 use Rattle.byteorder.specs.Endian.{little_bytes}
 use Rattle.ir_bytes.specs.Reading.{number_at, field_at}
-use Rattle.ir_bytes.proofs.CallerLemmas.{two_ok, three_ok, four_ok, choose, ok_is, passed, passes, IsBytes, Takes, Takes-then, number_takes, number_again, field_takes, field_again, byte_taken, byte_takes, byte_again, byte_field_again}
+use Rattle.ir_bytes.proofs.CallerLemmas.{two_steps_succeed, three_steps_succeed, four_steps_succeed, conditional_cases, ok_is_injective, test_true_if_no_fault, no_fault_if_test_true, IsBytes, Takes, takes_after_takes, number_at_takes_number, number_at_of_little_bytes, field_at_takes_field, field_at_of_little_bytes, number_of_one_byte_takes_byte, number_at_takes_byte, number_at_of_byte, field_at_of_byte}
 use Rattle.ir_runs.specs.declared.env_kind.EnvKind.{EnvKind}
 use Rattle.ir_runs.specs.declared.env_kind.EnvKind.TheVariants.{Clock, Random, Input}
 use Rattle.ir_thread.specs.declared.profile.Profile.{Profile}
@@ -23,173 +23,173 @@ abbrev pub TakesEvent : Profile → ℕ → List ℕ → Event × List ℕ → T
 TakesEvent profile objects bytes x = Takes bytes (event_encoding x.0) x.1 × IsEvent profile objects x.0
 
 -- the object of an entry, and what follows its tag
-object_takes : (objects : ℕ) (bytes : List ℕ) (n : ℕ × List ℕ) → IsBytes bytes → field_at Short (object_field objects) bytes ≡ Ok n
+object_field_takes : (objects : ℕ) (bytes : List ℕ) (n : ℕ × List ℕ) → IsBytes bytes → field_at Short (object_field objects) bytes ≡ Ok n
     → Takes bytes (n.0 ∷ []) n.1 × (n.0 < objects)
-object_takes objects bytes n fits e =
-    let t = field_takes Short (object_field objects) bytes n fits e in
-    (byte_taken bytes n t.takes t.fits, ltb-true n.0 objects (passed (ltb n.0 objects) Count t.passes))
+object_field_takes objects bytes n fits e =
+    let t = field_at_takes_field Short (object_field objects) bytes n fits e in
+    (number_of_one_byte_takes_byte bytes n t.takes t.fits, ltb-true n.0 objects (test_true_if_no_fault (ltb n.0 objects) Count t.passes))
 
-object_again : (objects n : ℕ) (rest : List ℕ) → n < objects → field_at Short (object_field objects) (n ∷ rest) ≡ Ok (n, rest)
-object_again objects n rest lt = byte_field_again Short (object_field objects) n rest refl
-    (passes (ltb n objects) Count (lt-ltb n objects lt))
+object_field_of_encoding : (objects n : ℕ) (rest : List ℕ) → n < objects → field_at Short (object_field objects) (n ∷ rest) ≡ Ok (n, rest)
+object_field_of_encoding objects n rest lt = field_at_of_byte Short (object_field objects) n rest refl
+    (no_fault_if_test_true (ltb n objects) Count (lt-ltb n objects lt))
 
 -- ---- the tags
 
-answer_takes : (profile : Profile) (objects : ℕ) (all rest : List ℕ) (kind : EnvKind) (x : Event × List ℕ) → Takes all (kind_tag kind ∷ []) rest
+answer_at_takes_event : (profile : Profile) (objects : ℕ) (all rest : List ℕ) (kind : EnvKind) (x : Event × List ℕ) → Takes all (kind_tag kind ∷ []) rest
     → ((v : ℕ) → IsWord v → IsResult kind v) → answer_at kind rest ≡ Ok x → TakesEvent profile objects all x
 unfolding answer_at event_encoding
-answer_takes profile objects all rest kind x prefix is e =
-    two_ok (number_at Short 4 rest) (λ n. Ok (Answer kind n.0, n.1)) x e (λ n e0 e1.
-    let t = number_takes Short 4 rest n prefix.rest_fits e0 in
-    subst (TakesEvent profile objects all) (ok_is TraceErr (Answer kind n.0, n.1) x e1)
-    (Takes-then all (kind_tag kind ∷ []) rest (little_bytes 4 n.0) n.1 prefix t.0, is n.0 t.1))
+answer_at_takes_event profile objects all rest kind x prefix is e =
+    two_steps_succeed (number_at Short 4 rest) (λ n. Ok (Answer kind n.0, n.1)) x e (λ n e0 e1.
+    let t = number_at_takes_number Short 4 rest n prefix.rest_fits e0 in
+    subst (TakesEvent profile objects all) (ok_is_injective TraceErr (Answer kind n.0, n.1) x e1)
+    (takes_after_takes all (kind_tag kind ∷ []) rest (little_bytes 4 n.0) n.1 prefix t.0, is n.0 t.1))
 
-input_by : (v : ℕ) (low last : Bool) → ltb v 256 ≡ low → eqb v input_end ≡ last → (low || last) ≡ true → IsResult Input v
-input_by v true last p q h = inl (ltb-true v 256 p)
-input_by v false true p q h = inr (eqb-true v input_end q)
-input_by v false false p q h = absurd cc
+input_result_by_conditions : (v : ℕ) (low last : Bool) → ltb v 256 ≡ low → eqb v input_end ≡ last → (low || last) ≡ true → IsResult Input v
+input_result_by_conditions v true last p q h = inl (ltb-true v 256 p)
+input_result_by_conditions v false true p q h = inr (eqb-true v input_end q)
+input_result_by_conditions v false false p q h = absurd cc
 
-input_is : (v : ℕ) → is_input v ≡ true → IsResult Input v
-input_is v h = input_by v (ltb v 256) (eqb v input_end) refl refl h
+input_result_if_is_input : (v : ℕ) → is_input v ≡ true → IsResult Input v
+input_result_if_is_input v h = input_result_by_conditions v (ltb v 256) (eqb v input_end) refl refl h
 
-input_takes : (profile : Profile) (objects : ℕ) (all rest : List ℕ) (x : Event × List ℕ) → Takes all (3 ∷ []) rest → input_at rest ≡ Ok x
+input_at_takes_event : (profile : Profile) (objects : ℕ) (all rest : List ℕ) (x : Event × List ℕ) → Takes all (3 ∷ []) rest → input_at rest ≡ Ok x
     → TakesEvent profile objects all x
 unfolding input_at event_encoding
-input_takes profile objects all rest x prefix e =
-    two_ok (field_at Short input_field rest) (λ n. Ok (Answer Input n.0, n.1)) x e (λ n e0 e1.
-    let t = field_takes Short input_field rest n prefix.rest_fits e0 in
-    subst (TakesEvent profile objects all) (ok_is TraceErr (Answer Input n.0, n.1) x e1)
-    (Takes-then all (3 ∷ []) rest (little_bytes 4 n.0) n.1 prefix t.takes, input_is n.0 (passed (is_input n.0) Range t.passes)))
+input_at_takes_event profile objects all rest x prefix e =
+    two_steps_succeed (field_at Short input_field rest) (λ n. Ok (Answer Input n.0, n.1)) x e (λ n e0 e1.
+    let t = field_at_takes_field Short input_field rest n prefix.rest_fits e0 in
+    subst (TakesEvent profile objects all) (ok_is_injective TraceErr (Answer Input n.0, n.1) x e1)
+    (takes_after_takes all (3 ∷ []) rest (little_bytes 4 n.0) n.1 prefix t.takes, input_result_if_is_input n.0 (test_true_if_no_fault (is_input n.0) Range t.passes)))
 
-read_takes : (profile : Profile) (objects : ℕ) (all rest : List ℕ) (x : Event × List ℕ) → Takes all (4 ∷ []) rest → read_at objects rest ≡ Ok x
+read_at_takes_event : (profile : Profile) (objects : ℕ) (all rest : List ℕ) (x : Event × List ℕ) → Takes all (4 ∷ []) rest → read_at objects rest ≡ Ok x
     → TakesEvent profile objects all x
 unfolding read_at event_encoding
-read_takes profile objects all rest x prefix e =
-    three_ok (field_at Short (object_field objects) rest) (λ object. number_at Short 4 object.1)
+read_at_takes_event profile objects all rest x prefix e =
+    three_steps_succeed (field_at Short (object_field objects) rest) (λ object. number_at Short 4 object.1)
     (λ object version. Ok (Read object.0 version.0, version.1)) x e (λ object version e0 e1 e2.
-    let t0 = object_takes objects rest object prefix.rest_fits e0 in
-    let t1 = number_takes Short 4 object.1 version t0.0.rest_fits e1 in
-    let own = Takes-then rest (object.0 ∷ []) object.1 (little_bytes 4 version.0) version.1 t0.0 t1.0 in
-    subst (TakesEvent profile objects all) (ok_is TraceErr (Read object.0 version.0, version.1) x e2)
-    (Takes-then all (4 ∷ []) rest (object.0 ∷ little_bytes 4 version.0) version.1 prefix own, (t0.1, t1.1)))
+    let t0 = object_field_takes objects rest object prefix.rest_fits e0 in
+    let t1 = number_at_takes_number Short 4 object.1 version t0.0.rest_fits e1 in
+    let own = takes_after_takes rest (object.0 ∷ []) object.1 (little_bytes 4 version.0) version.1 t0.0 t1.0 in
+    subst (TakesEvent profile objects all) (ok_is_injective TraceErr (Read object.0 version.0, version.1) x e2)
+    (takes_after_takes all (4 ∷ []) rest (object.0 ∷ little_bytes 4 version.0) version.1 prefix own, (t0.1, t1.1)))
 
-write_takes : (profile : Profile) (objects : ℕ) (all rest : List ℕ) (x : Event × List ℕ) → Takes all (5 ∷ []) rest → write_at objects rest ≡ Ok x
+write_at_takes_event : (profile : Profile) (objects : ℕ) (all rest : List ℕ) (x : Event × List ℕ) → Takes all (5 ∷ []) rest → write_at objects rest ≡ Ok x
     → TakesEvent profile objects all x
 unfolding write_at event_encoding
-write_takes profile objects all rest x prefix e =
-    four_ok (field_at Short (object_field objects) rest) (λ object. number_at Short 4 object.1)
+write_at_takes_event profile objects all rest x prefix e =
+    four_steps_succeed (field_at Short (object_field objects) rest) (λ object. number_at Short 4 object.1)
     (λ object version. number_at Short 4 version.1) (λ object version readers. Ok (Write object.0 version.0 readers.0, readers.1)) x e
     (λ object version readers e0 e1 e2 e3.
-    let t0 = object_takes objects rest object prefix.rest_fits e0 in
-    let t1 = number_takes Short 4 object.1 version t0.0.rest_fits e1 in
-    let t2 = number_takes Short 4 version.1 readers t1.0.rest_fits e2 in
-    let both = Takes-then object.1 (little_bytes 4 version.0) version.1 (little_bytes 4 readers.0) readers.1 t1.0 t2.0 in
-    let own = Takes-then rest (object.0 ∷ []) object.1 (little_bytes 4 version.0 ++ little_bytes 4 readers.0) readers.1 t0.0 both in
-    subst (TakesEvent profile objects all) (ok_is TraceErr (Write object.0 version.0 readers.0, readers.1) x e3) (
-      Takes-then all (5 ∷ []) rest (object.0 ∷ (little_bytes 4 version.0 ++ little_bytes 4 readers.0)) readers.1 prefix own,
+    let t0 = object_field_takes objects rest object prefix.rest_fits e0 in
+    let t1 = number_at_takes_number Short 4 object.1 version t0.0.rest_fits e1 in
+    let t2 = number_at_takes_number Short 4 version.1 readers t1.0.rest_fits e2 in
+    let both = takes_after_takes object.1 (little_bytes 4 version.0) version.1 (little_bytes 4 readers.0) readers.1 t1.0 t2.0 in
+    let own = takes_after_takes rest (object.0 ∷ []) object.1 (little_bytes 4 version.0 ++ little_bytes 4 readers.0) readers.1 t0.0 both in
+    subst (TakesEvent profile objects all) (ok_is_injective TraceErr (Write object.0 version.0 readers.0, readers.1) x e3) (
+      takes_after_takes all (5 ∷ []) rest (object.0 ∷ (little_bytes 4 version.0 ++ little_bytes 4 readers.0)) readers.1 prefix own,
       (t0.1, t1.1, t2.1),
     ))
 
-try_takes : (objects : ℕ) (all rest : List ℕ) (x : Event × List ℕ) → Takes all (6 ∷ []) rest → try_at objects rest ≡ Ok x
+try_at_takes_event : (objects : ℕ) (all rest : List ℕ) (x : Event × List ℕ) → Takes all (6 ∷ []) rest → try_at objects rest ≡ Ok x
     → TakesEvent Two objects all x
 unfolding try_at event_encoding
-try_takes objects all rest x prefix e =
-    two_ok (field_at Short (object_field objects) rest) (λ object. Ok (Try object.0, object.1)) x e (λ object e0 e1.
-    let t = object_takes objects rest object prefix.rest_fits e0 in
-    subst (TakesEvent Two objects all) (ok_is TraceErr (Try object.0, object.1) x e1)
-    (Takes-then all (6 ∷ []) rest (object.0 ∷ []) object.1 prefix t.0, (refl, t.1)))
+try_at_takes_event objects all rest x prefix e =
+    two_steps_succeed (field_at Short (object_field objects) rest) (λ object. Ok (Try object.0, object.1)) x e (λ object e0 e1.
+    let t = object_field_takes objects rest object prefix.rest_fits e0 in
+    subst (TakesEvent Two objects all) (ok_is_injective TraceErr (Try object.0, object.1) x e1)
+    (takes_after_takes all (6 ∷ []) rest (object.0 ∷ []) object.1 prefix t.0, (refl, t.1)))
 
-try_by_takes : (profile : Profile) (objects : ℕ) (all rest : List ℕ) (x : Event × List ℕ) → Takes all (6 ∷ []) rest
+try_by_takes_event : (profile : Profile) (objects : ℕ) (all rest : List ℕ) (x : Event × List ℕ) → Takes all (6 ∷ []) rest
     → try_by profile objects rest ≡ Ok x → TakesEvent profile objects all x
 unfolding try_by
-try_by_takes One objects all rest x prefix e = absurd cc
-try_by_takes Two objects all rest x prefix e = try_takes objects all rest x prefix e
+try_by_takes_event One objects all rest x prefix e = absurd cc
+try_by_takes_event Two objects all rest x prefix e = try_at_takes_event objects all rest x prefix e
 
 -- the tag that was read
-tagged : (all rest : List ℕ) (tag n : ℕ) → Takes all (tag ∷ []) rest → eqb tag n ≡ true → Takes all (n ∷ []) rest
-tagged all rest tag n prefix h = subst (λ (k : ℕ). Takes all (k ∷ []) rest) (eqb-true tag n h) prefix
+takes_equal_tag : (all rest : List ℕ) (tag n : ℕ) → Takes all (tag ∷ []) rest → eqb tag n ≡ true → Takes all (n ∷ []) rest
+takes_equal_tag all rest tag n prefix h = subst (λ (k : ℕ). Takes all (k ∷ []) rest) (eqb-true tag n h) prefix
 
-by_takes : (profile : Profile) (objects : ℕ) (all rest : List ℕ) (tag : ℕ) (x : Event × List ℕ) → Takes all (tag ∷ []) rest
+event_by_takes_event : (profile : Profile) (objects : ℕ) (all rest : List ℕ) (tag : ℕ) (x : Event × List ℕ) → Takes all (tag ∷ []) rest
     → event_by profile tag objects rest ≡ Ok x → TakesEvent profile objects all x
 unfolding event_by
-by_takes profile objects all rest tag x prefix e =
+event_by_takes_event profile objects all rest tag x prefix e =
     let none : Result (Event × List ℕ) TraceErr = Err Tag in
     let from6 = cond (eqb tag 6) (try_by profile objects rest) none in
     let from5 = cond (eqb tag 5) (write_at objects rest) from6 in
     let from4 = cond (eqb tag 4) (read_at objects rest) from5 in
     let from3 = cond (eqb tag 3) (input_at rest) from4 in
     let from2 = cond (eqb tag 2) (answer_at Random rest) from3 in
-    choose (eqb tag 1) (answer_at Clock rest) from2 (Ok x) e
-    (λ t h. answer_takes profile objects all rest Clock x (tagged all rest tag 1 prefix t) (λ v w. w) h) (λ _ e2.
-    choose (eqb tag 2) (answer_at Random rest) from3 (Ok x) e2
-    (λ t h. answer_takes profile objects all rest Random x (tagged all rest tag 2 prefix t) (λ v w. w) h) (λ _ e3.
-    choose (eqb tag 3) (input_at rest) from4 (Ok x) e3 (λ t h. input_takes profile objects all rest x (tagged all rest tag 3 prefix t) h) (λ _ e4.
-    choose (eqb tag 4) (read_at objects rest) from5 (Ok x) e4 (λ t h. read_takes profile objects all rest x (tagged all rest tag 4 prefix t) h)
+    conditional_cases (eqb tag 1) (answer_at Clock rest) from2 (Ok x) e
+    (λ t h. answer_at_takes_event profile objects all rest Clock x (takes_equal_tag all rest tag 1 prefix t) (λ v w. w) h) (λ _ e2.
+    conditional_cases (eqb tag 2) (answer_at Random rest) from3 (Ok x) e2
+    (λ t h. answer_at_takes_event profile objects all rest Random x (takes_equal_tag all rest tag 2 prefix t) (λ v w. w) h) (λ _ e3.
+    conditional_cases (eqb tag 3) (input_at rest) from4 (Ok x) e3 (λ t h. input_at_takes_event profile objects all rest x (takes_equal_tag all rest tag 3 prefix t) h) (λ _ e4.
+    conditional_cases (eqb tag 4) (read_at objects rest) from5 (Ok x) e4 (λ t h. read_at_takes_event profile objects all rest x (takes_equal_tag all rest tag 4 prefix t) h)
     (λ _ e5.
-    choose (eqb tag 5) (write_at objects rest) from6 (Ok x) e5 (λ t h. write_takes profile objects all rest x (tagged all rest tag 5 prefix t) h)
+    conditional_cases (eqb tag 5) (write_at objects rest) from6 (Ok x) e5 (λ t h. write_at_takes_event profile objects all rest x (takes_equal_tag all rest tag 5 prefix t) h)
     (λ _ e6.
-    choose (eqb tag 6) (try_by profile objects rest) none (Ok x) e6 (λ t h. try_by_takes profile objects all rest x (tagged all rest tag 6 prefix t) h)
+    conditional_cases (eqb tag 6) (try_by profile objects rest) none (Ok x) e6 (λ t h. try_by_takes_event profile objects all rest x (takes_equal_tag all rest tag 6 prefix t) h)
     (λ _ h. absurd cc))))))
 
-pub event_takes : (profile : Profile) (objects : ℕ) (bytes : List ℕ) (x : Event × List ℕ) → IsBytes bytes → event_at profile objects bytes ≡ Ok x
+pub event_at_takes_event : (profile : Profile) (objects : ℕ) (bytes : List ℕ) (x : Event × List ℕ) → IsBytes bytes → event_at profile objects bytes ≡ Ok x
     → TakesEvent profile objects bytes x
 unfolding event_at
-event_takes profile objects bytes x fits e =
-    two_ok (number_at Short 1 bytes) (λ n. event_by profile n.0 objects n.1) x e
-    (λ n e0 e1. by_takes profile objects bytes n.1 n.0 x (byte_takes Short bytes n fits e0) e1)
+event_at_takes_event profile objects bytes x fits e =
+    two_steps_succeed (number_at Short 1 bytes) (λ n. event_by profile n.0 objects n.1) x e
+    (λ n e0 e1. event_by_takes_event profile objects bytes n.1 n.0 x (number_at_takes_byte Short bytes n fits e0) e1)
 
 -- ---- and again
 
-input_passes : (v : ℕ) → IsResult Input v → is_input v ≡ true
-input_passes v (inl low) = rw (lt-ltb v 256 low) refl
-input_passes v (inr last) = rw last refl
+is_input_if_input_result : (v : ℕ) → IsResult Input v → is_input v ≡ true
+is_input_if_input_result v (inl low) = rw (lt-ltb v 256 low) refl
+is_input_if_input_result v (inr last) = rw last refl
 
-input_word : (v : ℕ) → IsResult Input v → IsWord v
-input_word v (inl low) = omega arith
-input_word v (inr last) = omega arith
+input_result_is_word : (v : ℕ) → IsResult Input v → IsWord v
+input_result_is_word v (inl low) = omega arith
+input_result_is_word v (inr last) = omega arith
 
-answer_again : (kind : EnvKind) (v : ℕ) (rest : List ℕ) → IsWord v → answer_at kind (little_bytes 4 v ++ rest) ≡ Ok (Answer kind v, rest)
+answer_at_of_encoding : (kind : EnvKind) (v : ℕ) (rest : List ℕ) → IsWord v → answer_at kind (little_bytes 4 v ++ rest) ≡ Ok (Answer kind v, rest)
 unfolding answer_at
-answer_again kind v rest fits = rw (number_again Short 4 v rest fits) refl
+answer_at_of_encoding kind v rest fits = rw (number_at_of_little_bytes Short 4 v rest fits) refl
 
-input_again : (v : ℕ) (rest : List ℕ) → IsResult Input v → input_at (little_bytes 4 v ++ rest) ≡ Ok (Answer Input v, rest)
+input_at_of_encoding : (v : ℕ) (rest : List ℕ) → IsResult Input v → input_at (little_bytes 4 v ++ rest) ≡ Ok (Answer Input v, rest)
 unfolding input_at
-input_again v rest fits = rw (field_again Short input_field v rest (input_word v fits) (passes (is_input v) Range (input_passes v fits)))
+input_at_of_encoding v rest fits = rw (field_at_of_little_bytes Short input_field v rest (input_result_is_word v fits) (no_fault_if_test_true (is_input v) Range (is_input_if_input_result v fits)))
     refl
 
-read_again : (objects o v : ℕ) (rest : List ℕ) → o < objects → IsWord v
+read_at_of_encoding : (objects o v : ℕ) (rest : List ℕ) → o < objects → IsWord v
     → read_at objects (o ∷ (little_bytes 4 v ++ rest)) ≡ Ok (Read o v, rest)
 unfolding read_at
-read_again objects o v rest lt fits = rw (object_again objects o (little_bytes 4 v ++ rest) lt, number_again Short 4 v rest fits) refl
+read_at_of_encoding objects o v rest lt fits = rw (object_field_of_encoding objects o (little_bytes 4 v ++ rest) lt, number_at_of_little_bytes Short 4 v rest fits) refl
 
-write_again : (objects o v r : ℕ) (rest : List ℕ) → o < objects → IsWord v → IsWord r
+write_at_of_encoding : (objects o v r : ℕ) (rest : List ℕ) → o < objects → IsWord v → IsWord r
     → write_at objects (o ∷ (little_bytes 4 v ++ (little_bytes 4 r ++ rest))) ≡ Ok (Write o v r, rest)
 unfolding write_at
-write_again objects o v r rest lt fits many =
+write_at_of_encoding objects o v r rest lt fits many =
     rw (
-      object_again objects o (little_bytes 4 v ++ (little_bytes 4 r ++ rest)) lt,
-      number_again Short 4 v (little_bytes 4 r ++ rest)
+      object_field_of_encoding objects o (little_bytes 4 v ++ (little_bytes 4 r ++ rest)) lt,
+      number_at_of_little_bytes Short 4 v (little_bytes 4 r ++ rest)
           fits,
-      number_again Short 4 r rest many,
+      number_at_of_little_bytes Short 4 r rest many,
     ) refl
 
-try_again : (profile : Profile) (objects o : ℕ) (rest : List ℕ) → profile ≡ Two → o < objects
+try_by_of_encoding : (profile : Profile) (objects o : ℕ) (rest : List ℕ) → profile ≡ Two → o < objects
     → try_by profile objects (o ∷ rest) ≡ Ok (Try o, rest)
 unfolding try_by try_at
-try_again One objects o rest is lt = absurd cc
-try_again Two objects o rest is lt = rw (object_again objects o rest lt) refl
+try_by_of_encoding One objects o rest is lt = absurd cc
+try_by_of_encoding Two objects o rest is lt = rw (object_field_of_encoding objects o rest lt) refl
 
 -- the tag, and then its fields
-tag_again : (profile : Profile) (objects tag : ℕ) (bytes : List ℕ) → event_at profile objects (tag ∷ bytes) ≡ event_by profile tag objects bytes
+event_at_of_tag : (profile : Profile) (objects tag : ℕ) (bytes : List ℕ) → event_at profile objects (tag ∷ bytes) ≡ event_by profile tag objects bytes
 unfolding event_at
-tag_again profile objects tag bytes = rw (byte_again Short tag bytes) refl
+event_at_of_tag profile objects tag bytes = rw (number_at_of_byte Short tag bytes) refl
 
-pub event_again : (profile : Profile) (objects : ℕ) (e : Event) (rest : List ℕ) → IsEvent profile objects e
+pub event_at_of_encoding : (profile : Profile) (objects : ℕ) (e : Event) (rest : List ℕ) → IsEvent profile objects e
     → event_at profile objects (event_encoding e ++ rest) ≡ Ok (e, rest)
 unfolding event_by event_encoding
-event_again profile objects (Answer Clock v) rest fits = tag_again profile objects 1 _ ∙ answer_again Clock v rest fits
-event_again profile objects (Answer Random v) rest fits = tag_again profile objects 2 _ ∙ answer_again Random v rest fits
-event_again profile objects (Answer Input v) rest fits = tag_again profile objects 3 _ ∙ input_again v rest fits
-event_again profile objects (Read o v) rest fits = tag_again profile objects 4 _ ∙ read_again objects o v rest fits.0 fits.1
-event_again profile objects (Write o v r) rest fits = tag_again profile objects 5 _ ∙ write_again objects o v r rest fits.0 fits.1 fits.2
-event_again profile objects (Try o) rest fits = tag_again profile objects 6 _ ∙ try_again profile objects o rest fits.0 fits.1
+event_at_of_encoding profile objects (Answer Clock v) rest fits = event_at_of_tag profile objects 1 _ ∙ answer_at_of_encoding Clock v rest fits
+event_at_of_encoding profile objects (Answer Random v) rest fits = event_at_of_tag profile objects 2 _ ∙ answer_at_of_encoding Random v rest fits
+event_at_of_encoding profile objects (Answer Input v) rest fits = event_at_of_tag profile objects 3 _ ∙ input_at_of_encoding v rest fits
+event_at_of_encoding profile objects (Read o v) rest fits = event_at_of_tag profile objects 4 _ ∙ read_at_of_encoding objects o v rest fits.0 fits.1
+event_at_of_encoding profile objects (Write o v r) rest fits = event_at_of_tag profile objects 5 _ ∙ write_at_of_encoding objects o v r rest fits.0 fits.1 fits.2
+event_at_of_encoding profile objects (Try o) rest fits = event_at_of_tag profile objects 6 _ ∙ try_by_of_encoding profile objects o rest fits.0 fits.1

@@ -5,13 +5,13 @@ use Rattle.ir_thread.specs.declared.profile.Profile.TheVariants.{One, Two}
 use Rattle.ir_trace.specs.Results.{shortest}
 
 -- after one event more
-pub one_more : (p : Profile) (i bytes rest after : ℕ) → i * shortest p + rest ≤ bytes → after + shortest p ≤ rest
+pub event_room_step : (p : Profile) (i bytes rest after : ℕ) → i * shortest p + rest ≤ bytes → after + shortest p ≤ rest
     → (i + 1) * shortest p + after ≤ bytes
-one_more One i bytes rest after so_far one = omega (arith, so_far, one)
-one_more Two i bytes rest after so_far one = omega (arith, so_far, one)
+event_room_step One i bytes rest after so_far one = omega (arith, so_far, one)
+event_room_step Two i bytes rest after so_far one = omega (arith, so_far, one)
 
 -- there is room for an event that was there
-pub has_room : (p : Profile) (i count bytes rest after : ℕ) → i < count → i * shortest p + rest ≤ bytes → after + shortest p ≤ rest
+pub event_room_for_next_event : (p : Profile) (i count bytes rest after : ℕ) → i < count → i * shortest p + rest ≤ bytes → after + shortest p ≤ rest
     → i < min count (bytes / shortest p)
-has_room One i count bytes rest after lt so_far one = omega (arith, lt, so_far, one)
-has_room Two i count bytes rest after lt so_far one = omega (arith, lt, so_far, one)
+event_room_for_next_event One i count bytes rest after lt so_far one = omega (arith, lt, so_far, one)
+event_room_for_next_event Two i count bytes rest after lt so_far one = omega (arith, lt, so_far, one)

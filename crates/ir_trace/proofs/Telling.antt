@@ -7,44 +7,44 @@ use Rattle.ir_runs.specs.Machine.{Label, Trace}
 use Rattle.ir_log.specs.Logging.{label_of}
 use Rattle.ir_log.specs.declared.event.Event.{Event}
 use Rattle.ir_trace.specs.Recorded.{RecordedThread, Recorded, absent, trace_of}
-use Rattle.ir_trace.proofs.Taken.{end_again_by}
+use Rattle.ir_trace.proofs.Taken.{end_of_number_and_code}
 
 -- different events are different labels
 abbrev pub OneLabelEach : Type 0
 OneLabelEach = (a b : Event) → label_of a ≡ label_of b → a ≡ b
 
-heads : (x y : Label) (xs ys : List Label) → x ∷ xs ≡ y ∷ ys → (x ≡ y) × (xs ≡ ys)
-heads x y xs ys e = (cc, cc)
+heads_and_tails_of_equal_lists : (x y : Label) (xs ys : List Label) → x ∷ xs ≡ y ∷ ys → (x ≡ y) × (xs ≡ ys)
+heads_and_tails_of_equal_lists x y xs ys e = (cc, cc)
 
-same_events : OneLabelEach → (xs ys : List Event) → map label_of xs ≡ map label_of ys → xs ≡ ys
-same_events law [] [] e = refl
-same_events law [] (y ∷ ys) e = absurd cc
-same_events law (x ∷ xs) [] e = absurd cc
-same_events law (x ∷ xs) (y ∷ ys) e =
-    let both = heads (label_of x) (label_of y) (map label_of xs) (map label_of ys) e in
+events_equal_if_labels_equal : OneLabelEach → (xs ys : List Event) → map label_of xs ≡ map label_of ys → xs ≡ ys
+events_equal_if_labels_equal law [] [] e = refl
+events_equal_if_labels_equal law [] (y ∷ ys) e = absurd cc
+events_equal_if_labels_equal law (x ∷ xs) [] e = absurd cc
+events_equal_if_labels_equal law (x ∷ xs) (y ∷ ys) e =
+    let both = heads_and_tails_of_equal_lists (label_of x) (label_of y) (map label_of xs) (map label_of ys) e in
     let first : x ≡ y = law x y both.0 in
-    ap (λ (k : Event). k ∷ xs) first ∙ ap (λ (k : List Event). y ∷ k) (same_events law xs ys both.1)
+    ap (λ (k : Event). k ∷ xs) first ∙ ap (λ (k : List Event). y ∷ k) (events_equal_if_labels_equal law xs ys both.1)
 
-abbrev given : {A : Type 0} → A → Option A
-given x = Some x
+abbrev some_of : {A : Type 0} → A → Option A
+some_of x = Some x
 
-some_is : {A : Type 0} (x y : A) → given x ≡ given y → x ≡ y
-some_is x y e = cc
+some_is_injective : {A : Type 0} (x y : A) → some_of x ≡ some_of y → x ≡ y
+some_is_injective x y e = cc
 
 abbrev both_numbers : ℕ → ℕ → Option (ℕ × ℕ)
 both_numbers n c = Some (n, c)
 
-numbers_of : (n c m d : ℕ) → both_numbers n c ≡ both_numbers m d → (n ≡ m) × (c ≡ d)
-numbers_of n c m d e =
-    let pair = some_is {A = ℕ × ℕ} (n, c) (m, d) e in
+both_numbers_is_injective : (n c m d : ℕ) → both_numbers n c ≡ both_numbers m d → (n ≡ m) × (c ≡ d)
+both_numbers_is_injective n c m d e =
+    let pair = some_is_injective {A = ℕ × ℕ} (n, c) (m, d) e in
     (ap (λ (p : ℕ × ℕ). p.0) pair, ap (λ (p : ℕ × ℕ). p.1) pair)
 
-same_end : (x y : End) → both_numbers (end_number x) (end_code x) ≡ both_numbers (end_number y) (end_code y) → x ≡ y
-same_end x y e =
-    let both = numbers_of (end_number x) (end_code x) (end_number y) (end_code y) e in
+ends_equal_if_numbers_equal : (x y : End) → both_numbers (end_number x) (end_code x) ≡ both_numbers (end_number y) (end_code y) → x ≡ y
+ends_equal_if_numbers_equal x y e =
+    let both = both_numbers_is_injective (end_number x) (end_code x) (end_number y) (end_code y) e in
     let moved : end_of (end_number x) (end_code x) ≡ end_of (end_number y) (end_code y) =
     ap (λ (n : ℕ). end_of n (end_code x)) both.0 ∙ ap (λ (c : ℕ). end_of (end_number y) c) both.1 in
-    some_is x y (sym (end_again_by x) ∙ moved ∙ end_again_by y)
+    some_is_injective x y (sym (end_of_number_and_code x) ∙ moved ∙ end_of_number_and_code y)
 
 abbrev end_of_thread : RecordedThread → Option (ℕ × ℕ)
 end_of_thread t = both_numbers (end_number t.end) (end_code t.end)
@@ -55,27 +55,27 @@ record EmitAlike (xs ys : List RecordedThread) : Type 0 where
   logs : (t : ℕ) → map label_of (slice_index_or xs t absent).events ≡ map label_of (slice_index_or ys t absent).events
   ends : (t : ℕ) → end_of_thread (slice_index_or xs t absent) ≡ end_of_thread (slice_index_or ys t absent)
 
-same_thread : OneLabelEach → (x y : RecordedThread) → x.steps ≡ y.steps → map label_of x.events ≡ map label_of y.events
+recorded_threads_equal_if_parts_equal : OneLabelEach → (x y : RecordedThread) → x.steps ≡ y.steps → map label_of x.events ≡ map label_of y.events
     → end_of_thread x ≡ end_of_thread y → x ≡ y
-same_thread law x y s l e =
-    let end = same_end x.end y.end e in
-    let events = same_events law x.events y.events l in
+recorded_threads_equal_if_parts_equal law x y s l e =
+    let end = ends_equal_if_numbers_equal x.end y.end e in
+    let events = events_equal_if_labels_equal law x.events y.events l in
     λ i. record { steps = s i; end = end i; events = events i }
 
-same_threads : OneLabelEach → (xs ys : List RecordedThread) → length xs ≡ length ys → EmitAlike xs ys → xs ≡ ys
-same_threads law [] [] n h = refl
-same_threads law [] (y ∷ ys) n h = absurd (omega (arith, n))
-same_threads law (x ∷ xs) [] n h = absurd (omega (arith, n))
-same_threads law (x ∷ xs) (y ∷ ys) n h =
-    let first : x ≡ y = same_thread law x y (h.steps zero) (h.logs zero) (h.ends zero) in
-    let others : xs ≡ ys = same_threads law xs ys (omega (arith, n))
+recorded_threads_equal_if_emit_alike : OneLabelEach → (xs ys : List RecordedThread) → length xs ≡ length ys → EmitAlike xs ys → xs ≡ ys
+recorded_threads_equal_if_emit_alike law [] [] n h = refl
+recorded_threads_equal_if_emit_alike law [] (y ∷ ys) n h = absurd (omega (arith, n))
+recorded_threads_equal_if_emit_alike law (x ∷ xs) [] n h = absurd (omega (arith, n))
+recorded_threads_equal_if_emit_alike law (x ∷ xs) (y ∷ ys) n h =
+    let first : x ≡ y = recorded_threads_equal_if_parts_equal law x y (h.steps zero) (h.logs zero) (h.ends zero) in
+    let others : xs ≡ ys = recorded_threads_equal_if_emit_alike law xs ys (omega (arith, n))
     (record { steps = λ t. h.steps (suc t); logs = λ t. h.logs (suc t); ends = λ t. h.ends (suc t) }) in
     ap (λ (k : RecordedThread). k ∷ xs) first ∙ ap (λ (k : List RecordedThread). y ∷ k) others
 
-pub distinguished_by : OneLabelEach → (a b : Recorded) → a.objects ≡ b.objects → a.budget ≡ b.budget → a.profile ≡ b.profile → length a.threads ≡ length b.threads
+pub recorded_equal_if_traces_equal : OneLabelEach → (a b : Recorded) → a.objects ≡ b.objects → a.budget ≡ b.budget → a.profile ≡ b.profile → length a.threads ≡ length b.threads
     → trace_of a ≡ trace_of b → a ≡ b
-distinguished_by law a b o n p l e =
-    let threads = same_threads law a.threads b.threads l
+recorded_equal_if_traces_equal law a b o n p l e =
+    let threads = recorded_threads_equal_if_emit_alike law a.threads b.threads l
     (record {
       steps = λ t. ap (λ (x : Trace). x.steps t) e;
       logs = λ t. ap (λ (x : Trace). x.logs t) e;

@@ -10,7 +10,7 @@ use Rattle.ir_log.specs.declared.event.Event.{Event}
 use Rattle.ir_log.specs.declared.event.Event.TheVariants.{Answer, Read, Write, Try}
 use Rattle.ir_trace.specs.Recorded.{RecordedThread, Recorded}
 use Rattle.ir_trace.specs.declared.header.Header.{Header}
-use Rattle.ir_trace.specs.Reading.{magic}
+use Rattle.ir_trace.specs.Reading.{trace_magic}
 
 -- the byte that a call of the environment begins with
 abbrev pub kind_tag : EnvKind → ℕ
@@ -39,7 +39,7 @@ header_of r = record { profile = r.profile; threads = length r.threads; objects 
 
 -- the magic, the number of threads and of objects, two bytes that are reserved, the budget
 unfoldable pub header_encoding : Header → List ℕ
-header_encoding h = magic h.profile ++ h.threads ∷ h.objects ∷ [] ++ little_bytes 2 0 ++ little_bytes 8 h.budget
+header_encoding h = trace_magic h.profile ++ h.threads ∷ h.objects ∷ [] ++ little_bytes 2 0 ++ little_bytes 8 h.budget
 
 -- the whole trace
 abbrev pub encoding : Recorded → List ℕ

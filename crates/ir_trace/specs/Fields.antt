@@ -5,7 +5,7 @@ use Rattle.ir_bytes.specs.Format.{Format, finished, next, before, repeated, firs
 use Rattle.ir_thread.specs.declared.profile.Profile.{Profile}
 use Rattle.ir_trace.specs.declared.trace_err.TraceErr.{TraceErr}
 use Rattle.ir_trace.specs.declared.trace_err.TraceErr.TheVariants.{Short, Trailing}
-use Rattle.ir_trace.specs.Reading.{magic_field, profile_of, threads_field, objects_field, reserved_field, budget_field, end_field, events_field, input_field, object_field}
+use Rattle.ir_trace.specs.Reading.{trace_magic_field, profile_of, trace_threads_field, trace_objects_field, reserved_field, budget_field, end_field, events_field, input_field, object_field}
 use Rattle.ir_trace.specs.Results.{code_field, tag_field}
 
 -- after the tag: an input's value; an entry's object and version, and, if it is for writing, its readers; a refused try's object;
@@ -30,7 +30,7 @@ thread_fields profile objects rest =
 -- the magic, which says the profile; how many threads and objects; what is reserved; the budget; the threads
 abbrev pub trace_fields : Format TraceErr
 trace_fields =
-    next magic_field λ magic. next (threads_field (profile_of magic)) λ threads. next (objects_field (profile_of magic)) λ objects.
+    next trace_magic_field λ magic. next (trace_threads_field (profile_of magic)) λ threads. next (trace_objects_field (profile_of magic)) λ objects.
     before reserved_field (before budget_field (repeated threads (thread_fields (profile_of magic) objects) finished))
 
 -- the first fault of bytes that are no trace

@@ -18,26 +18,26 @@ use Rattle.ir_trace.specs.declared.trace_err.TraceErr.{TraceErr}
 use Rattle.ir_trace.specs.declared.trace_err.TraceErr.TheVariants.{Short, Magic, Count, Tag, Reserved, Range, Trailing, NoMem}
 
 -- `IRT1`, and in the second profile `IRT2`
-abbrev pub magic : Profile → List ℕ
-magic One = 0x49 ∷ 0x52 ∷ 0x54 ∷ 0x31 ∷ []
-magic Two = 0x49 ∷ 0x52 ∷ 0x54 ∷ 0x32 ∷ []
+abbrev pub trace_magic : Profile → List ℕ
+trace_magic One = 0x49 ∷ 0x52 ∷ 0x54 ∷ 0x31 ∷ []
+trace_magic Two = 0x49 ∷ 0x52 ∷ 0x54 ∷ 0x32 ∷ []
 
 -- whether a number is the magic of a profile
 abbrev pub is_magic : ℕ → Bool
-is_magic n = n == little_number 4 (magic One) || n == little_number 4 (magic Two)
+is_magic n = n == little_number 4 (trace_magic One) || n == little_number 4 (trace_magic Two)
 
-abbrev pub magic_field : Field TraceErr
-magic_field = tested 4 is_magic Magic
+abbrev pub trace_magic_field : Field TraceErr
+trace_magic_field = tested 4 is_magic Magic
 
 -- the profile of a magic
 abbrev pub profile_of : ℕ → Profile
-profile_of n = if n == little_number 4 (magic One) then One else Two
+profile_of n = if n == little_number 4 (trace_magic One) then One else Two
 
-abbrev pub threads_field : Profile → Field TraceErr
-threads_field profile = within 1 1 (limits_of (largest profile)).threads Count
+abbrev pub trace_threads_field : Profile → Field TraceErr
+trace_threads_field profile = within 1 1 (limits_of (largest profile)).threads Count
 
-abbrev pub objects_field : Profile → Field TraceErr
-objects_field profile = within 1 0 (limits_of (largest profile)).objects Count
+abbrev pub trace_objects_field : Profile → Field TraceErr
+trace_objects_field profile = within 1 0 (limits_of (largest profile)).objects Count
 
 -- the two bytes that are reserved
 abbrev pub reserved_field : Field TraceErr
@@ -69,14 +69,14 @@ object_field objects = tested 1 (λ n. nat_lt n objects) Count
 
 -- the profile, by the magic
 unfoldable pub profile_at : Reader Profile TraceErr
-profile_at bytes = field_at Short magic_field bytes >>= λ n. Ok (profile_of n.0, n.1)
+profile_at bytes = field_at Short trace_magic_field bytes >>= λ n. Ok (profile_of n.0, n.1)
 
 -- what comes before the threads
 unfoldable pub header_at : Reader Header TraceErr
 header_at bytes = do
   profile ← profile_at bytes
-  threads ← field_at Short (threads_field profile.0) profile.1
-  objects ← field_at Short (objects_field profile.0) threads.1
+  threads ← field_at Short (trace_threads_field profile.0) profile.1
+  objects ← field_at Short (trace_objects_field profile.0) threads.1
   reserved ← field_at Short reserved_field objects.1
   budget ← field_at Short budget_field reserved.1
   Ok (record { profile = profile.0; threads = threads.0; objects = objects.0; budget = budget.0 }, budget.1)
@@ -140,8 +140,8 @@ unfoldable pub event_at : Profile → ℕ → Reader Event TraceErr
 event_at profile objects bytes = number_at Short 1 bytes >>= λ n. event_by profile n.0 objects n.1
 
 -- a thread of a guest with `objects` objects
-unfoldable pub thread_at : Profile → ℕ → Reader RecordedThread TraceErr
-thread_at profile objects bytes = do
+unfoldable pub thread_part_at : Profile → ℕ → Reader RecordedThread TraceErr
+thread_part_at profile objects bytes = do
   steps ← number_at Short 8 bytes
   end ← end_at steps.1
   count ← field_at Short events_field end.1
@@ -152,18 +152,18 @@ thread_at profile objects bytes = do
 unfoldable pub recorded_at : List ℕ → Result Recorded TraceErr
 recorded_at bytes = do
   header ← header_at bytes
-  threads ← fields_at (thread_at header.0.profile header.0.objects) header.0.threads header.1
+  threads ← fields_at (thread_part_at header.0.profile header.0.objects) header.0.threads header.1
   if length threads.1 == 0
       then Ok (record { objects = header.0.objects; budget = header.0.budget; profile = header.0.profile; threads = threads.0 })
       else Err Trailing
 
 -- the number that a fault of the bytes goes by; running out of memory is no fault of theirs
-abbrev pub number_of : TraceErr → Option ℕ
-number_of Short = Some 1
-number_of Magic = Some 2
-number_of Count = Some 3
-number_of Tag = Some 4
-number_of Reserved = Some 5
-number_of Range = Some 6
-number_of Trailing = Some 7
-number_of NoMem = None
+abbrev pub trace_fault_number : TraceErr → Option ℕ
+trace_fault_number Short = Some 1
+trace_fault_number Magic = Some 2
+trace_fault_number Count = Some 3
+trace_fault_number Tag = Some 4
+trace_fault_number Reserved = Some 5
+trace_fault_number Range = Some 6
+trace_fault_number Trailing = Some 7
+trace_fault_number NoMem = None

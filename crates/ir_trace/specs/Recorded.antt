@@ -1,4 +1,4 @@
--- What was recorded of a run, apart from where it lies in memory.
+-- What was recorded of a run, however the code keeps it.
 use Rattle.std.specs.Prelude.{ℕ, List, [], map, Some}
 pub use Rattle.ir_bytes.specs.Numbers.{IsWord}
 use Rattle.ir_thread.specs.declared.end.End.{End}
@@ -41,7 +41,7 @@ absent = record { steps = 0; end = Breakpoint; events = [] }
 abbrev pub recorded_thread : Recorded → ℕ → RecordedThread
 recorded_thread r t = slice_index_or r.threads t absent
 
--- it, in tables by the numbers of the threads
+-- what was recorded, as a trace: in tables by the numbers of the threads
 abbrev pub trace_of : Recorded → Trace
 trace_of r = record {
   steps = λ t. (recorded_thread r t).steps;

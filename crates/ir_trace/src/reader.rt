@@ -5,7 +5,7 @@ ghost use Rattle.ir_trace.specs.Recorded.{Recorded};
 ghost use Rattle.ir_trace.specs.Within.{IsRecorded};
 ghost use Rattle.ir_trace.specs.Encoding.{encoding};
 ghost use Rattle.ir_bytes.specs.Reading.{fields_at};
-ghost use Rattle.ir_trace.specs.Reading.{profile_at, header_at, end_at, thread_at, recorded_at};
+ghost use Rattle.ir_trace.specs.Reading.{profile_at, header_at, end_at, thread_part_at, recorded_at};
 ghost use Rattle.ir_trace.specs.Results.{Gives};
 
 use crate::event_reader::events;
@@ -62,14 +62,14 @@ fn end(bytes: &[u8]) -> Result<(End, &[u8]), TraceErr>
     }
 }
 
-#[tactic(auto, unfolding(crate::specs::Reading::thread_at))]
+#[tactic(auto, unfolding(crate::specs::Reading::thread_part_at))]
 fn thread(
     alloc: Global,
     profile: Profile,
     objects: u8,
     bytes: &[u8],
 ) -> Result<(ThreadTrace, &[u8]), TraceErr>
-    ensures { Gives (λ x. (x.0, x.1.now)) result (thread_at profile objects bytes.now) }
+    ensures { Gives (λ x. (x.0, x.1.now)) result (thread_part_at profile objects bytes.now) }
 {
     let (steps, rest) = double(bytes, TraceErr::Short)?;
     let (end, rest) = end(rest)?;
@@ -85,7 +85,7 @@ fn threads(
     count: u8,
     bytes: &[u8],
 ) -> Result<(Vec<ThreadTrace>, &[u8]), TraceErr>
-    ensures { Gives (λ x. (x.0.items, x.1.now)) result (fields_at (thread_at profile objects) count bytes.now) }
+    ensures { Gives (λ x. (x.0.items, x.1.now)) result (fields_at (thread_part_at profile objects) count bytes.now) }
 {
     let mut threads = Vec::new(alloc);
     let mut rest = bytes;

@@ -2,7 +2,7 @@
 
 ghost use Rattle.std.specs.Prelude.{◌≡◌};
 ghost use Rattle.ir_trace.specs.declared.trace_err.TraceErr.TheVariants.{NoMem};
-ghost use Rattle.ir_trace.specs.Reading.{number_of};
+ghost use Rattle.ir_trace.specs.Reading.{trace_fault_number};
 
 use std::alloc::{AllocError, AllocFailed};
 use thiserror::Error;
@@ -33,7 +33,7 @@ pub enum TraceErr {
 impl TraceErr {
     /// The number of the fault, 1 to 7 in the order above, or `None` for out of memory.
     pub fn number(&self) -> Option<u8>
-        ensures { result ≡ number_of self.now }
+        ensures { result ≡ trace_fault_number self.now }
     {
         match self {
             TraceErr::Short => Some(1),

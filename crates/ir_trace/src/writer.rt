@@ -6,7 +6,7 @@ ghost use Rattle.byteorder.specs.Endian.{little_bytes};
 ghost use Rattle.ir_image.specs.Guest.{most_threads};
 ghost use Rattle.ir_thread.specs.Calls.{most_events};
 ghost use Rattle.ir_trace.specs.Encoding.{header_encoding, kind_tag, event_encoding, end_encoding, thread_encoding, encoding};
-ghost use Rattle.ir_trace.specs.Reading.{magic};
+ghost use Rattle.ir_trace.specs.Reading.{trace_magic};
 
 use crate::header::Header;
 use crate::layout::{
@@ -37,7 +37,7 @@ fn put_double(out: &mut Vec<u8>, double: u64) -> Result<(), AllocError>
 }
 
 fn magic_bytes(profile: Profile) -> [u8; 4]
-    ensures { result ≡ magic profile }
+    ensures { result ≡ trace_magic profile }
 {
     match profile {
         Profile::One => *b"IRT1",

@@ -4,6 +4,6 @@ use Rattle.std.specs.Prelude.{slice_index}
 use Rattle.std.specs.List.{AllByRecursion}
 use Rattle.ir_image.specs.Guest.{IsWord}
 
-pub words_fit : (words : List ℕ) → ((i : ℕ) → IsWord (slice_index words i)) → AllByRecursion IsWord words
-words_fit [] each = tt
-words_fit (w ∷ ws) each = (each 0, words_fit ws (λ i. each (suc i)))
+pub all_words_if_each_fits : (words : List ℕ) → ((i : ℕ) → IsWord (slice_index words i)) → AllByRecursion IsWord words
+all_words_if_each_fits [] each = tt
+all_words_if_each_fits (w ∷ ws) each = (each 0, all_words_if_each_fits ws (λ i. each (suc i)))

@@ -1,8 +1,8 @@
 -- What callers may cite of steps on a walk over a recorded run.
 -- the calls of steps after others, whether the replies fit, and what the steps ask
-pub use Rattle.ir_walk.proofs.Taken.{calls_then, suit_both}
-pub use Rattle.ir_walk.proofs.Asked.{none_asked, one_asked}
+pub use Rattle.ir_walk.proofs.Taken.{calls_in_split_at_middle, all_suit_of_append}
+pub use Rattle.ir_walk.proofs.Asked.{steps_without_call_are_private, step_with_call_asks_so}
 -- a thread that holds an object, and the words of the object there
-pub use Rattle.ir_walk.proofs.Held.{holds_behind, holds_before, words_there}
+pub use Rattle.ir_walk.proofs.Held.{thread_holds_object_behind_entry, thread_holds_object_before_leave, words_of_held_object_at_standing}
 -- each of a list's elements
-pub use Rattle.ir_walk.proofs.Lists.{each_more, each_same, some_same}
+pub use Rattle.ir_walk.proofs.Lists.{each_element_after_push, each_element_of_permutation, some_element_of_permutation}

@@ -1,7 +1,7 @@
 -- The calls of a thread, and what they were answered.
 use Rattle.std.specs.Prelude.{◌≡◌, ℕ, zero, suc, ◌+◌, List, [], ◌∷◌, ◌++◌}
 use Rattle.std.specs.List.{AllByRecursion}
-use Rattle.ir_thread.specs.State.{State}
+use Rattle.ir_thread.specs.State.{ThreadState}
 use Rattle.ir_thread.specs.Calls.{ask_of, a0}
 use Rattle.ir_thread.specs.Permitted.{Suits}
 use Rattle.ir_thread.specs.Instance.{reply_of}
@@ -14,7 +14,7 @@ use Rattle.ir_weave.specs.Ahead.{thread_at}
 use Rattle.ir_walk.specs.declared.exchange.Exchange.{Exchange}
 
 -- what a step was answered, by the thread before it and the thread after it
-abbrev pub reply_between : List ℕ → State → State → Reply
+abbrev pub reply_between : List ℕ → ThreadState → ThreadState → Reply
 reply_between code before next = reply_of (ask_of code before) (a0 next)
 
 -- a step's call; none, if the step is private
@@ -23,11 +23,11 @@ call_by ask.Private reply = []
 call_by asked reply = record { asked = asked; reply = reply } ∷ []
 
 -- the call of step k of a thread that is `at` k after k of its steps
-abbrev pub call_at : List ℕ → (ℕ → State) → ℕ → List Exchange
+abbrev pub call_at : List ℕ → (ℕ → ThreadState) → ℕ → List Exchange
 call_at code at k = call_by (ask_of code (at k)) (reply_between code (at k) (at (suc k)))
 
 -- the calls of its n steps from step k on
-unfoldable pub calls_in : List ℕ → (ℕ → State) → ℕ → ℕ → List Exchange
+unfoldable pub calls_in : List ℕ → (ℕ → ThreadState) → ℕ → ℕ → List Exchange
 calls_in code at k zero = []
 calls_in code at k (suc n) = calls_in code at k n ++ call_at code at (k + n)
 

@@ -9,7 +9,7 @@ use Rattle.atomic_table.proofs.Lists.{set_again}
 use Rattle.ir_image.specs.Guest.{object_count, most_object_words}
 use Rattle.ir_thread.specs.Calls.{ask_of, after_ask}
 use Rattle.ir_thread.specs.Permitted.{Permits}
-use Rattle.ir_thread.proofs.CallerLemmas.{ask_permits}
+use Rattle.ir_thread.proofs.CallerLemmas.{ask_of_permitted}
 use Rattle.ir_thread.specs.Instance.{shared_ask}
 use Rattle.ir_runs.specs.Machine.{act_of, target, emitted, Out}
 use Rattle.ir_thread.specs.State as thread
@@ -25,16 +25,16 @@ use Rattle.ir_object.specs.Word.{reader_unit, left_unit, version_unit, inside_li
 use Rattle.ir_flat.specs.Flat.{Flat, IsFlat, idle, thread_of, cell_of, inside_of, tables}
 use Rattle.ir_flat.specs.Next.{next}
 use Rattle.ir_runs.specs.Run.{count, label, end, trail}
-use Rattle.ir_flat.proofs.CallerLemmas.{logged_fits, few_inside, enter_fits, leave_fits, leave_allowed, thread_count}
+use Rattle.ir_flat.proofs.CallerLemmas.{counts_within_logged_limit, inside_within_most_threads, entered_fields_fit, left_fields_fit, flat_inside_thread_can_leave, next_keeps_thread_count}
 use Rattle.ir_log.specs.Asked.{ask_of as event_ask, Suits}
-use Rattle.ir_log.proofs.CallerLemmas.{entering_by}
+use Rattle.ir_log.proofs.CallerLemmas.{entry_event_suits_enter_or_try}
 use Rattle.ir_log.specs.declared.event.Event.{Event}
 use Rattle.ir_log.specs.declared.event.Event.TheVariants.{Answer as Answered, Read, Write, Try as Refused}
 use Rattle.ir_trace.specs.Recorded.{recorded_thread}
 use Rattle.ir_runs.specs.Cuts.{At, Emits, part}
 use Rattle.ir_fit.specs.Fit.{FittedTrace, HasRun}
 use Rattle.ir_cut.specs.Positions.{machine_of, start_of, EachRun}
-use Rattle.ir_runs.proofs.CallerLemmas.{persists}
+use Rattle.ir_runs.proofs.CallerLemmas.{admitted_persists_at_later_cut}
 use Rattle.ir_weave.specs.Ahead.{IsRefused, IsAlone, GoesAlone, event_of, HasStep, IsAhead, IsEntering, IsNextObject, thread_at, AreAlone}
 use Rattle.ir_weave.specs.Standing.{IsStateAt, positions}
 use Rattle.ir_object.specs.Layout.{word_place, content_place}
@@ -43,105 +43,105 @@ use Rattle.ir_weave.specs.Woven.{View, trace_in, Met, progress, met_in, stood, A
 use Rattle.ir_weave.specs.declared.plan.Plan.{Plan}
 use Rattle.ir_weave.specs.declared.plan.Progress.{Progress}
 use Rattle.ir_weave.specs.Stepping.{LogsNext}
-use Rattle.ir_weave.proofs.Behind.{cut_at, tables_at, admitted_next}
+use Rattle.ir_weave.proofs.Behind.{guest_state_at_consistent_cut, tables_are_end_of_part, admitted_thread_logs_next}
 use Rattle.ir_weave.proofs.Lone.{try_result}
-use Rattle.ir_weave.proofs.Entries.{open_admitted, shut_stopped, opens_or, opens_by}
-use Rattle.ir_weave.proofs.Forth.{Goes, CaughtUp, IsFree, guest_thread, logs_on, admitted_on, tried_with, free_admitted, catch_up}
-use Rattle.ir_weave.proofs.Moves.{IsFurther, up, moves}
-use Rattle.ir_weave.proofs.Words.{head_changes, place_changes, same_words}
+use Rattle.ir_weave.proofs.Entries.{open_entry_is_admitted, shut_entry_is_not_admitted, open_is_decidable, open_depends_on_fields}
+use Rattle.ir_weave.proofs.Forth.{StepGoesOn, CaughtUp, IsFree, state_thread_is_guest_thread, step_goes_on_if_logs_next, step_goes_on_if_admitted, try_that_logs_has_result, free_step_is_admitted, state_catches_up_with_thread}
+use Rattle.ir_weave.proofs.Moves.{IsFurther, further_state_is_not_lower, woven_after_seat_moves}
+use Rattle.ir_weave.proofs.Words.{table_after_object_word_set, table_after_content_word_set, table_after_word_rewritten}
 
 -- ---- the seat's thread, where it is ahead
 
-caught : (k : Plan) (x : State (Unit {0}) View) (h : Woven k x) (id : ℕ) (q : Progress) (y : thread.State)
+seat_thread_caught_up : (k : Plan) (x : State (Unit {0}) View) (h : Woven k x) (id : ℕ) (q : Progress) (y : thread.ThreadState)
     → get_elem? x.views id ≡ some (q ∷ []) → IsAhead (trace_in k) q.thread q.position y → CaughtUp (trace_in k) h.state q.thread y
-caught k x h id q y at ahead =
+seat_thread_caught_up k x h id q y at ahead =
     let own = (h.tracks id (q ∷ []) at).0 in
-    catch_up (trace_in k) h.state q.thread y h.run h.flat h.at own.there ahead.at
+    state_catches_up_with_thread (trace_in k) h.state q.thread y h.run h.flat h.at own.there ahead.at
     (subst (λ i. AreAlone (trace_in k) q.thread i y.steps) (sym own.position) ahead.alone)
     (subst (λ i. i ≤ y.steps) (sym own.position) ahead.past)
 
-there : (k : Plan) (x : State (Unit {0}) View) (h : Woven k x) (id : ℕ) (q : Progress) (y : thread.State)
+caught_up_state_has_thread : (k : Plan) (x : State (Unit {0}) View) (h : Woven k x) (id : ℕ) (q : Progress) (y : thread.ThreadState)
     → get_elem? x.views id ≡ some (q ∷ []) → (cu : CaughtUp (trace_in k) h.state q.thread y) → q.thread < length cu.state.threads
-there k x h id q y at cu = let a = (h.tracks id (q ∷ []) at).0.there in let b = cu.size in omega (arith, a, b)
+caught_up_state_has_thread k x h id q y at cu = let a = (h.tracks id (q ∷ []) at).0.there in let b = cu.size in omega (arith, a, b)
 
-further_by : (k : Plan) (x : State (Unit {0}) View) (h : Woven k x) (id : ℕ) (q : Progress) (y : thread.State)
+caught_up_state_is_further : (k : Plan) (x : State (Unit {0}) View) (h : Woven k x) (id : ℕ) (q : Progress) (y : thread.ThreadState)
     → get_elem? x.views id ≡ some (q ∷ []) → IsAhead (trace_in k) q.thread q.position y → (cu : CaughtUp (trace_in k) h.state q.thread y)
     → IsFurther (trace_in k) h.state cu.state q.thread
-further_by k x h id q y at ahead cu = record {
+caught_up_state_is_further k x h id q y at ahead cu = record {
   flat = cu.flat;
   at = cu.at;
   size = cu.size;
-  own = (let a = (h.tracks id (q ∷ []) at).0.position in let b = ap (λ (z : thread.State). z.steps) cu.own in let c = ahead.past in
+  own = (let a = (h.tracks id (q ∷ []) at).0.position in let b = ap (λ (z : thread.ThreadState). z.steps) cu.own in let c = ahead.past in
       omega (arith, a, b, c));
   others = cu.others;
 }
 
 -- what it asks
-asks_there : (f : FittedTrace) (s : Flat) (t : ℕ) (y : thread.State) (q : Ask) → (cu : CaughtUp f s t y) → ask_of f.guest.code y ≡ q
+caught_up_thread_asks_so : (f : FittedTrace) (s : Flat) (t : ℕ) (y : thread.ThreadState) (q : Ask) → (cu : CaughtUp f s t y) → ask_of f.guest.code y ≡ q
     → ask_of cu.state.code (thread_of cu.state t) ≡ q
-asks_there f s t y q cu is = (λ i. ask_of (cu.at.code i) (cu.own i)) ∙ is
+caught_up_thread_asks_so f s t y q cu is = (λ i. ask_of (cu.at.code i) (cu.own i)) ∙ is
 
-has_there : (f : FittedTrace) (s : Flat) (t : ℕ) (y : thread.State) → (cu : CaughtUp f s t y) → HasStep f t y.steps
+caught_up_thread_has_step : (f : FittedTrace) (s : Flat) (t : ℕ) (y : thread.ThreadState) → (cu : CaughtUp f s t y) → HasStep f t y.steps
     → HasStep f t (positions cu.state t)
-has_there f s t y cu has run of = subst (λ (z : thread.State). z.steps < count (machine_of f) (start_of f) run t) (sym cu.own) (has run of)
+caught_up_thread_has_step f s t y cu has run of = subst (λ (z : thread.ThreadState). z.steps < count (machine_of f) (start_of f) run t) (sym cu.own) (has run of)
 
 -- where it touches an object, that is its next such step
-pub touches_next : (f : FittedTrace) (t i : ℕ) (y : thread.State) (q : Ask) → IsAhead f t i y → ask_of f.guest.code y ≡ q
+pub touching_step_is_next_object : (f : FittedTrace) (t i : ℕ) (y : thread.ThreadState) (q : Ask) → IsAhead f t i y → ask_of f.guest.code y ≡ q
     → (IsAlone q (event_of f t y) → ⊥) → IsNextObject f t i y.steps
-touches_next f t i y q ahead is touches = record {
+touching_step_is_next_object f t i y q ahead is touches = record {
   past = ahead.past;
   alone = ahead.alone;
   touches = λ run of h. touches (subst (λ p. IsAlone p (event_of f t y)) is (subst (GoesAlone f t) (sym (ahead.at run of).1) h));
 }
 
 -- a try that is refused enters nothing
-refused_enters : (o : ℕ) (a : Access) (e : Event) → event_ask e ≡ Enter o a → IsRefused (Some e) → ⊥
-refused_enters o a (Answered kind value) enters h = h
-refused_enters o a (Read object version) enters h = h
-refused_enters o a (Write object version readers) enters h = h
-refused_enters o a (Refused object) enters h = cc enters
+refused_event_does_not_enter : (o : ℕ) (a : Access) (e : Event) → event_ask e ≡ Enter o a → IsRefused (Some e) → ⊥
+refused_event_does_not_enter o a (Answered kind value) enters h = h
+refused_event_does_not_enter o a (Read object version) enters h = h
+refused_event_does_not_enter o a (Write object version readers) enters h = h
+refused_event_does_not_enter o a (Refused object) enters h = cc enters
 
 -- what enters an object touches it
-pub entering_touches : (q : Ask) (o : ℕ) (a : Access) (e : Event) (x : Option Event) → x ≡ Some e → Suits q e → event_ask e ≡ Enter o a
+pub entering_ask_is_not_alone : (q : Ask) (o : ℕ) (a : Access) (e : Event) (x : Option Event) → x ≡ Some e → Suits q e → event_ask e ≡ Enter o a
     → IsAlone q x → ⊥
-entering_touches q o a e x is suits enters h = elim (entering_by q o a e suits enters) [
+entering_ask_is_not_alone q o a e x is suits enters h = elim (entry_event_suits_enter_or_try q o a e suits enters) [
   | inl same ↦ subst (λ p. IsAlone p x) same h
-  | inr same ↦ refused_enters o a e enters (subst IsRefused is (subst (λ p. IsAlone p x) same.0 h))
+  | inr same ↦ refused_event_does_not_enter o a e enters (subst IsRefused is (subst (λ p. IsAlone p x) same.0 h))
 ]
 
 -- ---- words
 
-pub cell_fits : (s : Flat) (o : ℕ) → IsFlat s → o < length s.objects → IsFields (cell_of s o).fields
-cell_fits s o flat l = let all = logged_fits s o flat l in let few = few_inside s o flat l in
+pub cell_fields_fit : (s : Flat) (o : ℕ) → IsFlat s → o < length s.objects → IsFields (cell_of s o).fields
+cell_fields_fit s o flat l = let all = counts_within_logged_limit s o flat l in let few = inside_within_most_threads s o flat l in
     record { version = omega (arith, all); left = omega (arith, all); inside = omega (arith, few) }
 
-bit_small : (b : Bool) → bit_of b ≤ 1
-bit_small true = omega arith
-bit_small false = omega arith
+bit_is_at_most_one : (b : Bool) → bit_of b ≤ 1
+bit_is_at_most_one true = omega arith
+bit_is_at_most_one false = omega arith
 
-word_small : (f : Fields) → IsFields f → word_of f < 2 ^ 64
-word_small f fits = let a = fits.version in let b = fits.left in let c = fits.inside in let d = bit_small f.writer in
+word_below_two_to_64 : (f : Fields) → IsFields f → word_of f < 2 ^ 64
+word_below_two_to_64 f fits = let a = fits.version in let b = fits.left in let c = fits.inside in let d = bit_is_at_most_one f.writer in
     omega (arith, a, b, c, d)
 
-low_bit : (b : Bool) (w m : ℕ) → w ≡ 2 * m + bit_of b → (w % 2 == 1) ≡ b
-low_bit true w m is = eq-eqb (w % 2) 1 (omega (arith, is))
-low_bit false w m is = ne_eqb (w % 2) 1 (λ e. omega (arith, is, e))
+low_bit_is_bit : (b : Bool) (w m : ℕ) → w ≡ 2 * m + bit_of b → (w % 2 == 1) ≡ b
+low_bit_is_bit true w m is = eq-eqb (w % 2) 1 (omega (arith, is))
+low_bit_is_bit false w m is = ne_eqb (w % 2) 1 (λ e. omega (arith, is, e))
 
-pub one_word : (f : Fields) → IsFields f → fields_of (word_of f) ≡ f
-one_word f fits =
+pub fields_of_word_of : (f : Fields) → IsFields f → fields_of (word_of f) ≡ f
+fields_of_word_of f fits =
     let a = fits.version in
     let b = fits.left in
     let c = fits.inside in
-    let d = bit_small f.writer in
+    let d = bit_is_at_most_one f.writer in
     let version : word_of f / version_unit ≡ f.version = omega (arith, a, b, c, d) in
     let left : word_of f / left_unit % left_limit ≡ f.left = omega (arith, a, b, c, d) in
     let inside : word_of f / reader_unit % inside_limit ≡ f.inside = omega (arith, a, b, c, d) in
     let writer : (word_of f % 2 == 1) ≡ f.writer =
-    low_bit f.writer (word_of f) (f.version * 2 ^ 31 + f.left * inside_limit + f.inside) (omega arith) in
+    low_bit_is_bit f.writer (word_of f) (f.version * 2 ^ 31 + f.left * inside_limit + f.inside) (omega arith) in
     λ i. record { version = version i; left = left i; inside = inside i; writer = writer i }
 
-found_fields : (n : ℕ) (f : Fields) → IsFields f → n ≡ word_of f → fields_of n ≡ f
-found_fields n f fits is = ap fields_of is ∙ one_word f fits
+fields_of_found_word : (n : ℕ) (f : Fields) → IsFields f → n ≡ word_of f → fields_of n ≡ f
+fields_of_found_word n f fits is = ap fields_of is ∙ fields_of_word_of f fits
 
 -- ---- a load before an entry
 
@@ -149,47 +149,47 @@ found_fields n f fits is = ap fields_of is ∙ one_word f fits
 abbrev pub met_now : Progress → Flat → Met
 met_now q s = record { state = record { threads = s.threads; objects = s.objects }; looks = suc q.looks }
 
-pub looks_at : (slots id o : ℕ) (a : Access) (e : Event) (y : thread.State) (q : Progress) (c : List (ℕ × Unit {0}))
+pub look_is_allowed : (slots id o : ℕ) (a : Access) (e : Event) (y : thread.ThreadState) (q : Progress) (c : List (ℕ × Unit {0}))
     → IsAhead (trace_in q.plan) q.thread q.position y → o < object_count (trace_in q.plan).guest → IsEntering (trace_in q.plan) y o a e
     → Allows (Woven q.plan) slots id (q ∷ [], c) (word_place o) (λ n. n) (looked (step slots (word_place o) 0 0 none) (q ∷ [], c))
-looks_at slots id o a e y q c ahead inside entering x h homes at small =
+look_is_allowed slots id o a e y q c ahead inside entering x h homes at small =
     let k : Plan = q.plan in
     let f : FittedTrace = trace_in q.plan in
     let t : ℕ = q.thread in
-    let cu : CaughtUp f h.state t y = caught k x h id q y at ahead in
+    let cu : CaughtUp f h.state t y = seat_thread_caught_up k x h id q y at ahead in
     let n : ℕ = get_or x.words (word_place o) 0 in
     let l : o < length h.state.objects = (let e' = h.at.objects in omega (arith, e', inside)) in
-    let here : positions cu.state t ≡ y.steps = ap (λ (z : thread.State). z.steps) cu.own in
+    let here : positions cu.state t ≡ y.steps = ap (λ (z : thread.ThreadState). z.steps) cu.own in
     let rises : (u : ℕ) → stood (met_in q) u ≤ stood (met_now q cu.state) u =
-    λ u. (let a = (h.tracks id (q ∷ []) at).0.met u in let b = up f h.state cu.state t (further_by k x h id q y at ahead cu) u in
+    λ u. (let a = (h.tracks id (q ∷ []) at).0.met u in let b = further_state_is_not_lower f h.state cu.state t (caught_up_state_is_further k x h id q y at ahead cu) u in
     omega (arith, a, b)) in
     let same : fields_of n ≡ (cell_of cu.state o).fields =
-    found_fields n (cell_of h.state o).fields (cell_fits h.state o h.flat l) (h.table.heads o l)
+    fields_of_found_word n (cell_of h.state o).fields (cell_fields_fit h.state o h.flat l) (h.table.heads o l)
     ∙ ap (λ cs. (object_in cs o).fields) (sym cu.objects) in
-    let ask : ask_of cu.state.code (thread_of cu.state t) ≡ entering.asked = asks_there f h.state t y entering.asked cu entering.asking.asks in
+    let ask : ask_of cu.state.code (thread_of cu.state t) ≡ entering.asked = caught_up_thread_asks_so f h.state t y entering.asked cu entering.asking.asks in
     let has : HasStep f t (positions cu.state t) =
-    has_there f h.state t y cu (subst (λ z. HasStep f z y.steps) ahead.number entering.asking.has) in
+    caught_up_thread_has_step f h.state t y cu (subst (λ z. HasStep f z y.steps) ahead.number entering.asking.has) in
     let own_event : slice_get (recorded_thread f.recorded t).events y.events ≡ Some e =
     subst (λ z. slice_get (recorded_thread f.recorded z).events y.events ≡ Some e) ahead.number entering.event in
     let event : slice_get (recorded_thread f.recorded t).events (thread_of cu.state t).events ≡ Some e =
-    ap (λ (z : thread.State). slice_get (recorded_thread f.recorded t).events z.events) cu.own ∙ own_event in
-    let nexts : IsNextObject f t q.position y.steps = touches_next f t q.position y entering.asked ahead
-    entering.asking.asks (entering_touches entering.asked o a e (event_of f t y) own_event entering.suits entering.enters) in
+    ap (λ (z : thread.ThreadState). slice_get (recorded_thread f.recorded t).events z.events) cu.own ∙ own_event in
+    let nexts : IsNextObject f t q.position y.steps = touching_step_is_next_object f t q.position y entering.asked ahead
+    entering.asking.asks (entering_ask_is_not_alone entering.asked o a e (event_of f t y) own_event entering.suits entering.enters) in
     let emitted_event : IsEventAt f t y.steps e =
-    λ run of. ap (λ (z : thread.State). slice_get (recorded_thread f.recorded t).events z.events) (sym (ahead.at run of).1)
+    λ run of. ap (λ (z : thread.ThreadState). slice_get (recorded_thread f.recorded t).events z.events) (sym (ahead.at run of).1)
     ∙ own_event in
     let table : IsTable cu.state.objects (set x.words (word_place o) n) =
     subst (λ cs. IsTable cs (set x.words (word_place o) n)) (sym cu.objects)
-    (same_words h.state.objects x.words (word_place o) h.table) in
-    elim (opens_or (record { fields = fields_of n; words = [] }) e) [
+    (table_after_word_rewritten h.state.objects x.words (word_place o) h.table) in
+    elim (open_is_decidable (record { fields = fields_of n; words = [] }) e) [
       | inl yes' ↦ (
         progress k t y.steps true (met_now q cu.state) ∷ [],
         keeps,
         tt,
-        moves k x h id q at cu.state (further_by k x h id q y at ahead cu) y.steps here true
-            (λ on. open_admitted f cu.state t o a e entering.asked h.run cu.flat cu.at (there k x h id q y at cu) ask has event
+        woven_after_seat_moves k x h id q at cu.state (caught_up_state_is_further k x h id q y at ahead cu) y.steps here true
+            (λ on. open_entry_is_admitted f cu.state t o a e entering.asked h.run cu.flat cu.at (caught_up_state_has_thread k x h id q y at cu) ask has event
             entering.suits entering.enters
-            (opens_by (record { fields = fields_of n; words = [] }) (cell_of cu.state o) e same yes'))
+            (open_depends_on_fields (record { fields = fields_of n; words = [] }) (cell_of cu.state o) e same yes'))
             (met_now q cu.state) (λ u. omega arith) (set x.words (word_place o) n) x.homes table,
         (y.steps, e, nexts, emitted_event, record { cut = rises; looks = omega arith }, (λ b. refl), (λ no'. absurd (no' yes'))),
       )
@@ -197,7 +197,7 @@ looks_at slots id o a e y q c ahead inside entering x h homes at small =
         progress k t y.steps false (met_now q cu.state) ∷ [],
         keeps,
         tt,
-        moves k x h id q at cu.state (further_by k x h id q y at ahead cu) y.steps here false (λ on. absurd (cc on))
+        woven_after_seat_moves k x h id q at cu.state (caught_up_state_is_further k x h id q y at ahead cu) y.steps here false (λ on. absurd (cc on))
             (met_now q cu.state) (λ u. omega arith) (set x.words (word_place o) n) x.homes table,
         (
           y.steps,
@@ -212,12 +212,12 @@ looks_at slots id o a e y q c ahead inside entering x h homes at small =
               cut = positions cu.state;
               is_cut = λ run of. (cu.at.each run of).cut;
               consistent = λ run of. (cu.at.each run of).consistent;
-              above = λ u. (let p = h.above u in let r = up f h.state cu.state t (further_by k x h id q y at ahead cu) u in
+              above = λ u. (let p = h.above u in let r = further_state_is_not_lower f h.state cu.state t (caught_up_state_is_further k x h id q y at ahead cu) u in
                   omega (arith, p, r));
               here = here;
-              stopped = shut_stopped f cu.state t o a e entering.asked h.run cu.flat cu.at (there k x h id q y at cu) ask has event
+              stopped = shut_entry_is_not_admitted f cu.state t o a e entering.asked h.run cu.flat cu.at (caught_up_state_has_thread k x h id q y at cu) ask has event
                   entering.suits entering.enters
-                  (λ yes'. no' (opens_by (cell_of cu.state o) (record { fields = fields_of n; words = [] }) e (sym same) yes'));
+                  (λ yes'. no' (open_depends_on_fields (cell_of cu.state o) (record { fields = fields_of n; words = [] }) e (sym same) yes'));
             },
             record { above = rises; met = λ u. refl; looked = omega arith },
           )),
@@ -228,234 +228,234 @@ looks_at slots id o a e y q c ahead inside entering x h homes at small =
 -- ---- a step on an object
 
 -- what thread t is answered when it reads a word
-answered_get : (s : Flat) (t v o i : ℕ) → t < length s.threads
+thread_after_get : (s : Flat) (t v o i : ℕ) → t < length s.threads
     → thread_of (next s t v (Get o i)) t ≡ after_ask s.code (thread_of s t) (Get o i) (Value (slice_index (cell_of s o).words i))
-answered_get s t v o i l = get_or-set_same s.threads t
+thread_after_get s t v o i l = get_or-set_same s.threads t
     (after_ask s.code (thread_of s t) (Get o i) (Value (slice_index (cell_of s o).words i))) idle l
 
-answers : (f : FittedTrace) (s : Flat) (t : ℕ) (y : thread.State) (q : Ask) (cu : CaughtUp f s t y) (v n : ℕ) → t < length cu.state.threads
-    → Goes f cu.state t v q → ask_of f.guest.code y ≡ q
+step_answers_found_word : (f : FittedTrace) (s : Flat) (t : ℕ) (y : thread.ThreadState) (q : Ask) (cu : CaughtUp f s t y) (v n : ℕ) → t < length cu.state.threads
+    → StepGoesOn f cu.state t v q → ask_of f.guest.code y ≡ q
     → ((o i : ℕ) → q ≡ Get o i → (n < 2 ^ 32) × (n ≡ slice_index (cell_of cu.state o).words i)) → Answers f t y.steps n
-answers f s t y q cu v n l g is found run of o i asks =
+step_answers_found_word f s t y q cu v n l g is found run of o i asks =
     let own : thread_of cu.state t ≡ thread_at f run t y.steps = (cu.at.each run of).threads t
-    ∙ ap (λ (z : thread.State). thread_at f run t z.steps) cu.own in
+    ∙ ap (λ (z : thread.ThreadState). thread_at f run t z.steps) cu.own in
     let get : q ≡ Get o i = sym is ∙ ap (ask_of f.guest.code) (sym cu.own ∙ own) ∙ asks in
     let more : positions (next cu.state t v q) t ≡ suc y.steps = g.own
-    ∙ (let e = ap (λ (z : thread.State). z.steps) cu.own in let r : positions cu.state t + 1 ≡ suc y.steps = omega (arith, e) in r) in (
+    ∙ (let e = ap (λ (z : thread.ThreadState). z.steps) cu.own in let r : positions cu.state t + 1 ≡ suc y.steps = omega (arith, e) in r) in (
       (found o i get).0,
       ap (thread_at f run t) (sym more) ∙ sym ((g.at.each run of).threads t) ∙ ap (λ z. thread_of (next cu.state t v z) t) get
-          ∙ answered_get cu.state t v o i l
+          ∙ thread_after_get cu.state t v o i l
           ∙ (λ j. after_ask (cu.at.code j) (own j) (Get o i) (Value (sym (found o i get).1 j))),
     )
 
 -- the table after it
-steps_on : (slots id word first second : ℕ) (q : Progress) (c : List (ℕ × Unit {0})) (x : State (Unit {0}) View) (h : Woven q.plan x)
-    → get_elem? x.views id ≡ some (q ∷ []) → (y : thread.State) → IsAhead (trace_in q.plan) q.thread q.position y
+woven_after_object_step : (slots id word first second : ℕ) (q : Progress) (c : List (ℕ × Unit {0})) (x : State (Unit {0}) View) (h : Woven q.plan x)
+    → get_elem? x.views id ≡ some (q ∷ []) → (y : thread.ThreadState) → IsAhead (trace_in q.plan) q.thread q.position y
     → (asked : Ask) → (IsAlone asked (event_of (trace_in q.plan) q.thread y) → ⊥) → ask_of (trace_in q.plan).guest.code y ≡ asked
-    → (cu : CaughtUp (trace_in q.plan) h.state q.thread y) → (v : ℕ) → Goes (trace_in q.plan) cu.state q.thread v asked
+    → (cu : CaughtUp (trace_in q.plan) h.state q.thread y) → (v : ℕ) → StepGoesOn (trace_in q.plan) cu.state q.thread v asked
     → (n : ℕ) → ((o i : ℕ) → asked ≡ Get o i → (n < 2 ^ 32) × (n ≡ slice_index (cell_of cu.state o).words i)) → (ws : List ℕ)
     → IsTable (next cu.state q.thread v asked).objects ws
     → (w : View) × Woven q.plan (record { words = ws; homes = x.homes; views = set x.views id w })
     × stepped_on (step slots word first second none) (q ∷ [], c) n (w, c)
-steps_on slots id word first second q c x h at y ahead asked touches is cu v g n found ws table =
+woven_after_object_step slots id word first second q c x h at y ahead asked touches is cu v g n found ws table =
     let k : Plan = q.plan in
     let f : FittedTrace = trace_in q.plan in
     let t : ℕ = q.thread in
-    let before : positions cu.state t ≡ y.steps = ap (λ (z : thread.State). z.steps) cu.own in
+    let before : positions cu.state t ≡ y.steps = ap (λ (z : thread.ThreadState). z.steps) cu.own in
     let own = g.own in
     let further : IsFurther f h.state (next cu.state t v asked) t = record {
       flat = g.flat;
       at = g.at;
-      size = thread_count cu.state t v asked ∙ cu.size;
+      size = next_keeps_thread_count cu.state t v asked ∙ cu.size;
       own = (let a = (h.tracks id (q ∷ []) at).0.position in let b = ahead.past in omega (arith, own, before, a, b));
       others = λ u ne. g.others u ne ∙ cu.others u ne;
     } in (
       progress k t (suc y.steps) false (met_in q) ∷ [],
-      moves k x h id q at (next cu.state t v asked) further (suc y.steps) (omega (arith, own, before)) false (λ on. absurd (cc on)) (met_in q)
-          (λ u. (let a = (h.tracks id (q ∷ []) at).0.met u in let b = up f h.state (next cu.state t v asked) t further u in
+      woven_after_seat_moves k x h id q at (next cu.state t v asked) further (suc y.steps) (omega (arith, own, before)) false (λ on. absurd (cc on)) (met_in q)
+          (λ u. (let a = (h.tracks id (q ∷ []) at).0.met u in let b = further_state_is_not_lower f h.state (next cu.state t v asked) t further u in
           omega (arith, a, b))) ws x.homes table,
       (
         y.steps,
-        touches_next f t q.position y asked ahead is touches,
+        touching_step_is_next_object f t q.position y asked ahead is touches,
         refl,
-        answers f h.state t y asked cu v n (there k x h id q y at cu) g
+        step_answers_found_word f h.state t y asked cu v n (caught_up_state_has_thread k x h id q y at cu) g
             is found,
       ),
     )
 
 -- an entry that was granted
-abbrev pub added : Access → ℕ
-added Reading = 2
-added Writing = 1
+abbrev pub word_added_by_entry : Access → ℕ
+word_added_by_entry Reading = 2
+word_added_by_entry Writing = 1
 
-entered_word : (n : ℕ) (a : Access) (s : Flat) (o : ℕ) → IsFlat s → o < length s.objects → n ≡ word_of (cell_of s o).fields
-    → Enters a (cell_of s o).fields → (n + added a) % 2 ^ 64 ≡ word_of (entered a (cell_of s o).fields)
-entered_word n Reading s o flat l is may =
-    let small = word_small (entered Reading (cell_of s o).fields) (enter_fits s o Reading flat l) in
+word_after_entry : (n : ℕ) (a : Access) (s : Flat) (o : ℕ) → IsFlat s → o < length s.objects → n ≡ word_of (cell_of s o).fields
+    → Enters a (cell_of s o).fields → (n + word_added_by_entry a) % 2 ^ 64 ≡ word_of (entered a (cell_of s o).fields)
+word_after_entry n Reading s o flat l is may =
+    let small = word_below_two_to_64 (entered Reading (cell_of s o).fields) (entered_fields_fit s o Reading flat l) in
     let e : word_of (entered Reading (cell_of s o).fields) ≡ word_of (cell_of s o).fields + 2 = omega arith in
     omega (arith, is, e, small)
-entered_word n Writing s o flat l is may =
-    let small = word_small (entered Writing (cell_of s o).fields) (enter_fits s o Writing flat l) in
+word_after_entry n Writing s o flat l is may =
+    let small = word_below_two_to_64 (entered Writing (cell_of s o).fields) (entered_fields_fit s o Writing flat l) in
     let none : bit_of (cell_of s o).fields.writer ≡ 0 = ap bit_of may.0 in
     let e : word_of (entered Writing (cell_of s o).fields) ≡ word_of (cell_of s o).fields + 1 = omega (arith, none) in
     omega (arith, is, e, small)
 
 -- a try that is logged as an entry has the result 1
-writes_by : (e : Event) (o : ℕ) (a : Access) → Suits (Try o) e → event_ask e ≡ Enter o a → try_result e ≡ 1
-writes_by (Answered kind value) o a suits enters = absurd (cc enters)
-writes_by (Read object version) o a (inl is) enters = absurd (cc is)
-writes_by (Read object version) o a (inr is) enters = absurd (cc is)
-writes_by (Write object version readers) o a suits enters = refl
-writes_by (Refused object) o a suits enters = absurd (cc enters)
+entering_try_result_is_one : (e : Event) (o : ℕ) (a : Access) → Suits (Try o) e → event_ask e ≡ Enter o a → try_result e ≡ 1
+entering_try_result_is_one (Answered kind value) o a suits enters = absurd (cc enters)
+entering_try_result_is_one (Read object version) o a (inl is) enters = absurd (cc is)
+entering_try_result_is_one (Read object version) o a (inr is) enters = absurd (cc is)
+entering_try_result_is_one (Write object version readers) o a suits enters = refl
+entering_try_result_is_one (Refused object) o a suits enters = absurd (cc enters)
 
 -- what thread t is after it entered the object by what it asked
 record EnteredBy (f : FittedTrace) (s : Flat) (t o : ℕ) (a : Access) (q : Ask) : Type 0 where
   result : ℕ
-  goes : Goes f s t result q
+  goes : StepGoesOn f s t result q
   may : Enters a (cell_of s o).fields
   objects : (next s t result q).objects ≡ set s.objects o (record (cell_of s o) { fields = entered a (cell_of s o).fields })
 
-entered_on : (f : FittedTrace) (s : Flat) (t o : ℕ) (a : Access) (e : Event) (q : Ask) → HasRun f → IsFlat s → IsStateAt f (positions s) s
+admitted_entry_enters : (f : FittedTrace) (s : Flat) (t o : ℕ) (a : Access) (e : Event) (q : Ask) → HasRun f → IsFlat s → IsStateAt f (positions s) s
     → t < length s.threads → ask_of s.code (thread_of s t) ≡ q
     → slice_get (recorded_thread f.recorded t).events (thread_of s t).events ≡ Some e → Suits q e → event_ask e ≡ Enter o a
     → AdmittedAt f (positions s) t → EnteredBy f s t o a q
-entered_on f s t o a e q h flat at l is event suits enters ad = elim (entering_by q o a e suits enters) [
+admitted_entry_enters f s t o a e q h flat at l is event suits enters ad = elim (entry_event_suits_enter_or_try q o a e suits enters) [
   | inl same ↦
-      let goes = admitted_on f s t (Enter o a) h flat at l (sym (is ∙ same)) ad in
+      let goes = step_goes_on_if_admitted f s t (Enter o a) h flat at l (sym (is ∙ same)) ad in
       subst (EnteredBy f s t o a) (sym same) (record { result = goes.0; goes = goes.1; may = goes.1.may; objects = refl })
   | inr same ↦
-      let some = admitted_next f s at h.run h.whole t (guest_thread f s t at l) (ad h.run h.whole) in
-      let one : some.0 ≡ 1 = tried_with f.recorded s t some.0 o e (is ∙ same.0) event some.1 ∙ writes_by e o a (subst (λ p. Suits p e) same.0 suits) enters in
-      let goes : Goes f s t 1 (Try o) = logs_on f s t 1 (Try o) flat at l (sym (is ∙ same.0)) (λ run of. (ad run of).0)
+      let some = admitted_thread_logs_next f s at h.run h.whole t (state_thread_is_guest_thread f s t at l) (ad h.run h.whole) in
+      let one : some.0 ≡ 1 = try_that_logs_has_result f.recorded s t some.0 o e (is ∙ same.0) event some.1 ∙ entering_try_result_is_one e o a (subst (λ p. Suits p e) same.0 suits) enters in
+      let goes : StepGoesOn f s t 1 (Try o) = step_goes_on_if_logs_next f s t 1 (Try o) flat at l (sym (is ∙ same.0)) (λ run of. (ad run of).0)
       (subst (LogsNext f.recorded s t) one some.1) in
       let writes : EnteredBy f s t o Writing (Try o) = record { result = 1; goes = goes; may = goes.may; objects = refl } in
       subst (λ (z : Access × Ask). EnteredBy f s t o z.0 z.1) (λ i. (sym same.1 i, sym same.0 i)) writes
 ]
 
-pub enters_at : (slots id o : ℕ) (a : Access) (e : Event) (y : thread.State) (q : Progress) (c : List (ℕ × Unit {0}))
+pub entry_is_allowed : (slots id o : ℕ) (a : Access) (e : Event) (y : thread.ThreadState) (q : Progress) (c : List (ℕ × Unit {0}))
     → IsAhead (trace_in q.plan) q.thread q.position y → o < object_count (trace_in q.plan).guest
     → IsEntering (trace_in q.plan) y o a e
-    → q.granted ≡ true → q.position ≡ y.steps → Allows (Woven q.plan) slots id (q ∷ [], c) (word_place o) (λ n. (n + added a) % 2 ^ 64)
-    (stepped_on (step slots (word_place o) (added a) 0 none) (q ∷ [], c))
-enters_at slots id o a e y q c ahead inside entering granted here x h homes at small =
+    → q.granted ≡ true → q.position ≡ y.steps → Allows (Woven q.plan) slots id (q ∷ [], c) (word_place o) (λ n. (n + word_added_by_entry a) % 2 ^ 64)
+    (stepped_on (step slots (word_place o) (word_added_by_entry a) 0 none) (q ∷ [], c))
+entry_is_allowed slots id o a e y q c ahead inside entering granted here x h homes at small =
     let f : FittedTrace = trace_in q.plan in
     let t : ℕ = q.thread in
     let asked : Ask = entering.asked in
     let is = entering.asking.asks in
-    let cu : CaughtUp f h.state t y = caught q.plan x h id q y at ahead in
+    let cu : CaughtUp f h.state t y = seat_thread_caught_up q.plan x h id q y at ahead in
     let own = (h.tracks id (q ∷ []) at).0 in
     let n : ℕ = get_or x.words (word_place o) 0 in
     let l : o < length h.state.objects = (let e' = h.at.objects in omega (arith, e', inside)) in
     let m : o < length cu.state.objects = (let e' = ap (λ (cs : List Cell). length cs) cu.objects in omega (arith, e', l)) in
-    let still : positions cu.state t ≡ positions h.state t = ap (λ (z : thread.State). z.steps) cu.own ∙ sym here ∙ sym own.position in
+    let still : positions cu.state t ≡ positions h.state t = ap (λ (z : thread.ThreadState). z.steps) cu.own ∙ sym here ∙ sym own.position in
     let ad : AdmittedAt f (positions cu.state) t =
-    λ run of. persists (machine_of f) (start_of f) run (positions h.state) (positions cu.state) t (own.granted granted run of)
-    (cu.at.each run of).consistent (up f h.state cu.state t (further_by q.plan x h id q y at ahead cu)) still in
+    λ run of. admitted_persists_at_later_cut (machine_of f) (start_of f) run (positions h.state) (positions cu.state) t (own.granted granted run of)
+    (cu.at.each run of).consistent (further_state_is_not_lower f h.state cu.state t (caught_up_state_is_further q.plan x h id q y at ahead cu)) still in
     let own_event : event_of f t y ≡ Some e =
     subst (λ z. slice_get (recorded_thread f.recorded z).events y.events ≡ Some e) ahead.number entering.event in
-    let made_by : EnteredBy f cu.state t o a asked = entered_on f cu.state t o a e asked h.run cu.flat cu.at (there q.plan x h id q y at cu)
-    (asks_there f h.state t y asked cu is)
-    (ap (λ (z : thread.State). slice_get (recorded_thread f.recorded t).events z.events) cu.own ∙ own_event) entering.suits entering.enters
+    let made_by : EnteredBy f cu.state t o a asked = admitted_entry_enters f cu.state t o a e asked h.run cu.flat cu.at (caught_up_state_has_thread q.plan x h id q y at cu)
+    (caught_up_thread_asks_so f h.state t y asked cu is)
+    (ap (λ (z : thread.ThreadState). slice_get (recorded_thread f.recorded t).events z.events) cu.own ∙ own_event) entering.suits entering.enters
     ad in
     let found : n ≡ word_of (cell_of cu.state o).fields = h.table.heads o l ∙ ap (λ cs. word_of (object_in cs o).fields) (sym cu.objects) in
     let table : IsTable cu.state.objects x.words = subst (λ cs. IsTable cs x.words) (sym cu.objects) h.table in
-    let ws : List ℕ = set x.words (word_place o) ((n + added a) % 2 ^ 64) in
-    let made = steps_on slots id (word_place o) (added a) 0 q c x h at y ahead asked
-    (entering_touches asked o a e (event_of f t y) own_event entering.suits entering.enters) is cu made_by.result made_by.goes n
-    (λ p i get. absurd (elim (entering_by asked o a e entering.suits entering.enters) [
+    let ws : List ℕ = set x.words (word_place o) ((n + word_added_by_entry a) % 2 ^ 64) in
+    let made = woven_after_object_step slots id (word_place o) (word_added_by_entry a) 0 q c x h at y ahead asked
+    (entering_ask_is_not_alone asked o a e (event_of f t y) own_event entering.suits entering.enters) is cu made_by.result made_by.goes n
+    (λ p i get. absurd (elim (entry_event_suits_enter_or_try asked o a e entering.suits entering.enters) [
       | inl same ↦ (let z : Enter o a ≡ Get p i = sym same ∙ get in cc z)
       | inr same ↦ (let z : Try o ≡ Get p i = sym same.0 ∙ get in cc z)
     ])) ws
     (subst (λ cs. IsTable cs ws) (sym made_by.objects)
-    (head_changes cu.state.objects x.words o ((n + added a) % 2 ^ 64)
+    (table_after_object_word_set cu.state.objects x.words o ((n + word_added_by_entry a) % 2 ^ 64)
     (record (cell_of cu.state o) { fields = entered a (cell_of cu.state o).fields }) table m
-    (entered_word n a cu.state o cu.flat m found made_by.may) refl)) in
+    (word_after_entry n a cu.state o cu.flat m found made_by.may) refl)) in
     (made.0, keeps, tt, made.1, made.2)
 
 -- ---- leaves, and words of contents
 
 -- what a step that is no entry may do
-free_goes : (k : Plan) (x : State (Unit {0}) View) (h : Woven k x) (id : ℕ) (q : Progress) (y : thread.State)
+step_goes_on_if_free : (k : Plan) (x : State (Unit {0}) View) (h : Woven k x) (id : ℕ) (q : Progress) (y : thread.ThreadState)
     → get_elem? x.views id ≡ some (q ∷ []) → (cu : CaughtUp (trace_in k) h.state q.thread y) → (asked : Ask)
     → IsFree asked (event_of (trace_in k) q.thread (thread_of cu.state q.thread))
     → ask_of (trace_in k).guest.code y ≡ asked → HasStep (trace_in k) q.thread y.steps → (v : ℕ)
-    × Goes (trace_in k) cu.state q.thread v asked
-free_goes k x h id q y at cu asked free is has =
-    let ask = asks_there (trace_in k) h.state q.thread y asked cu is in
-    admitted_on (trace_in k) cu.state q.thread asked h.run cu.flat cu.at (there k x h id q y at cu) (sym ask)
-    (free_admitted (trace_in k) cu.state q.thread cu.at (has_there (trace_in k) h.state q.thread y cu has)
-    (guest_thread (trace_in k) cu.state q.thread cu.at (there k x h id q y at cu))
+    × StepGoesOn (trace_in k) cu.state q.thread v asked
+step_goes_on_if_free k x h id q y at cu asked free is has =
+    let ask = caught_up_thread_asks_so (trace_in k) h.state q.thread y asked cu is in
+    step_goes_on_if_admitted (trace_in k) cu.state q.thread asked h.run cu.flat cu.at (caught_up_state_has_thread k x h id q y at cu) (sym ask)
+    (free_step_is_admitted (trace_in k) cu.state q.thread cu.at (caught_up_thread_has_step (trace_in k) h.state q.thread y cu has)
+    (state_thread_is_guest_thread (trace_in k) cu.state q.thread cu.at (caught_up_state_has_thread k x h id q y at cu))
     (subst (λ p. IsFree p (event_of (trace_in k) q.thread (thread_of cu.state q.thread))) (sym ask) free))
 
 -- a thread that leaves is inside
-leaves_holding : (s : Flat) (t o : ℕ) (a : Access) → ask_of s.code (thread_of s t) ≡ Leave o a → inside_of s o t ≡ Some a
-leaves_holding s t o a is = (subst (Permits (thread_of s t)) is (ask_permits s.code (thread_of s t))).2
+leaving_thread_is_inside : (s : Flat) (t o : ℕ) (a : Access) → ask_of s.code (thread_of s t) ≡ Leave o a → inside_of s o t ≡ Some a
+leaving_thread_is_inside s t o a is = (subst (Permits (thread_of s t)) is (ask_of_permitted s.code (thread_of s t))).2
 
-pub left_reading_at : (slots id o : ℕ) (y : thread.State) (q : Progress) (c : List (ℕ × Unit {0}))
+pub read_leave_is_allowed : (slots id o : ℕ) (y : thread.ThreadState) (q : Progress) (c : List (ℕ × Unit {0}))
     → IsAhead (trace_in q.plan) q.thread q.position y → o < object_count (trace_in q.plan).guest
     → ask_of (trace_in q.plan).guest.code y ≡ Leave o Reading
     → HasStep (trace_in q.plan) q.thread y.steps
     → Allows (Woven q.plan) slots id (q ∷ [], c) (word_place o) (λ n. (n + reader_leaves) % 2 ^ 64)
     (stepped_on (step slots (word_place o) reader_leaves 0 none) (q ∷ [], c))
-left_reading_at slots id o y q c ahead inside is has x h homes at small =
+read_leave_is_allowed slots id o y q c ahead inside is has x h homes at small =
     let f : FittedTrace = trace_in q.plan in
     let t : ℕ = q.thread in
-    let cu : CaughtUp f h.state t y = caught q.plan x h id q y at ahead in
+    let cu : CaughtUp f h.state t y = seat_thread_caught_up q.plan x h id q y at ahead in
     let n : ℕ = get_or x.words (word_place o) 0 in
     let l : o < length h.state.objects = (let e = h.at.objects in omega (arith, e, inside)) in
     let m : o < length cu.state.objects = (let e = ap (λ (cs : List Cell). length cs) cu.objects in omega (arith, e, l)) in
-    let goes = free_goes q.plan x h id q y at cu (Leave o Reading) tt is has in
-    let ask = asks_there f h.state t y (Leave o Reading) cu is in
+    let goes = step_goes_on_if_free q.plan x h id q y at cu (Leave o Reading) tt is has in
+    let ask = caught_up_thread_asks_so f h.state t y (Leave o Reading) cu is in
     let found : n ≡ word_of (cell_of cu.state o).fields = h.table.heads o l ∙ ap (λ cs. word_of (object_in cs o).fields) (sym cu.objects) in
     let table : IsTable cu.state.objects x.words = subst (λ cs. IsTable cs x.words) (sym cu.objects) h.table in
     let allowed : 0 < (cell_of cu.state o).fields.inside =
-    leave_allowed cu.state t o Reading cu.flat (there q.plan x h id q y at cu) m (leaves_holding cu.state t o Reading ask) in
-    let fits = word_small (left_by Reading (cell_of cu.state o).fields) (leave_fits cu.state o Reading cu.flat m) in
+    flat_inside_thread_can_leave cu.state t o Reading cu.flat (caught_up_state_has_thread q.plan x h id q y at cu) m (leaving_thread_is_inside cu.state t o Reading ask) in
+    let fits = word_below_two_to_64 (left_by Reading (cell_of cu.state o).fields) (left_fields_fit cu.state o Reading cu.flat m) in
     let less : word_of (left_by Reading (cell_of cu.state o).fields) ≡ word_of (cell_of cu.state o).fields + reader_leaves = omega
     (arith, allowed) in
     let sum : (n + reader_leaves) % 2 ^ 64 ≡ word_of (left_by Reading (cell_of cu.state o).fields) = omega (arith, found, less, fits) in
-    let made = steps_on slots id (word_place o) reader_leaves 0 q c x h at y ahead (Leave o Reading) (λ b. b) is cu goes.0 goes.1 n
+    let made = woven_after_object_step slots id (word_place o) reader_leaves 0 q c x h at y ahead (Leave o Reading) (λ b. b) is cu goes.0 goes.1 n
     (λ p i e. absurd (cc e)) (set x.words (word_place o) ((n + reader_leaves) % 2 ^ 64))
-    (head_changes cu.state.objects x.words o ((n + reader_leaves) % 2 ^ 64)
+    (table_after_object_word_set cu.state.objects x.words o ((n + reader_leaves) % 2 ^ 64)
     (record (cell_of cu.state o) { fields = left_by Reading (cell_of cu.state o).fields }) table m sum refl) in
     (made.0, keeps, tt, made.1, made.2)
 
 -- what a writer's leave emits
-leave_emits : (f : FittedTrace) (s : Flat) (t o : ℕ) → IsStateAt f (positions s) s → ask_of s.code (thread_of s t) ≡ Leave o Writing
+write_leave_emits_version : (f : FittedTrace) (s : Flat) (t o : ℕ) → IsStateAt f (positions s) s → ask_of s.code (thread_of s t) ≡ Leave o Writing
     → AdmittedAt f (positions s) t
     → EachRun f (λ run. Emits (machine_of f) (start_of f) run t (positions s t) (Out o Writing (cell_of s o).fields.version))
-leave_emits f s t o at is ad run of =
-    let some = (cut_at f run of (positions s) (at.each run of).cut (at.each run of).consistent).steps t (ad run of) in
+write_leave_emits_version f s t o at is ad run of =
+    let some = (guest_state_at_consistent_cut f run of (positions s) (at.each run of).cut (at.each run of).consistent).steps t (ad run of) in
     let emitted_is : label (machine_of f) (end (machine_of f) (start_of f) (part run (positions s))) (t, some.0) ≡ Out o Writing
     (cell_of s o).fields.version =
-    ap (λ z. label (machine_of f) z (t, some.0)) (sym (tables_at f (positions s) s run of (at.each run of)))
+    ap (λ z. label (machine_of f) z (t, some.0)) (sym (tables_are_end_of_part f (positions s) s run of (at.each run of)))
     ∙ ap (λ a. emitted (act_of (shared_ask a) some.0) ((tables s).objects (target (act_of (shared_ask a) some.0))))
     (ap (λ code. ask_of code (thread_of s t)) (sym at.code) ∙ is) in
     subst (Emits (machine_of f) (start_of f) run t (positions s t)) emitted_is some.3
 
 -- one label is at each place
-pub same_label : {X : Type 0} (xs : List X) (k : ℕ) (a b : X) → At xs k a → At xs k b → a ≡ b
-same_label [] k a b h g = absurd h
-same_label (x ∷ xs) zero a b h g = sym h ∙ g
-same_label (x ∷ xs) (suc k) a b h g = same_label xs k a b h g
+pub at_place_is_unique : {X : Type 0} (xs : List X) (k : ℕ) (a b : X) → At xs k a → At xs k b → a ≡ b
+at_place_is_unique [] k a b h g = absurd h
+at_place_is_unique (x ∷ xs) zero a b h g = sym h ∙ g
+at_place_is_unique (x ∷ xs) (suc k) a b h g = at_place_is_unique xs k a b h g
 
-pub versions_at : (slots id o : ℕ) (y : thread.State) (q : Progress) (c : List (ℕ × Unit {0}))
+pub version_load_is_allowed : (slots id o : ℕ) (y : thread.ThreadState) (q : Progress) (c : List (ℕ × Unit {0}))
     → IsAhead (trace_in q.plan) q.thread q.position y → o < object_count (trace_in q.plan).guest
     → ask_of (trace_in q.plan).guest.code y ≡ Leave o Writing
     → HasStep (trace_in q.plan) q.thread y.steps
     → Allows (Woven q.plan) slots id (q ∷ [], c) (word_place o) (λ n. n) (read_version (step slots (word_place o) 0 0 none) (q ∷ [], c))
-versions_at slots id o y q c ahead inside is has x h homes at small =
+version_load_is_allowed slots id o y q c ahead inside is has x h homes at small =
     let f : FittedTrace = trace_in q.plan in
     let t : ℕ = q.thread in
-    let cu : CaughtUp f h.state t y = caught q.plan x h id q y at ahead in
+    let cu : CaughtUp f h.state t y = seat_thread_caught_up q.plan x h id q y at ahead in
     let n : ℕ = get_or x.words (word_place o) 0 in
     let l : o < length h.state.objects = (let e = h.at.objects in omega (arith, e, inside)) in
-    let ask = asks_there f h.state t y (Leave o Writing) cu is in
+    let ask = caught_up_thread_asks_so f h.state t y (Leave o Writing) cu is in
     let same : fields_of n ≡ (cell_of cu.state o).fields =
-    found_fields n (cell_of h.state o).fields (cell_fits h.state o h.flat l) (h.table.heads o l)
+    fields_of_found_word n (cell_of h.state o).fields (cell_fields_fit h.state o h.flat l) (h.table.heads o l)
     ∙ ap (λ cs. (object_in cs o).fields) (sym cu.objects) in
-    let emits = leave_emits f cu.state t o cu.at ask
-    (free_admitted f cu.state t cu.at (has_there f h.state t y cu has) (guest_thread f cu.state t cu.at (there q.plan x h id q y at cu))
+    let emits = write_leave_emits_version f cu.state t o cu.at ask
+    (free_step_is_admitted f cu.state t cu.at (caught_up_thread_has_step f h.state t y cu has) (state_thread_is_guest_thread f cu.state t cu.at (caught_up_state_has_thread q.plan x h id q y at cu))
     (subst (λ p. IsFree p (event_of f t (thread_of cu.state t))) (sym ask) tt)) in
     let kept : Woven q.plan (record { words = set x.words (word_place o) n; homes = x.homes; views = set x.views id (q ∷ []) }) =
     subst (λ (z : List ℕ × List View). Woven q.plan (record { words = z.0; homes = x.homes; views = z.1 }))
@@ -466,18 +466,18 @@ versions_at slots id o y q c ahead inside is has x h homes at small =
       kept,
       (
         y.steps,
-        touches_next f t q.position y (Leave o Writing) ahead is (λ b. b),
+        touching_step_is_next_object f t q.position y (Leave o Writing) ahead is (λ b. b),
         refl,
-        (let all = logged_fits h.state o h.flat l in let word = h.table.heads o l in omega (arith, all, word)),
+        (let all = counts_within_logged_limit h.state o h.flat l in let word = h.table.heads o l in omega (arith, all, word)),
         (λ run of p word asked.
             let o_is : o ≡ p = omega (arith, word) in
             let v_is : (cell_of cu.state o).fields.version ≡ n / version_unit = ap (λ (z : Fields). z.version) (sym same) in
             subst (λ (z : ℕ × ℕ × ℕ). Emits (machine_of f) (start_of f) run t z.0 (Out z.1 Writing z.2))
-            (λ i. (ap (λ (z : thread.State). z.steps) cu.own i, o_is i, v_is i)) (emits run of)),
+            (λ i. (ap (λ (z : thread.ThreadState). z.steps) cu.own i, o_is i, v_is i)) (emits run of)),
       ),
     )
 
-pub left_writing_at : (slots id o v : ℕ) (y : thread.State) (q : Progress) (c : List (ℕ × Unit {0}))
+pub write_leave_is_allowed : (slots id o v : ℕ) (y : thread.ThreadState) (q : Progress) (c : List (ℕ × Unit {0}))
     → IsAhead (trace_in q.plan) q.thread q.position y → o < object_count (trace_in q.plan).guest
     → ask_of (trace_in q.plan).guest.code y ≡ Leave o Writing
     → HasStep (trace_in q.plan) q.thread y.steps
@@ -485,53 +485,53 @@ pub left_writing_at : (slots id o v : ℕ) (y : thread.State) (q : Progress) (c 
     (Out o Writing v))
     → Allows (Woven q.plan) slots id (q ∷ [], c) (word_place o) (λ _. (v + 1) * version_unit)
     (λ _. stepped_on (step slots (word_place o) ((v + 1) * version_unit) 0 none) (q ∷ [], c) ((v + 1) * version_unit))
-left_writing_at slots id o v y q c ahead inside is has emits x h homes at small =
+write_leave_is_allowed slots id o v y q c ahead inside is has emits x h homes at small =
     let f : FittedTrace = trace_in q.plan in
     let t : ℕ = q.thread in
-    let cu : CaughtUp f h.state t y = caught q.plan x h id q y at ahead in
+    let cu : CaughtUp f h.state t y = seat_thread_caught_up q.plan x h id q y at ahead in
     let w : ℕ = (v + 1) * version_unit in
     let l : o < length h.state.objects = (let e = h.at.objects in omega (arith, e, inside)) in
     let m : o < length cu.state.objects = (let e = ap (λ (cs : List Cell). length cs) cu.objects in omega (arith, e, l)) in
-    let goes = free_goes q.plan x h id q y at cu (Leave o Writing) tt is has in
-    let ask = asks_there f h.state t y (Leave o Writing) cu is in
-    let own = leave_emits f cu.state t o cu.at ask
-    (free_admitted f cu.state t cu.at (has_there f h.state t y cu has) (guest_thread f cu.state t cu.at (there q.plan x h id q y at cu))
+    let goes = step_goes_on_if_free q.plan x h id q y at cu (Leave o Writing) tt is has in
+    let ask = caught_up_thread_asks_so f h.state t y (Leave o Writing) cu is in
+    let own = write_leave_emits_version f cu.state t o cu.at ask
+    (free_step_is_admitted f cu.state t cu.at (caught_up_thread_has_step f h.state t y cu has) (state_thread_is_guest_thread f cu.state t cu.at (caught_up_state_has_thread q.plan x h id q y at cu))
     (subst (λ p. IsFree p (event_of f t (thread_of cu.state t))) (sym ask) tt)) h.run.run h.run.whole in
     let mine : Emits (machine_of f) (start_of f) h.run.run t y.steps (Out o Writing (cell_of cu.state o).fields.version) =
     subst (λ z. Emits (machine_of f) (start_of f) h.run.run t z (Out o Writing (cell_of cu.state o).fields.version))
-    (ap (λ (z : thread.State). z.steps) cu.own) own in
+    (ap (λ (z : thread.ThreadState). z.steps) cu.own) own in
     let emitted' = emits h.run.run h.run.whole in
     let labels : Out o Writing v ≡ Out o Writing (cell_of cu.state o).fields.version =
-    ap (λ z. z.1) (same_label (trail (machine_of f) (start_of f) h.run.run t) y.steps (emitted'.0, Out o Writing v)
+    ap (λ z. z.1) (at_place_is_unique (trail (machine_of f) (start_of f) h.run.run t) y.steps (emitted'.0, Out o Writing v)
     (mine.0, Out o Writing (cell_of cu.state o).fields.version) emitted'.1 mine.1) in
     let version : v ≡ (cell_of cu.state o).fields.version = cc labels in
     let table : IsTable cu.state.objects x.words = subst (λ cs. IsTable cs x.words) (sym cu.objects) h.table in
     let word : w ≡ word_of (left_by Writing (cell_of cu.state o).fields) = omega (arith, version) in
-    let made = steps_on slots id (word_place o) w 0 q c x h at y ahead (Leave o Writing) (λ b. b) is cu goes.0 goes.1 w
+    let made = woven_after_object_step slots id (word_place o) w 0 q c x h at y ahead (Leave o Writing) (λ b. b) is cu goes.0 goes.1 w
     (λ p i e. absurd (cc e)) (set x.words (word_place o) w)
-    (head_changes cu.state.objects x.words o w (record (cell_of cu.state o) { fields = left_by Writing (cell_of cu.state o).fields }) table
+    (table_after_object_word_set cu.state.objects x.words o w (record (cell_of cu.state o) { fields = left_by Writing (cell_of cu.state o).fields }) table
     m word refl) in
     (made.0, keeps, tt, made.1, made.2)
 
-pub gets_at : (slots id o i : ℕ) (y : thread.State) (q : Progress) (c : List (ℕ × Unit {0}))
+pub get_is_allowed : (slots id o i : ℕ) (y : thread.ThreadState) (q : Progress) (c : List (ℕ × Unit {0}))
     → IsAhead (trace_in q.plan) q.thread q.position y → o < object_count (trace_in q.plan).guest → i < most_object_words
     → ask_of (trace_in q.plan).guest.code y ≡ Get o i
     → HasStep (trace_in q.plan) q.thread y.steps
     → Allows (Woven q.plan) slots id (q ∷ [], c) (content_place o i) (λ n. n)
     (stepped_on (step slots (content_place o i) 0 0 none) (q ∷ [], c))
-gets_at slots id o i y q c ahead inside few is has x h homes at small =
+get_is_allowed slots id o i y q c ahead inside few is has x h homes at small =
     let f : FittedTrace = trace_in q.plan in
     let t : ℕ = q.thread in
-    let cu : CaughtUp f h.state t y = caught q.plan x h id q y at ahead in
+    let cu : CaughtUp f h.state t y = seat_thread_caught_up q.plan x h id q y at ahead in
     let n : ℕ = get_or x.words (content_place o i) 0 in
     let l : o < length h.state.objects = (let e = h.at.objects in omega (arith, e, inside)) in
-    let goes = free_goes q.plan x h id q y at cu (Get o i) tt is has in
+    let goes = step_goes_on_if_free q.plan x h id q y at cu (Get o i) tt is has in
     let found : n ≡ slice_index (cell_of cu.state o).words i = h.table.places o i l few
     ∙ ap (λ cs. slice_index (object_in cs o).words i) (sym cu.objects) in
     let table : IsTable cu.state.objects (set x.words (content_place o i) n) =
     subst (λ cs. IsTable cs (set x.words (content_place o i) n)) (sym cu.objects)
-    (same_words h.state.objects x.words (content_place o i) h.table) in
-    let made = steps_on slots id (content_place o i) 0 0 q c x h at y ahead (Get o i) (λ b. b) is cu goes.0 goes.1 n
+    (table_after_word_rewritten h.state.objects x.words (content_place o i) h.table) in
+    let made = woven_after_object_step slots id (content_place o i) 0 0 q c x h at y ahead (Get o i) (λ b. b) is cu goes.0 goes.1 n
     (λ p j e. (
       subst (λ z. z < 2 ^ 32) (sym (h.table.places o i l few)) (h.table.small o i),
       found
@@ -547,22 +547,22 @@ gets_at slots id o i y q c ahead inside few is has x h homes at small =
     get_index (Get o i) = i
     get_index _ = 0
 
-pub puts_at : (slots id o i v : ℕ) (y : thread.State) (q : Progress) (c : List (ℕ × Unit {0})) → v < 2 ^ 32
+pub put_is_allowed : (slots id o i v : ℕ) (y : thread.ThreadState) (q : Progress) (c : List (ℕ × Unit {0})) → v < 2 ^ 32
     → IsAhead (trace_in q.plan) q.thread q.position y → o < object_count (trace_in q.plan).guest → i < most_object_words
     → ask_of (trace_in q.plan).guest.code y ≡ Put o i v
     → HasStep (trace_in q.plan) q.thread y.steps
     → Allows (Woven q.plan) slots id (q ∷ [], c) (content_place o i) (λ _. v)
     (λ _. stepped_on (step slots (content_place o i) v 0 none) (q ∷ [], c) v)
-puts_at slots id o i v y q c value ahead inside few is has x h homes at small =
+put_is_allowed slots id o i v y q c value ahead inside few is has x h homes at small =
     let f : FittedTrace = trace_in q.plan in
     let t : ℕ = q.thread in
-    let cu : CaughtUp f h.state t y = caught q.plan x h id q y at ahead in
+    let cu : CaughtUp f h.state t y = seat_thread_caught_up q.plan x h id q y at ahead in
     let l : o < length h.state.objects = (let e = h.at.objects in omega (arith, e, inside)) in
     let m : o < length cu.state.objects = (let e = ap (λ (cs : List Cell). length cs) cu.objects in omega (arith, e, l)) in
-    let goes = free_goes q.plan x h id q y at cu (Put o i v) tt is has in
+    let goes = step_goes_on_if_free q.plan x h id q y at cu (Put o i v) tt is has in
     let table : IsTable cu.state.objects x.words = subst (λ cs. IsTable cs x.words) (sym cu.objects) h.table in
-    let made = steps_on slots id (content_place o i) v 0 q c x h at y ahead (Put o i v) (λ b. b) is cu goes.0 goes.1 v
+    let made = woven_after_object_step slots id (content_place o i) v 0 q c x h at y ahead (Put o i v) (λ b. b) is cu goes.0 goes.1 v
     (λ p j e. absurd (cc e)) (set x.words (content_place o i) v)
-    (place_changes cu.state.objects x.words o i v (record (cell_of cu.state o) { words = set (cell_of cu.state o).words i v }) table m few
+    (table_after_content_word_set cu.state.objects x.words o i v (record (cell_of cu.state o) { words = set (cell_of cu.state o).words i v }) table m few
     value (cu.flat.objects o m).words refl refl) in
     (made.0, keeps, tt, made.1, made.2)

@@ -1,19 +1,19 @@
 -- What callers may cite of the table of a replay.
 -- what the trace leaves to the threads at a cut is the log of the steps after it
-pub use Rattle.ir_weave.proofs.Behind.{law, good, admitted_next}
+pub use Rattle.ir_weave.proofs.Behind.{guest_machine_is_lawful, state_invariant_at_guest_start, admitted_thread_logs_next}
 -- what the threads logged up to a cut is the first of what is recorded of them
-pub use Rattle.ir_weave.proofs.Before.{LogsBefore, log_before}
+pub use Rattle.ir_weave.proofs.Before.{LogsBefore, logs_before_cut_are_recorded}
 -- a state that advances along the trace is a state at a later cut
-pub use Rattle.ir_weave.proofs.Onward.{step_taken, alone_own, alone_others, alone_under}
+pub use Rattle.ir_weave.proofs.Onward.{under_target_after_answered_step, position_after_going_alone, position_of_other_after_going_alone, under_target_after_going_alone}
 -- the result with which a thread takes its next step, by what it asks
-pub use Rattle.ir_weave.proofs.Results.{call_next, call_none, entry_next, entry_shut, entry_none, refused_next, try_next, try_shut, try_none, object_there, object_found}
+pub use Rattle.ir_weave.proofs.Results.{suited_call_logs_next, no_next_for_unsuited_call, open_entry_logs_next, no_next_for_shut_entry, no_next_for_unsuited_entry, refused_try_logs_next, open_try_logs_next, no_next_for_shut_try, no_next_for_unsuited_try, entered_object_of_weave_is_of_state, found_object_is_cell}
 -- what a step of a thread in a run emits, and the thread after it, by the thread before it
-pub use Rattle.ir_weave.proofs.Trails.{StepOf, step_at}
+pub use Rattle.ir_weave.proofs.Trails.{StepOf, emitting_step_is_step_of}
 -- a state advances by a step of a thread that is admitted
-pub use Rattle.ir_weave.proofs.Forth.{CaughtUp, catch_up}
+pub use Rattle.ir_weave.proofs.Forth.{CaughtUp, state_catches_up_with_thread}
 -- a thread that advances by itself beside its trace
-pub use Rattle.ir_weave.proofs.Lone.{step_there}
+pub use Rattle.ir_weave.proofs.Lone.{step_below_count_emits}
 -- after its last step a thread is as at the end
-pub use Rattle.ir_weave.proofs.Ended.{past_end}
+pub use Rattle.ir_weave.proofs.Ended.{thread_in_past_length_is_last}
 -- a thread of a state is where it is
-pub use Rattle.ir_weave.proofs.Numbers.{ahead_at}
+pub use Rattle.ir_weave.proofs.Numbers.{state_thread_is_ahead_at_position}

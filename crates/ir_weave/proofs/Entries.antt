@@ -10,7 +10,7 @@ use Rattle.ir_object.specs.Cell.{Cell}
 use Rattle.ir_flat.specs.Flat.{Flat, IsFlat, thread_of, cell_of}
 use Rattle.ir_flat.specs.Next.{next}
 use Rattle.ir_log.specs.Asked.{ask_of as event_ask, Suits}
-use Rattle.ir_log.proofs.CallerLemmas.{entering_by}
+use Rattle.ir_log.proofs.CallerLemmas.{entry_event_suits_enter_or_try}
 use Rattle.ir_log.specs.declared.event.Event.{Event}
 use Rattle.ir_log.specs.declared.event.Event.TheVariants.{Answer, Read, Write, Try as Refused}
 use Rattle.ir_trace.specs.Recorded.{recorded_thread}
@@ -18,79 +18,79 @@ use Rattle.ir_fit.specs.Ahead.{steps_ahead, IsOpen}
 use Rattle.ir_runs.specs.Admitted.{Admitted, further}
 use Rattle.ir_fit.specs.Fit.{FittedTrace, HasRun}
 use Rattle.ir_cut.specs.Positions.{machine_of, start_of, EachRun}
-use Rattle.ir_runs.proofs.CallerLemmas.{consistent_same}
+use Rattle.ir_runs.proofs.CallerLemmas.{equal_cut_is_consistent}
 use Rattle.ir_weave.specs.Ahead.{HasStep}
 use Rattle.ir_weave.specs.Standing.{IsStateAt, positions}
 use Rattle.ir_weave.specs.Woven.{AdmittedAt}
-use Rattle.ir_weave.proofs.Behind.{admitted_next}
-use Rattle.ir_weave.proofs.Forth.{Goes, logs_on, guest_thread, further_here, further_there}
-use Rattle.ir_fit.proofs.CallerLemmas.{GotIn, got_in}
-use Rattle.ir_weave.proofs.Results.{entry_next, entry_shut, try_next, try_shut}
+use Rattle.ir_weave.proofs.Behind.{admitted_thread_logs_next}
+use Rattle.ir_weave.proofs.Forth.{StepGoesOn, step_goes_on_if_logs_next, state_thread_is_guest_thread, further_at_own_thread, further_at_other_thread}
+use Rattle.ir_fit.proofs.CallerLemmas.{GotIn, try_not_refused_got_in}
+use Rattle.ir_weave.proofs.Results.{open_entry_logs_next, no_next_for_shut_entry, open_try_logs_next, no_next_for_shut_try}
 
 -- steps are left in the trace
-left_ahead : (f : FittedTrace) (s : Flat) (t : ℕ) → HasRun f → IsStateAt f (positions s) s → t < length s.threads
+steps_are_left_ahead : (f : FittedTrace) (s : Flat) (t : ℕ) → HasRun f → IsStateAt f (positions s) s → t < length s.threads
     → HasStep f t (positions s t) → 0 < steps_ahead f.recorded s t
-left_ahead f s t h at l has = let steps = h.whole.1.steps t (guest_thread f s t at l) in let more = has h.run h.whole in
+steps_are_left_ahead f s t h at l has = let steps = h.whole.1.steps t (state_thread_is_guest_thread f s t at l) in let more = has h.run h.whole in
     omega (arith, steps, more)
 
 -- a thread whose next step leads on is admitted
-goes_admitted : (f : FittedTrace) (s : Flat) (t v : ℕ) (q : Ask) → Goes f s t v q → HasStep f t (positions s t) → AdmittedAt f (positions s) t
-goes_admitted f s t v q g has run of = (
+admitted_if_step_goes_on : (f : FittedTrace) (s : Flat) (t v : ℕ) (q : Ask) → StepGoesOn f s t v q → HasStep f t (positions s t) → AdmittedAt f (positions s) t
+admitted_if_step_goes_on f s t v q g has run of = (
   has run of,
-  consistent_same (machine_of f) (start_of f) run (positions (next s t v q)) (further (positions s) t)
+  equal_cut_is_consistent (machine_of f) (start_of f) run (positions (next s t v q)) (further (positions s) t)
       (λ u. elim (cases_eq u t) [
         | inl same ↦ subst (λ z. positions (next s t v q) z ≡ further (positions s) t z) (sym same)
-            (let b = further_here (positions s) t in let c = g.own in omega (arith, b, c))
-        | inr ne ↦ g.others u ne ∙ sym (further_there (positions s) t u ne)
+            (let b = further_at_own_thread (positions s) t in let c = g.own in omega (arith, b, c))
+        | inr ne ↦ g.others u ne ∙ sym (further_at_other_thread (positions s) t u ne)
       ]) (g.at.each run of).consistent,
 )
 
 -- a try that is logged as an entry got in
-entered_in : (o p : ℕ) (a : Access) (e : Event) → Suits (Try o) e → event_ask e ≡ Enter p a → GotIn e
-entered_in o p a e suits enters = got_in o e suits (λ r h. let z : Try r ≡ Enter p a = sym (ap event_ask h) ∙ enters in cc z)
+entering_try_got_in : (o p : ℕ) (a : Access) (e : Event) → Suits (Try o) e → event_ask e ≡ Enter p a → GotIn e
+entering_try_got_in o p a e suits enters = try_not_refused_got_in o e suits (λ r h. let z : Try r ≡ Enter p a = sym (ap event_ask h) ∙ enters in cc z)
 
-pub open_admitted : (f : FittedTrace) (s : Flat) (t o : ℕ) (a : Access) (e : Event) (q : Ask) → HasRun f → IsFlat s
+pub open_entry_is_admitted : (f : FittedTrace) (s : Flat) (t o : ℕ) (a : Access) (e : Event) (q : Ask) → HasRun f → IsFlat s
     → IsStateAt f (positions s) s → t < length s.threads → ask_of s.code (thread_of s t) ≡ q → HasStep f t (positions s t)
     → slice_get (recorded_thread f.recorded t).events (thread_of s t).events ≡ Some e → Suits q e → event_ask e ≡ Enter o a
     → IsOpen (cell_of s o) e → AdmittedAt f (positions s) t
-open_admitted f s t o a e q h flat at l is has event suits enters opens =
-    let left = left_ahead f s t h at l has in
-    elim (entering_by q o a e suits enters) [
-      | inl same ↦ goes_admitted f s t 0 (Enter o a) (logs_on f s t 0 (Enter o a) flat at l (sym (is ∙ same)) has
-          (entry_next f.recorded s t o a e flat l (is ∙ same) left event (subst (λ p. Suits p e) same suits) opens)) has
-      | inr same ↦ goes_admitted f s t 1 (Try o) (logs_on f s t 1 (Try o) flat at l (sym (is ∙ same.0)) has
-          (try_next f.recorded s t o e flat l (is ∙ same.0) left event (subst (λ p. Suits p e) same.0 suits) opens)) has
+open_entry_is_admitted f s t o a e q h flat at l is has event suits enters opens =
+    let left = steps_are_left_ahead f s t h at l has in
+    elim (entry_event_suits_enter_or_try q o a e suits enters) [
+      | inl same ↦ admitted_if_step_goes_on f s t 0 (Enter o a) (step_goes_on_if_logs_next f s t 0 (Enter o a) flat at l (sym (is ∙ same)) has
+          (open_entry_logs_next f.recorded s t o a e flat l (is ∙ same) left event (subst (λ p. Suits p e) same suits) opens)) has
+      | inr same ↦ admitted_if_step_goes_on f s t 1 (Try o) (step_goes_on_if_logs_next f s t 1 (Try o) flat at l (sym (is ∙ same.0)) has
+          (open_try_logs_next f.recorded s t o e flat l (is ∙ same.0) left event (subst (λ p. Suits p e) same.0 suits) opens)) has
     ]
 
-pub shut_stopped : (f : FittedTrace) (s : Flat) (t o : ℕ) (a : Access) (e : Event) (q : Ask) → HasRun f → IsFlat s
+pub shut_entry_is_not_admitted : (f : FittedTrace) (s : Flat) (t o : ℕ) (a : Access) (e : Event) (q : Ask) → HasRun f → IsFlat s
     → IsStateAt f (positions s) s → t < length s.threads → ask_of s.code (thread_of s t) ≡ q → HasStep f t (positions s t)
     → slice_get (recorded_thread f.recorded t).events (thread_of s t).events ≡ Some e → Suits q e → event_ask e ≡ Enter o a
     → (IsOpen (cell_of s o) e → ⊥) → EachRun f (λ run. Admitted (machine_of f) (start_of f) run (positions s) t → ⊥)
-shut_stopped f s t o a e q h flat at l is has event suits enters shut run of ad =
-    let some = admitted_next f s at run of t (guest_thread f s t at l) ad in
-    let left = left_ahead f s t h at l has in
-    elim (entering_by q o a e suits enters) [
-      | inl same ↦ entry_shut f.recorded s t o a e flat l (is ∙ same) left event (subst (λ p. Suits p e) same suits) shut some.0 some.1
+shut_entry_is_not_admitted f s t o a e q h flat at l is has event suits enters shut run of ad =
+    let some = admitted_thread_logs_next f s at run of t (state_thread_is_guest_thread f s t at l) ad in
+    let left = steps_are_left_ahead f s t h at l has in
+    elim (entry_event_suits_enter_or_try q o a e suits enters) [
+      | inl same ↦ no_next_for_shut_entry f.recorded s t o a e flat l (is ∙ same) left event (subst (λ p. Suits p e) same suits) shut some.0 some.1
       | inr same ↦
           let tries : Suits (Try o) e = subst (λ p. Suits p e) same.0 suits in
-          try_shut f.recorded s t o e flat l (is ∙ same.0) left event tries (entered_in o o a e tries enters) shut some.0 some.1
+          no_next_for_shut_try f.recorded s t o e flat l (is ∙ same.0) left event tries (entering_try_got_in o o a e tries enters) shut some.0 some.1
     ]
 
 -- it can be entered, or not
-bool_or : (b : Bool) → (b ≡ false) ⊎ (b ≡ false → ⊥)
-bool_or true = inr (λ e. cc e)
-bool_or false = inl refl
+false_is_decidable : (b : Bool) → (b ≡ false) ⊎ (b ≡ false → ⊥)
+false_is_decidable true = inr (λ e. cc e)
+false_is_decidable false = inl refl
 
-pub opens_or : (c : Cell) (e : Event) → IsOpen c e ⊎ (IsOpen c e → ⊥)
-opens_or c (Answer kind value) = inr (λ h. h)
-opens_or c (Refused object) = inr (λ h. h)
-opens_or c (Read object version) = elim (cases_eq c.fields.version version) [
-  | inl v ↦ elim (bool_or c.fields.writer) [ inl w ↦ inl (v, w) | inr w ↦ inr (λ h. w h.1) ]
+pub open_is_decidable : (c : Cell) (e : Event) → IsOpen c e ⊎ (IsOpen c e → ⊥)
+open_is_decidable c (Answer kind value) = inr (λ h. h)
+open_is_decidable c (Refused object) = inr (λ h. h)
+open_is_decidable c (Read object version) = elim (cases_eq c.fields.version version) [
+  | inl v ↦ elim (false_is_decidable c.fields.writer) [ inl w ↦ inl (v, w) | inr w ↦ inr (λ h. w h.1) ]
   | inr v ↦ inr (λ h. v h.0)
 ]
-opens_or c (Write object version readers) = elim (cases_eq c.fields.version version) [
+open_is_decidable c (Write object version readers) = elim (cases_eq c.fields.version version) [
   | inl v ↦ elim (cases_eq c.fields.left readers) [
-    | inl r ↦ elim (bool_or c.fields.writer) [
+    | inl r ↦ elim (false_is_decidable c.fields.writer) [
       | inl w ↦ elim (cases_eq c.fields.inside 0) [ inl i ↦ inl (v, r, (w, i)) | inr i ↦ inr (λ h. i h.2.1) ]
       | inr w ↦ inr (λ h. w h.2.0)
     ]
@@ -100,11 +100,11 @@ opens_or c (Write object version readers) = elim (cases_eq c.fields.version vers
 ]
 
 -- whether it is open is seen by its word
-pub opens_by : (c d : Cell) (e : Event) → c.fields ≡ d.fields → IsOpen c e → IsOpen d e
-opens_by c d (Answer kind value) same h = h
-opens_by c d (Refused object) same h = h
-opens_by c d (Read object version) same h = (sym (ap (λ z. z.version) same) ∙ h.0, sym (ap (λ z. z.writer) same) ∙ h.1)
-opens_by c d (Write object version readers) same h = (
+pub open_depends_on_fields : (c d : Cell) (e : Event) → c.fields ≡ d.fields → IsOpen c e → IsOpen d e
+open_depends_on_fields c d (Answer kind value) same h = h
+open_depends_on_fields c d (Refused object) same h = h
+open_depends_on_fields c d (Read object version) same h = (sym (ap (λ z. z.version) same) ∙ h.0, sym (ap (λ z. z.writer) same) ∙ h.1)
+open_depends_on_fields c d (Write object version readers) same h = (
   sym (ap (λ z. z.version) same) ∙ h.0,
   sym (ap (λ z. z.left) same)
       ∙ h.1,

@@ -17,27 +17,27 @@ use Rattle.ir_thread.specs.declared.profile.Profile.{Profile}
 use Rattle.ir_object.specs.Cell.{Cell}
 use Rattle.ir_object.specs.Word.{word_of, fields_of}
 use Rattle.ir_flat.specs.Flat.{Flat, IsFlat, idle, empty, start_flat}
-use Rattle.ir_weave.proofs.Onward.{starts_at}
-use Rattle.ir_weave.proofs.Numbers.{ahead_at}
+use Rattle.ir_weave.proofs.Onward.{start_is_state_at_zero}
+use Rattle.ir_weave.proofs.Numbers.{state_thread_is_ahead_at_position}
 use Rattle.ir_weave.specs.Ahead.{IsAhead}
 use Rattle.std.specs.Prelude.{slice_get, Some}
 use Rattle.std.proofs.lemmas.Option.{slice_get_within, get_or_from_slice_get}
 use Rattle.ir_runs.specs.Cuts.{Cut}
 use Rattle.ir_fit.specs.Fit.{FittedTrace, HasRun}
 use Rattle.ir_fit.specs.Within.{IsFitted}
-use Rattle.ir_fit.proofs.CallerLemmas.{allowed as header_allowed}
+use Rattle.ir_fit.proofs.CallerLemmas.{guest_with_header_is_allowed as header_allowed}
 use Rattle.ir_weave.specs.Standing.{Standing, StandsAt, flat_in, IsStateAt, positions}
 use Rattle.ir_object.specs.Layout.{line_words, apart, table_length, word_place, content_place}
 use Rattle.ir_weave.specs.Table.{IsTable, IsLaid, laid, word_in, object_in}
 use Rattle.ir_weave.specs.Woven.{View, M, trace_in, opened_in, opened_at, progress, first_met, IsSeated, AreTracks, Woven, tracks_from, all_but_first, first_alone, AreSeats, AreAt, IsClosed, IsEnd, AreRead}
-use Rattle.ir_weave.proofs.Acts.{one_word, cell_fits}
+use Rattle.ir_weave.proofs.Acts.{fields_of_word_of, cell_fields_fit}
 use Rattle.ir_weave.specs.declared.plan.Plan.{Plan}
 
 -- ---- opening
 
-tracks_fit : (k : Plan) (u m : ℕ) → u + m ≤ length k.opened.value.threads → AreTracks k (opened_in k) (λ _. 0) 0 (tracks_from k u m)
-tracks_fit k u zero le = tt
-tracks_fit k u (suc m) le = (
+opened_tracks_are_tracks : (k : Plan) (u m : ℕ) → u + m ≤ length k.opened.value.threads → AreTracks k (opened_in k) (λ _. 0) 0 (tracks_from k u m)
+opened_tracks_are_tracks k u zero le = tt
+opened_tracks_are_tracks k u (suc m) le = (
   record {
     plan = refl;
     there = omega (arith, le);
@@ -47,12 +47,12 @@ tracks_fit k u (suc m) le = (
         λ on. absurd (cc on);
     met = λ z. omega arith;
   },
-  tracks_fit k (suc u) m (omega (arith, le)),
+  opened_tracks_are_tracks k (suc u) m (omega (arith, le)),
 )
 
-pub opens : (k : Plan) (ws : List ℕ) → HasRun (trace_in k) → IsFlat (opened_in k) → IsStateAt (trace_in k) (opened_at k) (opened_in k)
+pub opening_is_woven : (k : Plan) (ws : List ℕ) → HasRun (trace_in k) → IsFlat (opened_in k) → IsStateAt (trace_in k) (opened_at k) (opened_in k)
     → IsTable k.opened.value.objects ws → Woven k (opening ws [] (tracks_from k 0 (length k.opened.value.threads)))
-opens k ws run flat at table = record {
+opening_is_woven k ws run flat at table = record {
   run = run;
   state = opened_in k;
   flat = flat;
@@ -66,51 +66,51 @@ opens k ws run flat at table = record {
     first : (id : ℕ) (v : View) → get_elem? (tracks_from k 0 (length k.opened.value.threads) ∷ []) id ≡ some v
         → AreTracks k (opened_in k) (λ _. 0) id v
     first zero v e = subst (AreTracks k (opened_in k) (λ _. 0) 0) (some-injective (tracks_from k 0 (length k.opened.value.threads)) v e)
-        (tracks_fit k 0 (length k.opened.value.threads) (omega arith))
+        (opened_tracks_are_tracks k 0 (length k.opened.value.threads) (omega arith))
     first (suc id) v e = absurd (some-ne-none v (sym e))
 
 -- the guest's state, as the plan knows it
-in_plan : (k : Plan) (f : FittedTrace) (s : Standing) → k.fitted.value ≡ f → k.opened.value ≡ s → StandsAt f (positions (flat_in f s)) s
+plan_state_stands : (k : Plan) (f : FittedTrace) (s : Standing) → k.fitted.value ≡ f → k.opened.value ≡ s → StandsAt f (positions (flat_in f s)) s
     → StandsAt (trace_in k) (opened_at k) k.opened.value
-in_plan k f s for is stands = subst (λ (z : FittedTrace × Standing). StandsAt z.0 (positions (flat_in z.0 z.1)) z.1)
+plan_state_stands k f s for is stands = subst (λ (z : FittedTrace × Standing). StandsAt z.0 (positions (flat_in z.0 z.1)) z.1)
     (λ i. (sym for i, sym is i)) stands
 
 -- the plan of a guest and its state
-pub opens_for : (k : Plan) (f : FittedTrace) (s : Standing) (ws : List ℕ) → k.fitted.value ≡ f → k.opened.value ≡ s → HasRun f
+pub opening_for_plan_is_woven : (k : Plan) (f : FittedTrace) (s : Standing) (ws : List ℕ) → k.fitted.value ≡ f → k.opened.value ≡ s → HasRun f
     → StandsAt f (positions (flat_in f s)) s → IsTable s.objects ws
     → Woven k (opening ws [] (tracks_from k 0 (length k.opened.value.threads)))
-opens_for k f s ws for is run stands table =
-    let both = in_plan k f s for is stands in
-    opens k ws (subst HasRun (sym for) run) both.flat both.at (subst (λ (z : Standing). IsTable z.objects ws) (sym is) table)
+opening_for_plan_is_woven k f s ws for is run stands table =
+    let both = plan_state_stands k f s for is stands in
+    opening_is_woven k ws (subst HasRun (sym for) run) both.flat both.at (subst (λ (z : Standing). IsTable z.objects ws) (sym is) table)
 
 -- the seat of a thread
-seat_of : (id : TableId) (k : Plan) (t i u : ℕ) (xs : List (Seat (Unit {0}) View)) (x : Seat (Unit {0}) View) → AreSeats id k t xs
+seat_of_thread_has_view : (id : TableId) (k : Plan) (t i u : ℕ) (xs : List (Seat (Unit {0}) View)) (x : Seat (Unit {0}) View) → AreSeats id k t xs
     → slice_get xs i ≡ Some x → u ≡ t + i → x.me ≡ (progress k u (opened_at k u) false (first_met k) ∷ [], [])
-seat_of id k t i u [] x h at e = absurd (cc at)
-seat_of id k t zero u (y ∷ ys) x h at e =
+seat_of_thread_has_view id k t i u [] x h at e = absurd (cc at)
+seat_of_thread_has_view id k t zero u (y ∷ ys) x h at e =
     let same : y ≡ x = cc at in let here : t ≡ u = omega (arith, e) in
     ap (λ z. z.me) (sym same) ∙ h.0.1 ∙ (λ j. (progress k (here j) (opened_at k (here j)) false (first_met k) ∷ [], []))
-seat_of id k t (suc i) u (y ∷ ys) x h at e = seat_of id k (suc t) i u ys x h.1 at (omega (arith, e))
+seat_of_thread_has_view id k t (suc i) u (y ∷ ys) x h at e = seat_of_thread_has_view id k (suc t) i u ys x h.1 at (omega (arith, e))
 
 -- each thread can step at its seat
-pub all_seated : (id : TableId) (k : Plan) (f : FittedTrace) (s : Standing) (xs : List (Seat (Unit {0}) View)) → k.fitted.value ≡ f
+pub each_thread_is_seated : (id : TableId) (k : Plan) (f : FittedTrace) (s : Standing) (xs : List (Seat (Unit {0}) View)) → k.fitted.value ≡ f
     → k.opened.value ≡ s → HasRun f → StandsAt f (positions (flat_in f s)) s → AreSeats id k 0 xs
-    → (t : ℕ) (x : thread.State) (seat : Seat (Unit {0}) View) → slice_get s.threads t ≡ Some x → slice_get xs t ≡ Some seat
+    → (t : ℕ) (x : thread.ThreadState) (seat : Seat (Unit {0}) View) → slice_get s.threads t ≡ Some x → slice_get xs t ≡ Some seat
     → IsSeated k seat.me.0 x
-all_seated id k f s xs for is run stands are t x seat at here =
-    let both = in_plan k f s for is stands in
+each_thread_is_seated id k f s xs for is run stands are t x seat at here =
+    let both = plan_state_stands k f s for is stands in
     let there : slice_get k.opened.value.threads t ≡ Some x = ap (λ (z : Standing). slice_get z.threads t) is ∙ at in
     let ahead : IsAhead (trace_in k) t (opened_at k t) x =
     subst (IsAhead (trace_in k) t (opened_at k t)) (get_or_from_slice_get k.opened.value.threads t x idle there)
-    (ahead_at (trace_in k) (opened_in k) t (subst HasRun (sym for) run) both.flat both.at (slice_get_within k.opened.value.threads t x there)) in
-    subst (λ (v : View). IsSeated k v x) (sym (ap (λ (z : M). z.0) (seat_of id k 0 t t xs seat are here (omega arith)))) (refl, ahead)
+    (state_thread_is_ahead_at_position (trace_in k) (opened_in k) t (subst HasRun (sym for) run) both.flat both.at (slice_get_within k.opened.value.threads t x there)) in
+    subst (λ (v : View). IsSeated k v x) (sym (ap (λ (z : M). z.0) (seat_of_thread_has_view id k 0 t t xs seat are here (omega arith)))) (refl, ahead)
 
 -- ---- cutting off the first thread
 
-later : (k : Plan) (s : Flat) (seat : ℕ → ℕ) (t new id u m : ℕ) → t < u → AreTracks k s seat id (tracks_from k u m)
+later_tracks_stay_if_reseated : (k : Plan) (s : Flat) (seat : ℕ → ℕ) (t new id u m : ℕ) → t < u → AreTracks k s seat id (tracks_from k u m)
     → AreTracks k s (λ z. if z == t then new else seat z) id (tracks_from k u m)
-later k s seat t new id u zero lt h = tt
-later k s seat t new id u (suc m) lt h = (
+later_tracks_stay_if_reseated k s seat t new id u zero lt h = tt
+later_tracks_stay_if_reseated k s seat t new id u (suc m) lt h = (
   record {
     plan = h.0.plan;
     there = h.0.there;
@@ -120,13 +120,13 @@ later k s seat t new id u (suc m) lt h = (
     granted = h.0.granted;
     met = h.0.met;
   },
-  later k s seat t new id (suc u) m (omega (arith, lt)) h.1,
+  later_tracks_stay_if_reseated k s seat t new id (suc u) m (omega (arith, lt)) h.1,
 )
 
-elsewhere : (k : Plan) (s : Flat) (seat : ℕ → ℕ) (t new j : ℕ) (v : View) → seat t ≢ j → AreTracks k s seat j v
+other_tracks_stay_if_reseated : (k : Plan) (s : Flat) (seat : ℕ → ℕ) (t new j : ℕ) (v : View) → seat t ≢ j → AreTracks k s seat j v
     → AreTracks k s (λ z. if z == t then new else seat z) j v
-elsewhere k s seat t new j [] ne h = tt
-elsewhere k s seat t new j (q ∷ qs) ne h = (
+other_tracks_stay_if_reseated k s seat t new j [] ne h = tt
+other_tracks_stay_if_reseated k s seat t new j (q ∷ qs) ne h = (
   record {
     plan = h.0.plan;
     there = h.0.there;
@@ -137,18 +137,18 @@ elsewhere k s seat t new j (q ∷ qs) ne h = (
     granted = h.0.granted;
     met = h.0.met;
   },
-  elsewhere k s seat t new j qs ne h.1,
+  other_tracks_stay_if_reseated k s seat t new j qs ne h.1,
 )
 
-at_end : {A : Type 0} (l : List A) (a b : A) (j : ℕ) → get_elem? (l ++ a ∷ []) j ≡ some b → (get_elem? l j ≡ some b)
+get_of_append_item_cases : {A : Type 0} (l : List A) (a b : A) (j : ℕ) → get_elem? (l ++ a ∷ []) j ≡ some b → (get_elem? l j ≡ some b)
     ⊎ ((j ≡ length l) × (a ≡ b))
-at_end [] a b zero e = inr (refl, some-injective a b e)
-at_end [] a b (suc j) e = absurd (some-ne-none b (sym e))
-at_end (x ∷ xs) a b zero e = inl e
-at_end (x ∷ xs) a b (suc j) e = elim (at_end xs a b j e) [ inl q ↦ inl q | inr q ↦ inr (ap suc q.0, q.1) ]
+get_of_append_item_cases [] a b zero e = inr (refl, some-injective a b e)
+get_of_append_item_cases [] a b (suc j) e = absurd (some-ne-none b (sym e))
+get_of_append_item_cases (x ∷ xs) a b zero e = inl e
+get_of_append_item_cases (x ∷ xs) a b (suc j) e = elim (get_of_append_item_cases xs a b j e) [ inl q ↦ inl q | inr q ↦ inr (ap suc q.0, q.1) ]
 
-pub splits : (k : Plan) (id t m : ℕ) (v : View) → v ≡ tracks_from k t (suc m) → Splits (Woven k) id v (all_but_first v) (first_alone v)
-splits k id t m v is x h at =
+pub tracks_split_off_first : (k : Plan) (id t m : ℕ) (v : View) → v ≡ tracks_from k t (suc m) → Splits (Woven k) id v (all_but_first v) (first_alone v)
+tracks_split_off_first k id t m v is x h at =
     let at₀ : get_elem? x.views id ≡ some (tracks_from k t (suc m)) = at ∙ ap some is in
     let f = h.tracks id (tracks_from k t (suc m)) at₀ in
     let new : ℕ = length x.views in
@@ -166,11 +166,11 @@ splits k id t m v is x h at =
       at = h.at;
       above = h.above;
       seat = seat';
-      tracks = λ j u e. elim (at_end (set x.views id (tracks_from k (suc t) m)) (progress k t (opened_at k t) false (first_met k) ∷ []) u j e) [
+      tracks = λ j u e. elim (get_of_append_item_cases (set x.views id (tracks_from k (suc t) m)) (progress k t (opened_at k t) false (first_met k) ∷ []) u j e) [
         | inl was ↦ elim (at_set x.views id j (tracks_from k (suc t) m) u was) [
           | inl r ↦ subst (λ (z : ℕ). AreTracks k h.state seat' z u) (sym r.0)
-              (subst (AreTracks k h.state seat' id) r.1 (later k h.state h.seat t new id (suc t) m (omega arith) f.1))
-          | inr r ↦ elsewhere k h.state h.seat t new j u (λ e'. r.0 (sym e' ∙ f.0.mine)) (h.tracks j u r.1)
+              (subst (AreTracks k h.state seat' id) r.1 (later_tracks_stay_if_reseated k h.state h.seat t new id (suc t) m (omega arith) f.1))
+          | inr r ↦ other_tracks_stay_if_reseated k h.state h.seat t new j u (λ e'. r.0 (sym e' ∙ f.0.mine)) (h.tracks j u r.1)
         ]
         | inr q ↦ subst (AreTracks k h.state seat' j) q.1 (
           record {
@@ -196,10 +196,10 @@ splits k id t m v is x h at =
 
 -- ---- two seats become one
 
-moved : (k : Plan) (s : Flat) (seat : ℕ → ℕ) (id other j : ℕ) (v : View) → j ≢ other → AreTracks k s seat j v
+other_tracks_stay_if_seats_join : (k : Plan) (s : Flat) (seat : ℕ → ℕ) (id other j : ℕ) (v : View) → j ≢ other → AreTracks k s seat j v
     → AreTracks k s (λ u. if seat u == other then id else seat u) j v
-moved k s seat id other j [] ne h = tt
-moved k s seat id other j (q ∷ qs) ne h = (
+other_tracks_stay_if_seats_join k s seat id other j [] ne h = tt
+other_tracks_stay_if_seats_join k s seat id other j (q ∷ qs) ne h = (
   record {
     plan = h.0.plan;
     there = h.0.there;
@@ -210,14 +210,14 @@ moved k s seat id other j (q ∷ qs) ne h = (
     granted = h.0.granted;
     met = h.0.met;
   },
-  moved k s seat id other j qs ne h.1,
+  other_tracks_stay_if_seats_join k s seat id other j qs ne h.1,
 )
 
-taken_in : (k : Plan) (s : Flat) (seat : ℕ → ℕ) (id other : ℕ) (v w : View)
+tracks_after_seats_join : (k : Plan) (s : Flat) (seat : ℕ → ℕ) (id other : ℕ) (v w : View)
     → AreTracks k s (λ u. if seat u == other then id else seat u) id v → AreTracks k s seat other w
     → AreTracks k s (λ u. if seat u == other then id else seat u) id (v ++ w)
-taken_in k s seat id other [] [] f g = tt
-taken_in k s seat id other [] (q ∷ qs) f g = (
+tracks_after_seats_join k s seat id other [] [] f g = tt
+tracks_after_seats_join k s seat id other [] (q ∷ qs) f g = (
   record {
     plan = g.0.plan;
     there = g.0.there;
@@ -228,16 +228,16 @@ taken_in k s seat id other [] (q ∷ qs) f g = (
         g.0.granted;
     met = g.0.met;
   },
-  taken_in k s seat id other [] qs tt g.1,
+  tracks_after_seats_join k s seat id other [] qs tt g.1,
 )
-taken_in k s seat id other (q ∷ qs) w f g = (f.0, taken_in k s seat id other qs w f.1 g)
+tracks_after_seats_join k s seat id other (q ∷ qs) w f g = (f.0, tracks_after_seats_join k s seat id other qs w f.1 g)
 
-pub joins : (k : Plan) (id other : ℕ) (v w : View) → Joins (Woven k) id v other w (v ++ w) []
-joins k id other v w x h at apart at' =
+pub woven_seats_join : (k : Plan) (id other : ℕ) (v w : View) → Joins (Woven k) id v other w (v ++ w) []
+woven_seats_join k id other v w x h at apart at' =
     let seat' : ℕ → ℕ = λ u. if h.seat u == other then id else h.seat u in
     let was : get_elem? x.views other ≡ some w =
     elim (at_set x.views id other (v ++ w) w at') [ inl q ↦ absurd (apart q.0) | inr q ↦ q.1 ] in
-    let mine : AreTracks k h.state seat' id v = moved k h.state h.seat id other id v (λ e. apart (sym e)) (h.tracks id v at) in record {
+    let mine : AreTracks k h.state seat' id v = other_tracks_stay_if_seats_join k h.state h.seat id other id v (λ e. apart (sym e)) (h.tracks id v at) in record {
       run = h.run;
       state = h.state;
       flat = h.flat;
@@ -248,8 +248,8 @@ joins k id other v w x h at apart at' =
         | inl q ↦ subst (AreTracks k h.state seat' j) q.1 tt
         | inr q ↦ elim (at_set x.views id j (v ++ w) u q.1) [
           | inl r ↦ subst (λ (z : ℕ). AreTracks k h.state seat' z u) (sym r.0)
-              (subst (AreTracks k h.state seat' id) r.1 (taken_in k h.state h.seat id other v w mine (h.tracks other w was)))
-          | inr r ↦ moved k h.state h.seat id other j u q.0 (h.tracks j u r.1)
+              (subst (AreTracks k h.state seat' id) r.1 (tracks_after_seats_join k h.state h.seat id other v w mine (h.tracks other w was)))
+          | inr r ↦ other_tracks_stay_if_seats_join k h.state h.seat id other j u q.0 (h.tracks j u r.1)
         ]
       ];
       table = h.table;
@@ -257,9 +257,9 @@ joins k id other v w x h at apart at' =
 
 -- ---- dealing
 
-pub seats-snoc : (id : TableId) (k : Plan) (t u : ℕ) (xs : List (Seat (Unit {0}) View)) (x : Seat (Unit {0}) View) → AreSeats id k t xs
+pub seats_with_last_added : (id : TableId) (k : Plan) (t u : ℕ) (xs : List (Seat (Unit {0}) View)) (x : Seat (Unit {0}) View) → AreSeats id k t xs
     → u ≡ t + length xs → x.table_id ≡ id → x.me ≡ (progress k u (opened_at k u) false (first_met k) ∷ [], []) → AreSeats id k t (xs ++ x ∷ [])
-seats-snoc id k t u [] x h e i m = (
+seats_with_last_added id k t u [] x h e i m = (
   (
     i,
     m ∙ (λ j.
@@ -267,60 +267,60 @@ seats-snoc id k t u [] x h e i m = (
   ),
   tt,
 )
-seats-snoc id k t u (y ∷ ys) x h e i m = (h.0, seats-snoc id k (suc t) u ys x h.1 (omega (arith, e)) i m)
+seats_with_last_added id k t u (y ∷ ys) x h e i m = (h.0, seats_with_last_added id k (suc t) u ys x h.1 (omega (arith, e)) i m)
 
-pub dealt : (k : Plan) (l m n : ℕ) (me w : M) → me ≡ (tracks_from k l (suc m), []) → w ≡ (all_but_first me.0, me.1) → n ≡ suc l
+pub view_after_dealing_first : (k : Plan) (l m n : ℕ) (me w : M) → me ≡ (tracks_from k l (suc m), []) → w ≡ (all_but_first me.0, me.1) → n ≡ suc l
     → w ≡ (tracks_from k n m, [])
-dealt k l m n me w is emitted long = emitted ∙ (λ i. (all_but_first (is i).0, (is i).1)) ∙ (λ i. (tracks_from k (sym long i) m, []))
+view_after_dealing_first k l m n me w is emitted long = emitted ∙ (λ i. (all_but_first (is i).0, (is i).1)) ∙ (λ i. (tracks_from k (sym long i) m, []))
 
-pub dealt_first : (k : Plan) (l m : ℕ) (me w : M) → me ≡ (tracks_from k l (suc m), []) → w ≡ (first_alone me.0, [])
+pub dealt_view_is_first_thread : (k : Plan) (l m : ℕ) (me w : M) → me ≡ (tracks_from k l (suc m), []) → w ≡ (first_alone me.0, [])
     → w ≡ (progress k l (opened_at k l) false (first_met k) ∷ [], [])
-dealt_first k l m me w is emitted = emitted ∙ (λ i. (first_alone (is i).0, []))
+dealt_view_is_first_thread k l m me w is emitted = emitted ∙ (λ i. (first_alone (is i).0, []))
 
-pub all_but : (k : Plan) (l m n : ℕ) (me : M) → me ≡ (tracks_from k l m, []) → m ≡ suc n → me ≡ (tracks_from k l (suc n), [])
-all_but k l m n me is e = is ∙ (λ i. (tracks_from k l (e i), []))
+pub tracks_by_successor : (k : Plan) (l m n : ℕ) (me : M) → me ≡ (tracks_from k l m, []) → m ≡ suc n → me ≡ (tracks_from k l (suc n), [])
+tracks_by_successor k l m n me is e = is ∙ (λ i. (tracks_from k l (e i), []))
 
 -- ---- closing
 
-tracks_at : (k : Plan) (s : Flat) (seat : ℕ → ℕ) (id : ℕ) (v : View) → AreTracks k s seat id v → AreAt (positions s) v
-tracks_at k s seat id [] h = tt
-tracks_at k s seat id (q ∷ qs) h = (h.0.position, tracks_at k s seat id qs h.1)
+tracks_are_at_positions : (k : Plan) (s : Flat) (seat : ℕ → ℕ) (id : ℕ) (v : View) → AreTracks k s seat id v → AreAt (positions s) v
+tracks_are_at_positions k s seat id [] h = tt
+tracks_are_at_positions k s seat id (q ∷ qs) h = (h.0.position, tracks_are_at_positions k s seat id qs h.1)
 
-pub ends : (k : Plan) (id : ℕ) (v : View) (ws : List ℕ) (xs : List (Unit {0})) → Final (Seen (Woven k) id v) ws xs → IsEnd k v ws
-ends k id v ws xs f =
+pub final_table_is_end : (k : Plan) (id : ℕ) (v : View) (ws : List ℕ) (xs : List (Unit {0})) → Final (Seen (Woven k) id v) ws xs → IsEnd k v ws
+final_table_is_end k id v ws xs f =
     let h : Woven k f.0 = f.1.0 in record {
       cells = h.state.objects;
       table = subst (IsTable h.state.objects) f.2 h.table;
       sizes = λ o l. (h.flat.objects o l).words;
-      fits = λ o l. one_word (object_in h.state.objects o).fields (cell_fits h.state o h.flat l);
+      fits = λ o l. fields_of_word_of (object_in h.state.objects o).fields (cell_fields_fit h.state o h.flat l);
       closed = record {
         state = h.state;
         flat = h.flat;
         at = h.at;
         above = h.above;
         view =
-            tracks_at k h.state h.seat id v (h.tracks id v f.1.1);
+            tracks_are_at_positions k h.state h.seat id v (h.tracks id v f.1.1);
         objects = refl;
       };
     }
 
 -- ---- laying the words
 
-quot : (o r : ℕ) → r < apart → (word_place o + r - line_words) / apart ≡ o
-quot o r l = omega (arith, l)
+place_quotient_is_object : (o r : ℕ) → r < apart → (word_place o + r - line_words) / apart ≡ o
+place_quotient_is_object o r l = omega (arith, l)
 
-rem : (o r : ℕ) → r < apart → (word_place o + r - line_words) % apart ≡ r
-rem o r l = omega (arith, l)
+place_remainder_is_word : (o r : ℕ) → r < apart → (word_place o + r - line_words) % apart ≡ r
+place_remainder_is_word o r l = omega (arith, l)
 
-laid_at : (cells : List Cell) (o r : ℕ) → r < apart → laid cells (word_place o + r) ≡ word_in (object_in cells o) r
-laid_at cells o r l =
+laid_word_of_object : (cells : List Cell) (o r : ℕ) → r < apart → laid cells (word_place o + r) ≡ word_in (object_in cells o) r
+laid_word_of_object cells o r l =
     ap (λ (b : Bool). cond b 0 (word_in (object_in cells ((word_place o + r - line_words) / apart))
     ((word_place o + r - line_words) % apart)))
     (le-ltb (word_place o + r) line_words (omega arith))
-    ∙ (λ i. word_in (object_in cells (quot o r l i)) (rem o r l i))
+    ∙ (λ i. word_in (object_in cells (place_quotient_is_object o r l i)) (place_remainder_is_word o r l i))
 
-content_at : (c : Cell) (i : ℕ) → i < most_object_words → word_in c (line_words + i) ≡ get_or c.words i 0
-content_at c i l =
+word_in_content_place : (c : Cell) (i : ℕ) → i < most_object_words → word_in c (line_words + i) ≡ get_or c.words i 0
+word_in_content_place c i l =
     ap (λ (b : Bool). cond b (word_of c.fields) (cond (ltb (line_words + i) line_words) 0
     (cond (ltb (line_words + i) (line_words + most_object_words)) (get_or c.words (line_words + i - line_words) 0) 0)))
     (ne_eqb (line_words + i) 0 (λ e. omega (arith, e)))
@@ -330,12 +330,12 @@ content_at c i l =
     (lt-ltb (line_words + i) (line_words + most_object_words) (omega (arith, l)))
     ∙ ap (λ n. get_or c.words n 0) (let e : line_words + i - line_words ≡ i = omega arith in e)
 
-pub table_of : (cells : List Cell) (ws : List ℕ) → IsLaid cells ws (table_length (length cells))
+pub laid_words_are_table : (cells : List Cell) (ws : List ℕ) → IsLaid cells ws (table_length (length cells))
     → ((o : ℕ) → o < length cells → length (object_in cells o).words ≡ most_object_words) → IsTable cells ws
-table_of cells ws h sizes = record {
+laid_words_are_table cells ws h sizes = record {
   size = h.count;
   heads = λ o l. ap (λ z. get_or ws z 0) (let e : word_place o ≡ word_place o + 0 = omega arith in e)
-      ∙ h.each (word_place o + 0) (omega (arith, l)) ∙ laid_at cells o 0 (omega arith);
+      ∙ h.each (word_place o + 0) (omega (arith, l)) ∙ laid_word_of_object cells o 0 (omega arith);
   places = placed;
   small = λ o i. elim (cases_lt o (length cells)) [
     | inl l ↦ elim (cases_lt i most_object_words) [
@@ -349,13 +349,13 @@ table_of cells ws h sizes = record {
   where
     placed : (o i : ℕ) → o < length cells → i < most_object_words → get_or ws (content_place o i) 0 ≡ get_or (object_in cells o).words i 0
     placed o i l few = ap (λ z. get_or ws z 0) (let e : content_place o i ≡ word_place o + (line_words + i) = omega arith in e)
-        ∙ h.each (word_place o + (line_words + i)) (omega (arith, l, few)) ∙ laid_at cells o (line_words + i) (omega (arith, few))
-        ∙ content_at (object_in cells o) i few
+        ∙ h.each (word_place o + (line_words + i)) (omega (arith, l, few)) ∙ laid_word_of_object cells o (line_words + i) (omega (arith, few))
+        ∙ word_in_content_place (object_in cells o) i few
 
 -- one word more
-pub laid_more : (cells : List Cell) (ws ws' : List ℕ) (k w : ℕ) → IsLaid cells ws k → w ≡ laid cells k
+pub laid_with_word_added : (cells : List Cell) (ws ws' : List ℕ) (k w : ℕ) → IsLaid cells ws k → w ≡ laid cells k
     → ((o i : ℕ) → i < most_object_words → k ≡ content_place o i → w < 2 ^ 32) → ws' ≡ ws ++ w ∷ [] → IsLaid cells ws' (k + 1)
-laid_more cells ws ws' k w h is small same = subst (λ z. IsLaid cells z (k + 1)) (sym same) (record {
+laid_with_word_added cells ws ws' k w h is small same = subst (λ z. IsLaid cells z (k + 1)) (sym same) (record {
   count = length-append ws (w ∷ []) ∙ (let c = h.count in omega (arith, c));
   each = λ j l. elim (cases_lt j k) [
     | inl less ↦ get_or-append ws (w ∷ []) 0 j (let c = h.count in omega (arith, c, less)) ∙ h.each j less
@@ -373,27 +373,27 @@ laid_more cells ws ws' k w h is small same = subst (λ z. IsLaid cells z (k + 1)
     last = ap (λ z. get_or (ws ++ w ∷ []) z 0) (let c = h.count in let e : k ≡ length ws + 0 = omega (arith, c) in e)
         ∙ get_or-append-add ws (w ∷ []) 0 0
 
-pub none_laid : (cells : List Cell) (ws : List ℕ) → ws ≡ [] → IsLaid cells ws 0
-none_laid cells ws is = subst (λ z. IsLaid cells z 0) (sym is)
+pub no_words_are_laid : (cells : List Cell) (ws : List ℕ) → ws ≡ [] → IsLaid cells ws 0
+no_words_are_laid cells ws is = subst (λ z. IsLaid cells z 0) (sym is)
     (record { count = refl; each = λ j l. absurd (omega (arith, l)); small = λ o i l few. absurd (omega (arith, l)) })
 
 -- a word that was found
-pub found_word : (ws : List ℕ) (i n : ℕ) → get_elem? ws i ≡ some n → get_or ws i 0 ≡ n
-found_word [] i n e = absurd (some-ne-none n (sym e))
-found_word (w ∷ ws) zero n e = some-injective w n e
-found_word (w ∷ ws) (suc i) n e = found_word ws i n e
+pub get_or_of_found_word : (ws : List ℕ) (i n : ℕ) → get_elem? ws i ≡ some n → get_or ws i 0 ≡ n
+get_or_of_found_word [] i n e = absurd (some-ne-none n (sym e))
+get_or_of_found_word (w ∷ ws) zero n e = some-injective w n e
+get_or_of_found_word (w ∷ ws) (suc i) n e = get_or_of_found_word ws i n e
 
 -- a guest has a thread
-pub some_threads : (f : FittedTrace) (s : Standing) (ts : List thread.State) (g : Guest) → IsGuest g → g ≡ f.guest → ts ≡ s.threads
+pub guest_has_thread : (f : FittedTrace) (s : Standing) (ts : List thread.ThreadState) (g : Guest) → IsGuest g → g ≡ f.guest → ts ≡ s.threads
     → length s.threads ≡ length f.guest.entries → 0 < length ts
-some_threads f s ts g guest is same size = let some = guest.some_thread in let a = ap (λ (z : Guest). length z.entries) is in let b =
-    ap (λ (z : List thread.State). length z) same in omega (arith, some, a, b, size)
+guest_has_thread f s ts g guest is same size = let some = guest.some_thread in let a = ap (λ (z : Guest). length z.entries) is in let b =
+    ap (λ (z : List thread.ThreadState). length z) same in omega (arith, some, a, b, size)
 
 -- ---- the objects at the end
 
-pub read_more : (ws : List ℕ) (from : ℕ) (xs : List ℕ) (n w : ℕ) → AreRead ws from xs n → n < most_object_words → w ≡ get_or ws (from + n) 0
+pub words_read_with_word_set : (ws : List ℕ) (from : ℕ) (xs : List ℕ) (n w : ℕ) → AreRead ws from xs n → n < most_object_words → w ≡ get_or ws (from + n) 0
     → AreRead ws from (set xs n w) (n + 1)
-read_more ws from xs n w h inside is = record {
+words_read_with_word_set ws from xs n w h inside is = record {
   size = length-set xs n w ∙ h.size;
   each = λ i l. elim (cases_eq i n) [
     | inl here ↦ subst (λ z. get_or (set xs n w) z 0 ≡ get_or ws (from + z) 0) (sym here)
@@ -403,11 +403,11 @@ read_more ws from xs n w h inside is = record {
 }
 
 -- an object that is read from the words is the table's
-pub object_read : (cells : List Cell) (ws : List ℕ) (o w : ℕ) (xs : List ℕ) (c : Cell) → IsTable cells ws → o < length cells
+pub read_object_is_table_object : (cells : List Cell) (ws : List ℕ) (o w : ℕ) (xs : List ℕ) (c : Cell) → IsTable cells ws → o < length cells
     → length (object_in cells o).words ≡ most_object_words → fields_of (word_of (object_in cells o).fields) ≡ (object_in cells o).fields
     → w ≡ get_or ws (word_place o) 0 → AreRead ws (2 * line_words + apart * o) xs most_object_words
     → c ≡ record { fields = fields_of w; words = xs } → c ≡ object_in cells o
-object_read cells ws o w xs c t l sizes fits word read is =
+read_object_is_table_object cells ws o w xs c t l sizes fits word read is =
     let long : length xs ≡ most_object_words = read.size in
     let fields : fields_of w ≡ (object_in cells o).fields = ap fields_of (word ∙ t.heads o l) ∙ fits in
     let words : xs ≡ (object_in cells o).words =
@@ -420,9 +420,9 @@ pub record AreObjects (cells xs : List Cell) (n : ℕ) : Type 0 where
   pub size : length xs ≡ length cells
   pub each : (o : ℕ) → o < n → object_in xs o ≡ object_in cells o
 
-pub objects_more : (cells xs : List Cell) (n : ℕ) (c : Cell) → AreObjects cells xs n → n < length xs → c ≡ object_in cells n
+pub objects_with_one_set : (cells xs : List Cell) (n : ℕ) (c : Cell) → AreObjects cells xs n → n < length xs → c ≡ object_in cells n
     → AreObjects cells (set xs n c) (n + 1)
-objects_more cells xs n c h inside is = record {
+objects_with_one_set cells xs n c h inside is = record {
   size = length-set xs n c ∙ h.size;
   each = λ o l. elim (cases_eq o n) [
     | inl here ↦ subst (λ z. object_in (set xs n c) z ≡ object_in cells z) (sym here) (get_or-set_same xs n c empty inside ∙ is)
@@ -430,30 +430,30 @@ objects_more cells xs n c h inside is = record {
   ];
 }
 
-pub all_objects : (cells xs : List Cell) (n : ℕ) → AreObjects cells xs n → length xs ≤ n → xs ≡ cells
-all_objects cells xs n h all = ext_get_or empty xs cells h.size (λ o l. h.each o (omega (arith, l, all)))
+pub full_objects_are_cells : (cells xs : List Cell) (n : ℕ) → AreObjects cells xs n → length xs ≤ n → xs ≡ cells
+full_objects_are_cells cells xs n h all = ext_get_or empty xs cells h.size (λ o l. h.each o (omega (arith, l, all)))
 
-pub end_count : (k : Plan) (v : View) (ws : List ℕ) (e : IsEnd k v ws) → length e.cells ≡ object_count (trace_in k).guest
-end_count k v ws e = ap (λ (cs : List Cell). length cs) e.closed.objects ∙ e.closed.at.objects
+pub end_cells_count_guest_objects : (k : Plan) (v : View) (ws : List ℕ) (e : IsEnd k v ws) → length e.cells ≡ object_count (trace_in k).guest
+end_cells_count_guest_objects k v ws e = ap (λ (cs : List Cell). length cs) e.closed.objects ∙ e.closed.at.objects
 
-pub none_read : (k : Plan) (v : View) (ws : List ℕ) (e : IsEnd k v ws) (xs : List Cell) → length xs ≡ object_count (trace_in k).guest
+pub no_objects_are_read : (k : Plan) (v : View) (ws : List ℕ) (e : IsEnd k v ws) (xs : List Cell) → length xs ≡ object_count (trace_in k).guest
     → AreObjects e.cells xs 0
-none_read k v ws e xs room = record { size = room ∙ sym (end_count k v ws e); each = λ o l. absurd (omega (arith, l)) }
+no_objects_are_read k v ws e xs room = record { size = room ∙ sym (end_cells_count_guest_objects k v ws e); each = λ o l. absurd (omega (arith, l)) }
 
-pub closes : (k : Plan) (v : View) (ws : List ℕ) (e : IsEnd k v ws) (xs : List Cell) (n : ℕ) → AreObjects e.cells xs n → length xs ≤ n
+pub read_objects_close_table : (k : Plan) (v : View) (ws : List ℕ) (e : IsEnd k v ws) (xs : List Cell) (n : ℕ) → AreObjects e.cells xs n → length xs ≤ n
     → IsClosed k v xs
-closes k v ws e xs n h all = subst (IsClosed k v) (sym (all_objects e.cells xs n h all)) e.closed
+read_objects_close_table k v ws e xs n h all = subst (IsClosed k v) (sym (full_objects_are_cells e.cells xs n h all)) e.closed
 
 -- a guest with a trace has no more threads and objects than the trace's profile allows
-pub allowed : (f : FittedTrace) (p : Profile) (g : Guest) → IsFitted f → p ≡ f.recorded.profile → g ≡ f.guest → IsAllowed p g
-allowed f p g fitted profile guest =
+pub fitted_guest_is_allowed : (f : FittedTrace) (p : Profile) (g : Guest) → IsFitted f → p ≡ f.recorded.profile → g ≡ f.guest → IsAllowed p g
+fitted_guest_is_allowed f p g fitted profile guest =
     subst (λ (z : Profile × Guest). IsAllowed z.0 z.1) (λ i. (sym profile i, sym guest i))
     (header_allowed f.guest f.recorded fitted.within fitted.run.whole.0)
 
 -- the state before the first step
-pub stands_first : (f : FittedTrace) (first : Flat) (s : Standing) → first ≡ start_flat f.guest f.recorded.budget f.recorded.profile → IsFlat first
+pub start_stands_at_zero : (f : FittedTrace) (first : Flat) (s : Standing) → first ≡ start_flat f.guest f.recorded.budget f.recorded.profile → IsFlat first
     → s.threads ≡ first.threads → s.objects ≡ first.objects → StandsAt f (λ t. 0) s
-stands_first f first s is flat threads objects =
+start_stands_at_zero f first s is flat threads objects =
     let same : flat_in f s ≡ start_flat f.guest f.recorded.budget f.recorded.profile =
     λ i. record {
       code = f.guest.code;
@@ -461,11 +461,11 @@ stands_first f first s is flat threads objects =
       objects =
           (objects ∙ ap (λ z. z.objects) is) i;
     } in
-    record { flat = subst IsFlat (is ∙ sym same) flat; at = starts_at f (flat_in f s) same }
+    record { flat = subst IsFlat (is ∙ sym same) flat; at = start_is_state_at_zero f (flat_in f s) same }
 
 -- it is at its own positions, below all others
-pub stands_own : (f : FittedTrace) (s : Standing) → StandsAt f (λ t. 0) s → StandsAt f (positions (flat_in f s)) s
-stands_own f s h = subst (λ (p : Cut). StandsAt f p s) (λ i t. sym (h.at.steps t) i) h
+pub start_stands_at_own_positions : (f : FittedTrace) (s : Standing) → StandsAt f (λ t. 0) s → StandsAt f (positions (flat_in f s)) s
+start_stands_at_own_positions f s h = subst (λ (p : Cut). StandsAt f p s) (λ i t. sym (h.at.steps t) i) h
 
-pub first_below : (f : FittedTrace) (s : Standing) → StandsAt f (λ t. 0) s → (p : Cut) (t : ℕ) → positions (flat_in f s) t ≤ p t
-first_below f s h p t = let e = h.at.steps t in omega (arith, e)
+pub start_positions_below_any_cut : (f : FittedTrace) (s : Standing) → StandsAt f (λ t. 0) s → (p : Cut) (t : ℕ) → positions (flat_in f s) t ≤ p t
+start_positions_below_any_cut f s h p t = let e = h.at.steps t in omega (arith, e)

@@ -16,10 +16,10 @@ use Rattle.ir_runs.specs.declared.env_kind.EnvKind.{EnvKind}
 use Rattle.ir_thread.specs.declared.ask.Reply.{Reply}
 use Rattle.ir_thread.specs.declared.ask.Reply.TheVariants.{Go, Value}
 use Rattle.ir_runs.specs.Run.{Step, trail, count}
-use Rattle.ir_flat.proofs.CallerLemmas.{added}
+use Rattle.ir_flat.proofs.CallerLemmas.{events_added_by}
 use Rattle.ir_log.specs.Logging.{label_of}
 use Rattle.ir_log.specs.Asked.{ask_of as event_ask, Suits}
-use Rattle.ir_log.proofs.CallerLemmas.{call_suits}
+use Rattle.ir_log.proofs.CallerLemmas.{ask_of_suiting_call_event}
 use Rattle.ir_log.specs.declared.event.Event.{Event}
 use Rattle.ir_log.specs.declared.event.Event.TheVariants.{Answer as Answered, Read, Write, Try as Refused}
 use Rattle.ir_trace.specs.Recorded.{recorded_thread}
@@ -28,187 +28,187 @@ use Rattle.ir_cut.specs.Positions.{machine_of, start_of}
 use Rattle.ir_weave.specs.Ahead.{IsRefused, IsAlone, event_of, HasStep, IsAhead, IsAsking, IsEntering, thread_at, ask_at}
 use Rattle.ir_weave.specs.Woven.{View, M, trace_in, Met, progress, met_of, Rises, HasMet, Answers, IsFor, IsOpened, IsSeated, HasStepped, HasWaited, HasRunOn, WasStopped}
 use Rattle.ir_weave.specs.declared.plan.Plan.{Plan}
-use Rattle.ir_weave.proofs.Lone.{Takes, is_go, really, ahead_alone, ahead_none, ahead_here, takes_go, takes_answer, takes_try, try_result, asks_in, event_there, more_steps, same_number, never_done}
-use Rattle.ir_weave.proofs.Trails.{StepOf, step_at}
-use Rattle.ir_weave.proofs.Ended.{has_step, same_count}
-use Rattle.ir_fit.proofs.CallerLemmas.{get_at}
+use Rattle.ir_weave.proofs.Lone.{TakesStep, HasNoValue, IsNotDone, ahead_after_alone_step, ahead_after_object_step, ahead_of_own_position, takes_step_without_value, takes_environment_call, takes_try, try_result, ahead_thread_asks_in_run, logged_step_has_recorded_event, steps_after_ask, number_after_ask, thread_with_step_is_not_done}
+use Rattle.ir_weave.proofs.Trails.{StepOf, emitting_step_is_step_of}
+use Rattle.ir_weave.proofs.Ended.{thread_not_done_has_step, guest_runs_have_same_counts}
+use Rattle.ir_fit.proofs.CallerLemmas.{get_or_of_at}
 use Rattle.std.proofs.lemmas.Bool.{cases_lt}
 
 -- ---- the thread of a seat
 
-abbrev pub seated_at : View → ℕ
-seated_at [] = 0
-seated_at (q ∷ qs) = q.position
+abbrev pub position_of_view : View → ℕ
+position_of_view [] = 0
+position_of_view (q ∷ qs) = q.position
 
-pub seated_ahead : (k : Plan) (v : View) (x : thread.State) → IsSeated k v x → IsAhead (trace_in k) x.number (seated_at v) x
-seated_ahead k [] x seated = absurd seated
-seated_ahead k (q ∷ r ∷ qs) x seated = absurd seated
-seated_ahead k (q ∷ []) x seated = subst (λ (z : Plan × ℕ). IsAhead (trace_in z.0) z.1 q.position x)
+pub seated_thread_is_ahead : (k : Plan) (v : View) (x : thread.ThreadState) → IsSeated k v x → IsAhead (trace_in k) x.number (position_of_view v) x
+seated_thread_is_ahead k [] x seated = absurd seated
+seated_thread_is_ahead k (q ∷ r ∷ qs) x seated = absurd seated
+seated_thread_is_ahead k (q ∷ []) x seated = subst (λ (z : Plan × ℕ). IsAhead (trace_in z.0) z.1 q.position x)
     (λ i. (seated.0 i, sym seated.1.number i)) seated.1
 
 -- the thread advances, and the view stays
-pub seated_on : (k : Plan) (v : View) (x y : thread.State) → IsSeated k v x
+pub seated_after_advance : (k : Plan) (v : View) (x y : thread.ThreadState) → IsSeated k v x
     → ((i : ℕ) → IsAhead (trace_in k) x.number i x → IsAhead (trace_in k) x.number i y) → IsSeated k v y
-seated_on k [] x y seated on = absurd seated
-seated_on k (q ∷ r ∷ qs) x y seated on = absurd seated
-seated_on k (q ∷ []) x y seated on = (
+seated_after_advance k [] x y seated on = absurd seated
+seated_after_advance k (q ∷ r ∷ qs) x y seated on = absurd seated
+seated_after_advance k (q ∷ []) x y seated on = (
   seated.0,
   subst (λ (z : Plan × ℕ). IsAhead (trace_in z.0) z.1 q.position y) (λ i. (sym seated.0 i, seated.1.number i))
-      (on q.position (seated_ahead k (q ∷ []) x seated)),
+      (on q.position (seated_thread_is_ahead k (q ∷ []) x seated)),
 )
 
 -- ---- what the thread is after its reply
 
-replied : (code : List ℕ) (f : FittedTrace) (x : thread.State) (q : Ask) (r : Reply) → code ≡ f.guest.code → ask_of f.guest.code x ≡ q
+after_reply_is_after_ask : (code : List ℕ) (f : FittedTrace) (x : thread.ThreadState) (q : Ask) (r : Reply) → code ≡ f.guest.code → ask_of f.guest.code x ≡ q
     → after_reply code x r ≡ after_ask f.guest.code x q r
 unfolding after_reply
-replied code f x q r same is = (λ i. after_ask (same i) x (ask_of (same i) x) r) ∙ ap (λ a. after_ask f.guest.code x a r) is
+after_reply_is_after_ask code f x q r same is = (λ i. after_ask (same i) x (ask_of (same i) x) r) ∙ ap (λ a. after_ask f.guest.code x a r) is
 
 -- nothing more was met
-pub still : (m : Met) → Rises m m
-still m = record { cut = λ u. omega arith; looks = omega arith }
+pub rises_is_reflexive : (m : Met) → Rises m m
+rises_is_reflexive m = record { cut = λ u. omega arith; looks = omega arith }
 
 -- a step that touches no object
-pub stepped_alone : (k : Plan) (f : FittedTrace) (code : List ℕ) (me : M) (x y : thread.State) (q : Ask) (r : Reply) → IsFor k f
-    → code ≡ f.guest.code → IsSeated k me.0 x → IsAlone q (event_of (trace_in k) x.number x) → really q → Takes (trace_in k) x.number x q r → y ≡ after_reply code x r
+pub stepped_by_alone_step : (k : Plan) (f : FittedTrace) (code : List ℕ) (me : M) (x y : thread.ThreadState) (q : Ask) (r : Reply) → IsFor k f
+    → code ≡ f.guest.code → IsSeated k me.0 x → IsAlone q (event_of (trace_in k) x.number x) → IsNotDone q → TakesStep (trace_in k) x.number x q r → y ≡ after_reply code x r
     → HasStepped k me me x y
-stepped_alone k f code me x y q r for same seated alone step takes is =
+stepped_by_alone_step k f code me x y q r for same seated alone step takes is =
     let y_is : y ≡ after_ask (trace_in k).guest.code x q r = is
-    ∙ replied code (trace_in k) x q r (same ∙ ap (λ z. z.guest.code) (sym for)) takes.asks in
+    ∙ after_reply_is_after_ask code (trace_in k) x q r (same ∙ ap (λ z. z.guest.code) (sym for)) takes.asks in
     subst (λ z. HasStepped k me me x z) (sym y_is) (record {
-      seated = seated_on k me.0 x (after_ask (trace_in k).guest.code x q r) seated
-          (λ i ahead. ahead_alone (trace_in k) x.number i x q r ahead takes alone);
+      seated = seated_after_advance k me.0 x (after_ask (trace_in k).guest.code x q r) seated
+          (λ i ahead. ahead_after_alone_step (trace_in k) x.number i x q r ahead takes alone);
       slots = refl;
-      steps = more_steps (trace_in k).guest.code x q r step;
-      number = same_number (trace_in k).guest.code x q r;
-      rises = still (met_of me.0);
+      steps = steps_after_ask (trace_in k).guest.code x q r step;
+      number = number_after_ask (trace_in k).guest.code x q r;
+      rises = rises_is_reflexive (met_of me.0);
     })
 
 -- a step on an object
-pub stepped_object : (k : Plan) (f : FittedTrace) (code : List ℕ) (me me' : M) (x y : thread.State) (q : Ask) (r : Reply) → IsFor k f
-    → code ≡ f.guest.code → IsSeated k me.0 x → really q → Takes (trace_in k) x.number x q r → y ≡ after_reply code x r
+pub stepped_by_object_step : (k : Plan) (f : FittedTrace) (code : List ℕ) (me me' : M) (x y : thread.ThreadState) (q : Ask) (r : Reply) → IsFor k f
+    → code ≡ f.guest.code → IsSeated k me.0 x → IsNotDone q → TakesStep (trace_in k) x.number x q r → y ≡ after_reply code x r
     → (m : Met) → Rises (met_of me.0) m
     → ◌≡◌ {A = M} me' (progress k x.number (suc x.steps) false m ∷ [], me.1) → HasStepped k me me' x y
-stepped_object k f code me me' x y q r for same seated step takes is m rises moved =
+stepped_by_object_step k f code me me' x y q r for same seated step takes is m rises moved =
     let y_is : y ≡ after_ask (trace_in k).guest.code x q r = is
-    ∙ replied code (trace_in k) x q r (same ∙ ap (λ z. z.guest.code) (sym for)) takes.asks in
-    subst (λ (z : thread.State × M). HasStepped k me z.1 x z.0) (λ i. (sym y_is i, sym moved i)) (record {
-      seated = (refl, ahead_none (trace_in k) x.number (seated_at me.0) x q r (seated_ahead k me.0 x seated) takes);
+    ∙ after_reply_is_after_ask code (trace_in k) x q r (same ∙ ap (λ z. z.guest.code) (sym for)) takes.asks in
+    subst (λ (z : thread.ThreadState × M). HasStepped k me z.1 x z.0) (λ i. (sym y_is i, sym moved i)) (record {
+      seated = (refl, ahead_after_object_step (trace_in k) x.number (position_of_view me.0) x q r (seated_thread_is_ahead k me.0 x seated) takes);
       slots = refl;
-      steps = more_steps (trace_in k).guest.code x q r step;
-      number = same_number (trace_in k).guest.code x q r;
+      steps = steps_after_ask (trace_in k).guest.code x q r step;
+      number = number_after_ask (trace_in k).guest.code x q r;
       rises = record { cut = rises.cut; looks = rises.looks };
     })
 
 -- ---- which steps it takes
 
 -- what it asks of the table's plan
-pub asking_for : (k : Plan) (f : FittedTrace) (x : thread.State) (q : Ask) → IsFor k f → IsAsking f x q → IsAsking (trace_in k) x q
-asking_for k f x q for asking = subst (λ z. IsAsking z x q) (sym for) asking
+pub asking_of_plan_trace : (k : Plan) (f : FittedTrace) (x : thread.ThreadState) (q : Ask) → IsFor k f → IsAsking f x q → IsAsking (trace_in k) x q
+asking_of_plan_trace k f x q for asking = subst (λ z. IsAsking z x q) (sym for) asking
 
-pub go_takes : (k : Plan) (v : View) (x : thread.State) (q : Ask) → IsSeated k v x → IsAsking (trace_in k) x q → is_go q → really q
-    → Takes (trace_in k) x.number x q Go
-go_takes k v x q seated asking go step = takes_go (trace_in k) x.number (seated_at v) x q (seated_ahead k v x seated) asking.asks asking.has
+pub seated_takes_step_without_value : (k : Plan) (v : View) (x : thread.ThreadState) (q : Ask) → IsSeated k v x → IsAsking (trace_in k) x q → HasNoValue q → IsNotDone q
+    → TakesStep (trace_in k) x.number x q Go
+seated_takes_step_without_value k v x q seated asking go step = takes_step_without_value (trace_in k) x.number (position_of_view v) x q (seated_thread_is_ahead k v x seated) asking.asks asking.has
     go step
 
-pub answer_takes : (k : Plan) (v : View) (x : thread.State) (kind j : EnvKind) (n : ℕ) → IsSeated k v x → IsAsking (trace_in k) x (Env kind)
+pub seated_takes_environment_call : (k : Plan) (v : View) (x : thread.ThreadState) (kind j : EnvKind) (n : ℕ) → IsSeated k v x → IsAsking (trace_in k) x (Env kind)
     → slice_get (recorded_thread (trace_in k).recorded x.number).events x.events ≡ Some (Answered j n)
-    → Takes (trace_in k) x.number x (Env kind) (Value n)
-answer_takes k v x kind j n seated asking event =
-    takes_answer (trace_in k) x.number (seated_at v) x kind j n (seated_ahead k v x seated) asking.asks asking.has event
+    → TakesStep (trace_in k) x.number x (Env kind) (Value n)
+seated_takes_environment_call k v x kind j n seated asking event =
+    takes_environment_call (trace_in k) x.number (position_of_view v) x kind j n (seated_thread_is_ahead k v x seated) asking.asks asking.has event
 
-pub get_takes : (k : Plan) (v : View) (x : thread.State) (o i n : ℕ) → IsSeated k v x → IsAsking (trace_in k) x (Get o i)
-    → Answers (trace_in k) x.number x.steps n → Takes (trace_in k) x.number x (Get o i) (Value n)
-get_takes k v x o i n seated asking answers = record {
+pub seated_takes_get : (k : Plan) (v : View) (x : thread.ThreadState) (o i n : ℕ) → IsSeated k v x → IsAsking (trace_in k) x (Get o i)
+    → Answers (trace_in k) x.number x.steps n → TakesStep (trace_in k) x.number x (Get o i) (Value n)
+seated_takes_get k v x o i n seated asking answers = record {
   asks = asking.asks;
   step = tt;
   has = asking.has;
-  next = λ run of. (answers run of o i (asks_in (trace_in k) x.number (seated_at v) x (Get o i) run of (seated_ahead k v x seated)
+  next = λ run of. (answers run of o i (ahead_thread_asks_in_run (trace_in k) x.number (position_of_view v) x (Get o i) run of (seated_thread_is_ahead k v x seated)
       asking.asks)).1;
 }
 
 -- ---- the next event
 
-suits_by : (f : FittedTrace) (q : Ask) (e : Event) (r : ℕ) (b : Object) → Admits (machine_of f) (act_of (shared_ask q) r) b
-    → label_of e ≡ emitted (act_of (shared_ask q) r) b → added q ≡ 1 → Suits q e
-suits_by f (Env k) (Answered j v) r b can h one = let same : j ≡ k = cc h in inl (ap Env same)
-suits_by f (Env k) (Read o v) r b can h one = absurd (cc h)
-suits_by f (Env k) (Write o v l) r b can h one = absurd (cc h)
-suits_by f (Env k) (Refused o) r b can h one = absurd (cc h)
-suits_by f (Enter o Reading) (Answered j v) r b can h one = absurd (cc h)
-suits_by f (Enter o Reading) (Read p v) r b can h one = let same : p ≡ o = cc h in inl (ap (λ z. Enter z Reading) same)
-suits_by f (Enter o Reading) (Write p v l) r b can h one = absurd (cc h)
-suits_by f (Enter o Reading) (Refused p) r b can h one = absurd (cc h)
-suits_by f (Enter o Writing) (Answered j v) r b can h one = absurd (cc h)
-suits_by f (Enter o Writing) (Read p v) r b can h one = absurd (cc h)
-suits_by f (Enter o Writing) (Write p v l) r b can h one = let same : p ≡ o = cc h in inl (ap (λ z. Enter z Writing) same)
-suits_by f (Enter o Writing) (Refused p) r b can h one = absurd (cc h)
-suits_by f (Try o) (Answered j v) zero b can h one = absurd (cc h)
-suits_by f (Try o) (Read p v) zero b can h one = absurd (cc h)
-suits_by f (Try o) (Write p v l) zero b can h one = absurd (cc h)
-suits_by f (Try o) (Refused p) zero b can h one = let same : p ≡ o = cc h in inl (ap Try same)
-suits_by f (Try o) (Answered j v) (suc zero) b can h one = absurd (cc h)
-suits_by f (Try o) (Read p v) (suc zero) b can h one = absurd (cc h)
-suits_by f (Try o) (Write p v l) (suc zero) b can h one = let same : p ≡ o = cc h in inr (λ i. Some (Try (same i)))
-suits_by f (Try o) (Refused p) (suc zero) b can h one = absurd (cc h)
-suits_by f (Try o) e (suc (suc r)) b can h one = absurd can
-suits_by f Private e r b can h one = absurd (omega (arith, one))
-suits_by f (Leave o a) e r b can h one = absurd (omega (arith, one))
-suits_by f (Get o i) e r b can h one = absurd (omega (arith, one))
-suits_by f (Put o i w) e r b can h one = absurd (omega (arith, one))
-suits_by f Print e r b can h one = absurd (omega (arith, one))
-suits_by f (End x) e r b can h one = absurd (omega (arith, one))
-suits_by f Done e r b can h one = absurd (omega (arith, one))
+ask_suits_emitted_event : (f : FittedTrace) (q : Ask) (e : Event) (r : ℕ) (b : Object) → Admits (machine_of f) (act_of (shared_ask q) r) b
+    → label_of e ≡ emitted (act_of (shared_ask q) r) b → events_added_by q ≡ 1 → Suits q e
+ask_suits_emitted_event f (Env k) (Answered j v) r b can h one = let same : j ≡ k = cc h in inl (ap Env same)
+ask_suits_emitted_event f (Env k) (Read o v) r b can h one = absurd (cc h)
+ask_suits_emitted_event f (Env k) (Write o v l) r b can h one = absurd (cc h)
+ask_suits_emitted_event f (Env k) (Refused o) r b can h one = absurd (cc h)
+ask_suits_emitted_event f (Enter o Reading) (Answered j v) r b can h one = absurd (cc h)
+ask_suits_emitted_event f (Enter o Reading) (Read p v) r b can h one = let same : p ≡ o = cc h in inl (ap (λ z. Enter z Reading) same)
+ask_suits_emitted_event f (Enter o Reading) (Write p v l) r b can h one = absurd (cc h)
+ask_suits_emitted_event f (Enter o Reading) (Refused p) r b can h one = absurd (cc h)
+ask_suits_emitted_event f (Enter o Writing) (Answered j v) r b can h one = absurd (cc h)
+ask_suits_emitted_event f (Enter o Writing) (Read p v) r b can h one = absurd (cc h)
+ask_suits_emitted_event f (Enter o Writing) (Write p v l) r b can h one = let same : p ≡ o = cc h in inl (ap (λ z. Enter z Writing) same)
+ask_suits_emitted_event f (Enter o Writing) (Refused p) r b can h one = absurd (cc h)
+ask_suits_emitted_event f (Try o) (Answered j v) zero b can h one = absurd (cc h)
+ask_suits_emitted_event f (Try o) (Read p v) zero b can h one = absurd (cc h)
+ask_suits_emitted_event f (Try o) (Write p v l) zero b can h one = absurd (cc h)
+ask_suits_emitted_event f (Try o) (Refused p) zero b can h one = let same : p ≡ o = cc h in inl (ap Try same)
+ask_suits_emitted_event f (Try o) (Answered j v) (suc zero) b can h one = absurd (cc h)
+ask_suits_emitted_event f (Try o) (Read p v) (suc zero) b can h one = absurd (cc h)
+ask_suits_emitted_event f (Try o) (Write p v l) (suc zero) b can h one = let same : p ≡ o = cc h in inr (λ i. Some (Try (same i)))
+ask_suits_emitted_event f (Try o) (Refused p) (suc zero) b can h one = absurd (cc h)
+ask_suits_emitted_event f (Try o) e (suc (suc r)) b can h one = absurd can
+ask_suits_emitted_event f Private e r b can h one = absurd (omega (arith, one))
+ask_suits_emitted_event f (Leave o a) e r b can h one = absurd (omega (arith, one))
+ask_suits_emitted_event f (Get o i) e r b can h one = absurd (omega (arith, one))
+ask_suits_emitted_event f (Put o i w) e r b can h one = absurd (omega (arith, one))
+ask_suits_emitted_event f Print e r b can h one = absurd (omega (arith, one))
+ask_suits_emitted_event f (End x) e r b can h one = absurd (omega (arith, one))
+ask_suits_emitted_event f Done e r b can h one = absurd (omega (arith, one))
 
 -- there is one, which suits what is asked
-pub event_suits : (k : Plan) (v : View) (x : thread.State) (q : Ask) → IsSeated k v x → IsAsking (trace_in k) x q → added q ≡ 1
+pub asked_event_exists_and_suits : (k : Plan) (v : View) (x : thread.ThreadState) (q : Ask) → IsSeated k v x → IsAsking (trace_in k) x q → events_added_by q ≡ 1
     → (e : Event) × (slice_get (recorded_thread (trace_in k).recorded x.number).events x.events ≡ Some e) × Suits q e
-event_suits k v x q seated asking one =
+asked_event_exists_and_suits k v x q seated asking one =
     let f : FittedTrace = trace_in k in
-    let ahead : IsAhead f x.number (seated_at v) x = seated_ahead k v x seated in
+    let ahead : IsAhead f x.number (position_of_view v) x = seated_thread_is_ahead k v x seated in
     let run : List Step = ahead.run.run in
     let of = ahead.run.whole in
-    let asks : ask_at f run x.number x.steps ≡ q = asks_in f x.number (seated_at v) x q run of ahead asking.asks in
-    let found = event_there f run of x.number x.steps ahead.there (asking.has run of) (ap added asks ∙ one) in
+    let asks : ask_at f run x.number x.steps ≡ q = ahead_thread_asks_in_run f x.number (position_of_view v) x q run of ahead asking.asks in
+    let found = logged_step_has_recorded_event f run of x.number x.steps ahead.there (asking.has run of) (ap events_added_by asks ∙ one) in
     let z : StepOf (machine_of f) (thread_at f run x.number x.steps) (thread_at f run x.number (suc x.steps)) (label_of found.0) =
-    step_at (machine_of f) (start_of f) run of.1.runs x.number x.steps (label_of found.0) found.2 in (
+    emitting_step_is_step_of (machine_of f) (start_of f) run of.1.runs x.number x.steps (label_of found.0) found.2 in (
       found.0,
-      ap (λ (y : thread.State). slice_get (recorded_thread f.recorded x.number).events y.events) (ahead.at run of).1 ∙ found.1,
-      suits_by f q found.0 z.result z.object
+      ap (λ (y : thread.ThreadState). slice_get (recorded_thread f.recorded x.number).events y.events) (ahead.at run of).1 ∙ found.1,
+      ask_suits_emitted_event f q found.0 z.result z.object
           (subst (λ a. Admits (machine_of f) (act_of (shared_ask a) z.result) z.object) asks z.can) (z.emits ∙ ap (λ a. emitted (act_of (shared_ask a) z.result) z.object) asks) one,
     )
 
 -- so that it is never missing
-pub never_disagrees : (k : Plan) (f : FittedTrace) (v : View) (x : thread.State) (q : Ask) → IsFor k f → IsSeated k v x → IsAsking f x q
-    → added q ≡ 1
+pub asked_event_is_not_missing : (k : Plan) (f : FittedTrace) (v : View) (x : thread.ThreadState) (q : Ask) → IsFor k f → IsSeated k v x → IsAsking f x q
+    → events_added_by q ≡ 1
     → ((e : Event) → slice_get (recorded_thread f.recorded x.number).events x.events ≡ Some e → Suits q e → ⊥) → ⊥
-never_disagrees k f v x q for seated asking one none =
-    let some = event_suits k v x q seated (asking_for k f x q for asking) one in
+asked_event_is_not_missing k f v x q for seated asking one none =
+    let some = asked_event_exists_and_suits k v x q seated (asking_of_plan_trace k f x q for asking) one in
     none some.0 (subst (λ z. slice_get (recorded_thread z.recorded x.number).events x.events ≡ Some some.0) for some.1) some.2
 
 -- ---- the end of a thread
 
 -- the thread of a seat that isn't done has a step
-pub asks_has : (k : Plan) (f : FittedTrace) (v : View) (x : thread.State) → IsFor k f → IsSeated k v x → ask_of f.guest.code x ≢ Done
+pub seated_thread_not_done_has_step : (k : Plan) (f : FittedTrace) (v : View) (x : thread.ThreadState) → IsFor k f → IsSeated k v x → ask_of f.guest.code x ≢ Done
     → HasStep f x.number x.steps
-asks_has k f v x for seated not = subst (λ z. HasStep z x.number x.steps) for
-    (has_step (trace_in k) x.number x (seated_ahead k v x seated).at (subst (λ z. ask_of z.guest.code x ≢ Done) (sym for) not))
+seated_thread_not_done_has_step k f v x for seated not = subst (λ z. HasStep z x.number x.steps) for
+    (thread_not_done_has_step (trace_in k) x.number x (seated_thread_is_ahead k v x seated).at (subst (λ z. ask_of z.guest.code x ≢ Done) (sym for) not))
 
-pub not_done : (k : Plan) (f : FittedTrace) (v : View) (x : thread.State) → IsFor k f → IsSeated k v x → IsAsking f x Done → ⊥
-not_done k f v x for seated asking = let ask : IsAsking (trace_in k) x Done = asking_for k f x Done for asking in
-    never_done (trace_in k) x.number (seated_at v) x (seated_ahead k v x seated) ask.has ask.asks
+pub asking_thread_is_not_done : (k : Plan) (f : FittedTrace) (v : View) (x : thread.ThreadState) → IsFor k f → IsSeated k v x → IsAsking f x Done → ⊥
+asking_thread_is_not_done k f v x for seated asking = let ask : IsAsking (trace_in k) x Done = asking_of_plan_trace k f x Done for asking in
+    thread_with_step_is_not_done (trace_in k) x.number (position_of_view v) x (seated_thread_is_ahead k v x seated) ask.has ask.asks
 
 -- a thread that is done has taken all its steps, and at the end of each run it isn't admitted
-pub done_waits : (k : Plan) (f : FittedTrace) (me : M) (x : thread.State) → IsFor k f → IsOpened k → IsSeated k me.0 x
+pub done_thread_has_waited : (k : Plan) (f : FittedTrace) (me : M) (x : thread.ThreadState) → IsFor k f → IsOpened k → IsSeated k me.0 x
     → ask_of f.guest.code x ≡ Done → HasWaited k me me x x
-done_waits k f me x for opened seated done =
+done_thread_has_waited k f me x for opened seated done =
     let g : FittedTrace = trace_in k in
-    let ahead : IsAhead g x.number (seated_at me.0) x = seated_ahead k me.0 x seated in
+    let ahead : IsAhead g x.number (position_of_view me.0) x = seated_thread_is_ahead k me.0 x seated in
     let last : List Step = ahead.run.run in
-    let same = λ (run : List Step) (of : IsRunOf g.guest g.recorded run). same_count g last run ahead.run.whole of in
+    let same = λ (run : List Step) (of : IsRunOf g.guest g.recorded run). guest_runs_have_same_counts g last run ahead.run.whole of in
     let all : count (machine_of g) (start_of g) last x.number ≡ x.steps =
     elim (cases_lt x.steps (count (machine_of g) (start_of g) last x.number)) [
-      | inl less ↦ absurd (never_done g x.number (seated_at me.0) x ahead
+      | inl less ↦ absurd (thread_with_step_is_not_done g x.number (position_of_view me.0) x ahead
           (λ run of. (let e = same run of x.number in omega (arith, less, e))) (subst (λ z. ask_of z.guest.code x ≡ Done) (sym for) done))
       | inr past ↦ (let within = (ahead.at last ahead.run.whole).0 in omega (arith, past, within))
     ] in
@@ -220,7 +220,7 @@ done_waits k f me x for opened seated done =
         cut = count (machine_of g) (start_of g) last;
         is_cut = λ run of u. (let e = same run of u in omega (arith, e));
         consistent = λ run of t i u j a b emitted needed needs less.
-            (let within = (get_at (trail (machine_of g) (start_of g) run u) j (needed.0, b) needed.1).0 in let e = same run of u in
+            (let within = (get_or_of_at (trail (machine_of g) (start_of g) run u) j (needed.0, b) needed.1).0 in let e = same run of u in
             omega (arith, within, e));
         above = λ u. opened last ahead.run.whole u;
         here = all;
@@ -235,44 +235,44 @@ done_waits k f me x for opened seated done =
 
 -- ---- many private steps
 
-run_steps : (f : FittedTrace) (t i n : ℕ) (x y : thread.State) → IsAhead f t i x → PrivateSteps f.guest.code n x y
+ahead_after_private_steps : (f : FittedTrace) (t i n : ℕ) (x y : thread.ThreadState) → IsAhead f t i x → PrivateSteps f.guest.code n x y
     → IsAhead f t i (run_of f.guest.code n x) × ((run_of f.guest.code n x).steps ≡ x.steps + n)
 unfolding run_of step_of
-run_steps f t i zero x y ahead steps = (ahead, omega arith)
-run_steps f t i (suc n) x y ahead steps =
-    let z : thread.State = run_of f.guest.code n x in
-    let before = run_steps f t i n x z ahead (record { steps = refl; each = λ k l. steps.each k (omega (arith, l)) }) in
+ahead_after_private_steps f t i zero x y ahead steps = (ahead, omega arith)
+ahead_after_private_steps f t i (suc n) x y ahead steps =
+    let z : thread.ThreadState = run_of f.guest.code n x in
+    let before = ahead_after_private_steps f t i n x z ahead (record { steps = refl; each = λ k l. steps.each k (omega (arith, l)) }) in
     let asks : ask_of f.guest.code z ≡ Private = steps.each n (omega arith) in
-    let takes : Takes f t z Private Go = takes_go f t i z Private before.0 asks
-    (has_step f t z before.0.at (λ done. cc (asks, done))) tt tt in
-    let next : after_reply f.guest.code z Go ≡ after_ask f.guest.code z Private Go = replied f.guest.code f z Private Go refl asks in
-    let more = more_steps f.guest.code z Private Go tt in (
-      subst (IsAhead f t i) (sym next) (ahead_alone f t i z Private Go before.0 takes tt),
-      ap (λ (w : thread.State). w.steps) next ∙ more
+    let takes : TakesStep f t z Private Go = takes_step_without_value f t i z Private before.0 asks
+    (thread_not_done_has_step f t z before.0.at (λ done. cc (asks, done))) tt tt in
+    let next : after_reply f.guest.code z Go ≡ after_ask f.guest.code z Private Go = after_reply_is_after_ask f.guest.code f z Private Go refl asks in
+    let more = steps_after_ask f.guest.code z Private Go tt in (
+      subst (IsAhead f t i) (sym next) (ahead_after_alone_step f t i z Private Go before.0 takes tt),
+      ap (λ (w : thread.ThreadState). w.steps) next ∙ more
           ∙ (let s = before.1 in omega (arith, s)),
     )
 
-pub runs_on : (k : Plan) (f : FittedTrace) (code : List ℕ) (v : View) (x y : thread.State) (n : ℕ) → IsFor k f → code ≡ f.guest.code
+pub private_steps_run_on : (k : Plan) (f : FittedTrace) (code : List ℕ) (v : View) (x y : thread.ThreadState) (n : ℕ) → IsFor k f → code ≡ f.guest.code
     → IsSeated k v x → PrivateSteps code n x y → HasRunOn k v x y n
-runs_on k f code v x y n for same seated steps =
+private_steps_run_on k f code v x y n for same seated steps =
     let g : FittedTrace = trace_in k in
     let own : PrivateSteps g.guest.code n x y = subst (λ c. PrivateSteps c n x y) (same ∙ ap (λ z. z.guest.code) (sym for)) steps in
     let all : (i : ℕ) → IsAhead g x.number i x → IsAhead g x.number i y =
-    λ i ahead. subst (IsAhead g x.number i) (sym own.steps) (run_steps g x.number i n x y ahead own).0 in
+    λ i ahead. subst (IsAhead g x.number i) (sym own.steps) (ahead_after_private_steps g x.number i n x y ahead own).0 in
     record {
-      seated = seated_on k v x y seated all;
-      steps = ap (λ (z : thread.State). z.steps) own.steps
-          ∙ (run_steps g x.number (seated_at v) n x y (seated_ahead k v x seated) own).1;
-      number = (all (seated_at v) (seated_ahead k v x seated)).number;
+      seated = seated_after_advance k v x y seated all;
+      steps = ap (λ (z : thread.ThreadState). z.steps) own.steps
+          ∙ (ahead_after_private_steps g x.number (position_of_view v) n x y (seated_thread_is_ahead k v x seated) own).1;
+      number = (all (position_of_view v) (seated_thread_is_ahead k v x seated)).number;
     }
 
 -- ---- a thread that waits
 
-pub waited : (k : Plan) (me me' : M) (x : thread.State) → IsSeated k me.0 x
+pub stopped_thread_has_waited : (k : Plan) (me me' : M) (x : thread.ThreadState) → IsSeated k me.0 x
     → ◌≡◌ {A = M} me' (progress k x.number x.steps false (met_of me'.0) ∷ [], me.1)
     → (s : WasStopped k x.number x.steps) → HasMet (met_of me.0) (met_of me'.0) s.cut → HasWaited k me me' x x
-waited k me me' x seated is stopped met = subst (λ (z : M). HasWaited k me z x x) (sym is) (record {
-  seated = (refl, ahead_here (trace_in k) x.number (seated_at me.0) x (seated_ahead k me.0 x seated));
+stopped_thread_has_waited k me me' x seated is stopped met = subst (λ (z : M). HasWaited k me z x x) (sym is) (record {
+  seated = (refl, ahead_of_own_position (trace_in k) x.number (position_of_view me.0) x (seated_thread_is_ahead k me.0 x seated));
   slots = refl;
   same = refl;
   stopped = stopped;
@@ -281,100 +281,100 @@ waited k me me' x seated is stopped met = subst (λ (z : M). HasWaited k me z x 
 
 -- ---- what the calls of a step promise
 
-pub own_stepped : (k : Plan) (f : FittedTrace) (code : List ℕ) (me : M) (x y : thread.State) (q : Ask) → IsFor k f → code ≡ f.guest.code
+pub stepped_by_own_step : (k : Plan) (f : FittedTrace) (code : List ℕ) (me : M) (x y : thread.ThreadState) (q : Ask) → IsFor k f → code ≡ f.guest.code
     → IsSeated k me.0 x → IsAsking f x q → (q ≡ Private) ⊎ ((q ≡ Print) ⊎ ((e : end.End) × (q ≡ End e))) → y ≡ after_reply code x Go
     → HasStepped k me me x y
-own_stepped k f code me x y q for same seated asking own is = elim own [
+stepped_by_own_step k f code me x y q for same seated asking own is = elim own [
   | inl a ↦ step Private a tt tt tt
   | inr rest ↦ elim rest [ inl a ↦ step Print a tt tt tt | inr a ↦ step (End a.0) a.1 tt tt tt ]
 ]
   where
-    step : (p : Ask) → q ≡ p → IsAlone p (event_of (trace_in k) x.number x) → is_go p → really p → HasStepped k me me x y
+    step : (p : Ask) → q ≡ p → IsAlone p (event_of (trace_in k) x.number x) → HasNoValue p → IsNotDone p → HasStepped k me me x y
     step p a alone go real =
-        let ask : IsAsking (trace_in k) x p = subst (IsAsking (trace_in k) x) a (asking_for k f x q for asking) in
-        stepped_alone k f code me x y p Go for same seated alone real (go_takes k me.0 x p seated ask go real) is
+        let ask : IsAsking (trace_in k) x p = subst (IsAsking (trace_in k) x) a (asking_of_plan_trace k f x q for asking) in
+        stepped_by_alone_step k f code me x y p Go for same seated alone real (seated_takes_step_without_value k me.0 x p seated ask go real) is
 
-pub answer_stepped : (k : Plan) (f : FittedTrace) (code : List ℕ) (me : M) (x y : thread.State) (kind j : EnvKind) (n : ℕ) → IsFor k f
+pub stepped_by_environment_call : (k : Plan) (f : FittedTrace) (code : List ℕ) (me : M) (x y : thread.ThreadState) (kind j : EnvKind) (n : ℕ) → IsFor k f
     → code ≡ f.guest.code → IsSeated k me.0 x → IsAsking f x (Env kind)
     → slice_get (recorded_thread f.recorded x.number).events x.events ≡ Some (Answered j n) → y ≡ after_reply code x (Value n)
     → HasStepped k me me x y
-answer_stepped k f code me x y kind j n for same seated asking event is =
-    stepped_alone k f code me x y (Env kind) (Value n) for same seated tt tt
-    (answer_takes k me.0 x kind j n seated (asking_for k f x (Env kind) for asking)
+stepped_by_environment_call k f code me x y kind j n for same seated asking event is =
+    stepped_by_alone_step k f code me x y (Env kind) (Value n) for same seated tt tt
+    (seated_takes_environment_call k me.0 x kind j n seated (asking_of_plan_trace k f x (Env kind) for asking)
     (subst (λ z. slice_get (recorded_thread z.recorded x.number).events x.events ≡ Some (Answered j n)) (sym for) event)) is
 
-pub object_stepped : (k : Plan) (f : FittedTrace) (code : List ℕ) (me me' : M) (x y : thread.State) (q : Ask) → IsFor k f
-    → code ≡ f.guest.code → IsSeated k me.0 x → IsAsking f x q → is_go q → really q
+pub stepped_by_object_step_without_value : (k : Plan) (f : FittedTrace) (code : List ℕ) (me me' : M) (x y : thread.ThreadState) (q : Ask) → IsFor k f
+    → code ≡ f.guest.code → IsSeated k me.0 x → IsAsking f x q → HasNoValue q → IsNotDone q
     → y ≡ after_reply code x Go → (m : Met) → Rises (met_of me.0) m
     → ◌≡◌ {A = M} me' (progress k x.number (suc x.steps) false m ∷ [], me.1) → HasStepped k me me' x y
-object_stepped k f code me me' x y q for same seated asking go real is m rises moved =
-    stepped_object k f code me me' x y q Go for same seated real (go_takes k me.0 x q seated (asking_for k f x q for asking) go real) is
+stepped_by_object_step_without_value k f code me me' x y q for same seated asking go real is m rises moved =
+    stepped_by_object_step k f code me me' x y q Go for same seated real (seated_takes_step_without_value k me.0 x q seated (asking_of_plan_trace k f x q for asking) go real) is
     m rises moved
 
-pub get_stepped : (k : Plan) (f : FittedTrace) (code : List ℕ) (me me' : M) (x y : thread.State) (o i n : ℕ) → IsFor k f
+pub stepped_by_get : (k : Plan) (f : FittedTrace) (code : List ℕ) (me me' : M) (x y : thread.ThreadState) (o i n : ℕ) → IsFor k f
     → code ≡ f.guest.code → IsSeated k me.0 x → IsAsking f x (Get o i) → Answers (trace_in k) x.number x.steps n
     → y ≡ after_reply code x (Value n) → ◌≡◌ {A = M} me' (progress k x.number (suc x.steps) false (met_of me.0) ∷ [], me.1)
     → HasStepped k me me' x y
-get_stepped k f code me me' x y o i n for same seated asking answers is moved =
-    stepped_object k f code me me' x y (Get o i) (Value n) for same seated tt
-    (get_takes k me.0 x o i n seated (asking_for k f x (Get o i) for asking) answers) is (met_of me.0) (still (met_of me.0)) moved
+stepped_by_get k f code me me' x y o i n for same seated asking answers is moved =
+    stepped_by_object_step k f code me me' x y (Get o i) (Value n) for same seated tt
+    (seated_takes_get k me.0 x o i n seated (asking_of_plan_trace k f x (Get o i) for asking) answers) is (met_of me.0) (rises_is_reflexive (met_of me.0)) moved
 
-pub entering_for : (k : Plan) (f : FittedTrace) (x : thread.State) (q : Ask) (o : ℕ) (a : Access) (e : Event) → IsFor k f → IsAsking f x q
+pub entering_of_plan_trace : (k : Plan) (f : FittedTrace) (x : thread.ThreadState) (q : Ask) (o : ℕ) (a : Access) (e : Event) → IsFor k f → IsAsking f x q
     → slice_get (recorded_thread f.recorded x.number).events x.events ≡ Some e → Suits q e → event_ask e ≡ Enter o a
     → IsEntering (trace_in k) x o a e
-entering_for k f x q o a e for asking event suits enters =
+entering_of_plan_trace k f x q o a e for asking event suits enters =
     subst (λ z. IsEntering z x o a e) (sym for)
     (record { asked = q; asking = asking; event = event; suits = suits; enters = enters })
 
 -- ---- tries
 
 -- the try that the trace says is answered so
-try_takes : (k : Plan) (f : FittedTrace) (v : View) (x : thread.State) (o : ℕ) (e : Event) → IsFor k f → IsSeated k v x
+seated_takes_try : (k : Plan) (f : FittedTrace) (v : View) (x : thread.ThreadState) (o : ℕ) (e : Event) → IsFor k f → IsSeated k v x
     → IsAsking f x (Try o) → slice_get (recorded_thread f.recorded x.number).events x.events ≡ Some e
-    → Takes (trace_in k) x.number x (Try o) (Value (try_result e))
-try_takes k f v x o e for seated asking event =
-    let ask : IsAsking (trace_in k) x (Try o) = asking_for k f x (Try o) for asking in
-    takes_try (trace_in k) x.number (seated_at v) x o e (seated_ahead k v x seated) ask.asks ask.has
+    → TakesStep (trace_in k) x.number x (Try o) (Value (try_result e))
+seated_takes_try k f v x o e for seated asking event =
+    let ask : IsAsking (trace_in k) x (Try o) = asking_of_plan_trace k f x (Try o) for asking in
+    takes_try (trace_in k) x.number (position_of_view v) x o e (seated_thread_is_ahead k v x seated) ask.asks ask.has
     (subst (λ z. slice_get (recorded_thread z.recorded x.number).events x.events ≡ Some e) (sym for) event)
 
 -- a try that got in
-pub try_entered : (k : Plan) (f : FittedTrace) (code : List ℕ) (me me' : M) (x y : thread.State) (o : ℕ) (e : Event) → IsFor k f
+pub stepped_by_entering_try : (k : Plan) (f : FittedTrace) (code : List ℕ) (me me' : M) (x y : thread.ThreadState) (o : ℕ) (e : Event) → IsFor k f
     → code ≡ f.guest.code → IsSeated k me.0 x → IsAsking f x (Try o)
     → slice_get (recorded_thread f.recorded x.number).events x.events ≡ Some e → try_result e ≡ 1
     → y ≡ after_reply code x (Value 1) → (m : Met) → Rises (met_of me.0) m
     → ◌≡◌ {A = M} me' (progress k x.number (suc x.steps) false m ∷ [], me.1) → HasStepped k me me' x y
-try_entered k f code me me' x y o e for same seated asking event one is m rises moved =
-    stepped_object k f code me me' x y (Try o) (Value 1) for same seated tt
-    (subst (λ n. Takes (trace_in k) x.number x (Try o) (Value n)) one (try_takes k f me.0 x o e for seated asking event)) is m rises moved
+stepped_by_entering_try k f code me me' x y o e for same seated asking event one is m rises moved =
+    stepped_by_object_step k f code me me' x y (Try o) (Value 1) for same seated tt
+    (subst (λ n. TakesStep (trace_in k) x.number x (Try o) (Value n)) one (seated_takes_try k f me.0 x o e for seated asking event)) is m rises moved
 
 -- what suits a try and isn't refused got in
-pub entered_to_write : (o : ℕ) (e : Event) → Suits (Try o) e → ((p : ℕ) → e ≢ Refused p) → (try_result e ≡ 1) × (event_ask e ≡ Enter o Writing)
-entered_to_write o (Answered j v) (inl is) other = absurd (cc is)
-entered_to_write o (Answered j v) (inr is) other = absurd (cc is)
-entered_to_write o (Read p v) (inl is) other = absurd (cc is)
-entered_to_write o (Read p v) (inr is) other = absurd (cc is)
-entered_to_write o (Write p v l) (inl is) other = absurd (cc is)
-entered_to_write o (Write p v l) (inr is) other = let same : ◌≡◌ {A = ℕ} p o = cc is in (refl, ap (λ z. Enter z Writing) same)
-entered_to_write o (Refused p) suits other = absurd (other p refl)
+pub try_not_refused_enters_to_write : (o : ℕ) (e : Event) → Suits (Try o) e → ((p : ℕ) → e ≢ Refused p) → (try_result e ≡ 1) × (event_ask e ≡ Enter o Writing)
+try_not_refused_enters_to_write o (Answered j v) (inl is) other = absurd (cc is)
+try_not_refused_enters_to_write o (Answered j v) (inr is) other = absurd (cc is)
+try_not_refused_enters_to_write o (Read p v) (inl is) other = absurd (cc is)
+try_not_refused_enters_to_write o (Read p v) (inr is) other = absurd (cc is)
+try_not_refused_enters_to_write o (Write p v l) (inl is) other = absurd (cc is)
+try_not_refused_enters_to_write o (Write p v l) (inr is) other = let same : ◌≡◌ {A = ℕ} p o = cc is in (refl, ap (λ z. Enter z Writing) same)
+try_not_refused_enters_to_write o (Refused p) suits other = absurd (other p refl)
 
 -- a refused try touches no object
-pub try_refused : (k : Plan) (f : FittedTrace) (code : List ℕ) (me : M) (x y : thread.State) (o p : ℕ) → IsFor k f
+pub stepped_by_refused_try : (k : Plan) (f : FittedTrace) (code : List ℕ) (me : M) (x y : thread.ThreadState) (o p : ℕ) → IsFor k f
     → code ≡ f.guest.code → IsSeated k me.0 x → IsAsking f x (Try o)
     → slice_get (recorded_thread f.recorded x.number).events x.events ≡ Some (Refused p) → y ≡ after_reply code x (Value 0)
     → HasStepped k me me x y
-try_refused k f code me x y o p for same seated asking event is =
-    stepped_alone k f code me x y (Try o) (Value 0) for same seated
+stepped_by_refused_try k f code me x y o p for same seated asking event is =
+    stepped_by_alone_step k f code me x y (Try o) (Value 0) for same seated
     (subst IsRefused (sym (subst (λ z. slice_get (recorded_thread z.recorded x.number).events x.events ≡ Some (Refused p)) (sym for) event))
-    tt) tt (try_takes k f me.0 x o (Refused p) for seated asking event) is
+    tt) tt (seated_takes_try k f me.0 x o (Refused p) for seated asking event) is
 
 -- a thread of the guest
-pub thread_there : (k : Plan) (f : FittedTrace) (v : View) (x : thread.State) → IsFor k f → IsSeated k v x
+pub seated_thread_is_of_guest : (k : Plan) (f : FittedTrace) (v : View) (x : thread.ThreadState) → IsFor k f → IsSeated k v x
     → x.number < length f.guest.entries
-thread_there k f v x for seated = subst (λ z. x.number < length z.guest.entries) for (seated_ahead k v x seated).there
+seated_thread_is_of_guest k f v x for seated = subst (λ z. x.number < length z.guest.entries) for (seated_thread_is_ahead k v x seated).there
 
 -- another kind of event
-pub never_other : (q : Ask) (e : Event) → Suits q e → (j : EnvKind) → q ≡ Env j → ((i : EnvKind) (v : ℕ) → e ≡ Answered i v → ⊥) → ⊥
-never_other q (Answered i v) suits j is none = none i v refl
-never_other q (Read o v) suits j is none = let z = call_suits j (Read o v) (subst (λ p. Suits p (Read o v)) is suits) in cc z
-never_other q (Write o v l) suits j is none = let z = call_suits j (Write o v l) (subst (λ p. Suits p (Write o v l)) is suits) in cc z
-never_other q (Refused o) suits j is none = let z = call_suits j (Refused o) (subst (λ p. Suits p (Refused o)) is suits) in cc z
+pub call_event_is_answer : (q : Ask) (e : Event) → Suits q e → (j : EnvKind) → q ≡ Env j → ((i : EnvKind) (v : ℕ) → e ≡ Answered i v → ⊥) → ⊥
+call_event_is_answer q (Answered i v) suits j is none = none i v refl
+call_event_is_answer q (Read o v) suits j is none = let z = ask_of_suiting_call_event j (Read o v) (subst (λ p. Suits p (Read o v)) is suits) in cc z
+call_event_is_answer q (Write o v l) suits j is none = let z = ask_of_suiting_call_event j (Write o v l) (subst (λ p. Suits p (Write o v l)) is suits) in cc z
+call_event_is_answer q (Refused o) suits j is none = let z = ask_of_suiting_call_event j (Refused o) (subst (λ p. Suits p (Refused o)) is suits) in cc z

@@ -5,9 +5,9 @@ use Rattle.ir_runs.specs.Machine.{Machine, Ask, act_of, upd, Object, target, rep
 use Rattle.ir_runs.specs.Machine as machine
 use Rattle.ir_runs.specs.declared.access.Access.{Access}
 use Rattle.ir_runs.specs.declared.access.Access.TheVariants.{Reading, Writing}
-use Rattle.ir_runs.proofs.CallerLemmas.{upd_same, now_other}
+use Rattle.ir_runs.proofs.CallerLemmas.{upd_at_own_place, thread_after_step_of_other}
 use Rattle.ir_runs.specs.Run.{State, Step, act, Can, IsRun, after, label, end, join_if, trail, thread_in, th}
-use Rattle.ir_runs.specs.Cuts.{At, Emits, Needs}
+use Rattle.ir_runs.specs.Cuts.{At, Emits, IsNeededBy}
 
 pub record StepOf {T : Type 0} (m : Machine T) (x y : T) (a : Label) : Type 0 where
   pub result : ℕ
@@ -17,57 +17,57 @@ pub record StepOf {T : Type 0} (m : Machine T) (x y : T) (a : Label) : Type 0 wh
   pub next : y ≡ m.take x (reply (act_of (m.ask x) result) object)
 
 -- the thread that steps
-now_same : {T : Type 0} (m : Machine T) (s : State T) (e : Step)
+thread_after_own_step : {T : Type 0} (m : Machine T) (s : State T) (e : Step)
     → (after m s e).now e.0 ≡ m.take (s.now e.0) (reply (act m s e) (s.objects (target (act m s e))))
 unfolding after
-now_same m s e = upd_same s.now e.0 (m.take (s.now e.0) (reply (act m s e) (s.objects (target (act m s e)))))
+thread_after_own_step m s e = upd_at_own_place s.now e.0 (m.take (s.now e.0) (reply (act m s e) (s.objects (target (act m s e)))))
 
-pub first_thread : {T : Type 0} (m : Machine T) (s : State T) (run : List Step) (t : ℕ) → th m s run t 0 ≡ s.now t
-first_thread m s [] t = refl
-first_thread m s (e ∷ run) t = elim (cases_eq t e.0) [
+pub thread_at_position_zero : {T : Type 0} (m : Machine T) (s : State T) (run : List Step) (t : ℕ) → th m s run t 0 ≡ s.now t
+thread_at_position_zero m s [] t = refl
+thread_at_position_zero m s (e ∷ run) t = elim (cases_eq t e.0) [
   | inl same ↦ subst (λ b. thread_in (join_if b (s.now t, label m s e) (trail m (after m s e) run t)) 0 ((end m (after m s e) run).now t) ≡
       s.now t) (sym (eq-eqb t e.0 same)) refl
   | inr other ↦ subst (λ b. thread_in (join_if b (s.now t, label m s e) (trail m (after m s e) run t)) 0 ((end m (after m s e) run).now t) ≡
-      s.now t) (sym (ne_eqb t e.0 other)) (first_thread m (after m s e) run t ∙ now_other m s e t other)
+      s.now t) (sym (ne_eqb t e.0 other)) (thread_at_position_zero m (after m s e) run t ∙ thread_after_step_of_other m s e t other)
 ]
 
 -- the first step of a trail, or a later one
-first_or : {T : Type 0} (m : Machine T) (s : State T) (e : Step) (run : List Step) (t k : ℕ) (a : Label) (x : T) → Can m s e
+step_of_cons_trail : {T : Type 0} (m : Machine T) (s : State T) (e : Step) (run : List Step) (t k : ℕ) (a : Label) (x : T) → Can m s e
     → ((j : ℕ) → At (trail m (after m s e) run t) j (x, a) → StepOf m (th m (after m s e) run t j) (th m (after m s e) run t (suc j)) a)
     → t ≡ e.0
     → At ((s.now t, label m s e) ∷ trail m (after m s e) run t) k (x, a)
     → StepOf m (thread_in ((s.now t, label m s e) ∷ trail m (after m s e) run t) k ((end m (after m s e) run).now t))
     (thread_in ((s.now t, label m s e) ∷ trail m (after m s e) run t) (suc k) ((end m (after m s e) run).now t)) a
-first_or m s e run t zero a x can later same at =
+step_of_cons_trail m s e run t zero a x can later same at =
     subst (λ u. StepOf m (s.now u) (thread_in (trail m (after m s e) run u) 0 ((end m (after m s e) run).now u)) a) (sym same) (record {
       result = e.1;
       object = s.objects (target (act m s e));
       can = can;
       emits = sym (ap (λ z. z.1) at);
-      next = first_thread m (after m s e) run e.0 ∙ now_same m s e;
+      next = thread_at_position_zero m (after m s e) run e.0 ∙ thread_after_own_step m s e;
     })
-first_or m s e run t (suc k) a x can later same at = later k at
+step_of_cons_trail m s e run t (suc k) a x can later same at = later k at
 
-pub step_at : {T : Type 0} (m : Machine T) (s : State T) (run : List Step) → IsRun m s run → (t k : ℕ) (a : Label) → Emits m s run t k a
+pub emitting_step_is_step_of : {T : Type 0} (m : Machine T) (s : State T) (run : List Step) → IsRun m s run → (t k : ℕ) (a : Label) → Emits m s run t k a
     → StepOf m (th m s run t k) (th m s run t (suc k)) a
-step_at m s [] ok t k a h = absurd h.1
-step_at m s (e ∷ run) ok t k a h = elim (cases_eq t e.0) [
+emitting_step_is_step_of m s [] ok t k a h = absurd h.1
+emitting_step_is_step_of m s (e ∷ run) ok t k a h = elim (cases_eq t e.0) [
   | inl same ↦ subst
       (λ b. At (join_if b (s.now t, label m s e) (trail m (after m s e) run t)) k (h.0, a)
       → StepOf m (thread_in (join_if b (s.now t, label m s e) (trail m (after m s e) run t)) k ((end m (after m s e) run).now t))
       (thread_in (join_if b (s.now t, label m s e) (trail m (after m s e) run t)) (suc k) ((end m (after m s e) run).now t)) a)
-      (sym (eq-eqb t e.0 same)) (first_or m s e run t k a h.0 ok.0 (λ j at. step_at m (after m s e) run ok.1 t j a (h.0, at)) same) h.1
+      (sym (eq-eqb t e.0 same)) (step_of_cons_trail m s e run t k a h.0 ok.0 (λ j at. emitting_step_is_step_of m (after m s e) run ok.1 t j a (h.0, at)) same) h.1
   | inr other ↦ subst
       (λ b. At (join_if b (s.now t, label m s e) (trail m (after m s e) run t)) k (h.0, a)
       → StepOf m (thread_in (join_if b (s.now t, label m s e) (trail m (after m s e) run t)) k ((end m (after m s e) run).now t))
       (thread_in (join_if b (s.now t, label m s e) (trail m (after m s e) run t)) (suc k) ((end m (after m s e) run).now t)) a)
-      (sym (ne_eqb t e.0 other)) (λ at. step_at m (after m s e) run ok.1 t k a (h.0, at)) h.1
+      (sym (ne_eqb t e.0 other)) (λ at. emitting_step_is_step_of m (after m s e) run ok.1 t k a (h.0, at)) h.1
 ]
 
 -- what isn't an entry needs nothing
-pub needs_none : (b : Label) (q : Ask) (r : ℕ) (x : Object) → ((o : ℕ) (a : Access) → q ≢ machine.Enter o a) → ((o : ℕ) → q ≢ machine.Try o)
-    → Needs b (emitted (act_of q r) x) → ⊥
-needs_none b q r x ne nt n = none b (emitted (act_of q r) x) (quiet q r x ne nt) n
+pub label_without_entry_needs_nothing : (b : Label) (q : Ask) (r : ℕ) (x : Object) → ((o : ℕ) (a : Access) → q ≢ machine.Enter o a) → ((o : ℕ) → q ≢ machine.Try o)
+    → IsNeededBy b (emitted (act_of q r) x) → ⊥
+label_without_entry_needs_nothing b q r x ne nt n = none b (emitted (act_of q r) x) (quiet q r x ne nt) n
   where
     NotIn : Label → Type 0
     NotIn Quiet = Unit {0}
@@ -87,7 +87,7 @@ needs_none b q r x ne nt n = none b (emitted (act_of q r) x) (quiet q r x ne nt)
     quiet (machine.Put o i w) r x ne nt = tt
     quiet machine.Done r x ne nt = tt
 
-    none : (b a : Label) → NotIn a → Needs b a → ⊥
+    none : (b a : Label) → NotIn a → IsNeededBy b a → ⊥
     none b (In o c v l) h n = h
     none (Out o Reading w) Quiet h n = n
     none (Out o Writing w) Quiet h n = n

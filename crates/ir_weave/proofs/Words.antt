@@ -9,17 +9,17 @@ use Rattle.ir_flat.specs.Flat.{empty}
 use Rattle.ir_object.specs.Layout.{word_place, content_place, table_length}
 use Rattle.ir_weave.specs.Table.{object_in, IsTable}
 
-pub head_inside : (cells : List Cell) (words : List ℕ) (o : ℕ) → IsTable cells words → o < length cells → word_place o < length words
-head_inside cells words o t l = let e = t.size in omega (arith, e, l)
+pub word_place_below_length : (cells : List Cell) (words : List ℕ) (o : ℕ) → IsTable cells words → o < length cells → word_place o < length words
+word_place_below_length cells words o t l = let e = t.size in omega (arith, e, l)
 
 -- the word of an object
-pub head_changes : (cells : List Cell) (words : List ℕ) (o w : ℕ) (c : Cell) → IsTable cells words → o < length cells → w ≡ word_of c.fields
+pub table_after_object_word_set : (cells : List Cell) (words : List ℕ) (o w : ℕ) (c : Cell) → IsTable cells words → o < length cells → w ≡ word_of c.fields
     → c.words ≡ (object_in cells o).words → IsTable (set cells o c) (set words (word_place o) w)
-head_changes cells words o w c t l is same = record {
+table_after_object_word_set cells words o w c t l is same = record {
   size = length-set words (word_place o) w ∙ t.size ∙ ap table_length (sym (length-set cells o c));
   heads = λ p fits. elim (cases_eq p o) [
     | inl here ↦ subst (λ z. get_or (set words (word_place o) w) (word_place z) 0 ≡ word_of (object_in (set cells o c) z).fields) (sym here)
-        (get_or-set_same words (word_place o) w 0 (head_inside cells words o t l) ∙ is
+        (get_or-set_same words (word_place o) w 0 (word_place_below_length cells words o t l) ∙ is
         ∙ sym (ap (λ z. word_of z.fields) (get_or-set_same cells o c empty l)))
     | inr ne ↦ get_or-set_other words (word_place o) (word_place p) w 0 (λ e. ne (omega (arith, e)))
         ∙ t.heads p (let e = length-set cells o c in omega (arith, fits, e))
@@ -40,11 +40,11 @@ head_changes cells words o w c t l is same = record {
 }
 
 -- a word of its contents
-pub place_changes : (cells : List Cell) (words : List ℕ) (o i v : ℕ) (c : Cell) → IsTable cells words → o < length cells → i < most_object_words
+pub table_after_content_word_set : (cells : List Cell) (words : List ℕ) (o i v : ℕ) (c : Cell) → IsTable cells words → o < length cells → i < most_object_words
     → v < 2 ^ 32 → length (object_in cells o).words ≡ most_object_words → c.fields ≡ (object_in cells o).fields
     → c.words ≡ set (object_in cells o).words i v
     → IsTable (set cells o c) (set words (content_place o i) v)
-place_changes cells words o i v c t l few value sizes same is = record {
+table_after_content_word_set cells words o i v c t l few value sizes same is = record {
   size = length-set words (content_place o i) v ∙ t.size ∙ ap table_length (sym (length-set cells o c));
   heads = λ p fits. get_or-set_other words (content_place o i) (word_place p) v 0 (λ e. omega (arith, e, few))
       ∙ t.heads p (let e = length-set cells o c in omega (arith, fits, e)) ∙ elim (cases_eq p o) [
@@ -84,5 +84,5 @@ place_changes cells words o i v c t l few value sizes same is = record {
     ]
 
 -- a word that is written as it was
-pub same_words : (cells : List Cell) (words : List ℕ) (i : ℕ) → IsTable cells words → IsTable cells (set words i (get_or words i 0))
-same_words cells words i t = subst (IsTable cells) (sym (set-get_or words i 0)) t
+pub table_after_word_rewritten : (cells : List Cell) (words : List ℕ) (i : ℕ) → IsTable cells words → IsTable cells (set words i (get_or words i 0))
+table_after_word_rewritten cells words i t = subst (IsTable cells) (sym (set-get_or words i 0)) t

@@ -33,7 +33,7 @@ IsAlone (ask.End x) e = ⊤
 IsAlone ask.Done e = ⊥
 
 -- thread t of the run after k of its steps
-abbrev pub thread_at : FittedTrace → List Step → ℕ → ℕ → thread.State
+abbrev pub thread_at : FittedTrace → List Step → ℕ → ℕ → thread.ThreadState
 thread_at f run t k = th (machine_of f) (start_of f) run t k
 
 -- what it asks then
@@ -41,11 +41,11 @@ abbrev pub ask_at : FittedTrace → List Step → ℕ → ℕ → Ask
 ask_at f run t k = ask_of f.guest.code (thread_at f run t k)
 
 -- the next event that the trace emits of thread x
-abbrev pub event_of : FittedTrace → ℕ → thread.State → Option Event
+abbrev pub event_of : FittedTrace → ℕ → thread.ThreadState → Option Event
 event_of f t x = slice_get (recorded_thread f.recorded t).events x.events
 
 -- thread x's next step, as one of thread t's, touches no object
-abbrev pub GoesAlone : FittedTrace → ℕ → thread.State → Type 0
+abbrev pub GoesAlone : FittedTrace → ℕ → thread.ThreadState → Type 0
 GoesAlone f t x = IsAlone (ask_of f.guest.code x) (event_of f t x)
 
 -- thread t has more than k steps
@@ -53,7 +53,7 @@ abbrev pub HasStep : FittedTrace → ℕ → ℕ → Type 0
 HasStep f t k = EachRun f (λ run. k < count (machine_of f) (start_of f) run t)
 
 -- x is thread t after as many of its steps as it has taken
-abbrev pub IsThreadAt : FittedTrace → ℕ → thread.State → Type 0
+abbrev pub IsThreadAt : FittedTrace → ℕ → thread.ThreadState → Type 0
 IsThreadAt f t x = EachRun f (λ run. (x.steps ≤ count (machine_of f) (start_of f) run t) × (x ≡ thread_at f run t x.steps))
 
 -- the steps of thread t from i on, before step k, touch no object
@@ -67,7 +67,7 @@ pub record IsNextObject (f : FittedTrace) (t i k : ℕ) : Type 0 where
   pub touches : EachRun f (λ run. GoesAlone f t (thread_at f run t k) → ⊥)
 
 -- x is thread t, ahead of position i by steps that touch no object
-pub record IsAhead (f : FittedTrace) (t i : ℕ) (x : thread.State) : Type 0 where
+pub record IsAhead (f : FittedTrace) (t i : ℕ) (x : thread.ThreadState) : Type 0 where
   pub run : HasRun f
   pub there : t < length f.guest.entries
   pub number : x.number ≡ t
@@ -77,12 +77,12 @@ pub record IsAhead (f : FittedTrace) (t i : ℕ) (x : thread.State) : Type 0 whe
   pub alone : AreAlone f t i x.steps
 
 -- the next step of the thread x asks so, and the trace has it
-pub record IsAsking (f : FittedTrace) (x : thread.State) (q : Ask) : Type 0 where
+pub record IsAsking (f : FittedTrace) (x : thread.ThreadState) (q : Ask) : Type 0 where
   pub asks : ask_of f.guest.code x ≡ q
   pub has : HasStep f x.number x.steps
 
 -- by its next step it enters the object, by an entry or a try that gets in, and this is the next event that the trace emits of the thread
-pub record IsEntering (f : FittedTrace) (x : thread.State) (o : ℕ) (a : Access) (e : Event) : Type 0 where
+pub record IsEntering (f : FittedTrace) (x : thread.ThreadState) (o : ℕ) (a : Access) (e : Event) : Type 0 where
   pub asked : Ask
   pub asking : IsAsking f x asked
   pub event : slice_get (recorded_thread f.recorded x.number).events x.events ≡ Some e

@@ -1,4 +1,4 @@
--- Threads and objects, apart from the code.
+-- The threads and objects of a guest, without its code.
 use Rattle.std.specs.Prelude.{List, ◌≡◌, ℕ, ◌<◌, ◌≤◌, length}
 use Rattle.ir_thread.specs.State as thread
 use Rattle.ir_object.specs.Cell.{Cell}
@@ -11,7 +11,7 @@ use Rattle.ir_runs.specs.Run.{Step, th}
 
 -- the threads and objects of a guest at one moment
 pub record Standing : Type 0 where
-  pub threads : List thread.State
+  pub threads : List thread.ThreadState
   pub objects : List Cell
 
 -- with the guest's code

@@ -188,13 +188,13 @@ first_alone [] = []
 first_alone (q ∷ qs) = q ∷ []
 
 -- the thread x and a seat of its own
-abbrev pub IsSeated : Plan → View → thread.State → Type 0
+abbrev pub IsSeated : Plan → View → thread.ThreadState → Type 0
 IsSeated k [] x = ⊥
 IsSeated k (q ∷ r ∷ qs) x = ⊥
 IsSeated k (q ∷ []) x = (q.plan ≡ k) × IsAhead (trace_in q.plan) q.thread q.position x
 
 -- the seat was granted the step that its thread asks
-pub record IsGranted (k : Plan) (v : View) (x : thread.State) : Type 0 where
+pub record IsGranted (k : Plan) (v : View) (x : thread.ThreadState) : Type 0 where
   pub seated : IsSeated k v x
   pub view : v ≡ progress k x.number x.steps true (met_of v) ∷ []
 
@@ -203,7 +203,7 @@ abbrev pub IsFor : Plan → FittedTrace → Type 0
 IsFor k f = trace_in k ≡ f
 
 -- the thread x has taken a step, and is x' now
-pub record HasStepped (k : Plan) (me me' : M) (x x' : thread.State) : Type 0 where
+pub record HasStepped (k : Plan) (me me' : M) (x x' : thread.ThreadState) : Type 0 where
   pub seated : IsSeated k me'.0 x'
   pub slots : me'.1 ≡ me.1
   pub steps : x'.steps ≡ x.steps + 1
@@ -211,14 +211,14 @@ pub record HasStepped (k : Plan) (me me' : M) (x x' : thread.State) : Type 0 whe
   pub rises : Rises (met_of me.0) (met_of me'.0)
 
 -- the thread x is done, and its seat as it was; this cut is the end of each run
-pub record IsDoneAt (k : Plan) (me me' : M) (x : thread.State) (cut : Cut) : Type 0 where
+pub record IsDoneAt (k : Plan) (me me' : M) (x : thread.ThreadState) (cut : Cut) : Type 0 where
   pub done : ask_of (trace_in k).guest.code x ≡ ask.Done
   pub same : me' ≡ me
   pub end : EachRun (trace_in k) (λ run. (u : ℕ) → cut u ≡ count (machine_of (trace_in k)) (start_of (trace_in k)) run u)
 
 -- the thread x has taken none, and wasn't admitted to its next at some consistent cut, at or above the one at which the table was opened.
 -- This is one that its seat has met by a look now, at or above the one that it had met before, or else, if the thread is done, the end
-pub record HasWaited (k : Plan) (me me' : M) (x x' : thread.State) : Type 0 where
+pub record HasWaited (k : Plan) (me me' : M) (x x' : thread.ThreadState) : Type 0 where
   pub seated : IsSeated k me'.0 x'
   pub slots : me'.1 ≡ me.1
   pub same : x' ≡ x
@@ -226,7 +226,7 @@ pub record HasWaited (k : Plan) (me me' : M) (x x' : thread.State) : Type 0 wher
   pub fresh : HasMet (met_of me.0) (met_of me'.0) stopped.cut ⊎ IsDoneAt k me me' x stopped.cut
 
 -- the thread has gone on by n private steps
-pub record HasRunOn (k : Plan) (v : View) (x y : thread.State) (n : ℕ) : Type 0 where
+pub record HasRunOn (k : Plan) (v : View) (x y : thread.ThreadState) (n : ℕ) : Type 0 where
   pub seated : IsSeated k v y
   pub steps : y.steps ≡ x.steps + n
   pub number : y.number ≡ x.number

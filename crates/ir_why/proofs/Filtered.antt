@@ -4,86 +4,86 @@ use Rattle.std.specs.Prelude.{slice_get}
 use Rattle.std.proofs.lemmas.Option.{same_Some, none-some}
 
 -- x is at some place of a list
-abbrev pub Has : {X : Type 0} → List X → X → Type 0
-Has xs x = (k : ℕ) × (slice_get xs k ≡ Some x)
+abbrev pub IsIn : {X : Type 0} → List X → X → Type 0
+IsIn xs x = (k : ℕ) × (slice_get xs k ≡ Some x)
 
 -- x is somewhere before y in a list
 abbrev pub InOrder : {X : Type 0} → List X → X → X → Type 0
 InOrder xs x y = (a b : ℕ) × (a < b) × (slice_get xs a ≡ Some x) × (slice_get xs b ≡ Some y)
 
-pub joined_cases : {X : Type 0} (xs ys : List X) (k : ℕ) (x : X) → slice_get (xs ++ ys) k ≡ Some x
+pub slice_get_of_append_cases : {X : Type 0} (xs ys : List X) (k : ℕ) (x : X) → slice_get (xs ++ ys) k ≡ Some x
     → (slice_get xs k ≡ Some x) ⊎ ((m : ℕ) × (k ≡ length xs + m) × (slice_get ys m ≡ Some x))
-joined_cases [] ys k x e = inr (k, (let same : k ≡ 0 + k = omega arith in same), e)
-joined_cases (z ∷ zs) ys zero x e = inl e
-joined_cases (z ∷ zs) ys (suc k) x e = elim (joined_cases zs ys k x e) [
+slice_get_of_append_cases [] ys k x e = inr (k, (let same : k ≡ 0 + k = omega arith in same), e)
+slice_get_of_append_cases (z ∷ zs) ys zero x e = inl e
+slice_get_of_append_cases (z ∷ zs) ys (suc k) x e = elim (slice_get_of_append_cases zs ys k x e) [
   | inl h ↦ inl h
   | inr h ↦ inr (h.0, (let same : suc k ≡ suc (length zs) + h.0 = omega (arith, h.1) in same), h.2)
 ]
 
-pub joined_left : {X : Type 0} (xs ys : List X) (k : ℕ) (x : X) → slice_get xs k ≡ Some x → slice_get (xs ++ ys) k ≡ Some x
-joined_left [] ys k x e = absurd (none-some x e)
-joined_left (z ∷ zs) ys zero x e = e
-joined_left (z ∷ zs) ys (suc k) x e = joined_left zs ys k x e
+pub slice_get_kept_by_append : {X : Type 0} (xs ys : List X) (k : ℕ) (x : X) → slice_get xs k ≡ Some x → slice_get (xs ++ ys) k ≡ Some x
+slice_get_kept_by_append [] ys k x e = absurd (none-some x e)
+slice_get_kept_by_append (z ∷ zs) ys zero x e = e
+slice_get_kept_by_append (z ∷ zs) ys (suc k) x e = slice_get_kept_by_append zs ys k x e
 
-pub joined_right : {X : Type 0} (xs ys : List X) (k : ℕ) (x : X) → slice_get ys k ≡ Some x → slice_get (xs ++ ys) (length xs + k) ≡ Some x
-joined_right [] ys k x e = let same : 0 + k ≡ k = omega arith in ap (λ m. slice_get ys m) same ∙ e
-joined_right (z ∷ zs) ys k x e =
+pub slice_get_of_right_in_append : {X : Type 0} (xs ys : List X) (k : ℕ) (x : X) → slice_get ys k ≡ Some x → slice_get (xs ++ ys) (length xs + k) ≡ Some x
+slice_get_of_right_in_append [] ys k x e = let same : 0 + k ≡ k = omega arith in ap (λ m. slice_get ys m) same ∙ e
+slice_get_of_right_in_append (z ∷ zs) ys k x e =
     let same : suc (length zs) + k ≡ suc (length zs + k) = omega arith in
-    ap (λ m. slice_get (z ∷ (zs ++ ys)) m) same ∙ joined_right zs ys k x e
+    ap (λ m. slice_get (z ∷ (zs ++ ys)) m) same ∙ slice_get_of_right_in_append zs ys k x e
 
 -- ---- what is filtered
 
-kept_sound : {X : Type 0} (f : X → Bool) (z : X) (zs : List X) (c : Bool) → f z ≡ c → (k : ℕ) (x : X)
-    → slice_get (filter f (z ∷ zs)) k ≡ Some x → ((m : ℕ) (y : X) → slice_get (filter f zs) m ≡ Some y → (f y ≡ true) × Has zs y)
-    → (f x ≡ true) × Has (z ∷ zs) x
-kept_sound f z zs true e zero x is rest =
+filter_sound_step : {X : Type 0} (f : X → Bool) (z : X) (zs : List X) (c : Bool) → f z ≡ c → (k : ℕ) (x : X)
+    → slice_get (filter f (z ∷ zs)) k ≡ Some x → ((m : ℕ) (y : X) → slice_get (filter f zs) m ≡ Some y → (f y ≡ true) × IsIn zs y)
+    → (f x ≡ true) × IsIn (z ∷ zs) x
+filter_sound_step f z zs true e zero x is rest =
     let here : slice_get (filter f (z ∷ zs)) 0 ≡ Some z = ap (λ (c : Bool). slice_get (if c then z ∷ filter f zs else filter f zs) 0) e in
     let same : z ≡ x = same_Some z x (sym here ∙ is) in
     (ap f (sym same) ∙ e, (0, ap Some same))
-kept_sound f z zs true e (suc k) x is rest =
+filter_sound_step f z zs true e (suc k) x is rest =
     let there : slice_get (filter f (z ∷ zs)) (suc k) ≡ slice_get (filter f zs) k = ap (λ (c : Bool). slice_get (if c then z ∷ filter f zs else filter f zs) (suc k)) e in
     let own = rest k x (sym there ∙ is) in
     (own.0, (suc own.1.0, own.1.1))
-kept_sound f z zs false e k x is rest =
+filter_sound_step f z zs false e k x is rest =
     let there : slice_get (filter f (z ∷ zs)) k ≡ slice_get (filter f zs) k = ap (λ (c : Bool). slice_get (if c then z ∷ filter f zs else filter f zs) k) e in
     let own = rest k x (sym there ∙ is) in
     (own.0, (suc own.1.0, own.1.1))
 
 -- what is in the filtered list passes, and is in the list
-pub filter_sound : {X : Type 0} (f : X → Bool) (xs : List X) (k : ℕ) (x : X) → slice_get (filter f xs) k ≡ Some x → (f x ≡ true) × Has xs x
+pub filter_sound : {X : Type 0} (f : X → Bool) (xs : List X) (k : ℕ) (x : X) → slice_get (filter f xs) k ≡ Some x → (f x ≡ true) × IsIn xs x
 filter_sound f [] k x e = absurd (none-some x e)
-filter_sound f (z ∷ zs) k x e = kept_sound f z zs (f z) refl k x e (filter_sound f zs)
+filter_sound f (z ∷ zs) k x e = filter_sound_step f z zs (f z) refl k x e (filter_sound f zs)
 
-kept_here : {X : Type 0} (f : X → Bool) (z : X) (zs : List X) → f z ≡ true → slice_get (filter f (z ∷ zs)) 0 ≡ Some z
-kept_here f z zs e = ap (λ (c : Bool). slice_get (if c then z ∷ filter f zs else filter f zs) 0) e
+filter_begins_with_passing_head : {X : Type 0} (f : X → Bool) (z : X) (zs : List X) → f z ≡ true → slice_get (filter f (z ∷ zs)) 0 ≡ Some z
+filter_begins_with_passing_head f z zs e = ap (λ (c : Bool). slice_get (if c then z ∷ filter f zs else filter f zs) 0) e
 
-kept_later : {X : Type 0} (f : X → Bool) (z : X) (zs : List X) (c : Bool) → f z ≡ c → (x : X) → Has (filter f zs) x → Has (filter f (z ∷ zs)) x
-kept_later f z zs true e x h = (suc h.0, ap (λ (c : Bool). slice_get (if c then z ∷ filter f zs else filter f zs) (suc h.0)) e ∙ h.1)
-kept_later f z zs false e x h = (h.0, ap (λ (c : Bool). slice_get (if c then z ∷ filter f zs else filter f zs) h.0) e ∙ h.1)
+filter_of_tail_is_in_filter : {X : Type 0} (f : X → Bool) (z : X) (zs : List X) (c : Bool) → f z ≡ c → (x : X) → IsIn (filter f zs) x → IsIn (filter f (z ∷ zs)) x
+filter_of_tail_is_in_filter f z zs true e x h = (suc h.0, ap (λ (c : Bool). slice_get (if c then z ∷ filter f zs else filter f zs) (suc h.0)) e ∙ h.1)
+filter_of_tail_is_in_filter f z zs false e x h = (h.0, ap (λ (c : Bool). slice_get (if c then z ∷ filter f zs else filter f zs) h.0) e ∙ h.1)
 
 -- what passes is in the filtered list
-pub filter_complete : {X : Type 0} (f : X → Bool) (xs : List X) (k : ℕ) (x : X) → slice_get xs k ≡ Some x → f x ≡ true → Has (filter f xs) x
+pub filter_complete : {X : Type 0} (f : X → Bool) (xs : List X) (k : ℕ) (x : X) → slice_get xs k ≡ Some x → f x ≡ true → IsIn (filter f xs) x
 filter_complete f [] k x e t = absurd (none-some x e)
 filter_complete f (z ∷ zs) zero x e t =
     let same : z ≡ x = same_Some z x e in
-    (0, kept_here f z zs (ap f same ∙ t) ∙ ap Some same)
-filter_complete f (z ∷ zs) (suc k) x e t = kept_later f z zs (f z) refl x (filter_complete f zs k x e t)
+    (0, filter_begins_with_passing_head f z zs (ap f same ∙ t) ∙ ap Some same)
+filter_complete f (z ∷ zs) (suc k) x e t = filter_of_tail_is_in_filter f z zs (f z) refl x (filter_complete f zs k x e t)
 
-kept_order : {X : Type 0} (f : X → Bool) (z : X) (zs : List X) (c : Bool) → f z ≡ c → (a b : ℕ) (x y : X) → a < b
+filter_order_step : {X : Type 0} (f : X → Bool) (z : X) (zs : List X) (c : Bool) → f z ≡ c → (a b : ℕ) (x y : X) → a < b
     → slice_get (filter f (z ∷ zs)) a ≡ Some x → slice_get (filter f (z ∷ zs)) b ≡ Some y
     → ((m n : ℕ) (v w : X) → m < n → slice_get (filter f zs) m ≡ Some v → slice_get (filter f zs) n ≡ Some w → InOrder zs v w)
     → InOrder (z ∷ zs) x y
-kept_order f z zs true e a zero x y less first second rest = absurd (omega (arith, less))
-kept_order f z zs true e zero (suc b) x y less first second rest =
+filter_order_step f z zs true e a zero x y less first second rest = absurd (omega (arith, less))
+filter_order_step f z zs true e zero (suc b) x y less first second rest =
     let there : slice_get (filter f (z ∷ zs)) (suc b) ≡ slice_get (filter f zs) b = ap (λ (c : Bool). slice_get (if c then z ∷ filter f zs else filter f zs) (suc b)) e in
     let own = filter_sound f zs b y (sym there ∙ second) in
-    (0, suc own.1.0, omega arith, sym (kept_here f z zs e) ∙ first, own.1.1)
-kept_order f z zs true e (suc a) (suc b) x y less first second rest =
+    (0, suc own.1.0, omega arith, sym (filter_begins_with_passing_head f z zs e) ∙ first, own.1.1)
+filter_order_step f z zs true e (suc a) (suc b) x y less first second rest =
     let one : slice_get (filter f (z ∷ zs)) (suc a) ≡ slice_get (filter f zs) a = ap (λ (c : Bool). slice_get (if c then z ∷ filter f zs else filter f zs) (suc a)) e in
     let two : slice_get (filter f (z ∷ zs)) (suc b) ≡ slice_get (filter f zs) b = ap (λ (c : Bool). slice_get (if c then z ∷ filter f zs else filter f zs) (suc b)) e in
     let own = rest a b x y (omega (arith, less)) (sym one ∙ first) (sym two ∙ second) in
     (suc own.0, suc own.1, omega (arith, own.2), own.3, own.4)
-kept_order f z zs false e a b x y less first second rest =
+filter_order_step f z zs false e a b x y less first second rest =
     let one : slice_get (filter f (z ∷ zs)) a ≡ slice_get (filter f zs) a = ap (λ (c : Bool). slice_get (if c then z ∷ filter f zs else filter f zs) a) e in
     let two : slice_get (filter f (z ∷ zs)) b ≡ slice_get (filter f zs) b = ap (λ (c : Bool). slice_get (if c then z ∷ filter f zs else filter f zs) b) e in
     let own = rest a b x y less (sym one ∙ first) (sym two ∙ second) in
@@ -93,4 +93,4 @@ kept_order f z zs false e a b x y less first second rest =
 pub filter_order : {X : Type 0} (f : X → Bool) (xs : List X) (a b : ℕ) (x y : X) → a < b → slice_get (filter f xs) a ≡ Some x
     → slice_get (filter f xs) b ≡ Some y → InOrder xs x y
 filter_order f [] a b x y less first second = absurd (none-some x first)
-filter_order f (z ∷ zs) a b x y less first second = kept_order f z zs (f z) refl a b x y less first second (filter_order f zs)
+filter_order f (z ∷ zs) a b x y less first second = filter_order_step f z zs (f z) refl a b x y less first second (filter_order f zs)

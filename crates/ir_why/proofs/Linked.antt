@@ -16,18 +16,18 @@ use Rattle.ir_why.specs.Needed.{NeedsOther, AreNeeds}
 use Rattle.ir_why.specs.Chain.{IsPlacedBefore, IsLatestNeed, IsWaiting, WaitsForNone, IsLink, AreLinks}
 use Rattle.ir_why.specs.Tables.{HaveBoxes, IsLatestIn}
 use Rattle.ir_why.specs.declared.link.Link.{Link}
-use Rattle.ir_why.proofs.Gathered.{needed_there}
+use Rattle.ir_why.proofs.Gathered.{needed_event_exists}
 
 -- ---- places
 
-pub same_place : (p q : Place) → p.thread ≡ q.thread → p.event ≡ q.event → p ≡ q
-same_place p q t e = λ i. record { thread = t i; event = e i }
+pub places_equal_by_fields : (p q : Place) → p.thread ≡ q.thread → p.event ≡ q.event → p ≡ q
+places_equal_by_fields p q t e = λ i. record { thread = t i; event = e i }
 
 -- one comes before the other, or they are the same
-either : (p q : Place) → (p ≡ q) ⊎ IsBefore p.thread p.event q.thread q.event ⊎ IsBefore q.thread q.event p.thread p.event
-either p q = elim (cases_eq p.thread q.thread) [
+places_equal_or_ordered : (p q : Place) → (p ≡ q) ⊎ IsBefore p.thread p.event q.thread q.event ⊎ IsBefore q.thread q.event p.thread p.event
+places_equal_or_ordered p q = elim (cases_eq p.thread q.thread) [
   | inl t ↦ elim (cases_eq p.event q.event) [
-    | inl e ↦ inl (same_place p q t e)
+    | inl e ↦ inl (places_equal_by_fields p q t e)
     | inr ne ↦ elim (cases_lt p.event q.event) [
       | inl less ↦ inr (inl (inr (t, less)))
       | inr not ↦ inr (inr (inr (sym t, omega (arith, ne, not))))
@@ -39,35 +39,35 @@ either p q = elim (cases_eq p.thread q.thread) [
   ]
 ]
 
-pub before_trans : (a b c d e f : ℕ) → IsBefore a b c d → IsBefore c d e f → IsBefore a b e f
-before_trans a b c d e f (inl x) (inl y) = inl (omega (arith, x, y))
-before_trans a b c d e f (inl x) (inr y) = inl (omega (arith, x, y.0))
-before_trans a b c d e f (inr x) (inl y) = inl (omega (arith, x.0, y))
-before_trans a b c d e f (inr x) (inr y) = inr (x.0 ∙ y.0, omega (arith, x.1, y.1))
+pub before_transitive : (a b c d e f : ℕ) → IsBefore a b c d → IsBefore c d e f → IsBefore a b e f
+before_transitive a b c d e f (inl x) (inl y) = inl (omega (arith, x, y))
+before_transitive a b c d e f (inl x) (inr y) = inl (omega (arith, x, y.0))
+before_transitive a b c d e f (inr x) (inl y) = inl (omega (arith, x.0, y))
+before_transitive a b c d e f (inr x) (inr y) = inr (x.0 ∙ y.0, omega (arith, x.1, y.1))
 
 -- ---- the need that is placed latest
 
 -- an event that starts at x is less far than one that starts at `most`, or as far and after it by thread and event
-abbrev pub IsLess : ℕ → ℕ → Place → Place → Type 0
-IsLess x most q best = (x < most) ⊎ ((x ≡ most) × IsBefore best.thread best.event q.thread q.event)
+abbrev pub StartsLessFar : ℕ → ℕ → Place → Place → Type 0
+StartsLessFar x most q best = (x < most) ⊎ ((x ≡ most) × IsBefore best.thread best.event q.thread q.event)
 
 -- of the first n of these events, this one starts furthest
-pub record IsBest (boxes : List PlacedBox) (places : List Place) (n : ℕ) (best : Place) (most : ℕ) : Type 0 where
+pub record StartsFurthest (boxes : List PlacedBox) (places : List Place) (n : ℕ) (best : Place) (most : ℕ) : Type 0 where
   pub number : ℕ
   pub there : slice_get places number ≡ Some best
   pub start : StartsAt boxes best.thread best.event most
   pub others : (k : ℕ) (q : Place) → k < n → slice_get places k ≡ Some q
-      → (q ≡ best) ⊎ ((x : ℕ) × StartsAt boxes q.thread q.event x × IsLess x most q best)
+      → (q ≡ best) ⊎ ((x : ℕ) × StartsAt boxes q.thread q.event x × StartsLessFar x most q best)
 
-pub best_first : (boxes : List PlacedBox) (places : List Place) (p : Place) (x : ℕ) → slice_get places 0 ≡ Some p → StartsAt boxes p.thread p.event x
-    → IsBest boxes places 0 p x
-best_first boxes places p x at start = record { number = 0; there = at; start = start; others = λ k q less is. absurd (omega (arith, less)) }
+pub first_event_starts_furthest : (boxes : List PlacedBox) (places : List Place) (p : Place) (x : ℕ) → slice_get places 0 ≡ Some p → StartsAt boxes p.thread p.event x
+    → StartsFurthest boxes places 0 p x
+first_event_starts_furthest boxes places p x at start = record { number = 0; there = at; start = start; others = λ k q less is. absurd (omega (arith, less)) }
 
 -- the next event starts further, or as far and is before it
-pub best_new : (boxes : List PlacedBox) (places : List Place) (n : ℕ) (best p : Place) (most x : ℕ) → IsBest boxes places n best most
+pub next_event_starts_furthest : (boxes : List PlacedBox) (places : List Place) (n : ℕ) (best p : Place) (most x : ℕ) → StartsFurthest boxes places n best most
     → slice_get places n ≡ Some p → StartsAt boxes p.thread p.event x
-    → (most < x) ⊎ ((x ≡ most) × IsBefore p.thread p.event best.thread best.event) → IsBest boxes places (n + 1) p x
-best_new boxes places n best p most x h at start further = record {
+    → (most < x) ⊎ ((x ≡ most) × IsBefore p.thread p.event best.thread best.event) → StartsFurthest boxes places (n + 1) p x
+next_event_starts_furthest boxes places n best p most x h at start further = record {
   number = n;
   there = at;
   start = start;
@@ -77,42 +77,42 @@ best_new boxes places n best p most x h at start further = record {
       | inl same ↦ (
         most,
         subst (λ (z : Place). StartsAt boxes z.thread z.event most) (sym same) h.start,
-        subst (λ (z : Place). IsLess most x z p) (sym same) (by_best further),
+        subst (λ (z : Place). StartsLessFar most x z p) (sym same) (by_best further),
       )
       | inr own ↦ (own.0, own.1, by_other own.0 q own.2 further)
     ])
   ];
 }
   where
-    by_best : (most < x) ⊎ ((x ≡ most) × IsBefore p.thread p.event best.thread best.event) → IsLess most x best p
+    by_best : (most < x) ⊎ ((x ≡ most) × IsBefore p.thread p.event best.thread best.event) → StartsLessFar most x best p
     by_best (inl less) = inl less
     by_best (inr same) = inr (sym same.0, same.1)
 
-    by_other : (y : ℕ) (q : Place) → IsLess y most q best → (most < x) ⊎ ((x ≡ most) × IsBefore p.thread p.event best.thread best.event) → IsLess y x q p
+    by_other : (y : ℕ) (q : Place) → StartsLessFar y most q best → (most < x) ⊎ ((x ≡ most) × IsBefore p.thread p.event best.thread best.event) → StartsLessFar y x q p
     by_other y q (inl less) (inl more) = inl (omega (arith, less, more))
     by_other y q (inl less) (inr same) = inl (omega (arith, less, same.0))
     by_other y q (inr is) (inl more) = inl (omega (arith, is.0, more))
     by_other y q (inr is) (inr same) =
-        inr (is.0 ∙ sym same.0, before_trans p.thread p.event best.thread best.event q.thread q.event same.1 is.1)
+        inr (is.0 ∙ sym same.0, before_transitive p.thread p.event best.thread best.event q.thread q.event same.1 is.1)
 
 -- it doesn't
-pub best_same : (boxes : List PlacedBox) (places : List Place) (n : ℕ) (best p : Place) (most x : ℕ) → IsBest boxes places n best most
+pub furthest_stays_after_next_event : (boxes : List PlacedBox) (places : List Place) (n : ℕ) (best p : Place) (most x : ℕ) → StartsFurthest boxes places n best most
     → slice_get places n ≡ Some p → StartsAt boxes p.thread p.event x → x ≤ most
-    → (x ≡ most → IsBefore p.thread p.event best.thread best.event → ⊥) → IsBest boxes places (n + 1) best most
-best_same boxes places n best p most x h at start no_more not_before = record {
+    → (x ≡ most → IsBefore p.thread p.event best.thread best.event → ⊥) → StartsFurthest boxes places (n + 1) best most
+furthest_stays_after_next_event boxes places n best p most x h at start no_more not_before = record {
   number = h.number;
   there = h.there;
   start = h.start;
   others = λ k q less is. elim (cases_eq k n) [
-    | inl here ↦ subst (λ (z : Place). (z ≡ best) ⊎ ((y : ℕ) × StartsAt boxes z.thread z.event y × IsLess y most z best))
+    | inl here ↦ subst (λ (z : Place). (z ≡ best) ⊎ ((y : ℕ) × StartsAt boxes z.thread z.event y × StartsLessFar y most z best))
         (same_Some p q (sym at ∙ subst (λ z. slice_get places z ≡ Some q) here is)) own
     | inr ne ↦ h.others k q (omega (arith, less, ne)) is
   ];
 }
   where
-    own : (p ≡ best) ⊎ ((y : ℕ) × StartsAt boxes p.thread p.event y × IsLess y most p best)
+    own : (p ≡ best) ⊎ ((y : ℕ) × StartsAt boxes p.thread p.event y × StartsLessFar y most p best)
     own = elim (cases_eq x most) [
-      | inl same ↦ elim (either p best) [
+      | inl same ↦ elim (places_equal_or_ordered p best) [
         | inl is ↦ inl is
         | inr (inl before) ↦ absurd (not_before same before)
         | inr (inr after) ↦ inr (x, start, inr (same, after))
@@ -120,9 +120,9 @@ best_same boxes places n best p most x h at start no_more not_before = record {
       | inr ne ↦ inr (x, start, inl (omega (arith, ne, no_more)))
     ]
 
-pub best_all : (boxes : List PlacedBox) (places : List Place) (n : ℕ) (best : Place) (most : ℕ) → IsBest boxes places n best most → length places ≤ n
+pub latest_if_furthest_of_all : (boxes : List PlacedBox) (places : List Place) (n : ℕ) (best : Place) (most : ℕ) → StartsFurthest boxes places n best most → length places ≤ n
     → IsLatestIn boxes places best
-best_all boxes places n best most h all = record {
+latest_if_furthest_of_all boxes places n best most h all = record {
   number = h.number;
   there = h.there;
   latest = λ k q is. elim (h.others k q (let within = slice_get_within places k q is in omega (arith, within, all)) is) [
@@ -134,9 +134,9 @@ best_all boxes places n best most h all = record {
 -- ---- boxes
 
 -- the placed box that has an event
-pub box_there : (boxes : List PlacedBox) (t i : ℕ) → HasBox (events_of_all boxes) t i
+pub placed_box_of_event : (boxes : List PlacedBox) (t i : ℕ) → HasBox (events_of_all boxes) t i
     → (k : ℕ) × (b : PlacedBox) × (slice_get boxes k ≡ Some b) × IsInBox b.events t i
-box_there boxes t i h = by (slice_get boxes h.number) refl
+placed_box_of_event boxes t i h = by (slice_get boxes h.number) refl
   where
     mapped : (x : Option PlacedBox) → slice_get boxes h.number ≡ x → option_map (λ (b : PlacedBox). b.events) x ≡ Some h.box
     mapped x is = ap (option_map (λ (b : PlacedBox). b.events)) (sym is) ∙ sym (slice_get-map (λ (b : PlacedBox). b.events) boxes h.number) ∙ h.there
@@ -154,56 +154,56 @@ box_there boxes t i h = by (slice_get boxes h.number) refl
 -- ---- links
 
 -- each event that is needed is in a box
-pub have_boxes : (r : Recorded) (boxes : List PlacedBox) (t i : ℕ) (needs : List Place) → AreBoxes r (events_of_all boxes)
+pub needed_events_have_boxes : (r : Recorded) (boxes : List PlacedBox) (t i : ℕ) (needs : List Place) → AreBoxes r (events_of_all boxes)
     → AreNeeds r t i needs → HaveBoxes boxes needs
-have_boxes r boxes t i needs are need = λ k p is.
-    are.all p.thread p.event (needed_there r t i p.thread p.event (need.sound k p is)).1
+needed_events_have_boxes r boxes t i needs are need = λ k p is.
+    are.all p.thread p.event (needed_event_exists r t i p.thread p.event (need.sound k p is)).1
 
 -- of what an event needs, the latest
-pub latest_need : (r : Recorded) (boxes : List PlacedBox) (t i : ℕ) (needs : List Place) (p : Place) → AreNeeds r t i needs → IsLatestIn boxes needs p
+pub latest_need_of_needs : (r : Recorded) (boxes : List PlacedBox) (t i : ℕ) (needs : List Place) (p : Place) → AreNeeds r t i needs → IsLatestIn boxes needs p
     → IsLatestNeed r boxes t i p
-latest_need r boxes t i needs p need h = record {
+latest_need_of_needs r boxes t i needs p need h = record {
   needed = need.sound h.number p h.there;
   latest = λ q other. let own = need.complete q.thread q.event other in
-      let same : own.place ≡ q = same_place own.place q own.thread own.event in
+      let same : own.place ≡ q = places_equal_by_fields own.place q own.thread own.event in
       subst (λ (z : Place). (z ≡ p) ⊎ IsPlacedBefore boxes z p) same (h.latest own.number own.place own.there);
 }
 
 -- event k waits, and none after it up to event i
-pub link_here : (r : Recorded) (boxes : List PlacedBox) (t i k : ℕ) (needs : List Place) (l : Link) → AreNeeds r t k needs
+pub link_from_waiting_event : (r : Recorded) (boxes : List PlacedBox) (t i k : ℕ) (needs : List Place) (l : Link) → AreNeeds r t k needs
     → IsLatestIn boxes needs l.needed → l.waiting.thread ≡ t → l.waiting.event ≡ k → k ≤ i
     → ((m u j : ℕ) → k < m → m ≤ i → NeedsOther r t m u j → ⊥) → IsLink r boxes t i l
-link_here r boxes t i k needs l need latest thread event by last = record {
+link_from_waiting_event r boxes t i k needs l need latest thread event by last = record {
   thread = thread;
   waiting = subst (IsWaiting r t i) (sym event) (record {
     by = by;
     need = (l.needed.thread, l.needed.event, need.sound latest.number l.needed latest.there);
     last = last;
   });
-  needed = subst (λ z. IsLatestNeed r boxes t z l.needed) (sym event) (latest_need r boxes t k needs l.needed need latest);
+  needed = subst (λ z. IsLatestNeed r boxes t z l.needed) (sym event) (latest_need_of_needs r boxes t k needs l.needed need latest);
 }
 
 -- event k waits for none, as none after it
-pub none_here : (r : Recorded) (t i k : ℕ) (needs : List Place) → AreNeeds r t k needs → needs ≡ []
+pub no_need_from_event_on : (r : Recorded) (t i k : ℕ) (needs : List Place) → AreNeeds r t k needs → needs ≡ []
     → ((m u j : ℕ) → k < m → m ≤ i → NeedsOther r t m u j → ⊥) → (m u j : ℕ) → k ≤ m → m ≤ i → NeedsOther r t m u j → ⊥
-none_here r t i k needs need none last m u j from to other = elim (cases_eq m k) [
+no_need_from_event_on r t i k needs need none last m u j from to other = elim (cases_eq m k) [
   | inl here ↦ let own = need.complete u j (subst (λ z. NeedsOther r t z u j) here other) in
       none-some own.place (sym (ap (λ (z : List Place). slice_get z own.number) none) ∙ own.there)
   | inr ne ↦ last m u j (omega (arith, from, ne)) to other
 ]
 
 -- what is linked so far, with links from its last event on, is a chain
-abbrev pub GoesOn : Recorded → List PlacedBox → ℕ → Place → List Link → ℕ → Place → Type 0
-GoesOn r boxes n here links m last = (ls : List Link) → AreLinks r boxes m last.thread last.event ls
+abbrev pub ChainGoesOn : Recorded → List PlacedBox → ℕ → Place → List Link → ℕ → Place → Type 0
+ChainGoesOn r boxes n here links m last = (ls : List Link) → AreLinks r boxes m last.thread last.event ls
     → AreLinks r boxes n here.thread here.event (links ++ ls)
 
-pub goes_first : (r : Recorded) (boxes : List PlacedBox) (n : ℕ) (here : Place) → GoesOn r boxes n here [] n here
-goes_first r boxes n here = λ ls h. h
+pub chain_goes_on_from_itself : (r : Recorded) (boxes : List PlacedBox) (n : ℕ) (here : Place) → ChainGoesOn r boxes n here [] n here
+chain_goes_on_from_itself r boxes n here = λ ls h. h
 
-pub goes_more : (r : Recorded) (boxes : List PlacedBox) (n : ℕ) (here : Place) (links : List Link) (m k : ℕ) (last : Place) (l : Link)
-    → GoesOn r boxes n here links m last → m ≡ suc k → IsLink r boxes last.thread last.event l
-    → GoesOn r boxes n here (links ++ l ∷ []) k l.needed
-goes_more r boxes n here links m k last l h is link = λ ls rest.
+pub chain_goes_on_by_link : (r : Recorded) (boxes : List PlacedBox) (n : ℕ) (here : Place) (links : List Link) (m k : ℕ) (last : Place) (l : Link)
+    → ChainGoesOn r boxes n here links m last → m ≡ suc k → IsLink r boxes last.thread last.event l
+    → ChainGoesOn r boxes n here (links ++ l ∷ []) k l.needed
+chain_goes_on_by_link r boxes n here links m k last l h is link = λ ls rest.
     subst (λ (xs : List Link). AreLinks r boxes n here.thread here.event xs) (sym (append_assoc links (l ∷ []) ls))
     (h (l ∷ ls) (
       omega (arith, is),
@@ -211,12 +211,12 @@ goes_more r boxes n here links m k last l h is link = λ ls rest.
       subst (λ z. AreLinks r boxes z l.needed.thread l.needed.event ls) (let same : k ≡ m - 1 = omega (arith, is) in same) rest,
     ))
 
-pub goes_end : (r : Recorded) (boxes : List PlacedBox) (n : ℕ) (here : Place) (links : List Link) (m : ℕ) (last : Place)
-    → GoesOn r boxes n here links m last → (m ≡ 0) ⊎ WaitsForNone r last.thread last.event → AreLinks r boxes n here.thread here.event links
-goes_end r boxes n here links m last h done =
+pub chain_ends_in_links : (r : Recorded) (boxes : List PlacedBox) (n : ℕ) (here : Place) (links : List Link) (m : ℕ) (last : Place)
+    → ChainGoesOn r boxes n here links m last → (m ≡ 0) ⊎ WaitsForNone r last.thread last.event → AreLinks r boxes n here.thread here.event links
+chain_ends_in_links r boxes n here links m last h done =
     subst (λ (xs : List Link). AreLinks r boxes n here.thread here.event xs) (append-nil links) (h [] done)
 
 -- where a link leads to is an event that there is
-pub link_there : (r : Recorded) (boxes : List PlacedBox) (t i : ℕ) (l : Link) → IsLink r boxes t i l
+pub linked_event_exists : (r : Recorded) (boxes : List PlacedBox) (t i : ℕ) (l : Link) → IsLink r boxes t i l
     → (l.needed.thread < length r.threads) × (l.needed.event < length (recorded_thread r l.needed.thread).events)
-link_there r boxes t i l h = needed_there r t l.waiting.event l.needed.thread l.needed.event h.needed.needed
+linked_event_exists r boxes t i l h = needed_event_exists r t l.waiting.event l.needed.thread l.needed.event h.needed.needed

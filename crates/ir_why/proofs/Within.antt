@@ -8,9 +8,9 @@ use Rattle.ir_runs.specs.Run.{events}
 use Rattle.ir_log.specs.Logging.{label_of}
 use Rattle.ir_trace.specs.Recorded.{Recorded, RecordedThread, recorded_thread, absent}
 use Rattle.ir_fit.specs.Fit.{FittedTrace, HasRun}
-use Rattle.ir_fit.proofs.CallerLemmas.{entries_long, starts}
+use Rattle.ir_fit.proofs.CallerLemmas.{entries_as_many_as_events, guest_start_is_start}
 use Rattle.ir_cut.specs.Positions.{cut_of, start_of, IsConsistentCut}
-use Rattle.ir_cut.proofs.CallerLemmas.{no_trail}
+use Rattle.ir_cut.proofs.CallerLemmas.{no_trail_of_missing_thread}
 use Rattle.ir_past.specs.declared.place.Place.{Place}
 use Rattle.ir_picture.specs.Needs.{HasNoCircle, IsCircleAt}
 use Rattle.ir_picture.specs.Runs.{RunsHaveNoCircle}
@@ -20,63 +20,63 @@ use Rattle.ir_why.specs.Chain.{AreLinks}
 use Rattle.ir_why.specs.FitAnswers.{AreInside, IsLinkInside, AreLinksInside, first_cut}
 use Rattle.ir_why.specs.Tables.{AreThere}
 use Rattle.ir_why.specs.declared.link.Link.{Link}
-use Rattle.ir_why.proofs.Filtered.{joined_cases}
-use Rattle.ir_why.proofs.Linked.{link_there}
+use Rattle.ir_why.proofs.Filtered.{slice_get_of_append_cases}
+use Rattle.ir_why.proofs.Linked.{linked_event_exists}
 
 -- ---- what is inside
 
 -- an event of the trace is one of a thread of the guest
-pub there_inside : (f : FittedTrace) → HasRun f → (t i : ℕ) → t < length f.recorded.threads → i < length (recorded_thread f.recorded t).events
+pub trace_event_is_inside : (f : FittedTrace) → HasRun f → (t i : ℕ) → t < length f.recorded.threads → i < length (recorded_thread f.recorded t).events
     → IsInside f t i
-there_inside f h t i a b =
+trace_event_is_inside f h t i a b =
     let l : t < length f.guest.entries = let n = h.whole.0.threads in omega (arith, a, n) in
-    record { thread = l; event = let long = entries_long f h t l in omega (arith, long, b) }
+    record { thread = l; event = let long = entries_as_many_as_events f h t l in omega (arith, long, b) }
 
-pub are_inside : (f : FittedTrace) → HasRun f → (places : List Place) → AreThere f.recorded places → AreInside f places
-are_inside f h places there k p is = let own = there k p is in there_inside f h p.thread p.event own.0 own.1
+pub trace_events_are_inside : (f : FittedTrace) → HasRun f → (places : List Place) → AreThere f.recorded places → AreInside f places
+trace_events_are_inside f h places there k p is = let own = there k p is in trace_event_is_inside f h p.thread p.event own.0 own.1
 
 -- the other way
-pub inside_there : (f : FittedTrace) → HasRun f → (t i : ℕ) → IsInside f t i
+pub inside_event_is_of_trace : (f : FittedTrace) → HasRun f → (t i : ℕ) → IsInside f t i
     → (t < length f.recorded.threads) × (i < length (recorded_thread f.recorded t).events)
-inside_there f h t i inside = (
+inside_event_is_of_trace f h t i inside = (
   (let a = inside.thread in let n = h.whole.0.threads in omega (arith, a, n)),
-  (let b = inside.event in let long = entries_long f h t inside.thread in omega (arith, b, long)),
+  (let b = inside.event in let long = entries_as_many_as_events f h t inside.thread in omega (arith, b, long)),
 )
 
 -- the events of a chain
-pub links_inside : (f : FittedTrace) → HasRun f → (boxes : List PlacedBox) (n t i : ℕ) (links : List Link)
+pub links_are_inside : (f : FittedTrace) → HasRun f → (boxes : List PlacedBox) (n t i : ℕ) (links : List Link)
     → t < length f.recorded.threads → i < length (recorded_thread f.recorded t).events → AreLinks f.recorded boxes n t i links → AreLinksInside f links
-links_inside f h boxes n t i [] a b are k l is = absurd (none-some l is)
-links_inside f h boxes n t i (x ∷ xs) a b are zero l is =
-    let there = link_there f.recorded boxes t i x are.1 in
+links_are_inside f h boxes n t i [] a b are k l is = absurd (none-some l is)
+links_are_inside f h boxes n t i (x ∷ xs) a b are zero l is =
+    let there = linked_event_exists f.recorded boxes t i x are.1 in
     let by = are.1.waiting.by in
     let same = are.1.thread in
     subst (λ (z : Link). IsLinkInside f z) (same_Some x l is) (record {
-      waiting = subst (λ z. IsInside f z x.waiting.event) (sym same) (there_inside f h t x.waiting.event a (omega (arith, by, b)));
-      needed = there_inside f h x.needed.thread x.needed.event there.0 there.1;
+      waiting = subst (λ z. IsInside f z x.waiting.event) (sym same) (trace_event_is_inside f h t x.waiting.event a (omega (arith, by, b)));
+      needed = trace_event_is_inside f h x.needed.thread x.needed.event there.0 there.1;
     })
-links_inside f h boxes n t i (x ∷ xs) a b are (suc k) l is =
-    let there = link_there f.recorded boxes t i x are.1 in
-    links_inside f h boxes (n - 1) x.needed.thread x.needed.event xs there.0 there.1 are.2 k l is
+links_are_inside f h boxes n t i (x ∷ xs) a b are (suc k) l is =
+    let there = linked_event_exists f.recorded boxes t i x are.1 in
+    links_are_inside f h boxes (n - 1) x.needed.thread x.needed.event xs there.0 there.1 are.2 k l is
 
 -- ---- the first cut
 
-first_number : (n t : ℕ) → cut_of (replicate n 0) t ≡ 0
-first_number zero t = refl
-first_number (suc n) zero = refl
-first_number (suc n) (suc t) = first_number n t
+cut_of_zeros_is_zero : (n t : ℕ) → cut_of (replicate n 0) t ≡ 0
+cut_of_zeros_is_zero zero t = refl
+cut_of_zeros_is_zero (suc n) zero = refl
+cut_of_zeros_is_zero (suc n) (suc t) = cut_of_zeros_is_zero n t
 
-pub first_consistent : (f : FittedTrace) → IsConsistentCut f (first_cut f)
-first_consistent f run whole = (
-  λ t. let none = first_number (length f.guest.entries) t in omega (arith, none),
-  λ t k u j a b emitted needed needs less. let none = first_number (length f.guest.entries) t in absurd (omega (arith, none, less)),
+pub first_cut_is_consistent : (f : FittedTrace) → IsConsistentCut f (first_cut f)
+first_cut_is_consistent f run whole = (
+  λ t. let none = cut_of_zeros_is_zero (length f.guest.entries) t in omega (arith, none),
+  λ t k u j a b emitted needed needs less. let none = cut_of_zeros_is_zero (length f.guest.entries) t in absurd (omega (arith, none, less)),
 )
 
 -- ---- circles
 
 -- a trace without a circle has none
-pub no_circle_there : (r : Recorded) (t e : ℕ) → HasNoCircle r → IsCircleAt r t e → ⊥
-no_circle_there r t e h c =
+pub no_circle_at_event : (r : Recorded) (t e : ℕ) → HasNoCircle r → IsCircleAt r t e → ⊥
+no_circle_at_event r t e h c =
     let all = h.2 t in
     let most = c.full.most h.0 h.1 t in
     let next = c.next in
@@ -84,12 +84,12 @@ no_circle_there r t e h c =
     omega (arith, all, most, next, left)
 
 -- the trace of a run has no circle
-pub run_no_circle : RunsHaveNoCircle → (f : FittedTrace) → HasRun f → (r : Recorded) → r ≡ f.recorded → (t e : ℕ) → IsCircleAt r t e → ⊥
-run_no_circle law f h r same t e c =
-    no_circle_there f.recorded t e
-    (law f.guest.code (start_of f) (starts f.guest f.recorded.budget f.recorded.profile) h.run h.whole.1.runs f.recorded (λ u. elim (cases_lt u (length f.guest.entries)) [
+pub run_trace_has_no_circle : RunsHaveNoCircle → (f : FittedTrace) → HasRun f → (r : Recorded) → r ≡ f.recorded → (t e : ℕ) → IsCircleAt r t e → ⊥
+run_trace_has_no_circle law f h r same t e c =
+    no_circle_at_event f.recorded t e
+    (law f.guest.code (start_of f) (guest_start_is_start f.guest f.recorded.budget f.recorded.profile) h.run h.whole.1.runs f.recorded (λ u. elim (cases_lt u (length f.guest.entries)) [
       | inl l ↦ h.whole.1.logs u l
-      | inr past ↦ ap events (no_trail f h.run h.whole u past)
+      | inr past ↦ ap events (no_trail_of_missing_thread f h.run h.whole u past)
           ∙ ap (λ (x : RecordedThread). map label_of x.events) (sym (get_or_past f.recorded.threads u absent
           (let size = h.whole.0.threads in omega (arith, past, size))))
     ]))
@@ -98,22 +98,22 @@ run_no_circle law f h r same t e c =
 -- ---- texts
 
 -- the texts of the elements from one on
-next_text : {X : Type 0} (f : X → List ℕ) (xs : List X) (n : ℕ) (d : X) → n < length xs
+flat_map_of_drop_step : {X : Type 0} (f : X → List ℕ) (xs : List X) (n : ℕ) (d : X) → n < length xs
     → flat_map f (drop n xs) ≡ f (get_or xs n d) ++ flat_map f (drop (suc n) xs)
-next_text f [] n d l = absurd (omega (arith, l))
-next_text f (x ∷ xs) zero d l = refl
-next_text f (x ∷ xs) (suc n) d l = next_text f xs n d (omega (arith, l))
+flat_map_of_drop_step f [] n d l = absurd (omega (arith, l))
+flat_map_of_drop_step f (x ∷ xs) zero d l = refl
+flat_map_of_drop_step f (x ∷ xs) (suc n) d l = flat_map_of_drop_step f xs n d (omega (arith, l))
 
 -- the text of one element more
-pub one_text : {X : Type 0} (f : X → List ℕ) (xs : List X) (n : ℕ) (d : X) (old new all : List ℕ) → n < length xs → new ≡ old ++ f (get_or xs n d)
+pub flat_map_text_step : {X : Type 0} (f : X → List ℕ) (xs : List X) (n : ℕ) (d : X) (old new all : List ℕ) → n < length xs → new ≡ old ++ f (get_or xs n d)
     → old ++ flat_map f (drop n xs) ≡ all → new ++ flat_map f (drop (n + 1) xs) ≡ all
-one_text f xs n d old new all l is h =
+flat_map_text_step f xs n d old new all l is h =
     let same : n + 1 ≡ suc n = omega arith in
     ap (λ k. new ++ flat_map f (drop k xs)) same ∙ ap (λ t. t ++ flat_map f (drop (suc n) xs)) is
-    ∙ append_assoc old (f (get_or xs n d)) (flat_map f (drop (suc n) xs)) ∙ ap (λ t. old ++ t) (sym (next_text f xs n d l)) ∙ h
+    ∙ append_assoc old (f (get_or xs n d)) (flat_map f (drop (suc n) xs)) ∙ ap (λ t. old ++ t) (sym (flat_map_of_drop_step f xs n d l)) ∙ h
 
 -- a text that four others are added to
-pub five_texts : (a b c d e x y z all : List ℕ) → x ≡ a ++ b → y ≡ x ++ c → z ≡ y ++ d → all ≡ z ++ e → all ≡ a ++ (b ++ (c ++ (d ++ e)))
-five_texts a b c d e x y z all first second third last =
+pub append_of_four_texts : (a b c d e x y z all : List ℕ) → x ≡ a ++ b → y ≡ x ++ c → z ≡ y ++ d → all ≡ z ++ e → all ≡ a ++ (b ++ (c ++ (d ++ e)))
+append_of_four_texts a b c d e x y z all first second third last =
     last ∙ ap (λ t. t ++ e) (third ∙ ap (λ t. t ++ d) (second ∙ ap (λ t. t ++ c) first))
     ∙ append_assoc ((a ++ b) ++ c) d e ∙ append_assoc (a ++ b) c (d ++ e) ∙ append_assoc a b (c ++ (d ++ e))

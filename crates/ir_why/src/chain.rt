@@ -54,7 +54,7 @@ fn latest(boxes: &[PlacedBox], needs: &[Place]) -> Option<Place>
 }
 
 // What the thread of an event waited for last, up to that event.
-#[tactic(auto, using(ir_picture::proofs::CallerLemmas::apart, crate::proofs::Linked::have_boxes))]
+#[tactic(auto, using(ir_picture::proofs::CallerLemmas::boxes_are_apart, crate::proofs::Linked::needed_events_have_boxes))]
 fn link_from(
     alloc: Global,
     trace: &Trace,

@@ -24,7 +24,7 @@ use std::alloc::{AllocError, Global};
 ///
 /// # Errors
 /// The trace has no such thread, or the thread no such event.
-#[tactic(auto, using(ir_trace::proofs::CallerLemmas::most_recorded_threads))]
+#[tactic(auto, using(ir_trace::proofs::CallerLemmas::recorded_threads_at_most_limit))]
 pub fn find(trace: &Trace, asked: &Question) -> Result<Place, Absent>
     ensures place { IfOk result (λ place. place ≡ event_asked asked.now) }
     ensures there { OnOk result (IsThere trace.now asked.now) }

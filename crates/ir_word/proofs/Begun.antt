@@ -10,7 +10,7 @@ use Rattle.ir_runs.specs.Machine.{Object}
 use Rattle.ir_runs.specs.Run.{Step, join_if, end}
 use Rattle.ir_runs.specs.Cuts.{Cut, part, lower}
 use Rattle.ir_flat.specs.Flat.{empty}
-use Rattle.ir_flat.proofs.CallerLemmas.{words_at}
+use Rattle.ir_flat.proofs.CallerLemmas.{start_cell_has_first_words}
 use Rattle.ir_fit.specs.Fit.{FittedTrace, HasRun}
 use Rattle.ir_cut.specs.Positions.{machine_of, start_of}
 use Rattle.ir_weave.specs.Standing.{Standing, StandsAt}
@@ -18,59 +18,59 @@ use Rattle.ir_who.specs.declared.version.Version.{Version}
 use Rattle.ir_word.specs.Words.{IsWordOf, IsWorded, unread}
 use Rattle.ir_word.specs.declared.object_word.ObjectWord.{ObjectWord}
 use Rattle.ir_word.specs.declared.worded.Worded.{Worded}
-use Rattle.ir_word.proofs.Built.{same_version}
+use Rattle.ir_word.proofs.Built.{some_version_injective}
 
-zero_below : (b : Bool) (n : ℕ) → n ≡ 0 → cond b (pred n) n ≡ 0
-zero_below true n e = ap pred e
-zero_below false n e = e
+conditional_predecessor_of_zero : (b : Bool) (n : ℕ) → n ≡ 0 → cond b (pred n) n ≡ 0
+conditional_predecessor_of_zero true n e = ap pred e
+conditional_predecessor_of_zero false n e = e
 
 -- no step is in the cut with no step
-none_in : (run : List Step) (p : Cut) → ((t : ℕ) → p t ≡ 0) → part run p ≡ []
-none_in [] p none = refl
-none_in (e ∷ run) p none =
+part_below_zero_cut_is_empty : (run : List Step) (p : Cut) → ((t : ℕ) → p t ≡ 0) → part run p ≡ []
+part_below_zero_cut_is_empty [] p none = refl
+part_below_zero_cut_is_empty (e ∷ run) p none =
     ap (λ b. join_if (ltb 0 b) e (part run (lower p e.0))) (none e.0)
-    ∙ none_in run (lower p e.0) (λ u. zero_below (eqb u e.0) (p u) (none u))
+    ∙ part_below_zero_cut_is_empty run (lower p e.0) (λ u. conditional_predecessor_of_zero (eqb u e.0) (p u) (none u))
 
 -- the words of an object of the state before the first step
-pub begun : (f : FittedTrace) (s : Standing) → HasRun f → StandsAt f (λ t. 0) s → (o i : ℕ) → o < object_count f.guest
+pub object_has_first_words_at_start : (f : FittedTrace) (s : Standing) → HasRun f → StandsAt f (λ t. 0) s → (o i : ℕ) → o < object_count f.guest
     → slice_index (slice_index_or s.objects o empty).words i ≡ slice_index (first_words f.guest o) i
-begun f s h stands o i l =
+object_has_first_words_at_start f s h stands o i l =
     ap (λ (b : Object). b.words i) ((stands.at.each h.run h.whole).objects o)
-    ∙ ap (λ (steps : List Step). ((end (machine_of f) (start_of f) steps).objects o).words i) (none_in h.run (λ t. 0) (λ t. refl))
-    ∙ ap (λ (words : List ℕ). slice_index words i) (words_at f.guest 0 (object_count f.guest) o l)
+    ∙ ap (λ (steps : List Step). ((end (machine_of f) (start_of f) steps).objects o).words i) (part_below_zero_cut_is_empty h.run (λ t. 0) (λ t. refl))
+    ∙ ap (λ (words : List ℕ). slice_index words i) (start_cell_has_first_words f.guest 0 (object_count f.guest) o l)
     ∙ (let same : 0 + o ≡ o = omega arith in ap (λ j. slice_index (first_words f.guest j) i) same)
 
 -- the first version has the first word
-pub first_worded : (f : FittedTrace) (w : ObjectWord) (x : Version) (d : Worded) (word : ℕ) → d ≡ record { made_by = x.made_by; word = word; step = None }
+pub first_version_has_first_word : (f : FittedTrace) (w : ObjectWord) (x : Version) (d : Worded) (word : ℕ) → d ≡ record { made_by = x.made_by; word = word; step = None }
     → word ≡ slice_index (first_words f.guest w.object) w.index → x.made_by ≡ None → IsWorded f w x d
-first_worded f w x d word is first made = record {
+first_version_has_first_word f w x d word is first made = record {
   made = ap (λ (z : Worded). z.made_by) is;
   word = subst (λ (m : Option _). IsWordOf f w m d.word d.step) (sym made)
       (ap (λ (z : Worded). z.word) is ∙ first, ap (λ (z : Worded). z.step) is);
 }
 
 -- the first n versions, each with this word
-pub record AreFirst (rows : List Version) (n word : ℕ) (ds : List Worded) : Type 0 where
+pub record AreFirstWorded (rows : List Version) (n word : ℕ) (ds : List Worded) : Type 0 where
   pub size : length ds ≡ n
   pub each : (j : ℕ) (x : Version) → j < n → slice_get rows j ≡ Some x
       → slice_index_or ds j unread ≡ record { made_by = x.made_by; word = word; step = None }
 
-pub none_first : (rows : List Version) (word : ℕ) (ds : List Worded) → ds ≡ [] → AreFirst rows 0 word ds
-none_first rows word ds e = record {
+pub first_versions_of_none : (rows : List Version) (word : ℕ) (ds : List Worded) → ds ≡ [] → AreFirstWorded rows 0 word ds
+first_versions_of_none rows word ds e = record {
   size = ap (λ (xs : List Worded). length xs) e;
   each = λ j x l. absurd (omega (arith, l));
 }
 
-pub more_first : (rows : List Version) (n word : ℕ) (ds new : List Worded) (d : Worded) (x : Version) → AreFirst rows n word ds → slice_get rows n ≡ Some x
-    → new ≡ ds ++ d ∷ [] → d ≡ record { made_by = x.made_by; word = word; step = None } → AreFirst rows (n + 1) word new
-more_first rows n word ds new d x are here e is = record {
+pub first_versions_step : (rows : List Version) (n word : ℕ) (ds new : List Worded) (d : Worded) (x : Version) → AreFirstWorded rows n word ds → slice_get rows n ≡ Some x
+    → new ≡ ds ++ d ∷ [] → d ≡ record { made_by = x.made_by; word = word; step = None } → AreFirstWorded rows (n + 1) word new
+first_versions_step rows n word ds new d x are here e is = record {
   size = ap (λ (xs : List Worded). length xs) e ∙ length-append ds (d ∷ []) ∙ ap (λ k. k + 1) are.size;
   each = λ j y l there. ap (λ (xs : List Worded). slice_index_or xs j unread) e ∙ elim (cases_lt j n) [
     | inl less ↦ get_or-append ds (d ∷ []) unread j (let a = are.size in omega (arith, a, less)) ∙ are.each j y less there
     | inr past ↦
         let last : j ≡ length ds = (let a = are.size in omega (arith, a, l, past)) in
         let this : j ≡ n = omega (arith, l, past) in
-        let same : x ≡ y = same_version x y (sym here ∙ ap (slice_get rows) (sym this) ∙ there) in
+        let same : x ≡ y = some_version_injective x y (sym here ∙ ap (slice_get rows) (sym this) ∙ there) in
         ap (λ k. slice_index_or (ds ++ d ∷ []) k unread) last ∙ get_or-append_seam ds d [] unread ∙ is
         ∙ ap (λ (z : Version). record { made_by = z.made_by; word = word; step = None }) same
   ];

@@ -10,18 +10,18 @@ use Rattle.ir_past.specs.Past.{IsWriteAt, IsMadeBy}
 use Rattle.ir_past.specs.declared.place.Place.{Place}
 use Rattle.ir_events.specs.Events.{entry_of}
 use Rattle.ir_fit_run.specs.Positions.{IsInside, LeavesFrom, EntryLeaves, LeavesAfter, IsLeaveOf}
-use Rattle.ir_fit_run.proofs.CallerLemmas.{event_left, inside, leave_past, leave_within}
+use Rattle.ir_fit_run.proofs.CallerLemmas.{entering_event_has_leave, recorded_event_is_inside, leave_is_past_event, leave_is_within_thread}
 use Rattle.ir_who.specs.Versions.{AreVersions}
 use Rattle.ir_who.specs.declared.version.Version.{Version}
 use Rattle.ir_word.specs.Track.{IsHold}
 
 -- the positions of a write entry and of its leave
-pub held : (f : FittedTrace) → HasRun f → (p : Place) (row entry last o v l : ℕ) → IsWriteAt f.recorded p.thread p.event o v l
+pub write_and_leave_are_hold : (f : FittedTrace) → HasRun f → (p : Place) (row entry last o v l : ℕ) → IsWriteAt f.recorded p.thread p.event o v l
     → IsLeaveOf f p.thread p.event last → entry ≡ entry_of f p.thread p.event
     → IsHold f o p (record { row = row; entry = entry; leave = last })
-held f h p row entry last o v l is leave same =
+write_and_leave_are_hold f h p row entry last o v l is leave same =
     let e : Event = Write o v l in
-    let there = inside f h p.thread p.event e is in
+    let there = recorded_event_is_inside f h p.thread p.event e is in
     let leaves : LeavesFrom f p.thread (entry_of f p.thread p.event + 1) o Writing v last =
     subst (λ (x : Option Event). EntryLeaves f p.thread (entry_of f p.thread p.event + 1) x last) is leave.leaves in
     record {
@@ -30,24 +30,24 @@ held f h p row entry last o v l is leave same =
       leave = leave;
       version = v;
       emits = leaves.1;
-      past = let a = leave_past f p.thread p.event last leave.leaves in omega (arith, a, same);
-      within = leave_within f h p.thread p.event last there.thread leave.leaves;
+      past = let a = leave_is_past_event f p.thread p.event last leave.leaves in omega (arith, a, same);
+      within = leave_is_within_thread f h p.thread p.event last there.thread leave.leaves;
     }
 
 -- a write entry is left
-pub is_left : (f : FittedTrace) → HasRun f → (t i o v l : ℕ) → IsWriteAt f.recorded t i o v l → ((k : ℕ) → LeavesAfter f t i k → ⊥) → ⊥
-is_left f h t i o v l is never =
-    let left = event_left f h t i o (Write o v l) is refl in never left.0 left.1.leaves
+pub write_entry_is_left : (f : FittedTrace) → HasRun f → (t i o v l : ℕ) → IsWriteAt f.recorded t i o v l → ((k : ℕ) → LeavesAfter f t i k → ⊥) → ⊥
+write_entry_is_left f h t i o v l is never =
+    let left = entering_event_has_leave f h t i o (Write o v l) is refl in never left.0 left.1.leaves
 
 -- what made a version is a write entry
-pub made_write : (r : Recorded) (o : ℕ) (rows : List Version) → AreVersions r o rows → (k : ℕ) (x : Version) (p : Place) → slice_get rows k ≡ Some x
+pub version_maker_is_write : (r : Recorded) (o : ℕ) (rows : List Version) → AreVersions r o rows → (k : ℕ) (x : Version) (p : Place) → slice_get rows k ≡ Some x
     → x.made_by ≡ Some p → (v l : ℕ) × IsWriteAt r p.thread p.event o v l
-made_write r o rows all k x p there made =
+version_maker_is_write r o rows all k x p there made =
     let is : IsMadeBy r o k (Some p) = subst (IsMadeBy r o k) made (all.each k x there).made in (is.0, is.1, is.3)
 
 -- by a thread that there is
-pub made_inside : (f : FittedTrace) → HasRun f → (o : ℕ) (rows : List Version) → AreVersions f.recorded o rows → (k : ℕ) (x : Version) (p : Place)
+pub version_maker_is_inside : (f : FittedTrace) → HasRun f → (o : ℕ) (rows : List Version) → AreVersions f.recorded o rows → (k : ℕ) (x : Version) (p : Place)
     → slice_get rows k ≡ Some x → x.made_by ≡ Some p → IsInside f p.thread p.event
-made_inside f h o rows all k x p there made =
-    let write = made_write f.recorded o rows all k x p there made in
-    inside f h p.thread p.event (Write o write.0 write.1) write.2
+version_maker_is_inside f h o rows all k x p there made =
+    let write = version_maker_is_write f.recorded o rows all k x p there made in
+    recorded_event_is_inside f h p.thread p.event (Write o write.0 write.1) write.2

@@ -6,28 +6,28 @@ use Rattle.ir_word.specs.Lines.{word_line, is_other, line_if, first_lines}
 use Rattle.ir_word.specs.Words.{unread}
 use Rattle.ir_word.specs.declared.worded.Worded.{Worded}
 
-pub no_lines : (i : ℕ) (ds : List Worded) (text first : List ℕ) → text ≡ first → text ≡ first ++ first_lines i ds 0
+pub text_of_no_first_lines : (i : ℕ) (ds : List Worded) (text first : List ℕ) → text ≡ first → text ≡ first ++ first_lines i ds 0
 unfolding first_lines
-no_lines i ds text first e = e ∙ sym (append-nil first)
+text_of_no_first_lines i ds text first e = e ∙ sym (append-nil first)
 
-next_line : (i : ℕ) (ds : List Worded) (n : ℕ) (text new first line : List ℕ) → text ≡ first ++ first_lines i ds n → new ≡ text ++ line
+first_lines_step : (i : ℕ) (ds : List Worded) (n : ℕ) (text new first line : List ℕ) → text ≡ first ++ first_lines i ds n → new ≡ text ++ line
     → line ≡ line_if i ds n → new ≡ first ++ first_lines i ds (n + 1)
 unfolding first_lines
-next_line i ds n text new first line before made is =
+first_lines_step i ds n text new first line before made is =
     let on : suc n ≡ n + 1 = omega arith in
     made ∙ (λ k. before k ++ is k)
     ∙ append_assoc first (first_lines i ds n) (line_if i ds n)
     ∙ ap (λ k. first ++ first_lines i ds k) on
 
 -- the next version has another word
-pub line_put : (i : ℕ) (ds : List Worded) (n : ℕ) (d : Worded) (text new first line : List ℕ) → text ≡ first ++ first_lines i ds n → new ≡ text ++ line
+pub first_lines_after_other_word : (i : ℕ) (ds : List Worded) (n : ℕ) (d : Worded) (text new first line : List ℕ) → text ≡ first ++ first_lines i ds n → new ≡ text ++ line
     → line ≡ word_line i n d → slice_index_or ds n unread ≡ d → is_other ds n ≡ true → new ≡ first ++ first_lines i ds (n + 1)
-line_put i ds n d text new first line before made is here other = next_line i ds n text new first line before made
+first_lines_after_other_word i ds n d text new first line before made is here other = first_lines_step i ds n text new first line before made
     (is ∙ ap (word_line i n) (sym here)
     ∙ ap (λ (b : Bool). if b then word_line i n (slice_index_or ds n unread) else []) (sym other))
 
 -- or the same
-pub line_left_out : (i : ℕ) (ds : List Worded) (n : ℕ) (text first : List ℕ) → text ≡ first ++ first_lines i ds n → is_other ds n ≡ false
+pub first_lines_after_same_word : (i : ℕ) (ds : List Worded) (n : ℕ) (text first : List ℕ) → text ≡ first ++ first_lines i ds n → is_other ds n ≡ false
     → text ≡ first ++ first_lines i ds (n + 1)
-line_left_out i ds n text first before other = next_line i ds n text text first [] before (sym (append-nil text))
+first_lines_after_same_word i ds n text first before other = first_lines_step i ds n text text first [] before (sym (append-nil text))
     (ap (λ (b : Bool). if b then word_line i n (slice_index_or ds n unread) else []) (sym other))

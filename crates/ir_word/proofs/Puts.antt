@@ -9,52 +9,52 @@ use Rattle.ir_cut.specs.Positions.{EachRun}
 use Rattle.ir_weave.specs.Ahead.{ask_at}
 use Rattle.ir_walk.specs.Calls.{AreCalls}
 use Rattle.ir_walk.specs.declared.exchange.Exchange.{Exchange}
-use Rattle.ir_walk.proofs.CallerLemmas.{none_asked, one_asked}
+use Rattle.ir_walk.proofs.CallerLemmas.{steps_without_call_are_private, step_with_call_asks_so}
 use Rattle.ir_word.specs.Words.{puts, PutsAt, IsLastPut, IsPutIn}
 use Rattle.ir_word.specs.declared.object_word.ObjectWord.{ObjectWord}
 
 -- ---- whether a call puts the word
 
-both : (b c : Bool) → (b && c) ≡ true → (b ≡ true) × (c ≡ true)
-both true true e = (refl, refl)
-both true false e = absurd (cc e)
-both false c e = absurd (cc e)
+conjuncts_are_true : (b c : Bool) → (b && c) ≡ true → (b ≡ true) × (c ≡ true)
+conjuncts_are_true true true e = (refl, refl)
+conjuncts_are_true true false e = absurd (cc e)
+conjuncts_are_true false c e = absurd (cc e)
 
 -- one that does
-puts_is : (w : ObjectWord) (q : Ask) → puts w q ≡ true → (value : ℕ) × (q ≡ ask.Put w.object w.index value)
-puts_is w ask.Private e = absurd (cc e)
-puts_is w (ask.Env kind) e = absurd (cc e)
-puts_is w (ask.Enter o a) e = absurd (cc e)
-puts_is w (ask.Try o) e = absurd (cc e)
-puts_is w (ask.Leave o a) e = absurd (cc e)
-puts_is w (ask.Get o i) e = absurd (cc e)
-puts_is w (ask.Put o i value) e =
-    let same = both (o == w.object) (i == w.index) e in
+putting_ask_is_put_of_word : (w : ObjectWord) (q : Ask) → puts w q ≡ true → (value : ℕ) × (q ≡ ask.Put w.object w.index value)
+putting_ask_is_put_of_word w ask.Private e = absurd (cc e)
+putting_ask_is_put_of_word w (ask.Env kind) e = absurd (cc e)
+putting_ask_is_put_of_word w (ask.Enter o a) e = absurd (cc e)
+putting_ask_is_put_of_word w (ask.Try o) e = absurd (cc e)
+putting_ask_is_put_of_word w (ask.Leave o a) e = absurd (cc e)
+putting_ask_is_put_of_word w (ask.Get o i) e = absurd (cc e)
+putting_ask_is_put_of_word w (ask.Put o i value) e =
+    let same = conjuncts_are_true (o == w.object) (i == w.index) e in
     (value, λ k. ask.Put (eqb-true o w.object same.0 k) (eqb-true i w.index same.1 k) value)
-puts_is w ask.Print e = absurd (cc e)
-puts_is w (ask.End z) e = absurd (cc e)
-puts_is w ask.Done e = absurd (cc e)
+putting_ask_is_put_of_word w ask.Print e = absurd (cc e)
+putting_ask_is_put_of_word w (ask.End z) e = absurd (cc e)
+putting_ask_is_put_of_word w ask.Done e = absurd (cc e)
 
-puts_own : (w : ObjectWord) (value : ℕ) → puts w (ask.Put w.object w.index value) ≡ true
-puts_own w value = ap (λ (z : Bool × Bool). z.0 && z.1) (λ i. (eq-eqb w.object w.object refl i, eq-eqb w.index w.index refl i))
+put_of_word_puts : (w : ObjectWord) (value : ℕ) → puts w (ask.Put w.object w.index value) ≡ true
+put_of_word_puts w value = ap (λ (z : Bool × Bool). z.0 && z.1) (λ i. (eq-eqb w.object w.object refl i, eq-eqb w.index w.index refl i))
 
 -- a step that puts the word asks to in the run that there is
-put_asked : (f : FittedTrace) (w : ObjectWord) (t k : ℕ) (q : Ask) → HasRun f → EachRun f (λ run. ask_at f run t k ≡ q) → PutsAt f w t k
+step_that_puts_asks_to : (f : FittedTrace) (w : ObjectWord) (t k : ℕ) (q : Ask) → HasRun f → EachRun f (λ run. ask_at f run t k ≡ q) → PutsAt f w t k
     → puts w q ≡ true
-put_asked f w t k q h asks at =
+step_that_puts_asks_to f w t k q h asks at =
     let here = at h.run h.whole in
-    sym (ap (puts w) (sym here.1 ∙ asks h.run h.whole)) ∙ puts_own w here.0
+    sym (ap (puts w) (sym here.1 ∙ asks h.run h.whole)) ∙ put_of_word_puts w here.0
 
 -- ---- further on
 
 -- no step more puts the word
-pub put_stays : (f : FittedTrace) (w : ObjectWord) (t from k to : ℕ) (put : Option ℕ) → k ≤ to
+pub put_in_more_steps_without_put : (f : FittedTrace) (w : ObjectWord) (t from k to : ℕ) (put : Option ℕ) → k ≤ to
     → ((j : ℕ) → k ≤ j → j < to → PutsAt f w t j → ⊥) → IsPutIn f w t from k put → IsPutIn f w t from to put
-put_stays f w t from k to None up none is = λ j past before at. elim (cases_lt j k) [
+put_in_more_steps_without_put f w t from k to None up none is = λ j past before at. elim (cases_lt j k) [
   | inl less ↦ is j past less at
   | inr more ↦ none j more before at
 ]
-put_stays f w t from k to (Some s) up none is = record {
+put_in_more_steps_without_put f w t from k to (Some s) up none is = record {
   past = is.past;
   before = let l = is.before in omega (arith, l, up);
   puts = is.puts;
@@ -65,35 +65,35 @@ put_stays f w t from k to (Some s) up none is = record {
 }
 
 -- there is none before the steps that are looked at
-pub put_early : (f : FittedTrace) (w : ObjectWord) (t from k to : ℕ) (put : Option ℕ) → k ≤ from → to ≤ from → IsPutIn f w t from k put
+pub put_in_no_steps : (f : FittedTrace) (w : ObjectWord) (t from k to : ℕ) (put : Option ℕ) → k ≤ from → to ≤ from → IsPutIn f w t from k put
     → IsPutIn f w t from to put
-put_early f w t from k to None before within is = λ j past l. absurd (omega (arith, past, l, within))
-put_early f w t from k to (Some s) before within is = absurd (let p = is.past in let l = is.before in omega (arith, before, p, l))
+put_in_no_steps f w t from k to None before within is = λ j past l. absurd (omega (arith, past, l, within))
+put_in_no_steps f w t from k to (Some s) before within is = absurd (let p = is.past in let l = is.before in omega (arith, before, p, l))
 
-not_both : (b : Bool) → b ≡ true → b ≡ false → ⊥
-not_both b e n = cc (e, n)
+true_is_not_false : (b : Bool) → b ≡ true → b ≡ false → ⊥
+true_is_not_false b e n = cc (e, n)
 
 -- n steps more, with a call or with none
-pub put_on : (f : FittedTrace) (w : ObjectWord) (t from k n : ℕ) (put new : Option ℕ) (call : Option Exchange) → HasRun f
+pub put_in_steps_with_call : (f : FittedTrace) (w : ObjectWord) (t from k n : ℕ) (put new : Option ℕ) (call : Option Exchange) → HasRun f
     → AreCalls f t k n (option_to_list call) → ((c : Exchange) → call ≡ Some c → n ≡ 1)
     → ((c : Exchange) → call ≡ Some c → puts w c.asked ≡ true → new ≡ Some k)
     → (((c : Exchange) → call ≡ Some c → puts w c.asked ≡ false) → new ≡ put)
     → from ≤ k → IsPutIn f w t from k put → IsPutIn f w t from (k + n) new
-put_on f w t from k n put new None h calls one some none within is =
+put_in_steps_with_call f w t from k n put new None h calls one some none within is =
     subst (IsPutIn f w t from (k + n)) (sym (none (λ c e. absurd (cc e))))
-    (put_stays f w t from k (k + n) put (omega arith)
-    (λ j past before at. cc (put_asked f w t j ask.Private h (none_asked f t k n calls j past before) at)) is)
-put_on f w t from k n put new (Some c) h calls one some none within is = by (puts w c.asked) refl
+    (put_in_more_steps_without_put f w t from k (k + n) put (omega arith)
+    (λ j past before at. cc (step_that_puts_asks_to f w t j ask.Private h (steps_without_call_are_private f t k n calls j past before) at)) is)
+put_in_steps_with_call f w t from k n put new (Some c) h calls one some none within is = by (puts w c.asked) refl
   where
     n1 : n ≡ 1
     n1 = one c refl
 
     asks : EachRun f (λ run. ask_at f run t k ≡ c.asked)
-    asks = one_asked f t k n c calls n1
+    asks = step_with_call_asks_so f t k n c calls n1
 
     by : (b : Bool) → puts w c.asked ≡ b → IsPutIn f w t from (k + n) new
     by true e =
-        let q = puts_is w c.asked e in
+        let q = putting_ask_is_put_of_word w c.asked e in
         subst (IsPutIn f w t from (k + n)) (sym (some c refl e)) (record {
           past = within;
           before = omega (arith, n1);
@@ -102,8 +102,8 @@ put_on f w t from k n put new (Some c) h calls one some none within is = by (put
         })
     by false e =
         subst (IsPutIn f w t from (k + n)) (sym (none (λ d same. subst (λ (z : Exchange). puts w z.asked ≡ false) (same_call c d same) e)))
-        (put_stays f w t from k (k + n) put (omega arith) (λ j past before at. not_both (puts w c.asked)
-        (put_asked f w t j c.asked h (subst (λ i. EachRun f (λ run. ask_at f run t i ≡ c.asked)) (same_step j past before) asks) at) e) is)
+        (put_in_more_steps_without_put f w t from k (k + n) put (omega arith) (λ j past before at. true_is_not_false (puts w c.asked)
+        (step_that_puts_asks_to f w t j c.asked h (subst (λ i. EachRun f (λ run. ask_at f run t i ≡ c.asked)) (same_step j past before) asks) at) e) is)
       where
         same_call : (c d : Exchange) → Some c ≡ Some d → c ≡ d
         same_call c d same = cc same
@@ -113,9 +113,9 @@ put_on f w t from k n put new (Some c) h calls one some none within is = by (put
 
 -- ---- past an entry
 
-pub put_kept : (f : FittedTrace) (w : ObjectWord) (t from to entry k : ℕ) (put : Option ℕ) → put ≡ Some k → entry < k → IsPutIn f w t from to put
+pub put_after_entry_is_kept : (f : FittedTrace) (w : ObjectWord) (t from to entry k : ℕ) (put : Option ℕ) → put ≡ Some k → entry < k → IsPutIn f w t from to put
     → IsPutIn f w t (entry + 1) to (Some k)
-put_kept f w t from to entry k put here past is =
+put_after_entry_is_kept f w t from to entry k put here past is =
     let last : IsLastPut f w t from to k = subst (IsPutIn f w t from to) here is in record {
       past = omega (arith, past);
       before = last.before;
@@ -123,7 +123,7 @@ put_kept f w t from to entry k put here past is =
       last = last.last;
     }
 
-pub put_none : (f : FittedTrace) (w : ObjectWord) (t from to entry : ℕ) (put : Option ℕ) → from ≤ entry + 1
+pub put_after_entry_is_none : (f : FittedTrace) (w : ObjectWord) (t from to entry : ℕ) (put : Option ℕ) → from ≤ entry + 1
     → ((k : ℕ) → put ≡ Some k → k ≤ entry) → IsPutIn f w t from to put → IsPutIn f w t (entry + 1) to None
-put_none f w t from to entry None low below is = λ j past before. is j (omega (arith, low, past)) before
-put_none f w t from to entry (Some k) low below is = λ j past before. is.last j (let l = below k refl in omega (arith, l, past)) before
+put_after_entry_is_none f w t from to entry None low below is = λ j past before. is j (omega (arith, low, past)) before
+put_after_entry_is_none f w t from to entry (Some k) low below is = λ j past before. is.last j (let l = below k refl in omega (arith, l, past)) before

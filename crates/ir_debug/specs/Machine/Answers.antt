@@ -7,7 +7,6 @@ use Rattle.ir_command.specs.Commands.{command_of}
 use Rattle.ir_command.specs.declared.command.Command.{Command}
 use Rattle.ir_command.specs.declared.command.Command.TheVariants.{Move, Continue, Position, Show, Set, Clear, Keeping, Quit}
 use Rattle.ir_command.specs.declared.command.Move as command
-use Rattle.ir_command.specs.declared.command.Keeping as keeping
 use Rattle.ir_command.specs.declared.command.Keeping.TheVariants.{Keep, Load, Drop, Kept}
 use Rattle.ir_command.specs.declared.refusal.Refusal.{Refusal}
 use Rattle.ir_command.specs.declared.refusal.Refusal.TheVariants.{NoMemory}
@@ -15,8 +14,8 @@ use Rattle.ir_command.specs.declared.hit.Hit.{Hit}
 use Rattle.ir_text.specs.Texts.{refusal_text, number_line, positions_text, hit_text, stop_text}
 use Rattle.ir_debug.specs.Machine.Desk as desk
 use Rattle.ir_timeline.specs.Positions.{last_of}
-use Rattle.ir_debug.specs.Machine.Desk.{Desk, spoken, moved, with_point, without_point, kept_cut, with_kept, without_kept}
-use Rattle.ir_debug.specs.Machine.Refusals.{thread_moved, refusal_of, may_lack}
+use Rattle.ir_debug.specs.Machine.Desk.{Desk, spoken, moved_to, with_point, without_point, kept_cut, with_kept, without_kept}
+use Rattle.ir_debug.specs.Machine.Refusals.{thread_named, refusal_of, may_lack}
 use Rattle.ir_debug.specs.Machine.Moves.{Leads, Continues}
 use Rattle.ir_debug.specs.Machine.Shown.{shown}
 
@@ -27,7 +26,7 @@ stopped_text f None at = []
 
 -- the answer to a move that led to this cut
 abbrev pub moved_text : FittedTrace → command.Move → List ℕ → List ℕ
-moved_text f move to = positions_text to ++ stopped_text f (thread_moved move) to ++ codes "\n"
+moved_text f move to = positions_text to ++ stopped_text f (thread_named (Move move)) to ++ codes "\n"
 
 -- the answer to a thread that was continued, and came to this cut
 abbrev pub continued_text : FittedTrace → ℕ → Option Hit → List ℕ → List ℕ
@@ -46,23 +45,20 @@ kept_text (k ∷ ks) = kept_line k ++ kept_text ks
 abbrev pub Gives : List ℕ → Desk → List ℕ → Desk → Type 0
 Gives answer after text next = (text ≡ answer) × (next ≡ after)
 
--- a command about kept cuts that isn't refused is answered so
-abbrev pub Keeps : Desk → keeping.Keeping → List ℕ → Desk → Type 0
-Keeps d Keep text next = Gives (number_line (codes "kept ") (d.last_kept + 1)) (with_kept d) text next
-Keeps d (Load n) text next = (to : List ℕ) × (kept_cut d.kept n ≡ Some to) × Gives (positions_text to ++ codes "\n") (moved d to) text next
-Keeps d (Drop n) text next = Gives (number_line (codes "dropped ") n) (without_kept d n) text next
-Keeps d Kept text next = Gives (kept_text d.kept) (spoken d) text next
-
 -- a command that isn't refused is answered so
 abbrev pub CarriesOut : List Step → Desk → Command → List ℕ → Desk → Type 0
-CarriesOut run d (Move move) text next = (to : List ℕ) × Leads run d.fitted d.at move to × Gives (moved_text d.fitted move to) (moved d to) text next
+CarriesOut run d (Move move) text next = (to : List ℕ) × Leads run d.fitted d.at move to × Gives (moved_text d.fitted move to) (moved_to d to) text next
 CarriesOut run d (Continue t direction) text next = (to : List ℕ) × (hit : Option Hit) × Continues run d t direction hit to
-    × Gives (continued_text d.fitted t hit to) (moved d to) text next
+    × Gives (continued_text d.fitted t hit to) (moved_to d to) text next
 CarriesOut run d (Set point) text next = Gives (number_line (codes "point ") (d.last_point + 1)) (with_point d point) text next
 CarriesOut run d (Clear n) text next = Gives (number_line (codes "cleared ") n) (without_point d n) text next
 CarriesOut run d Position text next = Gives (positions_text d.at ++ codes "\n") (spoken d) text next
 CarriesOut run d (Show show) text next = Gives (shown run d show) (spoken d) text next
-CarriesOut run d (Keeping keeping) text next = Keeps d keeping text next
+CarriesOut run d (Keeping Keep) text next = Gives (number_line (codes "kept ") (d.last_kept + 1)) (with_kept d) text next
+CarriesOut run d (Keeping (Load n)) text next = (to : List ℕ) × (kept_cut d.kept n ≡ Some to)
+    × Gives (positions_text to ++ codes "\n") (moved_to d to) text next
+CarriesOut run d (Keeping (Drop n)) text next = Gives (number_line (codes "dropped ") n) (without_kept d n) text next
+CarriesOut run d (Keeping Kept) text next = Gives (kept_text d.kept) (spoken d) text next
 CarriesOut run d Quit text next = Gives (codes "bye\n") (spoken d) text next
 
 -- a refusal, after which the machine is where it was

@@ -1,10 +1,7 @@
 -- What the small machine holds beside the run.
 use Rattle.std.specs.Prelude.{◌==◌, ℕ, ◌+◌, not, Bool, true, false, List, [], ◌∷◌, ◌++◌, find, is_some, Option, option_map}
 use Rattle.std.specs.List.{filter}
-use Rattle.ir_runs.specs.Run.{Step, th}
-use Rattle.ir_thread.specs.State as thread
 use Rattle.ir_fit.specs.Fit.{FittedTrace}
-use Rattle.ir_cut.specs.Positions.{machine_of, start_of, cut_of}
 use Rattle.ir_command.specs.Commands.{most_small}
 use Rattle.ir_command.specs.declared.command.Point.{Point}
 use Rattle.ir_hits.specs.Hits.{Numbered}
@@ -45,8 +42,8 @@ desk_of f = record {
 }
 
 -- after a move to this cut
-abbrev pub moved : Desk → List ℕ → Desk
-moved d at = record d { at = at; fresh = true }
+abbrev pub moved_to : Desk → List ℕ → Desk
+moved_to d at = record d { at = at; fresh = true }
 
 -- after any other answer
 abbrev pub spoken : Desk → Desk
@@ -95,11 +92,3 @@ most_points = 64
 -- the last number that a point or a kept cut may be given
 abbrev pub most_number : ℕ
 most_number = most_small
-
--- the position of a thread
-abbrev pub position_of : Desk → ℕ → ℕ
-position_of d t = cut_of d.at t
-
--- thread t of the run just after its k-th own step
-abbrev pub thread_at : FittedTrace → List Step → ℕ → ℕ → thread.State
-thread_at f run t k = th (machine_of f) (start_of f) run t k

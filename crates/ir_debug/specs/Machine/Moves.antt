@@ -1,5 +1,5 @@
 -- The cut that a move leads to.
-use Rattle.std.specs.Prelude.{◌≡◌, ℕ, ◌+◌, ◌-◌, min, nat_le, Bool, true, false, List, length, Option, Some, None}
+use Rattle.std.specs.Prelude.{◌≡◌, ℕ, ◌+◌, ◌-◌, min, nat_le, List, length, Option, Some, None, if◌then◌else◌}
 use Rattle.ir_runs.specs.Run as run
 use Rattle.ir_runs.specs.Cuts.{IsLeast, IsGreatest}
 use Rattle.ir_cut.specs.Positions.{machine_of, start_of, cut_of}
@@ -20,14 +20,14 @@ ToLeast steps f at t k to = (length to ≡ threads_of f) × IsLeast (machine_of 
 abbrev pub ToGreatest : List run.Step → FittedTrace → List ℕ → ℕ → ℕ → List ℕ → Type 0
 ToGreatest steps f at t k to = (length to ≡ threads_of f) × IsGreatest (machine_of f) (start_of f) steps (cut_of at) t k (cut_of to)
 
--- upwards or downwards
-abbrev pub ToEither : Bool → List run.Step → FittedTrace → List ℕ → ℕ → ℕ → List ℕ → Type 0
-ToEither true steps f at t k to = ToLeast steps f at t k to
-ToEither false steps f at t k to = ToGreatest steps f at t k to
+-- the cut at which a thread that moves in this direction is at a position
+abbrev pub StopsAt : List run.Step → FittedTrace → List ℕ → ℕ → Direction → ℕ → List ℕ → Type 0
+StopsAt steps f at t Forwards k to = ToLeast steps f at t k to
+StopsAt steps f at t Backwards k to = ToGreatest steps f at t k to
 
 -- to a position, by whether it isn't below the thread's
 abbrev pub ToPosition : List run.Step → FittedTrace → List ℕ → ℕ → ℕ → List ℕ → Type 0
-ToPosition steps f at t k to = ToEither (nat_le (cut_of at t) k) steps f at t k to
+ToPosition steps f at t k to = StopsAt steps f at t (if nat_le (cut_of at t) k then Forwards else Backwards) k to
 
 -- a move that isn't refused leads from this cut to that
 abbrev pub Leads : List run.Step → FittedTrace → List ℕ → Move → List ℕ → Type 0
@@ -44,11 +44,6 @@ abbrev pub stop_of : FittedTrace → ℕ → Direction → Option Hit → ℕ
 stop_of f t direction (Some hit) = hit.position
 stop_of f t Forwards None = last_of f t
 stop_of f t Backwards None = 0
-
--- the cut at which it stops there
-abbrev pub StopsAt : List run.Step → FittedTrace → List ℕ → ℕ → Direction → ℕ → List ℕ → Type 0
-StopsAt steps f at t Forwards k to = ToLeast steps f at t k to
-StopsAt steps f at t Backwards k to = ToGreatest steps f at t k to
 
 -- thread t, continued in this direction, finds this hit, and all threads come to this cut
 abbrev pub Continues : List run.Step → Desk → ℕ → Direction → Option Hit → List ℕ → Type 0

@@ -1,5 +1,5 @@
 -- What the bytes of an image and of a trace open, and the lines that a session begins with.
-use Rattle.std.specs.Prelude.{◌≡◌, ◌≢◌, ℕ, ◌+◌, List, ◌++◌, codes, decimal, Result, Ok, Err}
+use Rattle.std.specs.Prelude.{◌≡◌, ◌≢◌, ℕ, List, codes, Result, Ok, Err}
 use Rattle.ir_image.specs.Guest.{Guest}
 use Rattle.ir_image.specs.Reading.{guest_at}
 use Rattle.ir_image.specs.Reading as reading
@@ -14,7 +14,7 @@ use Rattle.ir_fit.specs.Fit.{FittedTrace, HasRun, IsRefused}
 use Rattle.ir_fit.specs.declared.fit_err.FitErr.TheVariants.{Refused}
 use Rattle.ir_fit.specs.declared.verdict.Verdict.{Verdict}
 use Rattle.ir_debug.specs.Machine.Desk.{Desk, desk_of}
-use Rattle.ir_text.specs.Texts.{verdict_text, number_or_zero}
+use Rattle.ir_text.specs.Texts.{verdict_text, number_line, number_or_zero}
 
 pub data Opening : Type 0 where
   ImageRefused : (error : ImageErr) → Opening
@@ -43,7 +43,7 @@ Opens image_bytes trace_bytes opening = OpensImage (guest_at image_bytes) (recor
 
 -- the lines that a session begins with
 abbrev pub opening_text : Opening → List ℕ
-opening_text (ImageRefused e) = codes "image refused " ++ decimal (number_or_zero (reading.number_of e)) ++ codes "\n"
-opening_text (TraceRefused e) = codes "trace refused " ++ decimal (number_or_zero (reading_trace.number_of e)) ++ codes "\n"
+opening_text (ImageRefused e) = number_line (codes "image refused ") (number_or_zero (reading.image_fault_number e))
+opening_text (TraceRefused e) = number_line (codes "trace refused ") (number_or_zero (reading_trace.trace_fault_number e))
 opening_text (Unfit v) = verdict_text v
 opening_text (Ready d) = codes "ready\n"

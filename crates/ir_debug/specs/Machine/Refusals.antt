@@ -4,14 +4,11 @@ use Rattle.ir_image.specs.Guest.{Guest, code_start, object_count}
 use Rattle.ir_mach.specs.Memory.{lies_in_memory}
 use Rattle.ir_command.specs.declared.command.Command.{Command}
 use Rattle.ir_command.specs.declared.command.Command.TheVariants as command
-use Rattle.ir_command.specs.declared.command.Move.{Move}
-use Rattle.ir_command.specs.declared.command.Move.TheVariants.{Step, Back, Goto, Start, End}
-use Rattle.ir_command.specs.declared.command.Point.{Point}
+use Rattle.ir_command.specs.declared.command.Move.TheVariants.{Step, Back, Goto}
 use Rattle.ir_command.specs.declared.command.Point.TheVariants.{Break, Watch, WatchObject}
 use Rattle.ir_command.specs.declared.command.Show.{Show}
 use Rattle.ir_command.specs.declared.command.Show.TheVariants.{Registers, Memory, Object, Output, Log, Next}
-use Rattle.ir_command.specs.declared.command.Keeping.{Keeping}
-use Rattle.ir_command.specs.declared.command.Keeping.TheVariants.{Keep, Load, Drop, Kept}
+use Rattle.ir_command.specs.declared.command.Keeping.TheVariants.{Keep, Load, Drop}
 use Rattle.ir_command.specs.declared.refusal.Refusal.{Refusal}
 use Rattle.ir_command.specs.declared.refusal.Refusal.TheVariants.{NoSuchThread, NoSuchObject, NoSuchNumber, BadAddress, Full}
 use Rattle.ir_timeline.specs.Positions.{threads_of}
@@ -24,39 +21,22 @@ if_some (Some x) test = test x
 
 -- ---- what a command names
 
--- the thread that a move names
-abbrev pub thread_moved : Move → Option ℕ
-thread_moved (Step thread count) = Some thread
-thread_moved (Back thread count) = Some thread
-thread_moved (Goto thread position) = Some thread
-thread_moved Start = None
-thread_moved End = None
-
--- the thread of which something is shown
-abbrev pub thread_shown : Show → Option ℕ
-thread_shown (Registers thread) = Some thread
-thread_shown (Memory thread address size) = Some thread
-thread_shown (Object object) = None
-thread_shown (Output thread) = Some thread
-thread_shown (Log thread) = Some thread
-thread_shown (Next thread) = Some thread
-
--- the thread whose pc or word a point looks at
-abbrev pub thread_pointed : Point → Option ℕ
-thread_pointed (Break thread address) = Some thread
-thread_pointed (Watch thread address) = Some thread
-thread_pointed (WatchObject object) = None
-
+-- the thread that is moved, that something is shown of, or whose pc or word a point looks at
 abbrev pub thread_named : Command → Option ℕ
-thread_named (command.Move move) = thread_moved move
+thread_named (command.Move (Step thread count)) = Some thread
+thread_named (command.Move (Back thread count)) = Some thread
+thread_named (command.Move (Goto thread position)) = Some thread
 thread_named (command.Continue thread direction) = Some thread
-thread_named (command.Set point) = thread_pointed point
-thread_named (command.Clear number) = None
-thread_named (command.Show show) = thread_shown show
-thread_named (command.Keeping keeping) = None
-thread_named command.Position = None
-thread_named command.Quit = None
+thread_named (command.Set (Break thread address)) = Some thread
+thread_named (command.Set (Watch thread address)) = Some thread
+thread_named (command.Show (Registers thread)) = Some thread
+thread_named (command.Show (Memory thread address size)) = Some thread
+thread_named (command.Show (Output thread)) = Some thread
+thread_named (command.Show (Log thread)) = Some thread
+thread_named (command.Show (Next thread)) = Some thread
+thread_named c = None
 
+-- the object that is shown, or that a point looks at
 abbrev pub object_named : Command → Option ℕ
 object_named (command.Show (Object object)) = Some object
 object_named (command.Set (WatchObject object)) = Some object
@@ -105,20 +85,11 @@ abbrev pub is_at_hand : Show → Bool
 is_at_hand (Next thread) = false
 is_at_hand show = true
 
--- whether it may want memory
-abbrev pub takes_memory : Keeping → Bool
-takes_memory Keep = true
-takes_memory (Load n) = true
-takes_memory (Drop n) = false
-takes_memory Kept = false
-
 -- whether a command that isn't refused otherwise may be refused for lack of memory
 abbrev pub may_lack : Desk → Command → Bool
 may_lack d (command.Move move) = true
 may_lack d (command.Continue thread direction) = true
-may_lack d (command.Set point) = false
-may_lack d (command.Clear number) = false
 may_lack d (command.Show show) = not (d.fresh && is_at_hand show)
-may_lack d (command.Keeping keeping) = takes_memory keeping
-may_lack d command.Position = false
-may_lack d command.Quit = false
+may_lack d (command.Keeping Keep) = true
+may_lack d (command.Keeping (Load n)) = true
+may_lack d c = false

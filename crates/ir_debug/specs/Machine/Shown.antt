@@ -9,16 +9,17 @@ use Rattle.ir_cut.specs.Positions.{machine_of, start_of, cut_of}
 use Rattle.ir_command.specs.declared.command.Show.{Show}
 use Rattle.ir_command.specs.declared.command.Show.TheVariants.{Registers, Memory, Object, Output, Log, Next}
 use Rattle.ir_text.specs.Texts.{machine_text, memory_text, output_text, object_text, log_text, next_text, bytes_from}
+use Rattle.ir_hits.specs.Hits.{thread_at}
 use Rattle.ir_timeline.specs.Positions.{threads_of}
-use Rattle.ir_debug.specs.Machine.Desk.{Desk, position_of, thread_at}
+use Rattle.ir_debug.specs.Machine.Desk.{Desk}
 
 -- thread t at its position
-abbrev pub current : List run.Step → Desk → ℕ → thread.State
-current steps d t = thread_at d.fitted steps t (position_of d t)
+abbrev pub current : List run.Step → Desk → ℕ → thread.ThreadState
+current steps d t = thread_at d.fitted steps t (cut_of d.at t)
 
 -- what thread t logged so far: of its first steps, as many as its position says
 abbrev pub logged_so_far : List run.Step → Desk → ℕ → List Label
-logged_so_far steps d t = run.events (take (position_of d t) (run.trail (machine_of d.fitted) (start_of d.fitted) steps t))
+logged_so_far steps d t = run.events (take (cut_of d.at t) (run.trail (machine_of d.fitted) (start_of d.fitted) steps t))
 
 -- the answer to a show that isn't refused
 unfoldable pub shown : List run.Step → Desk → Show → List ℕ

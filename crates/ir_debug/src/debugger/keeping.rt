@@ -4,7 +4,7 @@ ghost use Rattle.std.specs.Prelude.{◌≡◌, ◌+◌, List, ℕ, None, Some, I
 ghost use Rattle.ir_cut.specs.Positions.{EachRun};
 ghost use Rattle.ir_command.specs.declared.command.Command.TheVariants as command;
 ghost use Rattle.ir_command.specs.declared.command.Keeping.TheVariants as keeping;
-ghost use Rattle.ir_debug.specs.Machine.Desk.{moved, spoken, with_kept, without_kept, kept_cut};
+ghost use Rattle.ir_debug.specs.Machine.Desk.{moved_to, spoken, with_kept, without_kept, kept_cut};
 ghost use Rattle.ir_debug.specs.Machine.Refusals.{refusal_of};
 ghost use Rattle.ir_debug.specs.Machine.Answers.{AnswersBy};
 ghost use Rattle.ir_debug.specs.Debugging.{IsLast, answer_text};
@@ -14,7 +14,17 @@ use crate::debugger::Debugger;
 use crate::kept::{KeptCut, forget, kept_cut};
 use ir_command::{Keeping, Refusal};
 use ir_object::Hands;
+use ir_timeline::Timeline;
 use std::alloc::AllocError;
+
+// Gives up the state at the cut of this number, if it is kept.
+fn give_up(timeline: &mut Timeline, kept: &[KeptCut], number: u32)
+    ensures { timeline.new ≡ timeline.old }
+{
+    if let Some(cut) = kept_cut(kept, number) {
+        timeline.drop_kept(cut);
+    }
+}
 
 impl Debugger {
     // Keeps the cut and the state in hand, and answers the cut's number.
@@ -47,7 +57,7 @@ impl Debugger {
     // Goes to a kept cut.
     fn load<H: Hands>(&mut self, hands: &H, number: u32) -> Result<(), AllocError>
         requires { refusal_of self.old.desk (command.Keeping (keeping.Load number)) ≡ None }
-        ensures ok { OnOk result ((cut : List ℕ) × (kept_cut self.old.desk.kept number ≡ Some cut) × (self.new.desk ≡ moved self.old.desk cut)) }
+        ensures ok { OnOk result ((cut : List ℕ) × (kept_cut self.old.desk.kept number ≡ Some cut) × (self.new.desk ≡ moved_to self.old.desk cut)) }
         ensures err { OnErr result (self.new.desk ≡ spoken self.old.desk) }
     {
         self.fresh = false;
@@ -60,8 +70,8 @@ impl Debugger {
         ensures { self.new.desk ≡ without_kept self.old.desk number }
     {
         self.fresh = false;
+        give_up(&mut self.timeline, self.kept.as_slice(), number);
         forget(&mut self.kept, number);
-        self.timeline.drop_kept(number);
     }
 
     // The answer to a command about kept cuts that isn't refused.

@@ -5,7 +5,7 @@ ghost use Rattle.ir_cut.specs.Positions.{EachRun, IsConsistentCut, cut_of};
 ghost use Rattle.ir_weave.specs.Standing.{StandsAt};
 ghost use Rattle.ir_hits.specs.Hits.{AreWatchable};
 ghost use Rattle.ir_hits.specs.Searching.{IsNextHit};
-ghost use Rattle.ir_timeline.specs.Positions.{Cuts, Finds, last_of, threads_of};
+ghost use Rattle.ir_timeline.specs.Positions.{IsCutOf, Finds, last_of, threads_of};
 ghost use Rattle.ir_debug.specs.Machine.Desk.{kept_cut, spoken};
 ghost use Rattle.ir_debug.specs.Machine.Moves.{StopsAt};
 
@@ -29,7 +29,7 @@ impl Debugger {
     /// The kept cut of a number, if there is one.
     pub fn kept_cut(&self, number: u32) -> Option<&Cut>
         ensures value { MatchOption result (kept_cut self.now.desk.kept number ≡ None) (λ cut. kept_cut self.now.desk.kept number ≡ Some cut.now) }
-        ensures cuts { IfSome result (λ cut. Cuts self.now.desk.fitted cut.now) }
+        ensures cuts { IfSome result (λ cut. IsCutOf self.now.desk.fitted cut.now) }
     {
         kept_cut(self.kept.as_slice(), number)
     }
@@ -61,7 +61,7 @@ impl Debugger {
     /// # Errors
     /// Out of memory.
     pub fn visit<H: Hands>(&mut self, hands: &H, cut: &Cut) -> Result<(), AllocError>
-        requires { Cuts self.old.desk.fitted cut.now }
+        requires { IsCutOf self.old.desk.fitted cut.now }
         ensures desk { self.new.desk ≡ spoken self.old.desk }
         ensures there { OnOk result (StandsAt self.new.desk.fitted (cut_of cut.now) self.new.state) }
     {
@@ -102,7 +102,7 @@ impl Debugger {
         to: u64,
         points: &[NumberedPoint],
     ) -> Result<Option<Hit>, AllocError>
-        requires cut { Cuts self.old.desk.fitted from.now }
+        requires cut { IsCutOf self.old.desk.fitted from.now }
         requires thread { thread < threads_of self.old.desk.fitted }
         requires within { (cut_of from.now thread ≤ to) × (to ≤ last_of self.old.desk.fitted thread) }
         requires points { AreWatchable points.now }

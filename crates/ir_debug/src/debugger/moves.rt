@@ -4,7 +4,7 @@ ghost use Rattle.std.specs.Prelude.{◌≡◌, List, ℕ, None, length, IfOk, On
 ghost use Rattle.ir_cut.specs.Positions.{EachRun, IsConsistentCut};
 ghost use Rattle.ir_command.specs.declared.command.Command.TheVariants as command;
 ghost use Rattle.ir_timeline.specs.Positions.{threads_of};
-ghost use Rattle.ir_debug.specs.Machine.Desk.{moved, spoken};
+ghost use Rattle.ir_debug.specs.Machine.Desk.{moved_to, spoken};
 ghost use Rattle.ir_debug.specs.Machine.Refusals.{refusal_of};
 ghost use Rattle.ir_debug.specs.Machine.Moves.{Leads, Continues};
 ghost use Rattle.ir_debug.specs.Machine.Answers.{AnswersBy};
@@ -26,7 +26,7 @@ impl Debugger {
     pub fn go_to<H: Hands>(&mut self, hands: &H, to: Cut) -> Result<(), AllocError>
         requires size { length to ≡ threads_of self.old.desk.fitted }
         requires consistent { IsConsistentCut self.old.desk.fitted to }
-        ensures ok { OnOk result (self.new.desk ≡ moved self.old.desk to) }
+        ensures ok { OnOk result (self.new.desk ≡ moved_to self.old.desk to) }
         ensures err { OnErr result (self.new.desk ≡ spoken self.old.desk) }
     {
         self.fresh = false;
@@ -39,7 +39,7 @@ impl Debugger {
     // Finds the cut to which a move leads, and goes there.
     fn carry_out<H: Hands>(&mut self, hands: &H, to: Move) -> Result<(), AllocError>
         requires { refusal_of self.old.desk (command.Move to) ≡ None }
-        ensures ok { OnOk result ((cut : List ℕ) × EachRun self.old.desk.fitted (λ run. Leads run self.old.desk.fitted self.old.desk.at to cut) × (self.new.desk ≡ moved self.old.desk cut)) }
+        ensures ok { OnOk result ((cut : List ℕ) × EachRun self.old.desk.fitted (λ run. Leads run self.old.desk.fitted self.old.desk.at to cut) × (self.new.desk ≡ moved_to self.old.desk cut)) }
         ensures err { OnErr result (self.new.desk ≡ spoken self.old.desk) }
     {
         self.fresh = false;
@@ -68,7 +68,7 @@ impl Debugger {
         direction: Direction,
     ) -> Result<Option<Hit>, AllocError>
         requires { refusal_of self.old.desk (command.Continue thread direction) ≡ None }
-        ensures ok { IfOk result (λ hit. (cut : List ℕ) × EachRun self.old.desk.fitted (λ run. Continues run self.old.desk thread direction hit cut) × (self.new.desk ≡ moved self.old.desk cut)) }
+        ensures ok { IfOk result (λ hit. (cut : List ℕ) × EachRun self.old.desk.fitted (λ run. Continues run self.old.desk thread direction hit cut) × (self.new.desk ≡ moved_to self.old.desk cut)) }
         ensures err { OnErr result (self.new.desk ≡ spoken self.old.desk) }
     {
         self.fresh = false;

@@ -2,7 +2,7 @@
 
 ghost use Rattle.std.specs.Prelude.{◌≡◌, ◌<◌, true, OnOk, OnErr, IfOk, IfSome};
 ghost use Rattle.ir_cut.specs.Positions.{EachRun};
-ghost use Rattle.ir_timeline.specs.Positions.{Cuts, threads_of};
+ghost use Rattle.ir_timeline.specs.Positions.{IsCutOf, threads_of};
 ghost use Rattle.ir_gdb.specs.Stub.{spoken};
 ghost use Rattle.ir_gdb.specs.Stops.{end_of};
 ghost use Rattle.ir_gdb.specs.Together.{Halt, halt, AreWithin, MetBy, StopsAmong, FirstStop, first_met, furthest, StepsAmong, ContinuesAmong, MovesAmong};
@@ -38,7 +38,7 @@ impl Remote {
         direction: Direction,
         reason: Reason,
     ) -> Result<(), AllocError>
-        requires cut { Cuts self.old.stub.desk.fitted cut }
+        requires cut { IsCutOf self.old.stub.desk.fitted cut }
         requires thread { thread < threads_of self.old.stub.desk.fitted }
         ensures ok { OnOk result ((h : Halt) × EachRun self.old.stub.desk.fitted (λ run. MetBy true run self.old.stub direction cut (halt thread cut reason) h) × (self.new.stub ≡ settled self.old.stub h)) }
         ensures err { OnErr result (self.new.stub ≡ spoken self.old.stub) }
@@ -83,7 +83,7 @@ impl Remote {
         requires within { AreWithin self.now.stub each.now }
         requires thread { thread < threads_of self.now.stub.desk.fitted }
         ensures stops { IfOk result (λ stop. EachRun self.now.stub.desk.fitted (λ run. StopsAmong run self.now.stub direction each.now thread (first_met each.now stop))) }
-        ensures cuts { IfOk result (λ stop. IfSome stop (λ m. Cuts self.now.stub.desk.fitted m.1)) }
+        ensures cuts { IfOk result (λ stop. IfSome stop (λ m. IsCutOf self.now.stub.desk.fitted m.1)) }
         ensures threads { IfOk result (λ stop. IfSome stop (λ m. m.0 < threads_of self.now.stub.desk.fitted)) }
     {
         let to = each[thread as usize];
@@ -108,7 +108,7 @@ impl Remote {
         requires within { AreWithin self.now.stub each.now }
         requires thread { thread < threads_of self.now.stub.desk.fitted }
         ensures stops { IfOk result (λ stop. EachRun self.now.stub.desk.fitted (λ run. FirstStop run self.now.stub direction each.now thread (first_met each.now stop))) }
-        ensures cuts { IfOk result (λ stop. IfSome stop (λ m. Cuts self.now.stub.desk.fitted m.1)) }
+        ensures cuts { IfOk result (λ stop. IfSome stop (λ m. IsCutOf self.now.stub.desk.fitted m.1)) }
         ensures threads { IfOk result (λ stop. IfSome stop (λ m. m.0 < threads_of self.now.stub.desk.fitted)) }
     {
         if let Some(stop) = self.stop_among(alloc, direction, each, thread)? {
@@ -129,7 +129,7 @@ impl Remote {
     // The cut at which all threads are that have no hit in a direction.
     fn furthest(&self, alloc: Global, direction: Direction) -> Result<Cut, AllocError>
         ensures value { IfOk result (λ cut. cut ≡ furthest self.now.stub direction) }
-        ensures cut { IfOk result (λ cut. Cuts self.now.stub.desk.fitted cut) }
+        ensures cut { IfOk result (λ cut. IsCutOf self.now.stub.desk.fitted cut) }
     {
         match direction {
             Direction::Forwards => last_cut(alloc, self.debugger.fitted()),

@@ -2,7 +2,7 @@
 
 ghost use Rattle.std.specs.Prelude.{◌≡◌, ◌<◌, ◌≤◌, IfOk};
 ghost use Rattle.ir_cut.specs.Positions.{EachRun, cut_of};
-ghost use Rattle.ir_timeline.specs.Positions.{Cuts, threads_of, last_of};
+ghost use Rattle.ir_timeline.specs.Positions.{IsCutOf, threads_of, last_of};
 ghost use Rattle.ir_gdb.specs.Stops.{position_of};
 ghost use Rattle.ir_gdb.specs.Together.{Comes};
 
@@ -34,7 +34,7 @@ impl Remote {
     // The cut at which all threads are.
     pub(crate) fn here(&self) -> Result<Cut, AllocError>
         ensures value { IfOk result (λ cut. cut ≡ self.now.stub.desk.at) }
-        ensures cut { IfOk result (λ cut. Cuts self.now.stub.desk.fitted cut) }
+        ensures cut { IfOk result (λ cut. IsCutOf self.now.stub.desk.fitted cut) }
     {
         self.debugger.fitted().known();
         self.debugger.at().copy()
@@ -51,7 +51,7 @@ impl Remote {
         requires thread { thread < threads_of self.now.stub.desk.fitted }
         requires within { position ≤ last_of self.now.stub.desk.fitted thread }
         ensures comes { IfOk result (λ cut. EachRun self.now.stub.desk.fitted (λ run. Comes run self.now.stub direction thread position cut)) }
-        ensures cut { IfOk result (λ cut. Cuts self.now.stub.desk.fitted cut) }
+        ensures cut { IfOk result (λ cut. IsCutOf self.now.stub.desk.fitted cut) }
     {
         self.debugger.cut_with(alloc, thread, direction, position)
     }
@@ -65,7 +65,7 @@ impl Remote {
     ) -> Result<Cut, AllocError>
         requires thread { thread < threads_of self.now.stub.desk.fitted }
         requires within { (position_of self.now.stub thread ≤ position) × (position ≤ last_of self.now.stub.desk.fitted thread) }
-        ensures cut { IfOk result (λ cut. Cuts self.now.stub.desk.fitted cut) }
+        ensures cut { IfOk result (λ cut. IsCutOf self.now.stub.desk.fitted cut) }
         ensures there { IfOk result (λ cut. EachRun self.now.stub.desk.fitted (λ run. cut_of cut thread ≡ position)) }
     {
         least_exact();
@@ -83,7 +83,7 @@ impl Remote {
     ) -> Result<Cut, AllocError>
         requires thread { thread < threads_of self.now.stub.desk.fitted }
         requires within { (position ≤ position_of self.now.stub thread) × (position ≤ last_of self.now.stub.desk.fitted thread) }
-        ensures cut { IfOk result (λ cut. Cuts self.now.stub.desk.fitted cut) }
+        ensures cut { IfOk result (λ cut. IsCutOf self.now.stub.desk.fitted cut) }
         ensures there { IfOk result (λ cut. cut_of cut thread ≡ position) }
     {
         greatest_exact();

@@ -1,7 +1,7 @@
 //! Bytes at addresses: the code, private memory, and the objects.
 
 ghost use Rattle.std.specs.Prelude.{◌≡◌, ◌≤◌, ◌<◌, ◌*◌, ◌+◌, Some, slice_index, length, min};
-ghost use Rattle.ir_image.specs.Guest.{most_object_words, word_at};
+ghost use Rattle.ir_image.specs.Guest.{most_object_words, word_at_pc};
 ghost use Rattle.ir_mach.specs.Core.{memory_size};
 ghost use Rattle.ir_mach.specs.Memory.{byte_at, byte_of};
 ghost use Rattle.ir_cut.specs.Positions.{EachRun};
@@ -31,7 +31,7 @@ fn byte_of(word: u32, place: u32) -> u8
 
 // The word of the code in which an address lies.
 fn code_word(code: &Code, address: u32) -> Option<u32>
-    ensures { result ≡ word_at code.now address }
+    ensures { result ≡ word_at_pc code.now address }
 {
     if address < CODE_START {
         return None;
@@ -67,7 +67,7 @@ fn object_byte(contents: &[u32], words: usize, place: u32) -> u8
 }
 
 impl Remote {
-    #[tactic(auto, using(crate::proofs::Seen::no_object, crate::proofs::Seen::object_seen, crate::proofs::Seen::objects_in_hand))]
+    #[tactic(auto, using(crate::proofs::Seen::no_object_byte_behind_objects, crate::proofs::Seen::object_byte_is_seen, crate::proofs::Seen::object_is_in_hand))]
     // The byte of the objects at an address from their start on.
     fn object_byte(&self, offset: u32) -> Option<u8>
         requires { IsThere self.now }
@@ -98,7 +98,7 @@ impl Remote {
         byte_at(code, self.general_thread().mach().memory(), address)
     }
 
-    #[tactic(auto, using(crate::proofs::Bytes::no_bytes_there, crate::proofs::Bytes::more_bytes_there, crate::proofs::Bytes::bytes_there_stop, crate::proofs::Seen::none_seen))]
+    #[tactic(auto, using(crate::proofs::Bytes::bytes_there_of_no_count, crate::proofs::Bytes::bytes_there_step, crate::proofs::Bytes::bytes_there_end_at_missing_byte, crate::proofs::Seen::no_byte_seen_at_high_address))]
     // The bytes from an address on, as many as there are, at most this number and `MOST_BYTES`.
     pub fn bytes_here(&self, address: u32, size: u32) -> ArrayVec<u8, MOST_BYTES>
         requires { IsThere self.now }

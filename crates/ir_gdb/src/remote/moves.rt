@@ -2,7 +2,7 @@
 
 ghost use Rattle.std.specs.Prelude.{◌≡◌, ◌<◌, ◌≤◌, ◌+◌, ◌++◌, true, false, OnOk, OnErr, IfSome, List, ℕ, option_map, vec_len, vec_capacity};
 ghost use Rattle.ir_cut.specs.Positions.{EachRun};
-ghost use Rattle.ir_timeline.specs.Positions.{Cuts, threads_of};
+ghost use Rattle.ir_timeline.specs.Positions.{IsCutOf, threads_of};
 ghost use Rattle.ir_gdb.specs.Reads.{thread_of_id};
 ghost use Rattle.ir_gdb.specs.Serving.{IsThere};
 ghost use Rattle.ir_gdb.specs.Stub.{Stub, spoken};
@@ -95,7 +95,7 @@ impl Remote {
         thread: u32,
         reason: Reason,
     ) -> Result<(), AllocError>
-        requires cut { Cuts self.old.stub.desk.fitted cut }
+        requires cut { IsCutOf self.old.stub.desk.fitted cut }
         requires thread { thread < threads_of self.old.stub.desk.fitted }
         ensures ok { OnOk result (self.new.stub ≡ settled self.old.stub (halt thread cut reason)) }
         ensures err { OnErr result (self.new.stub ≡ spoken self.old.stub) }

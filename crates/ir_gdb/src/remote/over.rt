@@ -2,7 +2,7 @@
 
 ghost use Rattle.std.specs.Prelude.{◌≡◌, ◌<◌, ◌≤◌, OnOk, OnErr, IfOk, length};
 ghost use Rattle.ir_cut.specs.Positions.{EachRun, cut_of};
-ghost use Rattle.ir_timeline.specs.Positions.{Cuts, threads_of, last_of};
+ghost use Rattle.ir_timeline.specs.Positions.{IsCutOf, threads_of, last_of};
 ghost use Rattle.ir_gdb.specs.Stub.{spoken};
 ghost use Rattle.ir_gdb.specs.Stops.{position_of};
 ghost use Rattle.ir_gdb.specs.Together.{Halt};
@@ -62,7 +62,7 @@ impl Remote {
         cut: &Cut,
     ) -> Result<bool, AllocError>
         requires thread { thread < threads_of self.old.stub.desk.fitted }
-        requires cut { Cuts self.old.stub.desk.fitted cut.now }
+        requires cut { IsCutOf self.old.stub.desk.fitted cut.now }
         ensures stub { self.new.stub ≡ spoken self.old.stub }
         ensures hit { IfOk result (λ is. EachRun self.old.stub.desk.fitted (λ run. HasHit is run self.old.stub pc cut.now thread)) }
     {
@@ -89,7 +89,7 @@ impl Remote {
         cut: &Cut,
     ) -> Result<bool, AllocError>
         requires thread { thread < threads_of self.old.stub.desk.fitted }
-        requires cut { Cuts self.old.stub.desk.fitted cut.now }
+        requires cut { IsCutOf self.old.stub.desk.fitted cut.now }
         ensures stub { self.new.stub ≡ spoken self.old.stub }
         ensures hit { IfOk result (λ is. EachRun self.old.stub.desk.fitted (λ run. OtherHasHit is run self.old.stub (pc_of run self.old.stub thread) cut.now thread)) }
     {
@@ -115,7 +115,7 @@ impl Remote {
         cut: &Cut,
     ) -> Result<bool, AllocError>
         requires thread { thread < threads_of self.old.stub.desk.fitted }
-        requires cut { Cuts self.old.stub.desk.fitted cut.now }
+        requires cut { IsCutOf self.old.stub.desk.fitted cut.now }
         ensures stub { self.new.stub ≡ spoken self.old.stub }
         ensures hit { IfOk result (λ is. EachRun self.old.stub.desk.fitted (λ run. PassesHit self.old.stub.together is run self.old.stub cut.now thread)) }
     {

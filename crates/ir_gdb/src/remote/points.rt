@@ -77,7 +77,7 @@ impl Remote {
         self.setting(has_watch(self.watches.as_slice(), watched))
     }
 
-    #[tactic(auto, using(crate::proofs::Setting::stub_with_break))]
+    #[tactic(auto, using(crate::proofs::Setting::stub_with_break_is_stub))]
     /// `Z0`, `Z1`: sets a breakpoint of all threads.
     pub fn set_break(&mut self, point: Breakpoint) -> Reply
         ensures reply { result ≡ setting_reply (break_setting self.old.stub point) }
@@ -90,7 +90,7 @@ impl Remote {
         setting_reply(setting)
     }
 
-    #[tactic(auto, using(crate::proofs::Setting::stub_without_break))]
+    #[tactic(auto, using(crate::proofs::Setting::stub_without_break_is_stub))]
     /// `z0`, `z1`: takes a breakpoint away.
     pub fn clear_break(&mut self, point: Breakpoint) -> Reply
         ensures reply { result ≡ clear_break_reply self.old.stub point }
@@ -103,7 +103,7 @@ impl Remote {
         Reply::Done
     }
 
-    #[tactic(auto, using(crate::proofs::Setting::stub_with_watch))]
+    #[tactic(auto, using(crate::proofs::Setting::stub_with_watch_is_stub))]
     /// `Z2`: sets a watch of the words in which bytes lie.
     pub fn set_watch(&mut self, watched: Watched) -> Reply
         ensures reply { result ≡ setting_reply (watch_setting self.old.stub watched) }
@@ -116,7 +116,7 @@ impl Remote {
         setting_reply(setting)
     }
 
-    #[tactic(auto, using(crate::proofs::Setting::stub_without_watch))]
+    #[tactic(auto, using(crate::proofs::Setting::stub_without_watch_is_stub))]
     /// `z2`: takes a watch away.
     pub fn clear_watch(&mut self, watched: Watched) -> Reply
         ensures reply { result ≡ clear_watch_reply watched }

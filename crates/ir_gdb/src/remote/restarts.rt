@@ -2,7 +2,7 @@
 
 ghost use Rattle.std.specs.Prelude.{◌≡◌, ◌≤◌, ◌+◌, ◌++◌, List, ℕ, true, OnOk, OnErr, IfOk, IfSome, MatchOption, Some, None, vec_len, vec_capacity};
 ghost use Rattle.ir_cut.specs.Positions.{EachRun};
-ghost use Rattle.ir_timeline.specs.Positions.{Cuts};
+ghost use Rattle.ir_timeline.specs.Positions.{IsCutOf};
 ghost use Rattle.ir_gdb.specs.Stub.{spoken};
 ghost use Rattle.ir_gdb.specs.Restarts.{with_extension, end_reply, restart_cut, RepliesToRestart};
 
@@ -36,7 +36,7 @@ impl Remote {
     // The cut from which the program is run again: the start, or the kept cut of a number, if there is one.
     fn restart_cut(&self, alloc: Global, number: Option<u32>) -> Result<Option<Cut>, AllocError>
         ensures value { IfOk result (λ cut. cut ≡ restart_cut self.now.stub number) }
-        ensures cuts { IfOk result (λ cut. IfSome cut (Cuts self.now.stub.desk.fitted)) }
+        ensures cuts { IfOk result (λ cut. IfSome cut (IsCutOf self.now.stub.desk.fitted)) }
     {
         let Some(number) = number else {
             return Ok(Some(first_cut(alloc, self.debugger.fitted())?));

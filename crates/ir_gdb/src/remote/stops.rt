@@ -4,7 +4,7 @@ ghost use Rattle.std.specs.Prelude.{◌≡◌, ◌<◌, ◌≤◌, ◌+◌, ◌-
 ghost use Rattle.std.specs.List.{AllByRecursion};
 ghost use Rattle.ir_cut.specs.Positions.{EachRun, cut_of};
 ghost use Rattle.ir_hits.specs.Hits.{AreWatchable, thread_at};
-ghost use Rattle.ir_timeline.specs.Positions.{Cuts, threads_of, last_of};
+ghost use Rattle.ir_timeline.specs.Positions.{IsCutOf, threads_of, last_of};
 ghost use Rattle.ir_gdb.specs.Stub.{IsWatched, most_points, spoken};
 ghost use Rattle.ir_gdb.specs.Stops.{watches_if, Leaves, WatchNext, position_of, StepsTo, RangesTo, ContinuesTo, StepsBackTo, StopsBelow, ContinuesBackTo, GoesTo, MovesTo, upwards_of};
 
@@ -70,7 +70,7 @@ impl Remote {
         thread: u32,
         watched: bool,
     ) -> Result<Option<Reason>, AllocError>
-        requires cut { Cuts self.old.stub.desk.fitted from.now }
+        requires cut { IsCutOf self.old.stub.desk.fitted from.now }
         requires thread { thread < threads_of self.old.stub.desk.fitted }
         requires within { cut_of from.now thread < last_of self.old.stub.desk.fitted thread }
         ensures stub { self.new.stub ≡ spoken self.old.stub }
@@ -263,7 +263,7 @@ impl Remote {
     }
 
     // The stop that is found downwards.
-    #[tactic(auto, using(crate::proofs::Bounds::below_within))]
+    #[tactic(auto, using(crate::proofs::Bounds::end_below_within_last))]
     fn found_below<H: Hands>(
         &mut self,
         hands: &H,

@@ -2,7 +2,7 @@
 
 ghost use Rattle.std.specs.Prelude.{◌≡◌, ◌≤◌, ◌<◌, ◌&&◌, ◌||◌, ◌==◌, not, length, IfOk, IfSome};
 ghost use Rattle.ir_cut.specs.Positions.{EachRun};
-ghost use Rattle.ir_timeline.specs.Positions.{Cuts, threads_of};
+ghost use Rattle.ir_timeline.specs.Positions.{IsCutOf, threads_of};
 ghost use Rattle.ir_gdb.specs.Stub.{spoken};
 ghost use Rattle.ir_gdb.specs.Stops.{position_of};
 ghost use Rattle.ir_gdb.specs.Together.{AreStops, AreWithin, meets, passes, is_free, is_all_free, moves, moves_other, MetAt, FirstMet, first_met};
@@ -16,7 +16,7 @@ use std::alloc::{AllocError, Global};
 
 impl Remote {
     // How many threads there are.
-    #[tactic(auto, using(ir_image::proofs::CallerLemmas::few_threads))]
+    #[tactic(auto, using(ir_image::proofs::CallerLemmas::guest_threads_at_most_limit))]
     pub(crate) fn count(&self) -> u32
         ensures value { result ≡ threads_of self.now.stub.desk.fitted }
         ensures few { result ≤ 16 }
@@ -85,7 +85,7 @@ impl Remote {
     }
 
     // Whether no other thread than this one has a hit on its way to a cut.
-    #[tactic(auto, using(crate::proofs::Together::none_yet, crate::proofs::Together::still_free, crate::proofs::Together::not_free))]
+    #[tactic(auto, using(crate::proofs::Together::is_free_of_no_threads, crate::proofs::Together::is_free_if_next_passes, crate::proofs::Together::not_free_if_thread_fails))]
     fn is_free(&self, direction: Direction, each: &[Stopped], cut: &Cut, thread: u32) -> bool
         requires count { length each.now ≡ threads_of self.now.stub.desk.fitted }
         requires cut { length cut.now ≡ threads_of self.now.stub.desk.fitted }
@@ -113,7 +113,7 @@ impl Remote {
     }
 
     // Whether another thread than this one isn't where it is in a cut.
-    #[tactic(auto, using(crate::proofs::Together::none_moved_yet, crate::proofs::Together::none_moved, crate::proofs::Together::one_moved))]
+    #[tactic(auto, using(crate::proofs::Together::moves_other_of_no_threads, crate::proofs::Together::moves_other_false_step, crate::proofs::Together::moves_other_if_thread_moves))]
     pub fn moves_other(&self, cut: &Cut, thread: u32) -> bool
         requires { length cut.now ≡ threads_of self.now.stub.desk.fitted }
         ensures { result ≡ moves_other self.now.stub cut.now thread (threads_of self.now.stub.desk.fitted) }
@@ -140,7 +140,7 @@ impl Remote {
         requires cut { length cut.now ≡ threads_of self.now.stub.desk.fitted }
         requires thread { thread < threads_of self.now.stub.desk.fitted }
         ensures met { IfOk result (λ met. EachRun self.now.stub.desk.fitted (λ run. MetAt run self.now.stub direction each.now cut.now thread met)) }
-        ensures cuts { IfOk result (λ met. IfSome met (λ own. Cuts self.now.stub.desk.fitted own)) }
+        ensures cuts { IfOk result (λ met. IfSome met (λ own. IsCutOf self.now.stub.desk.fitted own)) }
     {
         if !self.meets(direction, each, cut, thread) {
             return Ok(None);
@@ -166,7 +166,7 @@ impl Remote {
         requires within { AreWithin self.now.stub each.now }
         requires cut { length cut.now ≡ threads_of self.now.stub.desk.fitted }
         ensures met { IfOk result (λ met. EachRun self.now.stub.desk.fitted (λ run. FirstMet run self.now.stub direction each.now cut.now thread (first_met each.now met))) }
-        ensures cuts { IfOk result (λ met. IfSome met (λ m. Cuts self.now.stub.desk.fitted m.1)) }
+        ensures cuts { IfOk result (λ met. IfSome met (λ m. IsCutOf self.now.stub.desk.fitted m.1)) }
         ensures threads { IfOk result (λ met. IfSome met (λ m. m.0 < threads_of self.now.stub.desk.fitted)) }
     {
         let count = self.count();

@@ -4,10 +4,12 @@ ghost use Rattle.std.specs.Prelude.{◌≡◌, false};
 
 use crate::commands::bytes_of;
 use crate::commands::conditions::conditions_of;
-use crate::commands::recording::{RecordingPaths, input_of, loses_input, output_places};
+use crate::commands::recording::{
+    RecordingPaths, input_of, loses_input, output_places, record_files,
+};
 use crate::ends::tell_ends;
 use ir_arguments::HuntArguments;
-use ir_files::{ExitStatus, Folder, MOST_BYTES, OutputFiles, WholeFile};
+use ir_files::{ExitStatus, Folder, MOST_BYTES};
 use ir_hunt::{HuntPlan, hunt_run};
 use ir_record_run::ParsedImage;
 use ir_stream::Sink;
@@ -46,9 +48,8 @@ where
     requires writes { O.broken out.old ≡ false }
     requires reports { E.broken faults.old ≡ false }
 {
-    let mut trace = WholeFile::new(rt.alloc(), folder, place);
-    let mut outputs = OutputFiles::new(folder, places, place);
-    hunt_run(rt, image, plan, &mut trace, &mut outputs, out, faults)
+    let mut files = record_files(rt.alloc(), folder, place, places);
+    hunt_run(rt, image, plan, &mut files, out, faults)
 }
 
 // Hunts for a run of a guest, and records it into a file, and what its threads print into others where they are asked for.
@@ -69,7 +70,6 @@ where
     requires reports { E.broken faults.old ≡ false }
 {
     let alloc = rt.alloc();
-    let place = arguments.trace.as_str();
     if loses_input(folder, faults, &paths(arguments)) {
         return ExitStatus::BadArguments;
     }
@@ -98,6 +98,7 @@ where
         is_shown: explains,
     };
     let places = outputs.as_ref().map(|each| each.as_slice());
+    let place = arguments.trace.as_str();
     match hunted_into(rt, folder, place, places, &image, &plan, out, faults) {
         Ok(Some(recorded)) => {
             if explains {

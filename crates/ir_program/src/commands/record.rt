@@ -2,15 +2,17 @@
 
 ghost use Rattle.std.specs.Prelude.{◌≡◌, OnOk, false};
 
-use crate::commands::recording::{RecordingPaths, input_of, loses_input, output_places};
+use crate::commands::recording::{
+    RecordingPaths, input_of, loses_input, output_places, record_files,
+};
 use crate::commands::{bytes_of, say};
 use crate::dispatch::Surroundings;
 use crate::ends::{all_ended, tell_ends};
 use ir_arguments::{Chaos, RecordArguments};
-use ir_files::{ExitStatus, Folder, MOST_BYTES, OutputFiles, WholeFile};
+use ir_files::{ExitStatus, Folder, MOST_BYTES};
 use ir_hunt::order_of_seed;
 use ir_object::Gate;
-use ir_record_run::{ParsedImage, RecordPlan, record_run};
+use ir_record_run::{ParsedImage, RecordPlan, Recording, record_run};
 use ir_stream::Sink;
 use ir_trace::Trace;
 use std::alloc::Global;
@@ -192,7 +194,6 @@ where
 {
     let (rt, folder) = (around.rt, around.folder);
     let alloc = rt.alloc();
-    let place = arguments.trace.as_str();
     if loses_input(folder, faults, &paths(arguments)) {
         return ExitStatus::BadArguments;
     }
@@ -208,18 +209,12 @@ where
     let order = beside.list.as_ref().map(|list| list.as_str());
     let paths = beside.outputs.as_ref().map(|paths| paths.as_slice());
     let plan = arguments.plan(order, input);
-    let mut trace = WholeFile::new(alloc, folder, place);
-    let mut outputs = OutputFiles::new(folder, paths, place);
-    match record_run(
-        rt,
-        around.gate,
-        &image,
-        &plan,
-        &mut trace,
-        &mut outputs,
-        out,
-        faults,
-    ) {
+    let mut files = record_files(alloc, folder, arguments.trace.as_str(), paths);
+    let recording = Recording {
+        image: &image,
+        plan: &plan,
+    };
+    match record_run(rt, around.gate, &recording, &mut files, out, faults) {
         Ok(recorded) => status_of(alloc, &recorded, arguments.status, explains, faults),
         Err(status) => status,
     }

@@ -3,8 +3,8 @@
 ghost use Rattle.std.specs.Prelude.{◌≡◌, OnSome, OnOk, false};
 
 use crate::commands::{bytes_of, is_lost, say};
-use ir_files::{ExitStatus, Folder, MOST_INPUT, output_paths};
-use ir_record_run::ParsedImage;
+use ir_files::{ExitStatus, Folder, MOST_INPUT, OutputFiles, WholeFile, output_paths};
+use ir_record_run::{ParsedImage, RecordFiles};
 use ir_stream::Sink;
 use std::alloc::{AllocError, Global};
 
@@ -21,6 +21,22 @@ pub struct RecordingPaths<'a> {
     pub list: Option<&'a String>,
     /// What the paths of the files of what threads print begin with, if they are asked for.
     pub output: Option<&'a String>,
+}
+
+/// Where a recording goes: its trace to one path, and what each thread prints to these, if it is asked for.
+pub fn record_files<'a, D: Folder>(
+    alloc: Global,
+    folder: &'a D,
+    trace: &'a str,
+    outputs: Option<&'a [String]>,
+) -> RecordFiles<WholeFile<'a, D>, OutputFiles<'a, D>>
+    ensures writes { result.trace.failed ≡ false }
+    ensures puts { result.outputs.failed ≡ false }
+{
+    RecordFiles {
+        trace: WholeFile::new(alloc, folder, trace),
+        outputs: OutputFiles::new(folder, outputs, trace),
+    }
 }
 
 /// The bytes that guests read, none without a file.

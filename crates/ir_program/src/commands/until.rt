@@ -4,14 +4,13 @@ ghost use Rattle.std.specs.Prelude.{◌≡◌, false};
 
 use crate::commands::bytes_of;
 use crate::commands::conditions::conditions_of;
-use crate::commands::recording::{RecordingPaths, loses_input, output_places};
+use crate::commands::recording::{RecordingPaths, loses_input, output_places, record_files};
 use crate::ends::tell_ends;
 use ir_arguments::UntilArguments;
 use ir_explore_run::{UntilPlan, explore_until};
-use ir_files::{ExitStatus, Folder, MOST_BYTES, OutputFiles, WholeFile};
+use ir_files::{ExitStatus, Folder, MOST_BYTES};
 use ir_record_run::ParsedImage;
 use ir_stream::Sink;
-use ir_trace::Trace;
 use std::sync::Wait;
 use std::thread::Threads;
 use std::time::Clock;
@@ -25,30 +24,6 @@ fn paths(arguments: &UntilArguments) -> RecordingPaths<'_> {
         list: None,
         output: arguments.output.as_ref(),
     }
-}
-
-// Looks for an outcome of a guest, whose trace and outputs go into files at these paths.
-fn found_into<'a, R, D, O, E>(
-    rt: &R,
-    folder: &'a D,
-    place: &'a str,
-    places: Option<&'a [String]>,
-    image: &ParsedImage<'_>,
-    plan: &UntilPlan<'_>,
-    out: &mut O,
-    faults: &mut E,
-) -> Result<Trace, ExitStatus>
-where
-    R: Threads + Wait + Sync + Clock + AllocGlobal,
-    D: Folder,
-    O: Sink,
-    E: Sink,
-    requires writes { O.broken out.old ≡ false }
-    requires reports { E.broken faults.old ≡ false }
-{
-    let mut trace = WholeFile::new(rt.alloc(), folder, place);
-    let mut outputs = OutputFiles::new(folder, places, place);
-    explore_until(rt, image, plan, &mut trace, &mut outputs, out, faults)
 }
 
 // Looks for an outcome of a guest, and records a run that has it into a file, and what its threads print into others where they are asked for.
@@ -90,7 +65,8 @@ where
         conditions: conditions.as_slice(),
     };
     let places = outputs.as_ref().map(|each| each.as_slice());
-    match found_into(rt, folder, paths.trace, places, &image, &plan, out, faults) {
+    let mut files = record_files(alloc, folder, arguments.trace.as_str(), places);
+    match explore_until(rt, &image, &plan, &mut files, out, faults) {
         Ok(recorded) => {
             if explains {
                 tell_ends(alloc, &recorded, faults);

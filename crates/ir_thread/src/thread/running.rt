@@ -59,7 +59,7 @@ impl Thread {
 
     /// Takes private steps, at most `limit`: how many they were, and what the thread asks then. It stops below the limit only
     /// where the next step is neither an instruction nor private.
-    #[tactic(auto, using(crate::proofs::PrivateRuns::none_taken))]
+    #[tactic(auto, using(crate::proofs::PrivateRuns::zero_private_steps))]
     #[inline(always)]
     pub fn run_to_ask(&mut self, code: &Code, limit: u64) -> (u64, Ask)
         ensures within { result.0 ≤ limit }

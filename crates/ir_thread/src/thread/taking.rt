@@ -31,7 +31,7 @@ impl Reply {
 }
 
 impl Thread {
-    ghost use Rattle.ir_thread.specs.Calls.{printed, ask_of, core_after, core_left, held_after_try, after_ask, after_reply, most_output};
+    ghost use Rattle.ir_thread.specs.Calls.{next_output, ask_of, core_after, core_left, held_after_try, after_ask, after_reply, most_output};
     ghost use Rattle.ir_thread.specs.Permitted.{Suits, Permits, IsRunning};
     ghost use Rattle.ir_thread.specs.State.{held_at};
     ghost use Rattle.ir_mach.specs.Execution.{outcome_of, past_call};
@@ -80,7 +80,7 @@ impl Thread {
     }
 
     // Out of an object: past the call, but while the thread releases what it holds its pc stays.
-    #[tactic(auto, using(crate::proofs::Highest::one_fewer))]
+    #[tactic(auto, using(crate::proofs::Highest::held_count_after_leave))]
     #[inline(always)]
     fn leave(&mut self, object: u8)
         requires steps { self.old.ended ≡ None → self.old.steps < self.old.budget }
@@ -107,8 +107,8 @@ impl Thread {
     }
 
     fn print(&mut self)
-        requires { length self.old.output + length (printed self.old) ≤ most_output }
-        ensures { self.new ≡ record self.old { output = self.old.output ++ printed self.old } }
+        requires { length self.old.output + length (next_output self.old) ≤ most_output }
+        ensures { self.new ≡ record self.old { output = self.old.output ++ next_output self.old } }
     {
         let argument = self.mach.reg(A0);
         match self.call() {
@@ -121,7 +121,7 @@ impl Thread {
     }
 
     // An end: it is a step, and changes nothing else.
-    #[tactic(auto, using(crate::proofs::Highest::count_le_length))]
+    #[tactic(auto, using(crate::proofs::Highest::held_count_at_most_length))]
     fn finish(&mut self, end: End)
         requires { self.old.ended ≡ None }
         ensures { self.new ≡ record self.old { steps = self.old.steps + 1; ended = Some end } }
@@ -176,7 +176,7 @@ impl Thread {
     }
 
     /// The same, where it is known what the thread asks.
-    #[tactic(auto, using(crate::proofs::Asked::ask_permits), unfolding(crate::specs::Calls::after_reply))]
+    #[tactic(auto, using(crate::proofs::Asked::ask_of_permitted), unfolding(crate::specs::Calls::after_reply))]
     #[inline(always)]
     pub fn take_asked(&mut self, code: &Code, asked: Ask, reply: Reply)
         requires asked { asked ≡ ask_of code.now self.old }

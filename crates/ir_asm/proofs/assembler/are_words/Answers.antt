@@ -1,7 +1,7 @@
 use Rattle.std.proofs.Common.{rules}
-use Rattle.ir_asm.proofs.Sound.{all_fit}
+use Rattle.ir_asm.proofs.Sound.{all_hold_if_each_holds}
 use Rattle.ir_image.specs.Guest.{IsWord}
 use Rattle.ir_asm.proofs.assembler.are_words.Goals as goal
 
 pub returns : goal.returns
-returns c = all_fit IsWord c.args.words.now (λ i. let h = c.type_inv.words i in search (rules, h))
+returns c = all_hold_if_each_holds IsWord c.args.words.now (λ i. let h = c.type_inv.words i in search (rules, h))

@@ -1,10 +1,10 @@
 use Rattle.std.proofs.Common.{sym, subst}
 use Rattle.ir_keep.specs.Keeping.{Keeping}
 use Rattle.ir_checkpoint.specs.Checkpoints.{AllStand}
-use Rattle.ir_checkpoint.proofs.Keepers.{one_less}
+use Rattle.ir_checkpoint.proofs.Keepers.{kept_states_stand_without_number}
 use Rattle.ir_checkpoint.proofs.checkpoints.drop_in.Goals as goal
 
 pub returns-then-is_some : goal.returns-then-is_some
 returns-then-is_some c =
     subst (λ (k : Keeping). AllStand c.args.fitted.now k.kept) (sym c.drop_kept.ensures)
-    (one_less c.args.fitted.now c.args.keeper.now.kept c.args.number c.requires)
+    (kept_states_stand_without_number c.args.fitted.now c.args.keeper.now.kept c.args.number c.requires)

@@ -3,7 +3,7 @@ use Rattle.std.proofs.lemmas.List.{get_or_read}
 use Rattle.ir_trace.specs.Recorded.{RecordedThread, absent, recorded_thread}
 use Rattle.std.specs.List.{AllByRecursion}
 use Rattle.ir_coherence.specs.Counting.{MayStand, HasRoom}
-use Rattle.ir_coherence.proofs.Breaks.{thread_room, thread_stands}
+use Rattle.ir_coherence.proofs.Breaks.{counts_have_room_for_thread, thread_events_may_stand_in_counts}
 use Rattle.ir_coherence.proofs.counting.count_entries.Goals as goal
 
 pub add_log-requires-clause-objects : goal.add_log-requires-clause-objects
@@ -18,7 +18,7 @@ add_log-requires-clause-objects c =
     let events : c.events.result.now ≡ (recorded_thread r i).events = c.events.ensures.value ∙ c.log.ensures
     ∙ ap (λ (x : RecordedThread). x.events) thread in
     subst (AllByRecursion (MayStand (vec_len c.loop-thread.counts.objects))) (sym events)
-    (thread_stands r c.threads-thread-items.ensures.within i c.loop-thread.counts (omega (arith, within, ap length threads))
+    (thread_events_may_stand_in_counts r c.threads-thread-items.ensures.within i c.loop-thread.counts (omega (arith, within, ap length threads))
     c.loop-thread.invariant)
 
 pub add_log-requires-clause-room : goal.add_log-requires-clause-room
@@ -33,5 +33,5 @@ add_log-requires-clause-room c =
     let events : c.events.result.now ≡ (recorded_thread r i).events = c.events.ensures.value ∙ c.log.ensures
     ∙ ap (λ (x : RecordedThread). x.events) thread in
     subst (λ es. HasRoom c.loop-thread.counts (length es)) (sym events)
-    (thread_room r c.threads-thread-items.ensures.within i c.loop-thread.counts (omega (arith, within, ap length threads))
+    (counts_have_room_for_thread r c.threads-thread-items.ensures.within i c.loop-thread.counts (omega (arith, within, ap length threads))
     c.loop-thread.invariant)

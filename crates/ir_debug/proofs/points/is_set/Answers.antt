@@ -1,17 +1,19 @@
-use Rattle.std.proofs.Common.{arith, sym, ◌∙◌}
-use Rattle.ir_debug.proofs.SetPoints.{found, further, found_none}
+use Rattle.std.proofs.Common.{arith, sym, ap}
+use Rattle.std.specs.Prelude.{is_some}
+use Rattle.std.proofs.lemmas.Bool.Decides.{nat_tests}
+use Rattle.ir_debug.proofs.Chosen.{found, further, found_none}
 use Rattle.ir_debug.proofs.points.is_set.Goals as goal
 
 pub loop-each-preserved : goal.loop-each-preserved
 loop-each-preserved c =
-    further c.args.points.now c.args.number c.loop-each.each-index c.each-item.result c.loop-each.invariant c.loop-each-test.true
-    c.each-item.is (λ e. c.if-number.false (c.number.ensures ∙ e))
+    further _ c.args.points.now c.loop-each.each-index c.each-item.result c.loop-each.invariant c.loop-each-test.true c.each-item.is
+    (grind (arith, nat_tests, c.if-number.false, c.number.ensures))
 
 pub returns-then-number : goal.returns-then-number
 returns-then-number c =
-    sym (found c.args.points.now c.args.number c.loop-each.each-index c.each-item.result c.loop-each.invariant c.loop-each-test.true
-    c.each-item.is (sym c.number.ensures ∙ c.if-number.true))
+    sym (ap is_some (found _ c.args.points.now c.loop-each.each-index c.each-item.result c.loop-each.invariant c.loop-each-test.true
+    c.each-item.is (grind (arith, nat_tests, c.if-number.true, c.number.ensures))))
 
 pub returns : goal.returns
-returns c = sym (found_none c.args.points.now c.args.number c.loop-each.each-index c.loop-each.invariant
-    (omega (arith, c.loop-each-test.false, c.loop-each.auto.each-index-end)))
+returns c = sym (ap is_some (found_none _ c.args.points.now c.loop-each.each-index c.loop-each.invariant
+    (omega (arith, c.loop-each-test.false, c.loop-each.auto.each-index-end))))

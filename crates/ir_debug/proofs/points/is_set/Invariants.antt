@@ -1,6 +1,6 @@
-use Rattle.std.proofs.Common.{◌≡◌, drop}
-use Rattle.ir_debug.specs.Machine.Desk.{is_set}
+use Rattle.std.proofs.Common.{◌≡◌, ◌==◌, drop}
+use Rattle.std.specs.Prelude.{find}
 use Rattle.ir_debug.proofs.points.is_set.Given as goal
 
 abbrev pub invariant-loop-each : goal.invariant-loop-each
-invariant-loop-each l = is_set (drop l.each-index l.points) l.number ≡ is_set l.points l.number
+invariant-loop-each l = find (λ p. p.number == l.number) (drop l.each-index l.points) ≡ find (λ p. p.number == l.number) l.points

@@ -5,7 +5,7 @@ use Rattle.ir_stream.specs.declared.serving.Flow.{Flow}
 use Rattle.ir_stream.specs.declared.serving.Flow.TheVariants.{Goes, Quits}
 use Rattle.ir_stream.specs.declared.serving.Served.TheVariants.{Quit, InputEnd}
 use Rattle.ir_stream.specs.Endings.{flow_after, served_after}
-use Rattle.ir_stream.proofs.CallerLemmas.{wrote_none, wrote_some, some_quits_empty, some_quits_some}
+use Rattle.ir_stream.proofs.CallerLemmas.{wrote_nothing_for_empty_end, wrote_reply_to_last_line, some_quits_of_empty_end, some_quits_of_nonempty_end}
 use Rattle.ir_debug.specs.Machine.Answers.{Replies, quits}
 use Rattle.ir_debug.proofs.serving.finish.Goals as goal
 
@@ -24,35 +24,25 @@ quit f true e is = refl
 quit f false e is = absurd cc
 
 pub returns-then-is_empty-clause-ok : goal.returns-then-is_empty-clause-ok
-returns-then-is_empty-clause-ok g c = wrote_none Replies c.args.debugger.now.desk c.args.line.now
-    (g.W.Sink.written c.args.writer.now) (none c.args.line.now c.is_empty.result c.is_empty.ensures c.if-is_empty.true)
+returns-then-is_empty-clause-ok g c = wrote_nothing_for_empty_end Replies _ _ _ (none _ _ c.is_empty.ensures c.if-is_empty.true)
 
 pub returns-then-is_empty-clause-served : goal.returns-then-is_empty-clause-served
-returns-then-is_empty-clause-served g c = ap served_after
-    (sym (some_quits_empty quits c.args.line.now
-    (none c.args.line.now c.is_empty.result c.is_empty.ensures c.if-is_empty.true)))
+returns-then-is_empty-clause-served g c =
+    ap served_after (sym (some_quits_of_empty_end quits c.args.line.now (none _ _ c.is_empty.ensures c.if-is_empty.true)))
 
 pub returns-in-Ok-Goes-clause-ok : goal.returns-in-Ok-Goes-clause-ok
-returns-in-Ok-Goes-clause-ok g c = wrote_some Replies c.args.debugger.now.desk c.respond.new.debugger.desk c.args.line.now
-    (g.W.Sink.written c.args.writer.now) (g.W.Sink.written c.respond.new.writer)
-    (some c.args.line.now c.is_empty.result c.is_empty.ensures c.if-is_empty.false) c.in-Ok-Goes.ensures.ok
+returns-in-Ok-Goes-clause-ok g c = wrote_reply_to_last_line Replies _ _ _ _ _ (some _ _ c.is_empty.ensures c.if-is_empty.false) c.in-Ok-Goes.ensures.ok
 
 pub returns-in-Ok-Goes-clause-served : goal.returns-in-Ok-Goes-clause-served
-returns-in-Ok-Goes-clause-served g c = goes c.in-Ok-Goes.field-0 (quits c.args.line.now) c.in-Ok-Goes.ensures.flow
-    c.in-Ok-Goes.field-0-is
-    ∙ ap served_after (sym (some_quits_some quits c.args.line.now
-    (some c.args.line.now c.is_empty.result c.is_empty.ensures c.if-is_empty.false)))
+returns-in-Ok-Goes-clause-served g c = goes _ _ c.in-Ok-Goes.ensures.flow c.in-Ok-Goes.field-0-is
+    ∙ ap served_after (sym (some_quits_of_nonempty_end quits c.args.line.now (some _ _ c.is_empty.ensures c.if-is_empty.false)))
 
 pub returns-in-Ok-Quits-clause-ok : goal.returns-in-Ok-Quits-clause-ok
-returns-in-Ok-Quits-clause-ok g c = wrote_some Replies c.args.debugger.now.desk c.respond.new.debugger.desk c.args.line.now
-    (g.W.Sink.written c.args.writer.now) (g.W.Sink.written c.respond.new.writer)
-    (some c.args.line.now c.is_empty.result c.is_empty.ensures c.if-is_empty.false) c.in-Ok-Quits.ensures.ok
+returns-in-Ok-Quits-clause-ok g c = wrote_reply_to_last_line Replies _ _ _ _ _ (some _ _ c.is_empty.ensures c.if-is_empty.false) c.in-Ok-Quits.ensures.ok
 
 pub returns-in-Ok-Quits-clause-served : goal.returns-in-Ok-Quits-clause-served
-returns-in-Ok-Quits-clause-served g c = quit c.in-Ok-Quits.field-0 (quits c.args.line.now) c.in-Ok-Quits.ensures.flow
-    c.in-Ok-Quits.field-0-is
-    ∙ ap served_after (sym (some_quits_some quits c.args.line.now
-    (some c.args.line.now c.is_empty.result c.is_empty.ensures c.if-is_empty.false)))
+returns-in-Ok-Quits-clause-served g c = quit _ _ c.in-Ok-Quits.ensures.flow c.in-Ok-Quits.field-0-is
+    ∙ ap served_after (sym (some_quits_of_nonempty_end quits c.args.line.now (some _ _ c.is_empty.ensures c.if-is_empty.false)))
 
 pub returns-in-Err-clause-some : goal.returns-in-Err-clause-some
-returns-in-Err-clause-some g c = some c.args.line.now c.is_empty.result c.is_empty.ensures c.if-is_empty.false
+returns-in-Err-clause-some g c = some _ _ c.is_empty.ensures c.if-is_empty.false

@@ -1,11 +1,11 @@
-use Rattle.ir_elf.proofs.TableTests.{refused, made_if, if_made}
+use Rattle.ir_elf.proofs.TableTests.{fault_is_first_failed_test, guest_made_if_elf_guest, elf_guest_if_guest_made}
 use Rattle.ir_elf.proofs.laws.refused_exactly.Goals as goal
 
 pub returns-clause-first : goal.returns-clause-first
-returns-clause-first c = refused
+returns-clause-first c = fault_is_first_failed_test
 
 pub returns-clause-read : goal.returns-clause-read
-returns-clause-read c = made_if
+returns-clause-read c = guest_made_if_elf_guest
 
 pub returns-clause-only : goal.returns-clause-only
-returns-clause-only c = if_made
+returns-clause-only c = elf_guest_if_guest_made

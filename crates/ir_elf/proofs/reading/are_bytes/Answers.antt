@@ -1,7 +1,7 @@
 use Rattle.std.proofs.Common.{rules}
 use Rattle.ir_image.specs.Guest.{IsByte}
-use Rattle.ir_elf.proofs.Limits.{all_fit}
+use Rattle.ir_elf.proofs.Limits.{all_hold_if_each_holds}
 use Rattle.ir_elf.proofs.reading.are_bytes.Goals as goal
 
 pub returns : goal.returns
-returns c = all_fit IsByte c.args.bytes.now (λ i. let h = c.type_inv.bytes i in search (rules, h))
+returns c = all_hold_if_each_holds IsByte c.args.bytes.now (λ i. let h = c.type_inv.bytes i in search (rules, h))

@@ -1,21 +1,21 @@
 use Rattle.std.proofs.lemmas.Result.{err_from_is_err_and}
 use Rattle.ir_bytes.specs.Reading.{fields_at}
-use Rattle.ir_bytes.proofs.CallerLemmas.{goes_on, stops, is_done}
+use Rattle.ir_bytes.proofs.CallerLemmas.{fields_at_after_read_field, fields_at_fails_if_field_fails, fields_at_after_all_fields}
 use Rattle.ir_elf.specs.Header.{header_at}
 use Rattle.ir_elf.proofs.segments.headers.Goals as goal
 
 pub returns-in_err-header : goal.returns-in_err-header
 returns-in_err-header c =
     let p = err_from_is_err_and c.from_residual.result c.from_residual.ensures.1 in
-    rw (p.1, p.2) (stops c.in_err-header.field-0.0 header_at c.loop.headers.items c.args.count c.loop.counter c.loop.rest.now
+    rw (p.1, p.2) (fields_at_fails_if_field_fails c.in_err-header.field-0.0 header_at c.loop.headers.items c.args.count c.loop.counter c.loop.rest.now
     (fields_at header_at c.args.count c.args.bytes.now) c.loop-test.true c.in_err-header.ensures c.loop.invariant)
 
 pub loop-preserved : goal.loop-preserved
 loop-preserved c =
-    rw c.in_ok-push.ensures.items (goes_on header_at c.loop.headers.items c.args.count c.loop.counter c.loop.rest.now
+    rw c.in_ok-push.ensures.items (fields_at_after_read_field header_at c.loop.headers.items c.args.count c.loop.counter c.loop.rest.now
     c.in_ok-header.header c.in_ok-header.after.now (fields_at header_at c.args.count c.args.bytes.now) c.loop-test.true
     c.in_ok-header.ensures c.loop.invariant)
 
 pub returns : goal.returns
-returns c = is_done header_at c.loop.headers.items c.args.count c.loop.counter c.loop.rest.now
+returns c = fields_at_after_all_fields header_at c.loop.headers.items c.args.count c.loop.counter c.loop.rest.now
     (fields_at header_at c.args.count c.args.bytes.now) c.loop-test.false c.loop.invariant

@@ -1,5 +1,5 @@
-use Rattle.ir_events.proofs.Again.{logged_there}
+use Rattle.ir_events.proofs.Again.{events_are_logged}
 use Rattle.ir_events.proofs.laws.events_logged.Goals as goal
 
 pub returns : goal.returns
-returns c = logged_there
+returns c = events_are_logged

@@ -1,6 +1,6 @@
 use Rattle.std.proofs.Common.{sym, append-nil}
 use Rattle.ir_events.specs.Texts.{first_lines}
-use Rattle.ir_events.proofs.Joined.{one_line}
+use Rattle.ir_events.proofs.Joined.{first_lines_step}
 use Rattle.ir_events.proofs.texts.push_thread.Goals as goal
 
 pub loop-number-init : goal.loop-number-init
@@ -8,6 +8,6 @@ unfolding first_lines
 loop-number-init c = sym (append-nil c.args.text.now.items)
 
 pub loop-number-preserved : goal.loop-number-preserved
-loop-number-preserved c = one_line c.args.fitted.now c.args.pcs.now c.args.symbols.now c.args.t c.loop-number.number c.logged_at-logged.result
+loop-number-preserved c = first_lines_step c.args.fitted.now c.args.pcs.now c.args.symbols.now c.args.t c.loop-number.number c.logged_at-logged.result
     c.args.text.now.items c.loop-number.text.items c.push_line.new.text.items c.logged_at-logged.ensures.there c.logged_at-logged.ensures.is
     c.loop-number.invariant c.in_ok-push_line.ensures

@@ -1,5 +1,5 @@
 use Rattle.std.proofs.Common.{slice_set, refl, arith}
-use Rattle.ir_events.proofs.Passes.{pass_on, listed_next}
+use Rattle.ir_events.proofs.Passes.{pass_after_next_thread, lists_after_thread_goes_on}
 use Rattle.ir_events.proofs.walk.pass.Goals as goal
 
 pub loop-t-preserved : goal.loop-t-preserved
@@ -11,7 +11,7 @@ loop-t-preserved c =
     let new = c.in_ok-state.state in
     let done = c.in_ok-state.ensures in
     record {
-      passed = pass_on f ends t c.args.state c.loop-t.state new i.passed done.way done.further done.rests;
-      listed = listed_next f t c.loop-t.state new c.loop-t.lists (slice_set c.loop-t.lists t c.visit_thread.new.list)
+      passed = pass_after_next_thread f ends t c.args.state c.loop-t.state new i.passed done.way done.further done.rests;
+      listed = lists_after_thread_goes_on f t c.loop-t.state new c.loop-t.lists (slice_set c.loop-t.lists t c.visit_thread.new.list)
           c.visit_thread.new.list i.listed done.further done.listed (omega arith) refl;
     }

@@ -1,41 +1,41 @@
 use Rattle.std.proofs.Common.{◌≤◌, ◌<◌, length, length-set, inl, inr, sym, ◌∙◌, subst, arith}
 use Rattle.std.proofs.lemmas.Bool.{cases_lt}
 use Rattle.ir_explore.specs.Following.{IsFollowed, IsOpen}
-use Rattle.ir_explore.proofs.Rows.{row_at, row_cases}
-use Rattle.ir_explore.proofs.Reached.{adds_both, begins_kept}
-use Rattle.ir_explore.proofs.Opens.{followed_kept}
+use Rattle.ir_explore.proofs.Rows.{row_of_rows, row_after_set_cases}
+use Rattle.ir_explore.proofs.Reached.{adds_transitive, begins_at_if_nodes_kept}
+use Rattle.ir_explore.proofs.Opens.{followed_if_notes_kept}
 use Rattle.ir_explore.proofs.level.take_level.Goals as goal
 
 pub take_turn-requires-clause-row : goal.take_turn-requires-clause-row
 take_turn-requires-clause-row g c =
     let l : c.loop-thread.thread < length c.loop-thread.opened =
     (let a = c.loop-thread-test.true in let b = c.loop-thread.auto.opened in omega (arith, a, b)) in
-    c.loop-thread.invariant.within c.loop-thread.thread _ (row_at c.loop-thread.opened c.loop-thread.thread c.index-opened-thread.result l)
+    c.loop-thread.invariant.within c.loop-thread.thread _ (row_of_rows c.loop-thread.opened c.loop-thread.thread c.index-opened-thread.result l)
 
 pub returns-in_err-take_turn-clause-adds : goal.returns-in_err-take_turn-clause-adds
 returns-in_err-take_turn-clause-adds g c =
-    adds_both c.args.level.number c.args.nodes.now.items c.loop-thread.nodes.items c.take_turn.new.nodes.items c.loop-thread.invariant.adds
+    adds_transitive c.args.level.number c.args.nodes.now.items c.loop-thread.nodes.items c.take_turn.new.nodes.items c.loop-thread.invariant.adds
     c.take_turn.ensures.adds
 
 pub loop-thread-preserved : goal.loop-thread-preserved
 loop-thread-preserved g c =
     let l : c.loop-thread.thread < length c.loop-thread.opened =
     (let a = c.loop-thread-test.true in let b = c.loop-thread.auto.opened in omega (arith, a, b)) in
-    let this = row_at c.loop-thread.opened c.loop-thread.thread c.index-opened-thread.result l in
+    let this = row_of_rows c.loop-thread.opened c.loop-thread.thread c.index-opened-thread.result l in
     let longer : length c.loop-thread.nodes.items ≤ length c.take_turn.new.nodes.items = c.take_turn.ensures.adds.longer in record {
-      followed = λ t row e. elim (row_cases c.loop-thread.opened c.loop-thread.thread t c.take_turn.new.opened row l e) [
+      followed = λ t row e. elim (row_after_set_cases c.loop-thread.opened c.loop-thread.thread t c.take_turn.new.opened row l e) [
         | inl p ↦ subst (IsFollowed (g.S.Successors.noted c.take_turn.new.graph t)) p.1
             (subst (λ u. IsFollowed (g.S.Successors.noted c.take_turn.new.graph u) c.take_turn.new.opened.items) (sym p.0)
             c.in_ok-take_turn.ensures.followed)
-        | inr n ↦ followed_kept (g.S.Successors.noted c.loop-thread.graph t) (g.S.Successors.noted c.take_turn.new.graph t) row
+        | inr n ↦ followed_if_notes_kept (g.S.Successors.noted c.loop-thread.graph t) (g.S.Successors.noted c.take_turn.new.graph t) row
             (c.take_turn.ensures.kept t) (c.loop-thread.invariant.followed t row n.1)
       ];
-      before = λ t row few e v low less. elim (row_cases c.loop-thread.opened c.loop-thread.thread t c.take_turn.new.opened row l e) [
+      before = λ t row few e v low less. elim (row_after_set_cases c.loop-thread.opened c.loop-thread.thread t c.take_turn.new.opened row l e) [
         | inl p ↦ subst (λ r. IsOpen r v) p.1 (c.take_turn.ensures.stays v
             (c.loop-thread.invariant.before c.loop-thread.thread _ (subst (λ z. z < length c.args.opened.now) p.0 few) this v low less))
         | inr n ↦ c.loop-thread.invariant.before t row few n.1 v low less
       ];
-      opens = λ t row few e v low less. elim (row_cases c.loop-thread.opened c.loop-thread.thread t c.take_turn.new.opened row l e) [
+      opens = λ t row few e v low less. elim (row_after_set_cases c.loop-thread.opened c.loop-thread.thread t c.take_turn.new.opened row l e) [
         | inl p ↦ subst (λ r. IsOpen r v) p.1 (elim (cases_lt v c.args.level.first) [
           | inl old ↦ c.take_turn.ensures.stays v
               (c.loop-thread.invariant.before c.loop-thread.thread _
@@ -44,7 +44,7 @@ loop-thread-preserved g c =
         ])
         | inr n ↦ c.loop-thread.invariant.opens t row (let a = n.0 in omega (arith, a, few)) n.1 v low less
       ];
-      within = λ t row e. elim (row_cases c.loop-thread.opened c.loop-thread.thread t c.take_turn.new.opened row l e) [
+      within = λ t row e. elim (row_after_set_cases c.loop-thread.opened c.loop-thread.thread t c.take_turn.new.opened row l e) [
         | inl p ↦ subst (λ r. length r ≤ length c.take_turn.new.nodes.items) p.1
             (let a = c.in_ok-take_turn.ensures.row in omega (arith, a))
         | inr n ↦ let a = c.loop-thread.invariant.within t row n.1 in omega (arith, a, longer)
@@ -53,11 +53,11 @@ loop-thread-preserved g c =
       nodes = c.in_ok-take_turn.ensures.nodes;
       until = let a = c.loop-thread.invariant.until in omega (arith, a, longer);
       level = λ v low less.
-          begins_kept c.loop-thread.nodes.items c.take_turn.new.nodes.items c.take_turn.ensures.adds.stays c.args.level.number v
+          begins_at_if_nodes_kept c.loop-thread.nodes.items c.take_turn.new.nodes.items c.take_turn.ensures.adds.stays c.args.level.number v
           (c.loop-thread.invariant.level v low less);
       reached = c.take_turn.ensures.reached;
       adds =
-          adds_both c.args.level.number c.args.nodes.now.items c.loop-thread.nodes.items c.take_turn.new.nodes.items
+          adds_transitive c.args.level.number c.args.nodes.now.items c.loop-thread.nodes.items c.take_turn.new.nodes.items
           c.loop-thread.invariant.adds c.take_turn.ensures.adds;
       kept = λ t v to e. c.take_turn.ensures.kept t v to (c.loop-thread.invariant.kept t v to e);
       sound = c.take_turn.ensures.sound;

@@ -2,24 +2,24 @@ use Rattle.std.proofs.Common.{◌≡◌, suc, ◌+◌, ◌-◌, length, sym, ap,
 use Rattle.std.proofs.lemmas.List.{with_items_is}
 use Rattle.ir_explore.specs.Levels.{rows, AreGoneOver}
 use Rattle.ir_explore.specs.Origins.{BeginsAt, first_origin}
-use Rattle.ir_explore.proofs.Reached.{slice_less, rising_more}
-use Rattle.ir_explore.proofs.Gone.{LevelEnds, asked_all, gone_kept, gone_more, levels_more, next_level}
-use Rattle.ir_explore.proofs.Rows.{rows_length}
+use Rattle.ir_explore.proofs.Reached.{place_of_element_is_below_length, rising_after_level_added}
+use Rattle.ir_explore.proofs.Gone.{LevelEnds, asked_all, gone_over_if_notes_kept, gone_over_after_level, node_levels_after_adds, added_nodes_begin_next_level}
+use Rattle.ir_explore.proofs.Rows.{length_of_rows}
 use Rattle.ir_explore.proofs.search.run_search.Goals as goal
 
 pub returns-in-Err-clause-gone : goal.returns-in-Err-clause-gone
 returns-in-Err-clause-gone g c =
-    gone_kept (g.S.Successors.noted c.levels.graph) (g.S.Successors.noted c.take_level.new.graph) c.args.threads c.levels.nodes.items
+    gone_over_if_notes_kept (g.S.Successors.noted c.levels.graph) (g.S.Successors.noted c.take_level.new.graph) c.args.threads c.levels.nodes.items
     c.take_level.new.nodes.items c.levels.level.number c.take_level.ensures.kept c.take_level.ensures.adds.stays c.levels.invariant.gone
 
 pub returns-in-Err-clause-rising : goal.returns-in-Err-clause-rising
 returns-in-Err-clause-rising g c =
-    rising_more c.levels.level.number c.levels.nodes.items c.take_level.new.nodes.items c.levels.invariant.rising
+    rising_after_level_added c.levels.level.number c.levels.nodes.items c.take_level.new.nodes.items c.levels.invariant.rising
     (λ w n is. let a = c.levels.invariant.ends.levels w n is in omega (arith, a)) c.take_level.ensures.adds
 
 pub returns-in-Err-clause-levels : goal.returns-in-Err-clause-levels
 returns-in-Err-clause-levels g c =
-    levels_more c.levels.level.number c.levels.nodes.items c.take_level.new.nodes.items
+    node_levels_after_adds c.levels.level.number c.levels.nodes.items c.take_level.new.nodes.items
     (λ w n is. let a = c.levels.invariant.ends.levels w n is in omega (arith, a)) c.take_level.ensures.adds
 
 pub returns-then-level-most-clause-levels : goal.returns-then-level-most-clause-levels
@@ -45,25 +45,25 @@ levels-preserved g c =
     let less_one : number ≡ number + 1 - 1 = omega arith in
     let was : LevelEnds noted c.args.threads old (rows v.items) c.levels.level.first (number - 1) = c.levels.invariant.ends in
     let ends : LevelEnds more c.args.threads new (rows c.take_level.new.opened) (length old) number = record {
-      threads_are = rows_length c.take_level.new.opened ∙ three;
+      threads_are = length_of_rows c.take_level.new.opened ∙ three;
       followed = c.in_default.ensures.followed;
       opens = λ t row few is w low less.
           c.in_default.ensures.opens t row (let b = c.levels.invariant.threads in omega (arith, few, value, b)) is w low
           (omega (arith, less, until));
       within = c.in_default.ensures.rows;
-      levels = levels_more number old new (λ w n is. let a = was.levels w n is in omega (arith, a)) c.take_level.ensures.adds;
+      levels = node_levels_after_adds number old new (λ w n is. let a = was.levels w n is in omega (arith, a)) c.take_level.ensures.adds;
     } in
     let gone : AreGoneOver more c.args.threads new (suc number) =
-    gone_more noted more c.args.threads old new (rows c.take_level.new.opened) number c.take_level.ensures.kept c.take_level.ensures.adds
-    c.levels.invariant.gone (slice_less old 0 first_origin c.levels.invariant.first) ends in
+    gone_over_after_level noted more c.args.threads old new (rows c.take_level.new.opened) number c.take_level.ensures.kept c.take_level.ensures.adds
+    c.levels.invariant.gone (place_of_element_is_below_length old 0 first_origin c.levels.invariant.first) ends in
     record {
       ends = subst (λ z. LevelEnds more c.args.threads new (rows z) c.levels.level.until (number + 1 - 1)) (sym same)
           (subst (λ z. LevelEnds more c.args.threads new (rows c.take_level.new.opened) z (number + 1 - 1)) (sym until)
           (subst (LevelEnds more c.args.threads new (rows c.take_level.new.opened) (length old)) less_one ends));
       gone = subst (AreGoneOver more c.args.threads new) suc_is gone;
       level = λ w low less. subst (λ z. BeginsAt new z w) suc_is
-          (next_level number old new c.take_level.ensures.adds w (omega (arith, low, until)) (let a = c.len.ensures in omega (arith, less, a)));
-      rising = rising_more number old new c.levels.invariant.rising (λ w n is. let a = was.levels w n is in omega (arith, a))
+          (added_nodes_begin_next_level number old new c.take_level.ensures.adds w (omega (arith, low, until)) (let a = c.len.ensures in omega (arith, less, a)));
+      rising = rising_after_level_added number old new c.levels.invariant.rising (λ w n is. let a = was.levels w n is in omega (arith, a))
           c.take_level.ensures.adds;
       reached = c.take_level.ensures.reached;
       threads = ap length same ∙ three;

@@ -1,12 +1,12 @@
 use Rattle.std.proofs.Common.{◌≡◌, inl, inr, ◌∙◌, subst, arith}
 use Rattle.std.proofs.lemmas.Bool.{cases_lt}
 use Rattle.ir_explore.specs.Following.{IsOpen}
-use Rattle.ir_explore.proofs.Reached.{adds_both, begins_kept}
+use Rattle.ir_explore.proofs.Reached.{adds_transitive, begins_at_if_nodes_kept}
 use Rattle.ir_explore.proofs.turn.take_turn.Goals as goal
 
 pub returns-in_err-go_alone-clause-adds : goal.returns-in_err-go_alone-clause-adds
 returns-in_err-go_alone-clause-adds g c =
-    adds_both c.args.level.number c.args.nodes.now.items c.loop-from.nodes.items c.go_alone.new.nodes.items c.loop-from.invariant.adds
+    adds_transitive c.args.level.number c.args.nodes.now.items c.loop-from.nodes.items c.go_alone.new.nodes.items c.loop-from.invariant.adds
     c.go_alone.ensures.adds
 
 pub loop-from-preserved : goal.loop-from-preserved
@@ -23,11 +23,11 @@ loop-from-preserved g c = record {
   nodes = c.in_ok-go_alone.ensures.nodes;
   until = let a = c.loop-from.invariant.until in let b = c.go_alone.ensures.adds.longer in omega (arith, a, b);
   level = λ v low less.
-      begins_kept c.loop-from.nodes.items c.go_alone.new.nodes.items c.go_alone.ensures.adds.stays c.args.level.number v
+      begins_at_if_nodes_kept c.loop-from.nodes.items c.go_alone.new.nodes.items c.go_alone.ensures.adds.stays c.args.level.number v
       (c.loop-from.invariant.level v low less);
   reached = c.go_alone.ensures.reached;
   adds =
-      adds_both c.args.level.number c.args.nodes.now.items c.loop-from.nodes.items c.go_alone.new.nodes.items c.loop-from.invariant.adds
+      adds_transitive c.args.level.number c.args.nodes.now.items c.loop-from.nodes.items c.go_alone.new.nodes.items c.loop-from.invariant.adds
       c.go_alone.ensures.adds;
   kept = λ t v to e. c.go_alone.ensures.kept t v to (c.loop-from.invariant.kept t v to e);
   sound = c.go_alone.ensures.sound;

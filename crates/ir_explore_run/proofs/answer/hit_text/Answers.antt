@@ -9,7 +9,7 @@ use Rattle.ir_record.specs.Recording.{order_of_turns}
 use Rattle.ir_record.specs.declared.turns.Turns.{Turns}
 use Rattle.ir_explore_run.specs.Lines.{found_line}
 use Rattle.ir_explore_run.specs.Texts.{Objects, objects_of, AreTexts, known_of}
-use Rattle.ir_explore_run.proofs.Hits.{some_order, hit_of}
+use Rattle.ir_explore_run.proofs.Hits.{shown_order_is_not_empty, is_hit_if_shown_outcome_fulfils}
 use Rattle.ir_explore_run.proofs.answer.hit_text.Goals as goal
 
 pub outcomes_text-requires-clause-objects : goal.outcomes_text-requires-clause-objects
@@ -38,7 +38,7 @@ returns c = λ cs none (x, f, at, does).
     let same : y ≡ x = same_Some y x (sym here ∙ at.0) in
     let next : place + 1 ≡ suc place = omega arith in
     let turns = c.as_slice.ensures.value ∙ ap (λ (z : Shown). z.turns.items) same in
-    let some = some_order guest f x.level (order_of_turns x.turns.items) c.entries.ensures.within.some_thread (c.requires.explored.shown place x f at) in
+    let some = shown_order_is_not_empty guest f x.level (order_of_turns x.turns.items) c.entries.ensures.within.some_thread (c.requires.explored.shown place x f at) in
     let spells : Spells list (order_of_turns x.turns.items) =
     subst (λ (ts : List Turns). order_of_turns ts ≢ [] → Spells list (order_of_turns ts)) turns c.in_ok-list.ensures.spelled some in
     record {
@@ -49,7 +49,7 @@ returns c = λ cs none (x, f, at, does).
       state = f;
       at = at;
       first = none;
-      hit = hit_of guest cs flats outcomes c.args.explored.now.levels place x f list c.requires.explored at none does spells;
+      hit = is_hit_if_shown_outcome_fulfils guest cs flats outcomes c.args.explored.now.levels place x f list c.requires.explored at none does spells;
       lines = lines;
       texts = subst (λ z. AreTexts z flats outcomes (suc place) lines) first
           (subst (λ z. AreTexts (record { words = c.object_words.result; first = c.objects.result.now }) flats z (suc place) lines) value

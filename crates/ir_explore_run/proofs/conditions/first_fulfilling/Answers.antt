@@ -3,7 +3,7 @@ use Rattle.std.specs.Prelude.{slice_get}
 use Rattle.std.proofs.lemmas.Option.{slice_get-get_or}
 use Rattle.ir_chaos.specs.Conditions.{as_condition}
 use Rattle.ir_explore_run.specs.Conditions.{NoneBefore}
-use Rattle.ir_explore_run.proofs.Fulfilled.{none_more, holds_of}
+use Rattle.ir_explore_run.proofs.Fulfilled.{none_before_step, reached_state_fulfils_declared_conditions}
 use Rattle.ir_explore_run.proofs.conditions.first_fulfilling.Goals as goal
 
 pub state_of-requires : goal.state_of-requires
@@ -24,7 +24,7 @@ returns-then-fulfils c = λ guest reached.
         x,
         f,
         (at, c.in_ok-state.ensures.value),
-        sym (holds_of guest c.args.conditions.now f (reached x.node f c.in_ok-state.ensures.value) c.in_ok-state.ensures.flat)
+        sym (reached_state_fulfils_declared_conditions guest c.args.conditions.now f (reached x.node f c.in_ok-state.ensures.value) c.in_ok-state.ensures.flat)
             ∙ sym c.fulfils.ensures ∙ c.if-fulfils.true,
       ),
     )
@@ -39,8 +39,8 @@ loop-i-preserved c = λ guest reached.
     slice_get-get_or c.args.outcomes.now c.loop-i.i x less ∙ ap Some (sym c.index-outcomes-i.is) in
     let next : suc c.loop-i.i ≡ c.loop-i.i + 1 = omega arith in
     subst (NoneBefore guest cs c.args.flats.now.items c.args.outcomes.now) next
-    (none_more guest cs c.args.flats.now.items c.args.outcomes.now c.loop-i.i x f (c.loop-i.invariant guest reached) (at, c.in_ok-state.ensures.value)
-    (sym (holds_of guest c.args.conditions.now f (reached x.node f c.in_ok-state.ensures.value) c.in_ok-state.ensures.flat)
+    (none_before_step guest cs c.args.flats.now.items c.args.outcomes.now c.loop-i.i x f (c.loop-i.invariant guest reached) (at, c.in_ok-state.ensures.value)
+    (sym (reached_state_fulfils_declared_conditions guest c.args.conditions.now f (reached x.node f c.in_ok-state.ensures.value) c.in_ok-state.ensures.flat)
     ∙ sym c.fulfils.ensures ∙ c.if-fulfils.false))
 
 pub returns : goal.returns

@@ -2,7 +2,7 @@ use Rattle.std.proofs.Common.{◌≡◌, ◌+◌, ◌<◌, ◌++◌, suc, Some, 
 use Rattle.std.specs.Prelude.{slice_get}
 use Rattle.std.proofs.lemmas.Option.{slice_get-get_or}
 use Rattle.ir_explore_run.specs.Texts.{IsOutcomeText, AreTexts}
-use Rattle.ir_explore_run.proofs.Joined.{texts_more}
+use Rattle.ir_explore_run.proofs.Joined.{texts_after_outcome}
 use Rattle.ir_explore_run.proofs.texts.outcomes_text.Goals as goal
 
 pub state_of-requires : goal.state_of-requires
@@ -26,5 +26,5 @@ loop-i-preserved c =
     let next : c.loop-i.i + 1 ≡ suc c.loop-i.i = omega arith in
     subst (AreTexts (record { words = c.args.started.words; first = c.args.started.first.now }) c.args.flats.now.items c.args.outcomes.now (c.loop-i.i + 1))
     (sym (c.in_ok-extend_from_slice.ensures.items ∙ ap (λ z. c.loop-i.text.items ++ z) c.as_slice.ensures.value))
-    (texts_more (record { words = c.args.started.words; first = c.args.started.first.now }) c.args.flats.now.items c.args.outcomes.now c.loop-i.i c.loop-i.text.items c.in_ok-own.own.items x f
+    (texts_after_outcome (record { words = c.args.started.words; first = c.args.started.first.now }) c.args.flats.now.items c.args.outcomes.now c.loop-i.i c.loop-i.text.items c.in_ok-own.own.items x f
     c.loop-i.invariant (at, c.in_ok-state.ensures.value) (subst (λ z. IsOutcomeText (record { words = c.args.started.words; first = c.args.started.first.now }) f z x c.in_ok-own.own.items) next c.in_ok-own.ensures))

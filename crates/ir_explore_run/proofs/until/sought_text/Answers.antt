@@ -1,10 +1,10 @@
 use Rattle.std.proofs.Common.{map, inl, subst}
 use Rattle.ir_chaos.specs.Conditions.{as_condition}
-use Rattle.ir_explore.proofs.CallerLemmas.{slice_less}
+use Rattle.ir_explore.proofs.CallerLemmas.{place_of_element_is_below_length}
 use Rattle.ir_explore_run.specs.Conditions.{IsFirst}
 use Rattle.ir_explore_run.specs.Texts.{known_of}
 use Rattle.ir_explore_run.specs.Until.{IsSought}
-use Rattle.ir_explore_run.proofs.Sought.{vain_of}
+use Rattle.ir_explore_run.proofs.Sought.{vain_text_if_none_found}
 use Rattle.ir_explore_run.proofs.until.sought_text.Goals as goal
 
 pub hit_text-requires-clause-place : goal.hit_text-requires-clause-place
@@ -12,7 +12,7 @@ hit_text-requires-clause-place c =
     let outcomes = c.args.sought.now.explored.outcomes.items in
     let first = subst (IsFirst c.args.image.now (map as_condition c.args.plan.now.conditions.now) c.args.sought.now.explored.states.graph.flats.items outcomes)
     c.in-Some.is c.requires.sought.first in
-    slice_less outcomes c.in-Some.place first.1.0 first.1.2.0
+    place_of_element_is_below_length outcomes c.in-Some.place first.1.0 first.1.2.0
 
 pub returns-in_ok-text-in-Some : goal.returns-in_ok-text-in-Some
 returns-in_ok-text-in-Some c =
@@ -28,5 +28,5 @@ pub returns-in_ok-text-in-None : goal.returns-in_ok-text-in-None
 returns-in_ok-text-in-None c =
     let cs = map as_condition c.args.plan.now.conditions.now in
     let known = known_of c.args.sought.now.explored in
-    inl (vain_of c.args.image.now c.args.plan.now.explore cs known c.in_ok-text-in-None.field-0-1 c.in_ok-text-in-None.text.items
+    inl (vain_text_if_none_found c.args.image.now c.args.plan.now.explore cs known c.in_ok-text-in-None.field-0-1 c.in_ok-text-in-None.text.items
     (subst (IsSought c.args.image.now c.args.plan.now.explore cs known) c.in-None.is c.requires.sought) c.in_ok-text-in-None.ensures)

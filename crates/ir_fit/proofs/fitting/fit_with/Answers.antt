@@ -7,7 +7,7 @@ use Rattle.ir_fit.specs.Fit.{HasRun, IsRefused}
 use Rattle.ir_fit.specs.Growing.{grown}
 use Rattle.ir_fit.specs.Follower.{AreStanding}
 use Rattle.ir_runs.specs.declared.thread_verdict.ThreadVerdict.{ThreadVerdict}
-use Rattle.ir_fit.proofs.Furthest.{breaks_refuse, threads_refuse, threads_accept}
+use Rattle.ir_fit.proofs.Furthest.{broken_coherence_refuses_trace, differing_thread_refuses_trace, same_threads_give_run}
 use Rattle.ir_fit.proofs.fitting.fit_with.Goals as goal
 
 pub returns-in_err-coherent-clause-refused : goal.returns-in_err-coherent-clause-refused
@@ -15,7 +15,7 @@ returns-in_err-coherent-clause-refused g c =
     let p = err_from_is_err_and c.from_residual.result c.from_residual.ensures.1 in
     subst (λ z. IfErr z (IsRefused c.args.image c.args.trace)) (sym p.1)
     (subst (IsRefused c.args.image c.args.trace) (sym p.2)
-    (breaks_refuse c.args.image c.args.trace c.in_default.ensures.same c.in_err-coherent.field-0.0 c.in_err-coherent.ensures.breaks))
+    (broken_coherence_refuses_trace c.args.image c.args.trace c.in_default.ensures.same c.in_err-coherent.field-0.0 c.in_err-coherent.ensures.breaks))
 
 pub returns-then-not-all_same-clause-refused : goal.returns-then-not-all_same-clause-refused
 returns-then-not-all_same-clause-refused g c =
@@ -29,7 +29,7 @@ returns-then-not-all_same-clause-refused g c =
     subst (λ z. AreStanding z c.in_ok-follower.follower.flat c.in_ok-follower.follower.places.items vs) c.in_ok-follower.ensures.trace
     c.in_ok-verdicts.ensures.stand in
     let w = c.all_same.ensures.another c.if-not-all_same.true in
-    threads_refuse c.args.image r is c.in_default.ensures.same co c.in_ok-follower.follower.flat c.in_ok-follower.follower.places.items
+    differing_thread_refuses_trace c.args.image r is c.in_default.ensures.same co c.in_ok-follower.follower.flat c.in_ok-follower.follower.places.items
     c.in_ok-follower.ensures.followed vs c.in_ok-verdicts.ensures.each stand w.0 w.1
     (subst (λ xs. slice_get xs w.0 ≡ Some w.1) c.deref.ensures.value w.2) w.3
 
@@ -45,7 +45,7 @@ new-requires g c =
           sym (c.into_parts-trace.ensures.trace ∙ c.in_ok-follower.ensures.trace) i;
       placed = sym (c.in_ok-places.ensures ∙ ap (map grown) c.into_parts-trace.ensures.places) i;
     })
-    (threads_accept c.args.image c.args.trace c.in_default.ensures.same c.in_ok-follower.follower.flat
+    (same_threads_give_run c.args.image c.args.trace c.in_default.ensures.same c.in_ok-follower.follower.flat
     c.in_ok-follower.follower.places.items c.in_ok-follower.ensures.followed c.in_ok-follower.ensures.sized.placed.each vs
     c.in_ok-verdicts.ensures.each stand
     (λ t v at. c.all_same.ensures.same c.if-not-all_same.false t v (subst (λ xs. slice_get xs t ≡ Some v) (sym c.deref.ensures.value) at)))

@@ -3,7 +3,7 @@ use Rattle.std.proofs.lemmas.List.{get_or_read}
 use Rattle.ir_trace.specs.Recorded.{Recorded, RecordedThread, absent, recorded_thread}
 use Rattle.ir_fit.specs.Places.{Placed, none_placed, placed_at}
 use Rattle.ir_fit.specs.Visits.{Visit, AddsAll, none_listed, of_threads, entered_by, all_entered}
-use Rattle.ir_fit.proofs.ByVersion.{adds_thread, is_listing}
+use Rattle.ir_fit.proofs.ByVersion.{adds_all_with_thread, listing_if_added_and_ordered}
 use Rattle.ir_fit.proofs.visiting.entered.Goals as goal
 
 pub loop-t-preserved : goal.loop-t-preserved
@@ -21,7 +21,7 @@ loop-t-preserved c =
     let events : c.events.result.now ≡ (recorded_thread r t).events = c.events.ensures.value ∙ c.log.ensures
     ∙ ap (λ (x : RecordedThread). x.events) emitted in
     let entries : c.entries.result.now ≡ (placed_at ps t).entries = c.entries.ensures ∙ ap (λ (p : Placed). p.entries) placed in
-    adds_thread none_listed c.loop-t.visits c.add_entries.new.visits t
+    adds_all_with_thread none_listed c.loop-t.visits c.add_entries.new.visits t
     (λ u. entered_by u (recorded_thread r u).events (placed_at ps u).entries) c.loop-t.invariant
     (subst (λ es. AddsAll c.loop-t.visits c.add_entries.new.visits (entered_by t es (placed_at ps t).entries)) events
     (subst (λ ks. AddsAll c.loop-t.visits c.add_entries.new.visits (entered_by t c.events.result.now ks)) entries
@@ -33,5 +33,5 @@ returns c =
     let ps : List Placed = c.args.places.now in
     let f : ℕ → List Visit = λ t. entered_by t (recorded_thread r t).events (placed_at ps t).entries in
     let all : c.loop-t.t ≡ length ps = omega (arith, c.loop-t-test.false, c.loop-t.auto.t-end) in
-    is_listing c.loop-t.visits c.sort.new.self (all_entered r ps)
+    listing_if_added_and_ordered c.loop-t.visits c.sort.new.self (all_entered r ps)
     (subst (λ n. AddsAll none_listed c.loop-t.visits (of_threads n f)) all c.loop-t.invariant) c.in_ok-sort.ensures

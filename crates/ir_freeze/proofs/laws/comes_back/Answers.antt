@@ -1,5 +1,5 @@
-use Rattle.ir_freeze.proofs.Back.{comes_back}
+use Rattle.ir_freeze.proofs.Back.{thawed_of_frozen_thread}
 use Rattle.ir_freeze.proofs.laws.comes_back.Goals as goal
 
 pub returns : goal.returns
-returns c = comes_back
+returns c = thawed_of_frozen_thread

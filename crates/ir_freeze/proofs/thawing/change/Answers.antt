@@ -1,10 +1,10 @@
-use Rattle.ir_freeze.proofs.Back.{change_more, no_more}
+use Rattle.ir_freeze.proofs.Back.{changed_step, changed_is_whole_at_end}
 use Rattle.ir_freeze.proofs.thawing.change.Goals as goal
 
 pub loop-k-preserved : goal.loop-k-preserved
 loop-k-preserved c =
-    change_more c.loop-k.memory.items c.args.changes.now c.loop-k.k c.from_le_bytes.result _ c.loop-k-test.true c.from_le_bytes.ensures
+    changed_step c.loop-k.memory.items c.args.changes.now c.loop-k.k c.from_le_bytes.result _ c.loop-k-test.true c.from_le_bytes.ensures
     c.loop-k.invariant.size c.loop-k.invariant.same
 
 pub returns-clause-value : goal.returns-clause-value
-returns-clause-value c = no_more c.loop-k.memory.items c.args.changes.now c.loop-k.k _ c.loop-k-test.false c.loop-k.invariant.same
+returns-clause-value c = changed_is_whole_at_end c.loop-k.memory.items c.args.changes.now c.loop-k.k _ c.loop-k-test.false c.loop-k.invariant.same

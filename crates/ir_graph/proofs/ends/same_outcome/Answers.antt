@@ -2,7 +2,7 @@ use Rattle.std.proofs.Common.{◌≡◌, ℕ, sym, subst}
 use Rattle.std.specs.List.{slice_index_or}
 use Rattle.ir_flat.specs.Flat.{empty, idle}
 use Rattle.ir_graph.specs.Outcomes.{EndAlike}
-use Rattle.ir_graph.proofs.OneOutcome.{ends_of, words_of}
+use Rattle.ir_graph.proofs.OneOutcome.{ends_alike_of_same_outcome, words_equal_of_same_outcome}
 use Rattle.ir_graph.proofs.ends.same_outcome.Goals as goal
 
 pub returns-then-same_ends-clause-other : goal.returns-then-same_ends-clause-other
@@ -12,7 +12,7 @@ returns-then-same_ends-clause-other c = λ is same.
     (sym c.objects.ensures.value)
     (subst (λ ys. (o : ℕ) → (slice_index_or c.args.first.now.objects o empty).words ≡ (slice_index_or ys o empty).words)
     (sym c.objects-then-same_ends.ensures.value)
-    (words_of c.args.first.now c.args.second.now c.requires c.threads.ensures.within c.threads-2.ensures.within same)))
+    (words_equal_of_same_outcome c.args.first.now c.args.second.now c.requires c.threads.ensures.within c.threads-2.ensures.within same)))
 
 pub returns-else-same_ends-clause-other : goal.returns-else-same_ends-clause-other
 returns-else-same_ends-clause-other c = λ is same.
@@ -20,4 +20,4 @@ returns-else-same_ends-clause-other c = λ is same.
     (subst (λ xs. (t : ℕ) → EndAlike (slice_index_or xs t idle) (slice_index_or c.threads-2.result.now t idle))
     (sym c.threads.ensures.value)
     (subst (λ ys. (t : ℕ) → EndAlike (slice_index_or c.args.first.now.threads t idle) (slice_index_or ys t idle))
-    (sym c.threads-2.ensures.value) (ends_of c.args.first.now c.args.second.now same)))
+    (sym c.threads-2.ensures.value) (ends_alike_of_same_outcome c.args.first.now c.args.second.now same)))

@@ -1,12 +1,12 @@
 use Rattle.std.proofs.Common.{◌≡◌, ℕ, ap, subst, arith, length}
 use Rattle.std.specs.List.{slice_index_or}
 use Rattle.ir_flat.specs.Flat.{empty}
-use Rattle.ir_graph.proofs.Alike.{look_alike}
+use Rattle.ir_graph.proofs.Alike.{look_alike_by_threads_and_words}
 use Rattle.ir_graph.proofs.likeness.same_state.Goals as goal
 
 pub returns : goal.returns
 returns c = λ _.
-    look_alike c.args.first.now c.args.second.now c.requires
+    look_alike_by_threads_and_words c.args.first.now c.args.second.now c.requires
     (λ u l. c.loop-t.invariant u
     (let a = c.loop-t-test.false in let b = c.loop-t.auto.t-end in let d = ap length c.threads-t-end.ensures.value in omega (arith, l, a, b, d)))
     (subst (λ xs. (o : ℕ) → (slice_index_or xs o empty).words ≡ (slice_index_or c.args.second.now.objects o empty).words)

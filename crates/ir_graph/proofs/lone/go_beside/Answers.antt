@@ -1,7 +1,7 @@
 use Rattle.std.proofs.Common.{◌≡◌, ◌+◌, ◌-◌, ◌≤◌, ℕ, true, refl, sym, ap, ◌∙◌, subst, arith}
 use Rattle.ir_graph.specs.Lone.{GoesLone, AreBeside}
 use Rattle.ir_graph.specs.Plain.{Rests}
-use Rattle.ir_graph.proofs.LoneSteps.{lone_ran, lone_next, lone_more, beside_goes, may_take}
+use Rattle.ir_graph.proofs.LoneSteps.{goes_lone_by_private_steps, goes_lone_by_next_ask, goes_lone_append, are_beside_after_lone_run, may_take_fair_ask}
 use Rattle.ir_graph.proofs.lone.go_beside.Goals as goal
 
 pub beside-init : goal.beside-init
@@ -14,9 +14,9 @@ take_beside-requires-clause-may c =
     let x = c.beside.thread in
     let y = c.run_to_ask-steps.new.self in
     let q = c.run_to_ask-steps.result.1 in
-    may_take code o y c.beside.object q
-    (beside_goes code o c.run_to_ask-steps.result.0 x y c.beside.object c.beside.object c.beside.invariant.beside
-    (lone_ran code o c.run_to_ask-steps.result.0 x y c.beside.object c.run_to_ask-steps.ensures.steps))
+    may_take_fair_ask code o y c.beside.object q
+    (are_beside_after_lone_run code o c.run_to_ask-steps.result.0 x y c.beside.object c.beside.object c.beside.invariant.beside
+    (goes_lone_by_private_steps code o c.run_to_ask-steps.result.0 x y c.beside.object c.run_to_ask-steps.ensures.steps))
     (sym c.run_to_ask-steps.ensures.asked) (c.is_about.ensures.fair c.if-not-is_about.false) (c.is_about.ensures.about c.if-not-is_about.false)
 
 pub beside-preserved : goal.beside-preserved
@@ -31,12 +31,12 @@ beside-preserved c =
     let q = c.run_to_ask-steps.result.1 in
     let was = c.beside.invariant.goes in
     let more : GoesLone code o (n + 1) x c.beside.object z e =
-    lone_next code o n x y z c.beside.object e q c.run_to_ask-steps.ensures.steps c.run_to_ask-steps.ensures.asked
+    goes_lone_by_next_ask code o n x y z c.beside.object e q c.run_to_ask-steps.ensures.steps c.run_to_ask-steps.ensures.asked
     (c.is_about.ensures.fair c.if-not-is_about.false) (c.is_about.ensures.about c.if-not-is_about.false) c.take_beside.ensures.thread c.take_beside.ensures.object in
     record {
       within = let a = c.beside.invariant.within in let b = c.run_to_ask-steps.ensures.within in omega (arith, a, b);
-      beside = beside_goes code o (n + 1) x z c.beside.object e c.beside.invariant.beside more;
-      goes = (was.0 + (n + 1), lone_more code o was.0 (n + 1) c.args.thread.now x z c.args.object.now c.beside.object e was.1 more);
+      beside = are_beside_after_lone_run code o (n + 1) x z c.beside.object e c.beside.invariant.beside more;
+      goes = (was.0 + (n + 1), goes_lone_append code o was.0 (n + 1) c.args.thread.now x z c.args.object.now c.beside.object e was.1 more);
     }
 
 pub returns-then-is_rest-clause-goes : goal.returns-then-is_rest-clause-goes
@@ -48,8 +48,8 @@ returns-then-is_rest-clause-goes c = λ _.
     let y = c.run_to_ask-steps.new.self in
     let was = c.beside.invariant.goes in (
       was.0 + n,
-      lone_more code o was.0 n c.args.thread.now x y c.args.object.now c.beside.object c.beside.object was.1
-          (lone_ran code o n x y c.beside.object c.run_to_ask-steps.ensures.steps),
+      goes_lone_append code o was.0 n c.args.thread.now x y c.args.object.now c.beside.object c.beside.object was.1
+          (goes_lone_by_private_steps code o n x y c.beside.object c.run_to_ask-steps.ensures.steps),
     )
 
 pub returns-then-is_rest-clause-rests : goal.returns-then-is_rest-clause-rests

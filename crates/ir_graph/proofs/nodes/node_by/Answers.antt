@@ -6,7 +6,7 @@ use Rattle.ir_graph.specs.Nodes.{LookAlike, AllRest, LeadsFrom}
 use Rattle.ir_graph.specs.Plain.{IsLike}
 use Rattle.ir_graph.specs.Reached.{IsReached}
 use Rattle.ir_graph.proofs.Both.{both_flat, both_like, both_rests, both_reached, both_leads, if_ok_weaker}
-use Rattle.ir_graph.proofs.Grown.{flat_at}
+use Rattle.ir_graph.proofs.Grown.{element_below_length_exists}
 use Rattle.ir_graph.proofs.nodes.node_by.Goals as goal
 
 pub with_both-requires-clause-own : goal.with_both-requires-clause-own
@@ -14,16 +14,16 @@ with_both-requires-clause-own c = λ f at. (c.requires.thread f at, (c.requires.
 
 pub with_both-requires-clause-thread : goal.with_both-requires-clause-thread
 with_both-requires-clause-thread c =
-    let f = flat_at c.args.flats.now.items c.args.node c.requires.node in (c.requires.turn f.0 f.1).is.to
+    let f = element_below_length_exists c.args.flats.now.items c.args.node c.requires.node in (c.requires.turn f.0 f.1).is.to
 
 pub with_both-requires-clause-spot : goal.with_both-requires-clause-spot
 with_both-requires-clause-spot c =
-    let f = flat_at c.args.flats.now.items c.args.node c.requires.node in (c.requires.turn f.0 f.1).is.after
+    let f = element_below_length_exists c.args.flats.now.items c.args.node c.requires.node in (c.requires.turn f.0 f.1).is.after
 
 pub node_of-requires-clause-is : goal.node_of-requires-clause-is
 node_of-requires-clause-is c =
     let flats = c.args.flats.now in
-    let f = flat_at flats.items c.args.node c.requires.node in
+    let f = element_below_length_exists flats.items c.args.node c.requires.node in
     record {
       within = c.in_ok-new.ensures.within;
       flat = subst IsFlat (sym (c.in_ok-new.ensures.flat f.0 f.1))
@@ -34,7 +34,7 @@ node_of-requires-clause-is c =
 pub node_of-requires-clause-like : goal.node_of-requires-clause-like
 node_of-requires-clause-like c = λ u k there.
     let flats = c.args.flats.now in
-    let f = flat_at flats.items c.args.node c.requires.node in
+    let f = element_below_length_exists flats.items c.args.node c.requires.node in
     subst (λ z. IsLike z k) (sym (c.in_ok-new.ensures.flat f.0 f.1))
     (both_like flats.items flats.shared f.0 c.args.thread c.args.node c.args.turn c.requires.nodes f.1 (c.requires.thread f.0 f.1)
     (c.thread_number.ensures.flat f.0 f.1) (c.requires.turn f.0 f.1) u k there)
@@ -42,7 +42,7 @@ node_of-requires-clause-like c = λ u k there.
 pub node_of-requires-clause-rest : goal.node_of-requires-clause-rest
 node_of-requires-clause-rest c =
     let flats = c.args.flats.now in
-    let f = flat_at flats.items c.args.node c.requires.node in
+    let f = element_below_length_exists flats.items c.args.node c.requires.node in
     subst AllRest (sym (c.in_ok-new.ensures.flat f.0 f.1))
     (both_rests flats.items flats.shared f.0 c.args.thread c.args.node c.args.turn c.requires.nodes f.1 (c.requires.thread f.0 f.1)
     (c.thread_number.ensures.flat f.0 f.1) (c.requires.turn f.0 f.1))
@@ -50,7 +50,7 @@ node_of-requires-clause-rest c =
 pub returns-clause-reached : goal.returns-clause-reached
 returns-clause-reached c = λ guest all.
     let flats = c.args.flats.now in
-    let f = flat_at flats.items c.args.node c.requires.node in
+    let f = element_below_length_exists flats.items c.args.node c.requires.node in
     c.node_of.ensures.reached guest all
     (subst (IsReached guest) (sym (c.in_ok-new.ensures.flat f.0 f.1))
     (both_reached flats.items flats.shared f.0 c.args.thread c.args.node c.args.turn c.requires.nodes f.1 (c.requires.thread f.0 f.1)
@@ -59,7 +59,7 @@ returns-clause-reached c = λ guest all.
 pub returns-clause-leads : goal.returns-clause-leads
 returns-clause-leads c =
     let flats = c.args.flats.now in
-    let f = flat_at flats.items c.args.node c.requires.node in
+    let f = element_below_length_exists flats.items c.args.node c.requires.node in
     let h = flat_in flats.shared c.in_ok-new.new in
     let new = c.node_of.new.flats.items in
     if_ok_weaker (λ w. (k : Flat) → slice_get new w ≡ Some k → LookAlike h k) (λ w. LeadsFrom new c.args.thread c.args.node (Some w)) c.node_of.result

@@ -3,11 +3,11 @@ use Rattle.std.specs.Prelude.{slice_get}
 use Rattle.ir_graph.specs.Nodes.{LookAlike, AllRest, Stay}
 use Rattle.ir_graph.specs.Plain.{IsLike}
 use Rattle.ir_graph.specs.Reached.{IsReached, AllReached}
-use Rattle.ir_graph.proofs.Reached.{step_reached}
-use Rattle.ir_graph.proofs.Stops.{step_stop, stop_may}
-use Rattle.ir_graph.proofs.Found.{leads_nowhere, reached_like, reached_rests, reached_leads}
-use Rattle.ir_graph.proofs.Forms.{forms_like}
-use Rattle.ir_graph.proofs.Plain.{like_more, step_like, plain_like}
+use Rattle.ir_graph.proofs.Reached.{step_of_reached_is_reached}
+use Rattle.ir_graph.proofs.Stops.{is_stop_after_entry, may_stop_by_thread_stop}
+use Rattle.ir_graph.proofs.Found.{leads_nowhere_if_no_step, reached_like, reached_rests, reached_leads}
+use Rattle.ir_graph.proofs.Forms.{have_form_of_like_moment}
+use Rattle.ir_graph.proofs.Plain.{like_transitive, like_after_step, like_after_plain_steps}
 use Rattle.ir_graph.proofs.nodes.node_by_steps.Goals as goal
 
 pub by_numbers-requires : goal.by_numbers-requires
@@ -15,15 +15,15 @@ by_numbers-requires c =
     let f = c.in_ok-flat.flat in
     let g = c.step.new.self in
     let h = c.run_to_rest.new.flat in
-    forms_like c.args.flats.now.form f h
-    (like_more f g h (step_like f g c.args.thread 0 c.in_default.ensures.taken c.in_default.ensures.code c.in_default.ensures.threads
-    c.in_default.ensures.objects) (plain_like g h c.run_to_rest.ensures.goes)) c.in_ok-flat.ensures.form
+    have_form_of_like_moment c.args.flats.now.form f h
+    (like_transitive f g h (like_after_step f g c.args.thread 0 c.in_default.ensures.taken c.in_default.ensures.code c.in_default.ensures.threads
+    c.in_default.ensures.objects) (like_after_plain_steps g h c.run_to_rest.ensures.goes)) c.in_ok-flat.ensures.form
 
 pub returns-in-Err-clause-leads : goal.returns-in-Err-clause-leads
 returns-in-Err-clause-leads c =
     let f = c.in_ok-flat.flat in
     let at : slice_get c.args.flats.now.items c.args.node ≡ Some f = c.in_ok-flat.ensures.found in
-    leads_nowhere c.args.flats.now.items f c.args.thread c.args.node c.requires.nodes at (c.requires.thread f at) c.in-Err.ensures.refused
+    leads_nowhere_if_no_step c.args.flats.now.items f c.args.thread c.args.node c.requires.nodes at (c.requires.thread f at) c.in-Err.ensures.refused
 
 pub node_of-requires-clause-like : goal.node_of-requires-clause-like
 node_of-requires-clause-like c = λ v k is.
@@ -59,7 +59,7 @@ returns-in-Ok-clause-reached c = λ guest all.
     let at : slice_get c.args.flats.now.items c.args.node ≡ Some f = c.in_ok-flat.ensures.found in
     c.node_of.ensures.reached guest (subst (AllReached guest) (sym c.by_numbers.ensures.items) all)
     (subst (IsReached guest) (sym c.in_ok-new.ensures.flat)
-    (step_reached guest f c.step.new.self c.run_to_rest.new.flat c.args.thread (all c.args.node f at)
+    (step_of_reached_is_reached guest f c.step.new.self c.run_to_rest.new.flat c.args.thread (all c.args.node f at)
     (c.requires.nodes.rest c.args.node f at c.args.thread (c.requires.thread f at)) c.in_default.ensures.admitted c.in_default.ensures.taken
     c.in_default.ensures.code c.in_default.ensures.threads c.in_default.ensures.objects c.run_to_rest.ensures.goes))
 
@@ -69,7 +69,7 @@ returns-clause-reached c = λ guest all.
     let at : slice_get c.args.flats.now.items c.args.node ≡ Some f = c.in_ok-flat.ensures.found in
     c.node_of.ensures.reached guest (subst (AllReached guest) (sym c.by_numbers.ensures.items) all)
     (subst (IsReached guest) (sym c.in_ok-new.ensures.flat)
-    (step_reached guest f c.step.new.self c.run_to_rest.new.flat c.args.thread (all c.args.node f at)
+    (step_of_reached_is_reached guest f c.step.new.self c.run_to_rest.new.flat c.args.thread (all c.args.node f at)
     (c.requires.nodes.rest c.args.node f at c.args.thread (c.requires.thread f at)) c.in_default.ensures.admitted c.in_default.ensures.taken
     c.in_default.ensures.code c.in_default.ensures.threads c.in_default.ensures.objects c.run_to_rest.ensures.goes))
 
@@ -77,8 +77,8 @@ pub returns-in-Err-run_to_rest-clause-stopped : goal.returns-in-Err-run_to_rest-
 returns-in-Err-run_to_rest-clause-stopped c = λ guest all.
     let f = c.in_ok-flat.flat in
     let at : slice_get c.args.flats.now.items c.args.node ≡ Some f = c.in_ok-flat.ensures.found in
-    stop_may guest c.args.flats.now.items c.args.bounds.nodes c.args.bounds.private c.in-Err-run_to_rest.stop
-    (step_stop guest c.args.bounds.private c.in-Err-run_to_rest.stop f c.step.new.self c.run_to_rest.new.flat c.args.thread
+    may_stop_by_thread_stop guest c.args.flats.now.items c.args.bounds.nodes c.args.bounds.private c.in-Err-run_to_rest.stop
+    (is_stop_after_entry guest c.args.bounds.private c.in-Err-run_to_rest.stop f c.step.new.self c.run_to_rest.new.flat c.args.thread
     (all c.args.node f at) (c.requires.nodes.rest c.args.node f at c.args.thread (c.requires.thread f at)) c.in_default.ensures.admitted
     c.in_default.ensures.taken c.in_default.ensures.code c.in_default.ensures.threads c.in_default.ensures.objects
     c.run_to_rest.ensures.goes c.in-Err-run_to_rest.ensures.stopped)

@@ -1,35 +1,35 @@
 use Rattle.std.proofs.Common.{◌≡◌, Some, sym, subst, [], ◌∷◌}
 use Rattle.std.specs.Prelude.{slice_get}
-use Rattle.ir_explore.proofs.CallerLemmas.{pushed_stays}
+use Rattle.ir_explore.proofs.CallerLemmas.{slice_get_kept_by_append}
 use Rattle.ir_store.specs.Nodes.{flat_in}
 use Rattle.ir_graph.specs.Nodes.{AreNodes}
 use Rattle.ir_graph.specs.Reached.{AllReached}
-use Rattle.ir_graph.proofs.Both.{same_alike}
-use Rattle.ir_graph.proofs.Found.{nodes_more, new_alike}
-use Rattle.ir_graph.proofs.Reached.{more_reached}
+use Rattle.ir_graph.proofs.Both.{look_alike_if_same_looks}
+use Rattle.ir_graph.proofs.Found.{are_nodes_after_node_added, new_node_looks_alike}
+use Rattle.ir_graph.proofs.Reached.{all_reached_after_state_added}
 use Rattle.ir_graph.proofs.nodes.node_of.Goals as goal
 
 pub returns-in-Some-clause-alike : goal.returns-in-Some-clause-alike
 returns-in-Some-clause-alike c = λ f is.
-    same_alike (flat_in c.args.flats.now.shared c.args.new) f (c.requires.like c.in-Some.v f is) (c.in-Some.ensures.alike f is)
+    look_alike_if_same_looks (flat_in c.args.flats.now.shared c.args.new) f (c.requires.like c.in-Some.v f is) (c.in-Some.ensures.alike f is)
 
 pub returns-clause-nodes : goal.returns-clause-nodes
 returns-clause-nodes c =
     let h = flat_in c.args.flats.now.shared c.args.new in
-    subst AreNodes (sym c.in_ok-push.ensures.ok) (nodes_more c.args.flats.now.items h c.requires.nodes c.requires.like c.requires.rest)
+    subst AreNodes (sym c.in_ok-push.ensures.ok) (are_nodes_after_node_added c.args.flats.now.items h c.requires.nodes c.requires.like c.requires.rest)
 
 pub returns-clause-stay : goal.returns-clause-stay
 returns-clause-stay c = λ v f is.
     let h = flat_in c.args.flats.now.shared c.args.new in
-    subst (λ z. slice_get z v ≡ Some f) (sym c.in_ok-push.ensures.ok) (pushed_stays c.args.flats.now.items (h ∷ []) v f is)
+    subst (λ z. slice_get z v ≡ Some f) (sym c.in_ok-push.ensures.ok) (slice_get_kept_by_append c.args.flats.now.items (h ∷ []) v f is)
 
 pub returns-clause-alike : goal.returns-clause-alike
 returns-clause-alike c = λ f is.
     let h = flat_in c.args.flats.now.shared c.args.new in
-    new_alike c.args.flats.now.items h f c.len-node.result c.len-node.ensures
+    new_node_looks_alike c.args.flats.now.items h f c.len-node.result c.len-node.ensures
     (subst (λ z. slice_get z c.len-node.result ≡ Some f) c.in_ok-push.ensures.ok is)
 
 pub returns-clause-reached : goal.returns-clause-reached
 returns-clause-reached c = λ guest all is.
     let h = flat_in c.args.flats.now.shared c.args.new in
-    subst (AllReached guest) (sym c.in_ok-push.ensures.ok) (more_reached guest c.args.flats.now.items h all is)
+    subst (AllReached guest) (sym c.in_ok-push.ensures.ok) (all_reached_after_state_added guest c.args.flats.now.items h all is)

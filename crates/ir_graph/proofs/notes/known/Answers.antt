@@ -1,7 +1,7 @@
 use Rattle.std.proofs.Common.{◌<◌, ◌≤◌, None, length, sym, ap, ◌∙◌, arith}
 use Rattle.std.specs.List.{slice_index_or}
-use Rattle.ir_graph.proofs.Alike.{past}
-use Rattle.ir_graph.proofs.Entries.{noted_at, within_at}
+use Rattle.ir_graph.proofs.Alike.{index_past_length_is_default}
+use Rattle.ir_graph.proofs.Entries.{noted_in_is_row_entry, index_within_ignores_default}
 use Rattle.ir_graph.proofs.notes.known.Goals as goal
 
 pub returns-then-node-len : goal.returns-then-node-len
@@ -9,14 +9,14 @@ returns-then-node-len c =
     let row = c.index-rows-thread.result in
     let l : c.args.node < length row.items =
     (let a = c.if-node-len.true in let b = c.len.ensures in let d = row.ok.0 in omega (arith, a, b, d)) in
-    c.index.ensures ∙ within_at row.items c.args.node c.index.result.now None l
+    c.index.ensures ∙ index_within_ignores_default row.items c.args.node c.index.result.now None l
     ∙ ap (λ z. slice_index_or z.items c.args.node None) c.index-rows-thread.is
-    ∙ sym (noted_at c.args.rows.now c.args.thread c.args.node row c.requires)
+    ∙ sym (noted_in_is_row_entry c.args.rows.now c.args.thread c.args.node row c.requires)
 
 pub returns-else-node-len : goal.returns-else-node-len
 returns-else-node-len c =
     let row = c.index-rows-thread.result in
     let l : length row.items ≤ c.args.node =
     (let a = c.if-node-len.false in let b = c.len.ensures in let d = row.ok.0 in omega (arith, a, b, d)) in
-    sym (noted_at c.args.rows.now c.args.thread c.args.node row c.requires
-    ∙ sym (ap (λ z. slice_index_or z.items c.args.node None) c.index-rows-thread.is) ∙ past row.items c.args.node None l)
+    sym (noted_in_is_row_entry c.args.rows.now c.args.thread c.args.node row c.requires
+    ∙ sym (ap (λ z. slice_index_or z.items c.args.node None) c.index-rows-thread.is) ∙ index_past_length_is_default row.items c.args.node None l)

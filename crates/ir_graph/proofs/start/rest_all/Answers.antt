@@ -3,19 +3,19 @@ use Rattle.std.proofs.lemmas.Bool.{cases_eq}
 use Rattle.ir_thread.specs.Calls.{ask_of}
 use Rattle.ir_flat.specs.Flat.{thread_of}
 use Rattle.ir_graph.specs.Plain.{Rests}
-use Rattle.ir_graph.proofs.Plain.{plain_more}
-use Rattle.ir_graph.proofs.Stops.{start_stop}
+use Rattle.ir_graph.proofs.Plain.{goes_plain_transitive}
+use Rattle.ir_graph.proofs.Stops.{is_stop_after_start}
 use Rattle.ir_graph.proofs.start.rest_all.Goals as goal
 
 pub returns-in-Err-clause-goes : goal.returns-in-Err-clause-goes
 returns-in-Err-clause-goes c =
-    plain_more c.args.flat.now c.loop-thread.flat c.run_to_rest.new.flat c.loop-thread.invariant.goes c.run_to_rest.ensures.goes
+    goes_plain_transitive c.args.flat.now c.loop-thread.flat c.run_to_rest.new.flat c.loop-thread.invariant.goes c.run_to_rest.ensures.goes
 
 pub loop-thread-preserved : goal.loop-thread-preserved
 loop-thread-preserved c =
     let f = c.loop-thread.flat in
     let g = c.run_to_rest.new.flat in record {
-      goes = plain_more c.args.flat.now f g c.loop-thread.invariant.goes c.run_to_rest.ensures.goes;
+      goes = goes_plain_transitive c.args.flat.now f g c.loop-thread.invariant.goes c.run_to_rest.ensures.goes;
       rest = λ t less. elim (cases_eq t c.loop-thread.thread) [
         | inl same ↦ subst (λ z. Rests (ask_of g.code (thread_of g z))) (sym same) c.in_default.ensures.rests
         | inr other ↦
@@ -28,5 +28,5 @@ loop-thread-preserved c =
 
 pub returns-in-Err-clause-stopped : goal.returns-in-Err-clause-stopped
 returns-in-Err-clause-stopped c = λ guest is.
-    start_stop guest c.args.limit c.loop-thread.thread c.in-Err.stop c.args.flat.now c.loop-thread.flat c.run_to_rest.new.flat is
+    is_stop_after_start guest c.args.limit c.loop-thread.thread c.in-Err.stop c.args.flat.now c.loop-thread.flat c.run_to_rest.new.flat is
     c.loop-thread.invariant.goes c.run_to_rest.ensures.goes c.in-Err.ensures.stopped

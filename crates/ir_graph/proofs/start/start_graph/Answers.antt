@@ -1,16 +1,16 @@
 use Rattle.std.proofs.Common.{◌≡◌, ℕ, ◌<◌, None, [], ◌∷◌, ◌++◌, length, sym, ap, ◌∙◌, subst}
-use Rattle.ir_flat.proofs.CallerLemmas.{threads_length}
+use Rattle.ir_flat.proofs.CallerLemmas.{length_of_start_threads}
 use Rattle.ir_thread.specs.declared.profile.Profile.TheVariants.{One}
 use Rattle.ir_graph.specs.Graph.{IsGraph}
 use Rattle.ir_graph.specs.Notes.{noted_in}
 use Rattle.ir_graph.specs.Plain.{GoesPlain}
-use Rattle.ir_graph.proofs.Grown.{first_graph}
-use Rattle.ir_graph.proofs.Reached.{start_reached}
+use Rattle.ir_graph.proofs.Grown.{start_is_graph}
+use Rattle.ir_graph.proofs.Reached.{plain_start_is_reached}
 use Rattle.ir_flat.specs.Flat.{start_flat}
 use Rattle.ir_store.specs.Nodes.{flat_in}
 use Rattle.ir_store.specs.Table.{HaveForm}
-use Rattle.ir_graph.proofs.Forms.{forms_like, start_forms}
-use Rattle.ir_graph.proofs.Plain.{plain_like}
+use Rattle.ir_graph.proofs.Forms.{have_form_of_like_moment, start_threads_have_form}
+use Rattle.ir_graph.proofs.Plain.{like_after_plain_steps}
 use Rattle.ir_graph.proofs.start.start_graph.Goals as goal
 
 pub by_numbers-requires : goal.by_numbers-requires
@@ -19,13 +19,13 @@ by_numbers-requires c =
     let h = c.rest_all.new.flat in
     let goes = subst (λ z. GoesPlain z h) c.in_ok-flat.ensures c.in_ok-rest_all.ensures.goes in
     subst (λ z. HaveForm z h.threads) (sym (c.in_ok-flats.ensures.form ∙ c.form.ensures.value))
-    (forms_like guest.form (start_flat guest 1000000000000 One) h (plain_like (start_flat guest 1000000000000 One) h goes)
-    (start_forms guest 1000000000000 One 0 (length guest.entries)))
+    (have_form_of_like_moment guest.form (start_flat guest 1000000000000 One) h (like_after_plain_steps (start_flat guest 1000000000000 One) h goes)
+    (start_threads_have_form guest 1000000000000 One 0 (length guest.entries)))
 
 pub returns-clause-threads : goal.returns-clause-threads
 returns-clause-threads c =
     c.in_ok-rows.ensures.threads ∙ ap length c.threads.ensures.value ∙ c.in_ok-rest_all.ensures.goes.threads
-    ∙ ap (λ z. length z.threads) c.in_ok-flat.ensures ∙ threads_length c.args.image.now 1000000000000 One 0 (length c.args.image.now.entries)
+    ∙ ap (λ z. length z.threads) c.in_ok-flat.ensures ∙ length_of_start_threads c.args.image.now 1000000000000 One 0 (length c.args.image.now.entries)
 
 pub returns-clause-sound : goal.returns-clause-sound
 returns-clause-sound c =
@@ -40,6 +40,6 @@ returns-clause-sound c =
     c.in_ok-push.ensures.ok ∙ ap (λ z. z ++ flat_in c.by_numbers.new.self.shared c.in_ok-first.first ∷ []) (c.by_numbers.ensures.items ∙ c.in_ok-flats.ensures.items)
     ∙ ap (λ z. z ∷ []) c.in_ok-first.ensures.flat in
     subst (λ z. IsGraph guest z (noted_in rows) (length rows)) (sym flats)
-    (first_graph guest 1000000000000 h (noted_in rows) (length rows) goes
-    (start_reached guest h goes) c.in_ok-rest_all.ensures.rest (sym many)
-    (many ∙ goes.threads ∙ threads_length guest 1000000000000 One 0 (length guest.entries)) free)
+    (start_is_graph guest 1000000000000 h (noted_in rows) (length rows) goes
+    (plain_start_is_reached guest h goes) c.in_ok-rest_all.ensures.rest (sym many)
+    (many ∙ goes.threads ∙ length_of_start_threads guest 1000000000000 One 0 (length guest.entries)) free)

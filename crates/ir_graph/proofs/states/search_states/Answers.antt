@@ -6,13 +6,13 @@ use Rattle.ir_graph.specs.Notes.{noted_in}
 use Rattle.ir_graph.specs.Hangs.{AllStand}
 use Rattle.ir_graph.specs.Outcomes.{AllListed, AllShown}
 use Rattle.ir_graph.specs.Searched.{AreSearched}
-use Rattle.ir_explore.proofs.CallerLemmas.{gone_less}
-use Rattle.ir_graph.proofs.Grown.{noted_past}
+use Rattle.ir_explore.proofs.CallerLemmas.{covered_below_gone_over_level}
+use Rattle.ir_graph.proofs.Grown.{noted_in_past_threads}
 use Rattle.ir_graph.proofs.Hangs.{are_marked, all_stand}
-use Rattle.ir_graph.proofs.Listed.{all_listed, within_listed, all_shown}
+use Rattle.ir_graph.proofs.Listed.{all_listed_if_all_asked, within_listed_if_covered, all_shown_by_graph}
 use Rattle.ir_graph.specs.Stops.{MayStop}
 use Rattle.ir_graph.specs.declared.nodes.Bounds.{Bounds}
-use Rattle.ir_graph.proofs.Stops.{memory_may}
+use Rattle.ir_graph.proofs.Stops.{may_stop_by_memory}
 use Rattle.ir_graph.proofs.states.search_states.Goals as goal
 
 pub run_search-requires-clause-sound : goal.run_search-requires-clause-sound
@@ -32,7 +32,7 @@ returns-clause-all c = λ done.
     let image = ap (λ z. z.0) c.run_search.ensures.origin ∙ c.in_ok-graph.ensures.image in
     let threads = ap length c.entries-threads.ensures.value ∙ ap (λ z. length z.entries) (sym image) ∙ sym sound.number in
     subst (λ z. AllListed z flats) image
-    (all_listed graph.image.now flats (noted_in rows) (length rows) sound (λ t v l. noted_past rows t v l) c.in_ok-found.found.nodes.items
+    (all_listed_if_all_asked graph.image.now flats (noted_in rows) (length rows) sound (λ t v l. noted_in_past_threads rows t v l) c.in_ok-found.found.nodes.items
     c.in_ok-found.ensures.reached (c.in_ok-found.ensures.all done)
     (subst (λ z. AreAsked (noted_in rows) z (length flats)) threads (c.in_ok-found.ensures.finished done)))
 
@@ -52,10 +52,10 @@ returns-clause-searched c =
       rising = c.in_ok-found.ensures.rising;
       most = c.in_ok-found.ensures.levels;
       within = λ most less.
-          within_listed graph.image.now flats (noted_in rows) (length rows) sound (λ t v l. noted_past rows t v l) nodes
+          within_listed_if_covered graph.image.now flats (noted_in rows) (length rows) sound (λ t v l. noted_in_past_threads rows t v l) nodes
           c.in_ok-found.ensures.first c.in_ok-found.ensures.few most
           (subst (λ z. Covered (noted_in rows) z nodes most) threads
-          (gone_less (noted_in rows) _ nodes c.in_ok-found.found.levels most less c.in_ok-found.ensures.gone));
+          (covered_below_gone_over_level (noted_in rows) _ nodes c.in_ok-found.found.levels most less c.in_ok-found.ensures.gone));
     })
 
 pub returns-clause-shown : goal.returns-clause-shown
@@ -64,7 +64,7 @@ returns-clause-shown c =
     let rows = graph.rows.items in
     let image = ap (λ z. z.0) c.run_search.ensures.origin ∙ c.in_ok-graph.ensures.image in
     subst (λ z. AllShown z graph.flats.items) image
-    (all_shown graph.image.now graph.flats.items (noted_in rows) (length rows) c.run_search.ensures.sound.0)
+    (all_shown_by_graph graph.image.now graph.flats.items (noted_in rows) (length rows) c.run_search.ensures.sound.0)
 
 pub returns-clause-marked : goal.returns-clause-marked
 returns-clause-marked c = λ done.
@@ -74,7 +74,7 @@ returns-clause-marked c = λ done.
     let sound = c.run_search.ensures.sound.0 in
     let image = ap (λ z. z.0) c.run_search.ensures.origin ∙ c.in_ok-graph.ensures.image in
     let threads = ap length c.entries-threads.ensures.value ∙ ap (λ z. length z.entries) (sym image) ∙ sym sound.number in
-    are_marked graph.image.now flats (noted_in rows) (length rows) sound (λ t v l. noted_past rows t v l) c.in_ok-found.found.nodes.items
+    are_marked graph.image.now flats (noted_in rows) (length rows) sound (λ t v l. noted_in_past_threads rows t v l) c.in_ok-found.found.nodes.items
     c.in_ok-found.ensures.reached (c.in_ok-found.ensures.all done)
     (subst (λ z. AreAsked (noted_in rows) z (length flats)) threads (c.in_ok-found.ensures.finished done)) c.in_ok-marks.marks.items
     (c.in_ok-marks.ensures.ways done)
@@ -88,7 +88,7 @@ returns-clause-stand c = λ done.
     let image = ap (λ z. z.0) c.run_search.ensures.origin ∙ c.in_ok-graph.ensures.image in
     let threads = ap length c.entries-threads.ensures.value ∙ ap (λ z. length z.entries) (sym image) ∙ sym sound.number in
     subst (λ z. AllStand z flats c.in_ok-found.found.nodes.items) image
-    (all_stand graph.image.now flats (noted_in rows) (length rows) sound (λ t v l. noted_past rows t v l) c.in_ok-found.found.nodes.items
+    (all_stand graph.image.now flats (noted_in rows) (length rows) sound (λ t v l. noted_in_past_threads rows t v l) c.in_ok-found.found.nodes.items
     c.in_ok-found.ensures.reached (c.in_ok-found.ensures.all done)
     (subst (λ z. AreAsked (noted_in rows) z (length flats)) threads (c.in_ok-found.ensures.finished done)) c.in_ok-found.found.levels
     (subst (λ z. AreGoneOver (noted_in rows) z c.in_ok-found.found.nodes.items c.in_ok-found.found.levels) threads c.in_ok-found.ensures.gone)
@@ -109,7 +109,7 @@ returns-clause-stopped c = λ stop is.
     let private = ap (λ z. z.1) c.run_search.ensures.origin ∙ ap (λ (b : Bounds). b.private) bounds in
     let nodes = c.run_search.ensures.limit ∙ ap (λ (b : Bounds). b.nodes) bounds in
     elim (c.in_ok-found.ensures.stopped stop is) [
-      | inl e ↦ memory_may c.args.image.now flats c.args.bounds.nodes c.args.bounds.private stop e
+      | inl e ↦ may_stop_by_memory c.args.image.now flats c.args.bounds.nodes c.args.bounds.private stop e
       | inr may ↦
           subst (λ z. MayStop z flats c.args.bounds.nodes c.args.bounds.private stop) image
           (subst (λ z. MayStop graph.image.now flats z c.args.bounds.private stop) nodes

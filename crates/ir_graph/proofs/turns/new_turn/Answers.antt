@@ -1,13 +1,13 @@
 use Rattle.std.proofs.Common.{◌≡◌, Some, sym, ◌∙◌, subst}
 use Rattle.std.specs.Prelude.{slice_get}
-use Rattle.ir_graph.proofs.Both.{turn_found}
-use Rattle.ir_graph.proofs.Grown.{flat_at}
-use Rattle.ir_graph.proofs.LoneSteps.{turn_form}
+use Rattle.ir_graph.proofs.Both.{found_turn_is_turn_of_thread}
+use Rattle.ir_graph.proofs.Grown.{element_below_length_exists}
+use Rattle.ir_graph.proofs.LoneSteps.{form_kept_by_turn}
 use Rattle.ir_graph.proofs.turns.new_turn.Goals as goal
 
 pub turn_beside-requires : goal.turn_beside-requires
 turn_beside-requires c =
-    let f = flat_at c.args.flats.now.items c.args.node c.requires.node in
+    let f = element_below_length_exists c.args.flats.now.items c.args.node c.requires.node in
     let own = c.in-Some.ensures.object f.0 f.1 in
     record {
       flat = f.0;
@@ -22,7 +22,7 @@ turn_beside-requires c =
 
 pub add_thread-requires : goal.add_thread-requires
 add_thread-requires c =
-    sym (turn_form c.args.code.now c.in-Enter.number c.in_ok-own.own c.turn_beside.new.thread c.object-beside.result c.turn_beside.new.object
+    sym (form_kept_by_turn c.args.code.now c.in-Enter.number c.in_ok-own.own c.turn_beside.new.thread c.object-beside.result c.turn_beside.new.object
     (c.turn_beside.ensures c.if-not-turn_beside.false))
     ∙ c.in_ok-own.ensures.form
 
@@ -42,7 +42,7 @@ pub returns-clause-turn : goal.returns-clause-turn
 returns-clause-turn c = λ f at.
     let here = subst (λ z. slice_get z c.args.node ≡ Some f) (c.add_object.ensures.items ∙ c.add_thread.ensures.items) at in
     let own = c.in-Some.ensures.object f here in
-    turn_found c.args.code.now c.args.flats.now.shared c.add_thread.new.self.shared c.add_object.new.self.shared c.add_thread.ensures.grows
+    found_turn_is_turn_of_thread c.args.code.now c.args.flats.now.shared c.add_thread.new.self.shared c.add_object.new.self.shared c.add_thread.ensures.grows
     c.add_object.ensures.grows f c.args.thread
     (record { from = c.thread_number-from.result; object = c.in-Enter.number; spot = c.in-Some.spot; to = c.in_ok-to.to; after = c.in_ok-after.after })
     c.in_ok-own.own c.turn_beside.new.thread c.object-beside.result c.turn_beside.new.object c.thread_number-from.ensures.within

@@ -2,13 +2,13 @@ use Rattle.std.proofs.Common.{◌≡◌, ◌<◌, ◌+◌, ap, ◌∙◌, sym, s
 use Rattle.std.proofs.lemmas.Result.{on_ok_weaker}
 use Rattle.ir_weave.specs.Standing.{flat_in, positions}
 use Rattle.ir_hits.specs.Passing.{HasPassed}
-use Rattle.ir_hits.proofs.Passing.{passed_more, passed_one}
-use Rattle.ir_hits.proofs.Standing.{last_consistent, steps_here}
+use Rattle.ir_hits.proofs.Passing.{has_passed_by_stretch, has_passed_by_step}
+use Rattle.ir_hits.proofs.Standing.{last_positions_are_consistent, steps_of_thread_are_position}
 use Rattle.ir_hits.proofs.stepping.take_steps.Goals as goal
 
 pub advance_unmarked-there-requires-clause-target : goal.advance_unmarked-there-requires-clause-target
 advance_unmarked-there-requires-clause-target g c =
-    (c.requires.search.ends.size, last_consistent c.args.search.fitted.now c.args.search.last.now c.requires.search.ends)
+    (c.requires.search.ends.size, last_positions_are_consistent c.args.search.fitted.now c.args.search.last.now c.requires.search.ends)
 
 pub returns-then-taken-gt0-clause-passed : goal.returns-then-taken-gt0-clause-passed
 returns-then-taken-gt0-clause-passed g c =
@@ -16,11 +16,11 @@ returns-then-taken-gt0-clause-passed g c =
     let t = c.args.search.t in
     let new = flat_in f c.advance_unmarked-there.result.0 in
     let at : c.steps.result ≡ positions (flat_in f c.args.state.now) t =
-    steps_here f c.args.state.now t c.steps.result c.thread_of.result.now c.thread_of.ensures c.steps.ensures.value in
+    steps_of_thread_are_position f c.args.state.now t c.steps.result c.thread_of.result.now c.thread_of.ensures c.steps.ensures.value in
     let here : c.steps.result ≡ positions (flat_in f c.replace-here.result) t =
     at ∙ ap (λ z. positions (flat_in f z) t) (sym c.replace-here.ensures.value) in
     subst (λ z. HasPassed c.args.search.code.now t c.args.search.to (flat_in f z) new) c.replace-here.ensures.value
-    (passed_more c.args.search.code.now t c.args.search.to c.steps.result c.advance_unmarked-there.result.1 (flat_in f c.replace-here.result) new here
+    (has_passed_by_stretch c.args.search.code.now t c.args.search.to c.steps.result c.advance_unmarked-there.result.1 (flat_in f c.replace-here.result) new here
     (omega (arith, at, c.requires.below)) c.if-taken-gt0.true
     (let w = c.advance_unmarked-there.ensures.within in let m = c.min-most.ensures in omega (arith, w, m))
     c.advance_unmarked-there.ensures.gone c.advance_unmarked-there.ensures.unmarked)
@@ -33,7 +33,7 @@ returns-clause-passed g c =
     on_ok_weaker c.take_step.result
     (λ (one : positions (flat_in f c.take_step.new.state) t ≡ positions (flat_in f middle) t + 1).
     subst (λ z. HasPassed c.args.search.code.now t c.args.search.to (flat_in f z) (flat_in f c.take_step.new.state)) c.replace-here.ensures.value
-    (passed_one c.args.search.code.now t c.args.search.to c.advance_unmarked-there.result.1 (flat_in f c.replace-here.result) (flat_in f middle)
+    (has_passed_by_step c.args.search.code.now t c.args.search.to c.advance_unmarked-there.result.1 (flat_in f c.replace-here.result) (flat_in f middle)
     (flat_in f c.take_step.new.state)
     (subst (λ z. positions (flat_in f z) t < c.args.search.to) (sym c.replace-here.ensures.value) c.requires.below)
     c.if-taken-gt0.false c.advance_unmarked-there.ensures.gone one)) c.take_step.ensures.taken

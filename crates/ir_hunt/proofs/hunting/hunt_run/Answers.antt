@@ -4,29 +4,29 @@ use Rattle.std.specs.Io.KnownBytes.{Appends}
 use Rattle.std.proofs.KnownBytes.{Appends-trans}
 use Rattle.std.proofs.lemmas.Result.{err_from_is_err_and}
 use Rattle.ir_stream.specs.Answers.{AppendsPrefix}
-use Rattle.ir_files.proofs.CallerLemmas.{if_err}
+use Rattle.ir_files.proofs.CallerLemmas.{if_err_for_handed_on_error}
 use Rattle.ir_record_run.specs.declared.record_fault.RecordFault.TheVariants.{Lines}
 use Rattle.ir_chaos.specs.Conditions.{as_condition}
-use Rattle.ir_hunt.proofs.Found.{finding}
-use Rattle.ir_hunt.proofs.Stopping.{on_err, on_ok, line_is}
+use Rattle.ir_hunt.proofs.Found.{recording_of_found_is_finding}
+use Rattle.ir_hunt.proofs.Stopping.{holds_if_is_err, holds_unless_is_err, line_is_hunt_line}
 use Rattle.ir_hunt.proofs.hunting.hunt_run.Goals as goal
 
 pub returns-then-is_err-clause-stopped : goal.returns-then-is_err-clause-stopped
 returns-then-is_err-clause-stopped g c =
     let failed = sym c.is_err.ensures.value ∙ c.if-is_err.true in
     let line = string_bytes c.in-Ok.sought.line in
-    let prefix = on_err c.write_all.result _ c.write_all.ensures.prefix failed in (
+    let prefix = holds_if_is_err c.write_all.result _ c.write_all.ensures.prefix failed in (
       Lines,
       c.told-then-is_err.ensures.status,
       inr (inl (
         line,
         refl,
-        line_is (λ f. f.seed) (λ f. string_bytes f.list) c.args.image.now c.args.plan.now.record c.args.plan.now.way c.args.plan.now.seeds
+        line_is_hunt_line (λ f. f.seed) (λ f. string_bytes f.list) c.args.image.now c.args.plan.now.record c.args.plan.now.way c.args.plan.now.seeds
             (map as_condition c.args.plan.now.conditions.now) c.args.plan.now.stale c.in-Ok.sought.found line c.in-Ok.ensures.found c.in-Ok.ensures.line,
         (
           subst (λ (bytes : List ℕ). AppendsPrefix (g.O.Sink.written c.args.out.now) (g.O.Sink.written c.write_all.new.writer) bytes)
               c.as_bytes.ensures.value prefix,
-          on_err c.write_all.result _ c.write_all.ensures.err failed,
+          holds_if_is_err c.write_all.result _ c.write_all.ensures.err failed,
         ),
         refl,
         refl,
@@ -37,10 +37,10 @@ returns-then-is_err-clause-stopped g c =
 pub returns-in_err-recorded-clause-stopped : goal.returns-in_err-recorded-clause-stopped
 returns-in_err-recorded-clause-stopped g c =
     let p = err_from_is_err_and c.from_residual.result c.from_residual.ensures.1 in
-    let wrote = on_ok c.write_all.result _ c.write_all.ensures.ok (sym c.is_err.ensures.value ∙ c.if-is_err.false) in
+    let wrote = holds_unless_is_err c.write_all.result _ c.write_all.ensures.ok (sym c.is_err.ensures.value ∙ c.if-is_err.false) in
     let line = c.as_bytes.ensures.value ∙ (rw c.in-Some.is at c.in-Ok.ensures.line) in
-    let stopped = rw c.as_str.ensures.value at (rw c.by_list-plan.ensures at c.in_err-recorded.ensures.stopped) in
-    if_err _ c.from_residual.result c.in_err-recorded.field-0.0 p.0 p.1 p.2 (
+    let stopped = rw c.as_str.ensures.value at (rw c.by_list.ensures at c.in_err-recorded.ensures.stopped) in
+    if_err_for_handed_on_error _ c.from_residual.result c.in_err-recorded.field-0.0 p.0 p.1 p.2 (
       stopped.0,
       stopped.1,
       inr (inr (
@@ -57,13 +57,13 @@ returns-in_err-recorded-clause-stopped g c =
 pub returns-clause-done : goal.returns-clause-done
 returns-clause-done g c =
     let list = string_bytes c.in-Some.found.list in
-    let wrote = on_ok c.write_all.result _ c.write_all.ensures.ok (sym c.is_err.ensures.value ∙ c.if-is_err.false) in
+    let wrote = holds_unless_is_err c.write_all.result _ c.write_all.ensures.ok (sym c.is_err.ensures.value ∙ c.if-is_err.false) in
     let line = c.as_bytes.ensures.value ∙ (rw c.in-Some.is at c.in-Ok.ensures.line) in
-    let done = rw c.as_str.ensures.value at (rw c.by_list-plan.ensures at c.in_ok-recorded.ensures.done) in (
+    let done = rw c.as_str.ensures.value at (rw c.by_list.ensures at c.in_ok-recorded.ensures.done) in (
       c.in-Some.found.seed,
       list,
       done.0,
-      finding c.args.image.now c.args.plan.now.record c.args.plan.now.way c.in-Some.found.seed (map as_condition c.args.plan.now.conditions.now) c.args.plan.now.stale list c.in_ok-recorded.recorded
+      recording_of_found_is_finding c.args.image.now c.args.plan.now.record c.args.plan.now.way c.in-Some.found.seed (map as_condition c.args.plan.now.conditions.now) c.args.plan.now.stale list c.in_ok-recorded.recorded
           done.0 (rw c.in-Some.is at c.in-Ok.ensures.found) done.1,
       done.2,
       done.3,

@@ -1,5 +1,5 @@
-use Rattle.ir_isa.proofs.DecodedLaws.{has_instruction, is_instruction}
+use Rattle.ir_isa.proofs.DecodedLaws.{instruction_of_word_by_code, instruction_of_word_has_code}
 use Rattle.ir_isa.proofs.laws.found_by_code.Goals as goal
 
 pub returns : goal.returns
-returns c = λ w i. (is_instruction w i, has_instruction w i)
+returns c = λ w i. (instruction_of_word_has_code w i, instruction_of_word_by_code w i)

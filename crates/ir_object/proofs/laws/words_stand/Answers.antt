@@ -1,5 +1,5 @@
-use Rattle.ir_object.proofs.Stands.{stands}
+use Rattle.ir_object.proofs.Stands.{words_stand}
 use Rattle.ir_object.proofs.laws.words_stand.Goals as goal
 
 pub returns : goal.returns
-returns c = stands
+returns c = words_stand

@@ -4,7 +4,7 @@ use Rattle.ir_explore.specs.declared.origin.Origin.{Origin}
 use Rattle.ir_explore.specs.Following.{IsOpen}
 use Rattle.ir_outcomes.specs.Hang.{IsFirst}
 use Rattle.ir_outcomes.specs.declared.shown.Shown.{Shown}
-use Rattle.ir_outcomes.proofs.Lost.{are_hangs, none_first}
+use Rattle.ir_outcomes.proofs.Lost.{are_hangs, no_hang_without_marks}
 use Rattle.ir_outcomes.proofs.explored.lead_to_hang.Goals as goal
 
 pub find_hang-requires-clause-reached : goal.find_hang-requires-clause-reached
@@ -26,5 +26,5 @@ returns-clause-hangs c = λ marked stand nodes.
 
 pub returns-clause-unknown : goal.returns-clause-unknown
 returns-clause-unknown c = λ none.
-    none_first c.args.states.now.marks.items c.in_ok-hang.hang none
+    no_hang_without_marks c.args.states.now.marks.items c.in_ok-hang.hang none
     (subst (λ z. (x : Shown) → c.in_ok-hang.hang ≡ Some x → IsFirst z x.node) c.as_slice-marks.ensures.value c.in_ok-hang.ensures.first)

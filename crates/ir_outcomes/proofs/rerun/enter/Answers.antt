@@ -1,6 +1,6 @@
 use Rattle.std.proofs.Common.{sym, subst}
 use Rattle.ir_graph.specs.Turn.{GoesAlone}
-use Rattle.ir_graph.proofs.CallerLemmas.{alone_more, entry_alone}
+use Rattle.ir_graph.proofs.CallerLemmas.{goes_alone_append, goes_alone_by_entry}
 use Rattle.ir_outcomes.proofs.rerun.enter.Goals as goal
 
 pub returns-clause-alone : goal.returns-clause-alone
@@ -11,5 +11,5 @@ returns-clause-alone c =
     let t = c.args.thread in
     let one = c.in_default.ensures in
     subst (λ z. GoesAlone f h t z 1) (sym c.in_ok-all.ensures)
-    (alone_more f g h t 1 c.in_ok-steps.steps 1 0
-    (entry_alone f g t c.requires.rests one.admitted one.taken one.code one.threads one.objects) c.in_ok-steps.ensures.alone)
+    (goes_alone_append f g h t 1 c.in_ok-steps.steps 1 0
+    (goes_alone_by_entry f g t c.requires.rests one.admitted one.taken one.code one.threads one.objects) c.in_ok-steps.ensures.alone)

@@ -6,19 +6,19 @@ use Rattle.ir_explore.specs.Origins.{first_origin}
 use Rattle.std.proofs.lemmas.Option.{same_Some, slice_get-get_or}
 use Rattle.ir_flat.specs.Flat.{start_flat, tables}
 use Rattle.ir_graph.specs.Outcomes.{outcome_of}
-use Rattle.ir_graph.proofs.CallerLemmas.{like_back, like_more}
+use Rattle.ir_graph.proofs.CallerLemmas.{like_symmetric, like_transitive}
 use Rattle.ir_thread.specs.Calls.{most_budget}
 use Rattle.ir_thread.specs.declared.profile.Profile.TheVariants.{One}
 use Rattle.ir_record.specs.Recording.{order_of_turns}
-use Rattle.ir_outcomes.proofs.Showing.{again_shown}
+use Rattle.ir_outcomes.proofs.Showing.{shown_if_again_within}
 use Rattle.ir_outcomes.proofs.shown.show.Goals as goal
 
 pub same_outcome-requires : goal.same_outcome-requires
 same_outcome-requires c =
     let f = c.in_ok-kept.kept in
     let at : slice_get c.args.flats.now.items c.args.node ≡ Some f = c.in_ok-kept.ensures.found in
-    like_more c.in_ok-flat.flat (start_flat c.args.image.now most_budget One) f
-    (like_back (start_flat c.args.image.now most_budget One) c.in_ok-flat.flat c.in_ok-flat.ensures.again.again.like)
+    like_transitive c.in_ok-flat.flat (start_flat c.args.image.now most_budget One) f
+    (like_symmetric (start_flat c.args.image.now most_budget One) c.in_ok-flat.flat c.in_ok-flat.ensures.again.again.like)
     (c.requires.reached c.args.node f at).like
 
 pub returns-clause-level : goal.returns-clause-level
@@ -30,7 +30,7 @@ returns-clause-shown c = λ g here.
     let f = c.in_ok-kept.kept in
     let at : slice_get c.args.flats.now.items c.args.node ≡ Some f = c.in_ok-kept.ensures.found in
     let n : Origin = slice_index_or c.args.origins.now c.args.node first_origin in
-    again_shown c.args.image.now (order_of_turns c.in_ok-flat.turns.items) (length c.as_slice.result.now) n.level g c.in_ok-flat.flat
+    shown_if_again_within c.args.image.now (order_of_turns c.in_ok-flat.turns.items) (length c.as_slice.result.now) n.level g c.in_ok-flat.flat
     c.in_ok-flat.ensures.again
     (subst (λ z. length z ≤ suc n.level) (sym c.as_slice.ensures.value)
     (c.in_ok-path.ensures.few n (slice_get-get_or c.args.origins.now c.args.node first_origin c.requires.origin)))

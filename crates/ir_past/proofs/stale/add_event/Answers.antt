@@ -2,7 +2,7 @@ use Rattle.std.proofs.Common.{◌+◌, List, ℕ, sym, subst, arith}
 use Rattle.ir_log.specs.declared.event.Event.{Event}
 use Rattle.ir_past.specs.Past.{IsStaleIn}
 use Rattle.ir_past.specs.Progress.{HoldsOpen, Fits, IsPairAt}
-use Rattle.ir_past.proofs.Rows.{rows_same}
+use Rattle.ir_past.proofs.Rows.{has_rows_step_without_stale_write}
 use Rattle.ir_past.proofs.stale.add_event.Goals as goal
 
 pub take_event-requires-clause-place : goal.take_event-requires-clause-place
@@ -20,7 +20,7 @@ add_row-requires-clause-pair c = subst (λ (es : List Event). IsPairAt es c.args
     c.in-Some.ensures.found
 
 pub returns-in-None-clause-rows : goal.returns-in-None-clause-rows
-returns-in-None-clause-rows c = rows_same c.args.trace.now c.args.place.thread c.args.place.event c.args.rows.now.items c.requires.rows
+returns-in-None-clause-rows c = has_rows_step_without_stale_write c.args.trace.now c.args.place.thread c.args.place.event c.args.rows.now.items c.requires.rows
     (λ i o v w s. c.in-None.ensures.none i o v w
     (subst (λ (es : List Event). IsStaleIn es i c.args.place.event o v w) (sym c.events_of-events.ensures.events) s))
 

@@ -1,7 +1,7 @@
 use Rattle.std.proofs.Common.{length, sym, arith}
 use Rattle.ir_past.specs.declared.stale_write.StaleWrite.{StaleWrite}
 use Rattle.ir_past.specs.Past.{IsRow}
-use Rattle.ir_past.proofs.Rows.{rows_more}
+use Rattle.ir_past.proofs.Rows.{has_rows_step_with_stale_write}
 use Rattle.ir_past.proofs.Noted.{overwriter_noted}
 use Rattle.ir_past.proofs.stale.add_row.Goals as goal
 
@@ -23,4 +23,4 @@ returns-in_ok-push-in-Some c =
       overwritten_by = c.in-Some.overwritten_by;
     } in
     let is : IsRow c.args.trace.now row = record { stale = c.requires.pair; readers = made.0; overwriter = made.1 } in
-    rw c.in_ok-push-in-Some.ensures.items (rows_more c.args.trace.now row c.args.rows.now.items c.requires.rows is)
+    rw c.in_ok-push-in-Some.ensures.items (has_rows_step_with_stale_write c.args.trace.now row c.args.rows.now.items c.requires.rows is)

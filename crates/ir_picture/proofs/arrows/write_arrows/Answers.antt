@@ -1,33 +1,33 @@
 use Rattle.std.proofs.Common.{◌∙◌, refl}
 use Rattle.std.proofs.lemmas.Result.{err_from_is_err_and}
-use Rattle.ir_files.proofs.CallerLemmas.{if_err}
+use Rattle.ir_files.proofs.CallerLemmas.{if_err_for_handed_on_error}
 use Rattle.ir_past.specs.declared.past_err.PastErr.TheVariants.{NoMem, Write}
-use Rattle.ir_picture.proofs.InPieces.{line_put, piece_written, piece_failed, part_of, all_held}
-use Rattle.ir_picture.proofs.Texts.{next_arrow, no_arrow}
+use Rattle.ir_picture.proofs.InPieces.{buffered_after_line, buffered_after_piece, prefix_written_if_write_fails, prefix_appended_if_buffered, buffered_if_nothing_left}
+use Rattle.ir_picture.proofs.Texts.{all_arrows_begin_with_next, all_arrows_past_end}
 use Rattle.ir_picture.proofs.arrows.write_arrows.Goals as goal
 
 pub returns-in_err-write_piece-clause-fails : goal.returns-in_err-write_piece-clause-fails
 returns-in_err-write_piece-clause-fails g c =
     let p = err_from_is_err_and c.from_residual.result c.from_residual.ensures.1 in
-    if_err _ c.from_residual.result Write p.0 p.1 p.2
-    (piece_failed _ _ _ _ _ _ c.loop-number.invariant.text c.in_err-write_piece.ensures.prefix, c.in_err-write_piece.ensures.err)
+    if_err_for_handed_on_error _ c.from_residual.result Write p.0 p.1 p.2
+    (prefix_written_if_write_fails _ _ _ _ _ _ c.loop-number.invariant.text c.in_err-write_piece.ensures.prefix, c.in_err-write_piece.ensures.err)
 
 pub returns-in_err-push_arrow-clause-fails : goal.returns-in_err-push_arrow-clause-fails
 returns-in_err-push_arrow-clause-fails g c =
     let p = err_from_is_err_and c.from_residual-in_err-push_arrow.result c.from_residual-in_err-push_arrow.ensures.1 in
-    if_err _ c.from_residual-in_err-push_arrow.result NoMem p.0 p.1 p.2 (
-      part_of _ _ _ _ (piece_written _ _ _ _ _ _ _ c.loop-number.invariant.text c.in_ok-write_piece.ensures.ok),
+    if_err_for_handed_on_error _ c.from_residual-in_err-push_arrow.result NoMem p.0 p.1 p.2 (
+      prefix_appended_if_buffered _ _ _ _ (buffered_after_piece _ _ _ _ _ _ _ c.loop-number.invariant.text c.in_ok-write_piece.ensures.ok),
       c.in_ok-write_piece.ensures.stays ∙ c.loop-number.invariant.works,
     )
 
 pub loop-number-preserved : goal.loop-number-preserved
 loop-number-preserved g c = record {
-  text = line_put _ _ _ _ _ _ _ _ _ _ c.loop-number.invariant.text c.in_ok-write_piece.ensures.ok
-      (next_arrow c.loop-number.number c.args.sights.now _ _ c.loop-number-test.true refl)
+  text = buffered_after_line _ _ _ _ _ _ _ _ _ _ c.loop-number.invariant.text c.in_ok-write_piece.ensures.ok
+      (all_arrows_begin_with_next c.loop-number.number c.args.sights.now _ _ c.loop-number-test.true refl)
       c.in_ok-push_arrow.ensures;
   works = c.in_ok-write_piece.ensures.stays ∙ c.loop-number.invariant.works;
 }
 
 pub returns-clause-ok : goal.returns-clause-ok
-returns-clause-ok g c = all_held _ _ _ _ _ c.loop-number.invariant.text
-    (no_arrow c.loop-number.number c.loop-number.number c.args.sights.now c.loop-number-test.false)
+returns-clause-ok g c = buffered_if_nothing_left _ _ _ _ _ c.loop-number.invariant.text
+    (all_arrows_past_end c.loop-number.number c.loop-number.number c.args.sights.now c.loop-number-test.false)

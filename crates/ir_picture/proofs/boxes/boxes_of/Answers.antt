@@ -1,11 +1,11 @@
 use Rattle.std.proofs.Common.{arith}
-use Rattle.ir_picture.proofs.Boxed.{boxed_all, boxes_few}
+use Rattle.ir_picture.proofs.Boxed.{are_boxes_if_boxed_to_end, box_count_within_limit}
 use Rattle.ir_picture.proofs.boxes.boxes_of.Goals as goal
 
 pub returns-clause-boxes : goal.returns-clause-boxes
-returns-clause-boxes c = boxed_all c.args.trace.now c.loop-thread.thread c.loop-thread.boxes.items
+returns-clause-boxes c = are_boxes_if_boxed_to_end c.args.trace.now c.loop-thread.thread c.loop-thread.boxes.items
     (omega (arith, c.loop-thread-test.false, c.loop-thread.auto.thread-end, c.thread_count-thread-end.ensures)) c.loop-thread.invariant
 
 pub returns-clause-few : goal.returns-clause-few
-returns-clause-few c = boxes_few c.args.trace.now c.loop-thread.thread c.loop-thread.boxes.items
+returns-clause-few c = box_count_within_limit c.args.trace.now c.loop-thread.thread c.loop-thread.boxes.items
     (omega (arith, c.loop-thread-test.false, c.loop-thread.auto.thread-end, c.thread_count-thread-end.ensures)) c.loop-thread.invariant

@@ -1,11 +1,11 @@
 use Rattle.std.proofs.Common.{◌∙◌, refl}
 use Rattle.std.proofs.lemmas.Option.{slice_get-get_or}
 use Rattle.std.proofs.lemmas.Result.{err_from_is_err_and}
-use Rattle.ir_files.proofs.CallerLemmas.{if_err}
+use Rattle.ir_files.proofs.CallerLemmas.{if_err_for_handed_on_error}
 use Rattle.ir_past.specs.declared.past_err.PastErr.TheVariants.{NoMem, Write}
 use Rattle.ir_picture.specs.Chrome.{box_line}
-use Rattle.ir_picture.proofs.InPieces.{line_put, piece_written, piece_failed, part_of, all_held}
-use Rattle.ir_picture.proofs.Texts.{next_mapped, none_mapped}
+use Rattle.ir_picture.proofs.InPieces.{buffered_after_line, buffered_after_piece, prefix_written_if_write_fails, prefix_appended_if_buffered, buffered_if_nothing_left}
+use Rattle.ir_picture.proofs.Texts.{flat_map_of_drop, flat_map_past_end}
 use Rattle.ir_picture.proofs.chrome.write_slices.Goals as goal
 
 pub push_box-requires-clause-box_of : goal.push_box-requires-clause-box_of
@@ -15,25 +15,25 @@ push_box-requires-clause-box_of g c =
 pub returns-in_err-write_piece-clause-fails : goal.returns-in_err-write_piece-clause-fails
 returns-in_err-write_piece-clause-fails g c =
     let p = err_from_is_err_and c.from_residual.result c.from_residual.ensures.1 in
-    if_err _ c.from_residual.result Write p.0 p.1 p.2
-    (piece_failed _ _ _ _ _ _ c.loop-own.invariant.text c.in_err-write_piece.ensures.prefix, c.in_err-write_piece.ensures.err)
+    if_err_for_handed_on_error _ c.from_residual.result Write p.0 p.1 p.2
+    (prefix_written_if_write_fails _ _ _ _ _ _ c.loop-own.invariant.text c.in_err-write_piece.ensures.prefix, c.in_err-write_piece.ensures.err)
 
 pub returns-in_err-push_box-clause-fails : goal.returns-in_err-push_box-clause-fails
 returns-in_err-push_box-clause-fails g c =
     let p = err_from_is_err_and c.from_residual-in_err-push_box.result c.from_residual-in_err-push_box.ensures.1 in
-    if_err _ c.from_residual-in_err-push_box.result NoMem p.0 p.1 p.2 (
-      part_of _ _ _ _ (piece_written _ _ _ _ _ _ _ c.loop-own.invariant.text c.in_ok-write_piece.ensures.ok),
+    if_err_for_handed_on_error _ c.from_residual-in_err-push_box.result NoMem p.0 p.1 p.2 (
+      prefix_appended_if_buffered _ _ _ _ (buffered_after_piece _ _ _ _ _ _ _ c.loop-own.invariant.text c.in_ok-write_piece.ensures.ok),
       c.in_ok-write_piece.ensures.stays ∙ c.loop-own.invariant.works,
     )
 
 pub loop-own-preserved : goal.loop-own-preserved
 loop-own-preserved g c = record {
-  text = line_put _ _ _ _ _ _ _ _ _ _ c.loop-own.invariant.text c.in_ok-write_piece.ensures.ok
-      (next_mapped (box_line c.args.trace.now c.args.stale.now) c.loop-own.own-index c.args.boxes.now _ _ c.loop-own-test.true refl)
+  text = buffered_after_line _ _ _ _ _ _ _ _ _ _ c.loop-own.invariant.text c.in_ok-write_piece.ensures.ok
+      (flat_map_of_drop (box_line c.args.trace.now c.args.stale.now) c.loop-own.own-index c.args.boxes.now _ _ c.loop-own-test.true refl)
       c.in_ok-push_box.ensures;
   works = c.in_ok-write_piece.ensures.stays ∙ c.loop-own.invariant.works;
 }
 
 pub returns-clause-ok : goal.returns-clause-ok
-returns-clause-ok g c = all_held _ _ _ _ _ c.loop-own.invariant.text
-    (none_mapped (box_line c.args.trace.now c.args.stale.now) c.loop-own.own-index c.args.boxes.now c.loop-own-test.false)
+returns-clause-ok g c = buffered_if_nothing_left _ _ _ _ _ c.loop-own.invariant.text
+    (flat_map_past_end (box_line c.args.trace.now c.args.stale.now) c.loop-own.own-index c.args.boxes.now c.loop-own-test.false)

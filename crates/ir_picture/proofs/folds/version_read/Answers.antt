@@ -1,16 +1,16 @@
 use Rattle.std.proofs.Common.{◌∙◌, sym}
-use Rattle.ir_picture.proofs.Folded.{found_next, not_next, none_next}
+use Rattle.ir_picture.proofs.Folded.{version_read_if_next_event_reads, version_read_unless_next_event_reads, version_read_past_end}
 use Rattle.ir_picture.proofs.folds.version_read.Goals as goal
 
 pub returns-in-Some : goal.returns-in-Some
 returns-in-Some c = sym (sym c.loop-event.invariant
-    ∙ found_next c.args.object c.loop-event.event-index c.in-Some.version c.args.events.now _ c.loop-event-test.true
+    ∙ version_read_if_next_event_reads c.args.object c.loop-event.event-index c.in-Some.version c.args.events.now _ c.loop-event-test.true
     (sym c.read_by.ensures ∙ c.in-Some.is))
 
 pub loop-event-preserved : goal.loop-event-preserved
-loop-event-preserved c = sym (not_next c.args.object c.loop-event.event-index c.args.events.now _ c.loop-event-test.true
+loop-event-preserved c = sym (version_read_unless_next_event_reads c.args.object c.loop-event.event-index c.args.events.now _ c.loop-event-test.true
     (sym c.read_by.ensures ∙ c.in_default.is))
     ∙ c.loop-event.invariant
 
 pub returns : goal.returns
-returns c = sym (sym c.loop-event.invariant ∙ none_next c.args.object c.loop-event.event-index c.args.events.now c.loop-event-test.false)
+returns c = sym (sym c.loop-event.invariant ∙ version_read_past_end c.args.object c.loop-event.event-index c.args.events.now c.loop-event-test.false)

@@ -1,7 +1,7 @@
 use Rattle.std.proofs.Common.{rules, ◌≡◌, ◌<◌, ℕ, List, map, length, sym, ap, ◌∙◌, subst, arith}
 use Rattle.std.specs.List.{AllByRecursion}
 use Rattle.ir_image.specs.Guest.{Guest, object_count}
-use Rattle.ir_image.proofs.CallerLemmas.{few_threads}
+use Rattle.ir_image.proofs.CallerLemmas.{guest_threads_at_most_limit}
 use Rattle.ir_crew.specs.Ends.{IsEnd}
 use Rattle.ir_record.specs.Recording.{EachWentOn}
 use Rattle.ir_record.specs.Threads.{Pairs, IsSeatOf, views_of}
@@ -9,8 +9,8 @@ use Rattle.ir_record.specs.Working.{work_of, IsReadyWorker, RanToEnd}
 use Rattle.ir_record.specs.Worlds.{NoneFailed, IsFirstFailed, AreSameWorlds}
 use Rattle.ir_record.specs.declared.worker.Worker.{Worker}
 use Rattle.ir_record.proofs.ByThreads.{recorded_of}
-use Rattle.ir_record.proofs.Crewed.{NoneBroken, HaveRun, ready, threads_there, room_there, worlds_there, seats_there, ended_there, all_over, each_there, views_tracks, traces_at, map_map}
-use Rattle.ir_record.proofs.Manning.{traces_count}
+use Rattle.ir_record.proofs.Crewed.{NoneBroken, HaveRun, new_workers_are_ready, threads_there, room_there, worlds_there, seats_there, ended_there, all_over, each_there, views_are_tracks_of_work, trace_at_worker_place, map_map}
+use Rattle.ir_record.proofs.Manning.{traces_count_workers}
 use Rattle.ir_record.proofs.by_threads.record.Given as given
 use Rattle.ir_record.proofs.by_threads.record.Goals as goal
 
@@ -22,7 +22,7 @@ run_workers-requires-clause-ready g c κs within =
     subst (λ (z : Guest × List ℕ). (k : ℕ) (d : _) → k < length old
     → IsReadyWorker g.W.World.answers g.W.World.broken z.0 id z.1 (Rattle.std.proofs.Common.get_or old k d))
     (λ i. (sym c.in_ok-crew.ensures.key i, sym same i))
-    (ready g.W.World.answers g.W.World.broken c.args.image.now c.args.budget c.args.profile 0 id old c.args.worlds.items
+    (new_workers_are_ready g.W.World.answers g.W.World.broken c.args.image.now c.args.budget c.args.profile 0 id old c.args.worlds.items
     (c.in_ok-workers.ensures.new id c.in_ok-crew.ensures.seats.0) c.in_ok-workers.ensures.worlds c.requires.works)
 
 -- the workers that were started have run to such ends
@@ -71,7 +71,7 @@ pub overflow_cast-result : goal.overflow_cast-result
 overflow_cast-result g c =
     let below : c.in-Some.thread < length c.run_workers.new.workers.items =
     subst (λ z. c.in-Some.thread < length z) c.as_slice.ensures.value c.in-Some.ensures.below in
-    omega (arith, below, threads_there (ran_some g c), few_threads c.args.image.now c.code.ensures.within)
+    omega (arith, below, threads_there (ran_some g c), guest_threads_at_most_limit c.args.image.now c.code.ensures.within)
 
 pub returns-in-Some-clause-failed : goal.returns-in-Some-clause-failed
 returns-in-Some-clause-failed g c = (
@@ -108,10 +108,10 @@ returns-clause-recorded g c =
     let each_of = c.gathered-seats.result.2.each.items in
     recorded_of (all_over all c.code.ensures.within (none_broken g (at_count g c)))
     (subst (λ z. IsEnd z c.joined-seat.result.me.0 c.close.new.objects) c.in_ok-crew.ensures.key c.close.ensures)
-    (c.joined-seat.ensures.views ∙ ap views_of c.gathered-seats.ensures.seats ∙ views_tracks g.W.World.answers end)
+    (c.joined-seat.ensures.views ∙ ap views_of c.gathered-seats.ensures.seats ∙ views_are_tracks_of_work g.W.World.answers end)
     c.gathered-seats.result.1 (emitted.0 ∙ counted g (at_count g c)) emitted.1 emitted.2
-    (traces_count end c.gathered-seats.result.1.threads emitted.3 ∙ threads_there all)
-    (λ t l. traces_at g.W.World.answers end c.gathered-seats.result.1.threads emitted.3 t (omega (arith, l, threads_there all)))
+    (traces_count_workers end c.gathered-seats.result.1.threads emitted.3 ∙ threads_there all)
+    (λ t l. trace_at_worker_place g.W.World.answers end c.gathered-seats.result.1.threads emitted.3 t (omega (arith, l, threads_there all)))
     _ (c.gathered-seats.ensures.bytes ∙ sym (map_map (λ w. w.thread.output) (work_of g.W.World.answers) end))
     _ (sym (map_map g.W.World.answers (λ o. o.world) each_of) ∙ ap (map g.W.World.answers) c.gathered-seats.ensures.worlds
     ∙ map_map g.W.World.answers (λ w. w.world) end ∙ sym (map_map (λ w. w.answers) (work_of g.W.World.answers) end))

@@ -4,8 +4,8 @@ use Rattle.std.specs.Vec.Iter.{into_iter_items, into_iter_len}
 use Rattle.ir_thread.specs.State as thread
 use Rattle.ir_crew.specs.Ends.{AreSeats}
 use Rattle.ir_record.specs.Threads.{AreNew}
-use Rattle.ir_record.proofs.Gathering.{next_below, moved_on, size_on, mapped_more}
-use Rattle.ir_record.proofs.Manning.{new_more, seats_first, seats_left}
+use Rattle.ir_record.proofs.Gathering.{split_place_below_length, split_moves_past_item, length_of_rest_is_one_less, map_with_item_added}
+use Rattle.ir_record.proofs.Manning.{new_workers_with_one_added, first_seat_and_rest, rest_of_seats_is_one_shorter}
 use Rattle.ir_record.proofs.workers.new_workers.Goals as goal
 
 pub loop-world-preserved : goal.loop-world-preserved
@@ -19,29 +19,29 @@ loop-world-preserved g c =
     let size : length c.args.worlds.items ≡ length c.args.image.now.entries = search rules in
     let count : length at.made.items ≡ length at.yielded = sym (length-map at.made.items (λ o. o.world))
     ∙ ap (λ z. length z) at.invariant.worlds in
-    let below = next_below at.yielded rest c.args.worlds.items x parts in
+    let below = split_place_below_length at.yielded rest c.args.worlds.items x parts in
     let left = at.invariant.left in
     let some : 0 < length at.seats.items = omega (arith, place, size, count, below, left) in
     let seats = c.remove-seat.ensures.by_index.2 in
-    let fewer = seats_left at.seats.items c.remove-seat.new.self.items some seats in
+    let fewer = rest_of_seats_is_one_shorter at.seats.items c.remove-seat.new.self.items some seats in
     let long : length c.push.new.self.items ≡ suc (length at.made.items) = ap (λ z. length z) c.in_ok-push.ensures.items
     ∙ (let e = Rattle.std.proofs.Common.length-append at.made.items
     (record { seat = c.remove-seat.result; thread = c.in_ok-thread.thread; log = c.in_ok-log.log; world = x } ∷ []) in
     omega (arith, e)) in
     record {
-      parts = moved_on at.yielded (into_iter_items at.world-iterator) rest c.args.worlds.items x at.invariant.parts
+      parts = split_moves_past_item at.yielded (into_iter_items at.world-iterator) rest c.args.worlds.items x at.invariant.parts
           c.in-Some.ensures.steps.0;
-      size = size_on (into_iter_items at.world-iterator) rest x (into_iter_len at.world-iterator) (into_iter_len c.next.new.self)
+      size = length_of_rest_is_one_less (into_iter_items at.world-iterator) rest x (into_iter_len at.world-iterator) (into_iter_len c.next.new.self)
           at.invariant.size c.in-Some.ensures.steps.0 c.in-Some.ensures.steps.1;
-      worlds = mapped_more (λ o. o.world) at.made.items c.push.new.self.items _ at.yielded c.in_ok-push.ensures.items at.invariant.worlds;
+      worlds = map_with_item_added (λ o. o.world) at.made.items c.push.new.self.items _ at.yielded c.in_ok-push.ensures.items at.invariant.worlds;
       left = omega (arith, fewer, long, left);
       new = λ id h.
           let z = at.invariant.new id h in
-          let q = seats_first id (length at.made.items) at.seats.items c.remove-seat.new.self.items c.remove-seat.result some
+          let q = first_seat_and_rest id (length at.made.items) at.seats.items c.remove-seat.new.self.items c.remove-seat.result some
           c.remove-seat.ensures.value seats z.0 in (
             subst (λ n. AreSeats id n c.remove-seat.new.self.items) (sym long) q.1,
             subst (AreNew c.args.image.now c.args.budget c.args.profile id 0) (sym c.in_ok-push.ensures.items)
-                (new_more c.args.image.now c.args.budget c.args.profile id 0 (length at.made.items) at.made.items _ z.1 (omega arith) (record {
+                (new_workers_with_one_added c.args.image.now c.args.budget c.args.profile id 0 (length at.made.items) at.made.items _ z.1 (omega arith) (record {
                   table = q.0.0;
                   me = q.0.1;
                   thread = c.in_ok-thread.ensures ∙ ap (λ n. thread.start_state c.args.image.now n c.args.budget c.args.profile) place;

@@ -1,7 +1,7 @@
 use Rattle.std.proofs.Common.{◌≡◌, Some}
 use Rattle.ir_record.specs.Recording.{order_of_turns}
 use Rattle.ir_record_run.specs.Order.{order_of, joined, items_of}
-use Rattle.ir_record_run.proofs.Items.{parts_left, how_long}
+use Rattle.ir_record_run.proofs.Items.{parts_left, bytes_left_bound}
 use Rattle.ir_record_run.proofs.order.read_order.Given as goal
 
 -- what is read so far and what is left spell what the list spells
@@ -9,4 +9,4 @@ abbrev pub invariant-items : goal.invariant-items
 invariant-items l = order_of l.threads l.fn.list ≡ joined (Some (order_of_turns l.order.items)) (items_of l.threads (parts_left l.rest))
 
 abbrev pub decreases-items : goal.decreases-items
-decreases-items l = how_long l.rest
+decreases-items l = bytes_left_bound l.rest

@@ -3,14 +3,14 @@ use Rattle.ir_record.specs.Recording.{order_of_turns}
 use Rattle.ir_record_run.specs.Plan.{Plan}
 use Rattle.ir_record_run.specs.Recording.{IsRecordedOf}
 use Rattle.ir_sources.specs.Sources.{made_with}
-use Rattle.ir_sources.proofs.CallerLemmas.{many, answered_by}
-use Rattle.ir_record_run.proofs.Fresh.{recorded_from}
+use Rattle.ir_sources.proofs.CallerLemmas.{world_count_is_thread_count, worlds_answered_by_own_origins}
+use Rattle.ir_record_run.proofs.Fresh.{fresh_recording_by_order_is_recorded}
 use Rattle.ir_record_run.proofs.recording.recorded_in_order.Goals as goal
 
 pub record_in_turns-requires-clause-each : goal.record_in_turns-requires-clause-each
 record_in_turns-requires-clause-each g c =
     let count : length c.in_ok-worlds.worlds.items ≡ length c.entries-threads.result.now =
-    many (λ w. made_with w.time w.seed w.file.now) c.in_ok-worlds.worlds.items true c.plan.inside.random c.plan.inside.input.now
+    world_count_is_thread_count (λ w. made_with w.time w.seed w.file.now) c.in_ok-worlds.worlds.items true c.plan.inside.random c.plan.inside.input.now
     (length c.entries-threads.result.now) c.in_ok-worlds.ensures.origins in
     let same : length c.entries-threads.result.now ≡ length c.in_ok-guest.guest.now.entries =
     ap (λ (z : List ℕ). length z) c.entries-threads.ensures.value in
@@ -20,12 +20,12 @@ pub returns-in-Ok-clause-recorded : goal.returns-in-Ok-clause-recorded
 returns-in-Ok-clause-recorded g c = subst (λ (z : List (List ℕ)). IsRecordedOf c.args.image.now c.args.plan.now
     c.in-Ok.trace z) (sym c.in_ok-printed-in-Ok.ensures)
     (subst (λ (p : Plan). IsRecordedOf c.args.image.now p c.in-Ok.trace (map (λ o. o.bytes.items) c.in-Ok.outputs.each.items)) c.plan.view_is
-    (recorded_from c.args.image.now c.args.list.now _ c.in_ok-guest.guest.now
+    (fresh_recording_by_order_is_recorded c.args.image.now c.args.list.now _ c.in_ok-guest.guest.now
     c.entries-threads.result.now (order_of_turns c.in_ok-order.order.items) (order_of_turns c.as_slice.result.now)
     (map (λ w. w.answers.items) c.in_ok-worlds.worlds.items) c.in-Ok.trace
     (map (λ o. o.bytes.items) c.in-Ok.outputs.each.items) (map (λ o. o.world.answers.items) c.in-Ok.outputs.each.items)
     (ap (λ (p : Plan). p.order) c.plan.view_is ∙ c.requires) c.in_ok-guest.ensures.exact c.entries-threads.ensures.value c.in_ok-order.ensures.spelled (ap order_of_turns c.as_slice.ensures.value)
     c.in_ok-worlds.ensures.fresh c.in-Ok.ensures.recorded
-    (answered_by (λ o. made_with o.world.time o.world.seed o.world.file.now) (λ o. o.world.answers.items) (λ o. (o.world.sources, o.world.gave))
+    (worlds_answered_by_own_origins (λ o. made_with o.world.time o.world.seed o.world.file.now) (λ o. o.world.answers.items) (λ o. (o.world.sources, o.world.gave))
     true c.plan.inside.random c.plan.inside.input.now c.in-Ok.outputs.each.items (length c.entries-threads.result.now)
     (c.in-Ok.ensures.origins ∙ c.in_ok-worlds.ensures.origins))))

@@ -2,7 +2,7 @@ use Rattle.std.proofs.Common.{◌≡◌, ◌∙◌, refl, sym, ap}
 use Rattle.ir_thread.specs.State as thread
 use Rattle.ir_weave.specs.Standing.{flat_in, positions}
 use Rattle.ir_rests.specs.declared.span.Span.{Span}
-use Rattle.ir_rests.proofs.Opened.{opened_on, words_now, words_before}
+use Rattle.ir_rests.proofs.Opened.{open_row_after_calls, words_behind_write_at_standing, words_behind_write_kept}
 use Rattle.ir_rests.proofs.noting.note_one.Goals as goal
 
 pub returns-in_ok-opened-clause-opened : goal.returns-in_ok-opened-clause-opened
@@ -11,10 +11,10 @@ returns-in_ok-opened-clause-opened c =
     let old = c.args.opened.now in
     let more = c.in_ok-note_call.ensures in
     let here : c.steps.result ≡ positions (flat_in f c.args.state.now) c.args.t =
-    c.steps.ensures.value ∙ ap (λ (x : thread.State). x.steps) c.thread_of.ensures in
-    opened_on c.args.guide.copies f c.args.guide.rows.now c.args.t c.args.from (positions (flat_in f c.args.state.now) c.args.t) old c.note_call.new.opened _ _
+    c.steps.ensures.value ∙ ap (λ (x : thread.ThreadState). x.steps) c.thread_of.ensures in
+    open_row_after_calls c.args.guide.copies f c.args.guide.rows.now c.args.t c.args.from (positions (flat_in f c.args.state.now) c.args.t) old c.note_call.new.opened _ _
     c.requires.opened more c.requires.calls c.requires.up c.requires.within refl refl refl refl refl
-    (λ _. words_now c.args.guide.copies f c.args.guide.rows.now c.args.state.now c.args.t c.args.from (positions (flat_in f c.args.state.now) c.args.t)
+    (λ _. words_behind_write_at_standing c.args.guide.copies f c.args.guide.rows.now c.args.state.now c.args.t c.args.from (positions (flat_in f c.args.state.now) c.args.t)
     c.note_call.new.opened.span.object old c.in_ok-opened.field-0.items c.requires.guide.route.last.run c.requires.opened c.requires.way.stands refl
     (ap (λ (s : Span). s.write) (sym more.span) ∙ c.if-opened-steps.true ∙ here) (ap (λ (s : Span). s.object) more.span)
     c.in_ok-opened.ensures)
@@ -25,9 +25,9 @@ returns-else-opened-steps-clause-opened c =
     let old = c.args.opened.now in
     let more = c.in_ok-note_call.ensures in
     let here : c.steps.result ≡ positions (flat_in f c.args.state.now) c.args.t =
-    c.steps.ensures.value ∙ ap (λ (x : thread.State). x.steps) c.thread_of.ensures in
-    opened_on c.args.guide.copies f c.args.guide.rows.now c.args.t c.args.from (positions (flat_in f c.args.state.now) c.args.t) old c.note_call.new.opened
+    c.steps.ensures.value ∙ ap (λ (x : thread.ThreadState). x.steps) c.thread_of.ensures in
+    open_row_after_calls c.args.guide.copies f c.args.guide.rows.now c.args.t c.args.from (positions (flat_in f c.args.state.now) c.args.t) old c.note_call.new.opened
     c.note_call.new.opened _
     c.requires.opened more c.requires.calls c.requires.up c.requires.within refl refl refl refl refl
-    (words_before c.args.guide.copies f c.args.guide.rows.now c.args.t c.args.from (positions (flat_in f c.args.state.now) c.args.t) old c.note_call.new.opened _
+    (words_behind_write_kept c.args.guide.copies f c.args.guide.rows.now c.args.t c.args.from (positions (flat_in f c.args.state.now) c.args.t) old c.note_call.new.opened _
     c.requires.opened more c.requires.write (λ e. c.if-opened-steps.false (e ∙ sym here)))

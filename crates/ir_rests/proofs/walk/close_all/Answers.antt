@@ -6,8 +6,8 @@ use Rattle.ir_trace.specs.Recorded.{recorded_thread}
 use Rattle.ir_weave.specs.Standing.{flat_in, positions}
 use Rattle.ir_rests.specs.Watch.{IsWatch, IsFound}
 use Rattle.ir_rests.specs.declared.watch.Watch.{Watch}
-use Rattle.ir_rests.proofs.Leaving.{placed}
-use Rattle.ir_rests.proofs.Walked.{closed_next, stays_found, found_then}
+use Rattle.ir_rests.proofs.Leaving.{row_entries_are_placed}
+use Rattle.ir_rests.proofs.Walked.{row_found_at_end, found_row_stays_found, watched_or_found_stays_so}
 use Rattle.ir_rests.proofs.walk.close_all.Goals as goal
 
 pub loop-t-init : goal.loop-t-init
@@ -24,7 +24,7 @@ close_due-requires-clause-watch c =
     let t = c.loop-t.t in
     let l : t < length c.loop-t.watches = (let a = c.loop-t.invariant.watches in let b = c.loop-t-test.true in omega (arith, a, b)) in
     let here : c.steps-k.result ≡ positions (flat_in f c.args.state.now) t =
-    c.steps-k.ensures.value ∙ ap (λ (x : thread.State). x.steps) c.thread_of.ensures in
+    c.steps-k.ensures.value ∙ ap (λ (x : thread.ThreadState). x.steps) c.thread_of.ensures in
     subst (λ k. IsWatch c.args.guide.copies f c.args.guide.rows.now t k (slice_index_or c.loop-t.watches t c.index-watches-t.result)) (sym here)
     (c.loop-t.invariant.others t c.index-watches-t.result (omega arith) l).0
 
@@ -35,7 +35,7 @@ loop-t-preserved c =
     let i = c.loop-t.invariant in
     let l : t < length c.loop-t.watches = (let a = i.watches in let b = c.loop-t-test.true in omega (arith, a, b)) in
     let here : c.steps-k.result ≡ positions (flat_in f c.args.state.now) t =
-    c.steps-k.ensures.value ∙ ap (λ (x : thread.State). x.steps) c.thread_of.ensures in
+    c.steps-k.ensures.value ∙ ap (λ (x : thread.ThreadState). x.steps) c.thread_of.ensures in
     let all : (recorded_thread f.recorded t).steps ≤ c.steps-k.result =
     (let a = c.requires.ended t (let b = c.requires.watches in let d = i.watches in omega (arith, l, b, d)) in omega (arith, a, here)) in
     let w : Watch = slice_index_or c.loop-t.watches t c.index-watches-t.result in
@@ -44,10 +44,10 @@ loop-t-preserved c =
       watches = length-set c.loop-t.watches t c.close_due.new.watch ∙ i.watches;
       size = adds.size ∙ i.size;
       done = λ r x there less. elim (cases_lt x.thread t) [
-        | inl before ↦ stays_found c.args.guide.copies f c.args.guide.rows.now c.loop-t.rests c.close_due.new.rests r x adds there (i.done r x there before)
+        | inl before ↦ found_row_stays_found c.args.guide.copies f c.args.guide.rows.now c.loop-t.rests c.close_due.new.rests r x adds there (i.done r x there before)
         | inr past ↦
             let own : x.thread ≡ t = omega (arith, less, past) in
-            closed_next c.args.guide.copies f c.args.guide.rows.now t c.steps-k.result w c.close_due.new.watch c.loop-t.rests c.close_due.new.rests r x adds there
+            row_found_at_end c.args.guide.copies f c.args.guide.rows.now t c.steps-k.result w c.close_due.new.watch c.loop-t.rests c.close_due.new.rests r x adds there
             c.close_due.ensures.watch c.close_due.ensures.ends all (c.close_due.ensures.found r x there)
             ((i.others t c.index-watches-t.result (omega arith) l).1 r x there own)
       ];
@@ -56,12 +56,12 @@ loop-t-preserved c =
           subst (λ (z : Watch). IsWatch c.args.guide.copies f c.args.guide.rows.now u (positions (flat_in f c.args.state.now) u) z × IsFound c.args.guide.copies f c.args.guide.rows.now c.close_due.new.rests u z)
           (sym (get_or-set_other c.loop-t.watches t u c.close_due.new.watch d (λ e. absurd (omega (arith, past, e))))) (
             before.0,
-            λ r x there own. found_then c.args.guide.copies f c.args.guide.rows.now (slice_index_or c.loop-t.watches u d) (slice_index_or c.loop-t.watches u d)
+            λ r x there own. watched_or_found_stays_so c.args.guide.copies f c.args.guide.rows.now (slice_index_or c.loop-t.watches u d) (slice_index_or c.loop-t.watches u d)
                 c.loop-t.rests c.close_due.new.rests r x adds there (λ z. inl z) (before.1 r x there own),
           );
     }
 
 pub returns-clause-found : goal.returns-clause-found
 returns-clause-found c r x there = c.loop-t.invariant.done r x there
-    (let a = (placed c.args.guide.route.fitted.now c.requires.guide.route.last.run x (c.requires.guide.stale.sound r x there)).there in
+    (let a = (row_entries_are_placed c.args.guide.route.fitted.now c.requires.guide.route.last.run x (c.requires.guide.stale.sound r x there)).there in
     let b = c.requires.watches in let d = c.loop-t-test.false in omega (arith, a, b, d))

@@ -6,12 +6,12 @@ use Rattle.ir_rests.specs.WhatIf.{known}
 use Rattle.ir_rests.specs.Rests.{AreRests}
 use Rattle.ir_rests.specs.Watch.{AreBegun}
 use Rattle.ir_rests.specs.declared.found.Found.{Found}
-use Rattle.ir_rests.proofs.Begun.{none_begun, all_rest}
+use Rattle.ir_rests.proofs.Begun.{begun_with_no_rest_known, rests_of_known_found}
 use Rattle.ir_rests.proofs.walk.rests.Goals as goal
 
 pub walk-requires-clause-begun : goal.walk-requires-clause-begun
 walk-requires-clause-begun c = subst (AreBegun false c.args.fitted.now c.args.rows.now) (sym c.deref_mut.ensures.value)
-    (none_begun c.args.fitted.now c.args.rows.now c.in_ok-found.found.items c.in_ok-found.ensures)
+    (begun_with_no_rest_known c.args.fitted.now c.args.rows.now c.in_ok-found.found.items c.in_ok-found.ensures)
 
 pub returns : goal.returns
 returns c =
@@ -29,5 +29,5 @@ returns c =
     let all : length again ≡ length rows = size_again ∙ ap (λ (xs : List Found). length xs) items_once ∙ size_once
     ∙ ap (λ (xs : List Found). length xs) c.in_ok-found.ensures ∙ length-replicate (length rows) _ in
     IfOk-weaker c.all_known.result (λ v. v.items ≡ map known c.deref.result.now) (λ v. AreRests f rows v.items)
-    (λ v e. all_rest f rows again v.items all c.in_ok-walk_again.ensures.found
+    (λ v e. rests_of_known_found f rows again v.items all c.in_ok-walk_again.ensures.found
     (e ∙ ap (λ (xs : List Found). map known xs) (c.deref.ensures.value ∙ items_again))) c.all_known.ensures

@@ -1,11 +1,11 @@
 use Rattle.std.proofs.Common.{refl}
-use Rattle.ir_record.proofs.CallerLemmas.{one_more_works, one_more_long}
+use Rattle.ir_record.proofs.CallerLemmas.{none_failed_with_world_added, length_with_world_added}
 use Rattle.ir_session_tests.proofs.memory_tests.counting_worlds.Goals as goal
 
 pub loop-number-preserved : goal.loop-number-preserved
 loop-number-preserved c = record {
-  count = one_more_long c.loop-number.worlds.items c.push.new.self.items _ c.loop-number.number c.loop-number.invariant.count
+  count = length_with_world_added c.loop-number.worlds.items c.push.new.self.items _ c.loop-number.number c.loop-number.invariant.count
       c.in_ok-push.ensures.items;
-  works = one_more_works (λ w. w.failed) c.loop-number.worlds.items c.push.new.self.items _ c.loop-number.invariant.works
+  works = none_failed_with_world_added (λ w. w.failed) c.loop-number.worlds.items c.push.new.self.items _ c.loop-number.invariant.works
       c.in_ok-push.ensures.items refl;
 }

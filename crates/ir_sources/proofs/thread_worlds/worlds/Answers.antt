@@ -1,6 +1,6 @@
-use Rattle.ir_record.proofs.CallerLemmas.{one_more_works}
+use Rattle.ir_record.proofs.CallerLemmas.{none_failed_with_world_added}
 use Rattle.ir_sources.specs.Sources.{made_with, is_counted}
-use Rattle.ir_sources.proofs.Fresh.{origins_more, made_by, fresh_more}
+use Rattle.ir_sources.proofs.Fresh.{origins_step, made_with_is_origin, fresh_answers_step}
 use Rattle.ir_sources.proofs.thread_worlds.worlds.Goals as goal
 
 pub loop-thread-preserved : goal.loop-thread-preserved
@@ -8,12 +8,12 @@ loop-thread-preserved g c =
     let old = c.loop-thread.worlds.items in
     let new = c.push.new.self.items in
     let w = c.in_ok-new.field-0 in
-    let made = made_by w.time c.args.time w.seed c.args.random w.file.now c.args.file.now c.loop-thread.thread c.in_ok-new.ensures.time
+    let made = made_with_is_origin w.time c.args.time w.seed c.args.random w.file.now c.args.file.now c.loop-thread.thread c.in_ok-new.ensures.time
     c.in_ok-new.ensures.seed c.in_ok-new.ensures.file in
     record {
-      origins = origins_more (λ w. made_with w.time w.seed w.file.now) old new w (is_counted c.args.time) c.args.random c.args.file.now
+      origins = origins_step (λ w. made_with w.time w.seed w.file.now) old new w (is_counted c.args.time) c.args.random c.args.file.now
           c.loop-thread.thread c.loop-thread.invariant.origins made c.in_ok-push.ensures.items;
-      fresh = fresh_more (λ w. w.answers.items) old new w c.loop-thread.thread c.loop-thread.invariant.fresh c.in_ok-new.ensures.fresh
+      fresh = fresh_answers_step (λ w. w.answers.items) old new w c.loop-thread.thread c.loop-thread.invariant.fresh c.in_ok-new.ensures.fresh
           c.in_ok-push.ensures.items;
-      works = one_more_works (λ w. w.failed) old new w c.loop-thread.invariant.works c.in_ok-push.ensures.items c.in_ok-new.ensures.works;
+      works = none_failed_with_world_added (λ w. w.failed) old new w c.loop-thread.invariant.works c.in_ok-push.ensures.items c.in_ok-new.ensures.works;
     }

@@ -4,7 +4,7 @@ use Rattle.std.proofs.lemmas.Option.{slice_get-get_or}
 use Rattle.ir_flat.specs.Flat.{idle}
 use Rattle.ir_store.specs.Nodes.{LookSame}
 use Rattle.ir_store.specs.Table.{threads_at}
-use Rattle.ir_store.proofs.Lists.{all_at}
+use Rattle.ir_store.proofs.Lists.{element_of_all_by_recursion}
 use Rattle.ir_store.proofs.Stored.{get_or_map}
 use Rattle.ir_store.proofs.compare.same_threads.Goals as goal
 
@@ -21,8 +21,8 @@ loop-t-preserved c = λ u less.
     let n = get_or second t 0 in
     let here : LookSame (get_or items m idle) (get_or items n idle) =
     c.same_look.ensures c.if-not-same_look.false (get_or items m idle) (get_or items n idle)
-    (slice_get-get_or items m idle (all_at (λ k. k < length items) first t 0 c.requires.first lt))
-    (slice_get-get_or items n idle (all_at (λ k. k < length items) second t 0 c.requires.second lt')) in
+    (slice_get-get_or items m idle (element_of_all_by_recursion (λ k. k < length items) first t 0 c.requires.first lt))
+    (slice_get-get_or items n idle (element_of_all_by_recursion (λ k. k < length items) second t 0 c.requires.second lt')) in
     let there : LookSame (get_or (threads_at items first) t idle) (get_or (threads_at items second) t idle) =
     subst (λ z. LookSame z (get_or (threads_at items second) t idle)) (sym (get_or_map (λ k. get_or items k idle) first t 0 idle lt))
     (subst (LookSame (get_or items m idle)) (sym (get_or_map (λ k. get_or items k idle) second t 0 idle lt')) here) in

@@ -1,5 +1,5 @@
-use Rattle.ir_symbols.proofs.Nearest.{nearest_exact}
+use Rattle.ir_symbols.proofs.Nearest.{nearest_result_exactly_if_nearest}
 use Rattle.ir_symbols.proofs.laws.nearest_is_first_of_greatest.Goals as goal
 
 pub returns : goal.returns
-returns c = nearest_exact
+returns c = nearest_result_exactly_if_nearest

@@ -1,12 +1,12 @@
 use Rattle.std.proofs.Common.{arith, ◌∙◌}
-use Rattle.ir_text.proofs.Buffers.{line_written, line_failed, none_left}
-use Rattle.ir_text.proofs.ThreadLines.{threads-next, threads-none}
+use Rattle.ir_text.proofs.Buffers.{buffered_after_line_written, prefix_written_on_line_error, text_written_if_nothing_left}
+use Rattle.ir_text.proofs.ThreadLines.{threads_text_step, threads_text_at_end}
 use Rattle.ir_text.proofs.verdicts.write_threads.Goals as goal
 
 pub loop-t-preserved : goal.loop-t-preserved
 loop-t-preserved g c = record {
-  text = line_written _ _ _ _ _ _ _ c.loop-t.invariant.text
-      (threads-next c.loop-t.t c.args.verdicts.now _ _ c.as_slice.result.now c.loop-t-test.true c.new-text.ensures
+  text = buffered_after_line_written _ _ _ _ _ _ _ c.loop-t.invariant.text
+      (threads_text_step c.loop-t.t c.args.verdicts.now _ _ c.as_slice.result.now c.loop-t-test.true c.new-text.ensures
       (c.as_slice.ensures.value ∙ c.put_thread.ensures))
       c.in_ok-write_all.ensures.ok;
   broken = c.in_ok-write_all.ensures.stays ∙ c.loop-t.invariant.broken;
@@ -14,11 +14,11 @@ loop-t-preserved g c = record {
 
 pub returns-in_err-write_all-clause-prefix : goal.returns-in_err-write_all-clause-prefix
 returns-in_err-write_all-clause-prefix g c =
-    line_failed c.from_residual.result _ _ _ _ _ _ _ c.loop-t.invariant.text
-    (threads-next c.loop-t.t c.args.verdicts.now _ _ c.as_slice.result.now c.loop-t-test.true c.new-text.ensures
+    prefix_written_on_line_error c.from_residual.result _ _ _ _ _ _ _ c.loop-t.invariant.text
+    (threads_text_step c.loop-t.t c.args.verdicts.now _ _ c.as_slice.result.now c.loop-t-test.true c.new-text.ensures
     (c.as_slice.ensures.value ∙ c.put_thread.ensures))
     c.in_err-write_all.ensures.prefix
 
 pub returns-clause-ok : goal.returns-clause-ok
-returns-clause-ok g c = none_left _ _ _ _ c.loop-t.invariant.text
-    (threads-none c.loop-t.t c.args.verdicts.now (omega (arith, c.loop-t-test.false, c.loop-t.auto.t-end)))
+returns-clause-ok g c = text_written_if_nothing_left _ _ _ _ c.loop-t.invariant.text
+    (threads_text_at_end c.loop-t.t c.args.verdicts.now (omega (arith, c.loop-t-test.false, c.loop-t.auto.t-end)))

@@ -2,14 +2,14 @@ use Rattle.std.proofs.Common.{◌≡◌, ◌≤◌, ◌∙◌, ap, arith}
 use Rattle.ir_weave.specs.Standing.{flat_in, positions}
 use Rattle.ir_hits.specs.Searching.{reached}
 use Rattle.ir_timeline.specs.Positions.{last_of}
-use Rattle.ir_timeline.proofs.Searches.{stands_here, hit_next, none_next, none_first}
+use Rattle.ir_timeline.proofs.Searches.{steps_of_thread_are_position, next_hit_is_first_hit_above, no_hit_above_further_position, no_first_hit_above}
 use Rattle.ir_timeline.proofs.searching.hit_above.Goals as goal
 
 pub returns-in-Some-clause-hit : goal.returns-in-Some-clause-hit
 returns-in-Some-clause-hit g c =
     let f = c.args.fitted.now in
     let t = c.args.t in
-    hit_next f c.args.points.now t (positions (flat_in f c.args.hand.now.state) t) (positions (flat_in f c.stretches.hand.state) t)
+    next_hit_is_first_hit_above f c.args.points.now t (positions (flat_in f c.args.hand.now.state) t) (positions (flat_in f c.stretches.hand.state) t)
     c.stretch_end-to.result c.in_ok-found.found c.in-Some.hit c.stretches.invariant.above c.stretches.invariant.none
     c.in_ok-found.ensures.hit c.in-Some.is
 
@@ -22,12 +22,12 @@ stretches-preserved g c =
     let to = c.stretch_end-to.result in
     let at : new ≡ to = c.in_ok-found.ensures.reached ∙ ap (reached to) c.in_default.is in
     let here : c.position_of-in-stretches.result ≡ old =
-    stands_here f c.stretches.hand.state t c.position_of-in-stretches.result c.position_of-in-stretches.ensures in
+    steps_of_thread_are_position f c.stretches.hand.state t c.position_of-in-stretches.result c.position_of-in-stretches.ensures in
     let above = c.stretches.invariant.above in
     record {
       hand = record { stands = c.first_hit.ensures.stands; checkpoints = c.pass.ensures };
       above = omega (arith, above, at, here, c.stretch_end-to.ensures.above);
-      none = none_next f c.args.points.now t (positions (flat_in f c.args.hand.now.state) t) old to new c.in_ok-found.found
+      none = no_hit_above_further_position f c.args.points.now t (positions (flat_in f c.args.hand.now.state) t) old to new c.in_ok-found.found
           c.stretches.invariant.none c.in_ok-found.ensures.hit c.in_ok-found.ensures.reached c.in_default.is;
     }
 
@@ -36,6 +36,6 @@ returns-clause-hit g c =
     let f = c.args.fitted.now in
     let t = c.args.t in
     let now = positions (flat_in f c.stretches.hand.state) t in
-    let here : c.position_of.result ≡ now = stands_here f c.stretches.hand.state t c.position_of.result c.position_of.ensures in
+    let here : c.position_of.result ≡ now = steps_of_thread_are_position f c.stretches.hand.state t c.position_of.result c.position_of.ensures in
     let all : last_of f t ≤ now = omega (arith, c.last_position-last.ensures, here, c.stretches-test.false) in
-    none_first f c.args.points.now t (positions (flat_in f c.args.hand.now.state) t) now c.requires.thread all c.stretches.invariant.none
+    no_first_hit_above f c.args.points.now t (positions (flat_in f c.args.hand.now.state) t) now c.requires.thread all c.stretches.invariant.none

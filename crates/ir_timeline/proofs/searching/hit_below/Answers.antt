@@ -1,7 +1,7 @@
 use Rattle.std.proofs.Common.{◌≡◌, ◌<◌, arith}
 use Rattle.ir_weave.specs.Standing.{flat_in, positions}
 use Rattle.ir_hits.specs.Searching.{window_start}
-use Rattle.ir_timeline.proofs.Searches.{stands_here, hit_last, none_last, none_below, begins_below}
+use Rattle.ir_timeline.proofs.Searches.{steps_of_thread_are_position, window_hit_is_last_hit, no_last_hit_from_start, no_hit_below_window_start, window_start_below_end}
 use Rattle.ir_timeline.proofs.searching.hit_below.Goals.{then-position-eq0-via-then-position-eq0, then-position-eq0-via-else-position-eq0+then-not-may_hit}
 use Rattle.ir_timeline.proofs.searching.hit_below.Goals as goal
 
@@ -16,15 +16,15 @@ pub returns-in-Some-clause-hit : goal.returns-in-Some-clause-hit
 returns-in-Some-clause-hit g c =
     let f = c.args.fitted.now in
     let t = c.args.t in
-    hit_last f c.args.points.now t (window_start (positions (flat_in f c.in_ok-hand.field-0) t)) c.windows.to c.args.position
+    window_hit_is_last_hit f c.args.points.now t (window_start (positions (flat_in f c.in_ok-hand.field-0) t)) c.windows.to c.args.position
     c.in_ok-found.found c.in-Some.hit c.windows.invariant.within c.windows.invariant.none c.in_ok-found.ensures.hit c.in-Some.is
 
 pub returns-then-from-eq0-clause-hit : goal.returns-then-from-eq0-clause-hit
 returns-then-from-eq0-clause-hit g c =
     let f = c.args.fitted.now in
     let t = c.args.t in
-    none_last f c.args.points.now t (positions (flat_in f c.in_ok-hand.field-0) t) c.position_of-from.result c.windows.to c.args.position
-    c.in_ok-found.found (stands_here f c.in_ok-hand.field-0 t c.position_of-from.result c.position_of-from.ensures) c.if-from-eq0.true
+    no_last_hit_from_start f c.args.points.now t (positions (flat_in f c.in_ok-hand.field-0) t) c.position_of-from.result c.windows.to c.args.position
+    c.in_ok-found.found (steps_of_thread_are_position f c.in_ok-hand.field-0 t c.position_of-from.result c.position_of-from.ensures) c.if-from-eq0.true
     c.windows.invariant.none c.in_ok-found.ensures.hit c.in_default.is
 
 pub windows-preserved : goal.windows-preserved
@@ -33,12 +33,12 @@ windows-preserved g c =
     let t = c.args.t in
     let from = c.position_of-from.result in
     let here : from ≡ positions (flat_in f c.in_ok-hand.field-0) t =
-    stands_here f c.in_ok-hand.field-0 t from c.position_of-from.ensures in
+    steps_of_thread_are_position f c.in_ok-hand.field-0 t from c.position_of-from.ensures in
     let less : from < c.windows.to =
-    begins_below f t c.windows.to from c.in_ok-hand.field-0 c.in_ok-hand.ensures.before here c.if-from-eq0.false in
+    window_start_below_end f t c.windows.to from c.in_ok-hand.field-0 c.in_ok-hand.ensures.before here c.if-from-eq0.false in
     record {
       hand = record { stands = c.last_hit.ensures.stands; checkpoints = c.restore_before.ensures.checkpoints };
       within = (let within = c.windows.invariant.within in omega (arith, less, within));
-      none = none_below f c.args.points.now t (positions (flat_in f c.in_ok-hand.field-0) t) from c.windows.to c.args.position
+      none = no_hit_below_window_start f c.args.points.now t (positions (flat_in f c.in_ok-hand.field-0) t) from c.windows.to c.args.position
           c.in_ok-found.found here c.if-from-eq0.false c.windows.invariant.none c.in_ok-found.ensures.hit c.in_default.is;
     }

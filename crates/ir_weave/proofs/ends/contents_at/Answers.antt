@@ -2,7 +2,7 @@ use Rattle.std.proofs.Common.{◌+◌, ◌<◌, ◌≤◌, ◌^◌, ℕ, List, F
 use Rattle.std.specs.Slots.{slots_items}
 use Rattle.ir_image.specs.Guest.{most_object_words}
 use Rattle.ir_weave.specs.Woven.{AreRead}
-use Rattle.ir_weave.proofs.Opening.{read_more, found_word}
+use Rattle.ir_weave.proofs.Opening.{words_read_with_word_set, get_or_of_found_word}
 use Rattle.ir_weave.proofs.ends.contents_at.Goals as goal
 
 pub loop-i-init : goal.loop-i-init
@@ -13,12 +13,12 @@ fits_word n l = omega (arith, l)
 
 pub overflow_cast-word : goal.overflow_cast-word
 overflow_cast-word c = fits_word c.word.result
-    (subst (λ z. z < 2 ^ 32) (found_word (slots_items c.args.closed.now.words) (c.args.from + c.loop-i.i) c.word.result c.word.ensures)
+    (subst (λ z. z < 2 ^ 32) (get_or_of_found_word (slots_items c.args.closed.now.words) (c.args.from + c.loop-i.i) c.word.result c.word.ensures)
     (c.requires.small c.loop-i.i c.loop-i-test.true))
 
 pub loop-i-preserved : goal.loop-i-preserved
-loop-i-preserved c = read_more (slots_items c.args.closed.now.words) c.args.from c.loop-i.word-items c.loop-i.i c.word.result
-    c.loop-i.invariant c.loop-i-test.true (sym (found_word (slots_items c.args.closed.now.words) (c.args.from + c.loop-i.i) c.word.result
+loop-i-preserved c = words_read_with_word_set (slots_items c.args.closed.now.words) c.args.from c.loop-i.word-items c.loop-i.i c.word.result
+    c.loop-i.invariant c.loop-i-test.true (sym (get_or_of_found_word (slots_items c.args.closed.now.words) (c.args.from + c.loop-i.i) c.word.result
     c.word.ensures))
 
 all_read : (ws : List ℕ) (from : ℕ) (xs : List ℕ) (n : ℕ) → AreRead ws from xs n → most_object_words ≤ n → AreRead ws from xs most_object_words

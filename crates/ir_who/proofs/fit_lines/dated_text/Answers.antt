@@ -1,15 +1,15 @@
 use Rattle.std.proofs.Common.{◌∙◌}
 use Rattle.std.specs.String.{string_bytes}
 use Rattle.ir_who.specs.FitLines.{dated_text}
-use Rattle.ir_who.proofs.Shown.{put, all_put, next_dated, no_dated}
+use Rattle.ir_who.proofs.Shown.{text_split_after_put, text_is_put_if_nothing_left, dated_lines_begin_with_line, no_dated_lines_past_end}
 use Rattle.ir_who.proofs.fit_lines.dated_text.Goals as goal
 
 pub loop-number-preserved : goal.loop-number-preserved
-loop-number-preserved c = put (string_bytes c.loop-number.text) c.as_str.result.now _ _ _ _ c.loop-number.invariant
-    (next_dated c.loop-number.number c.args.rows.now _ c.as_str.result.now c.loop-number-test.true
+loop-number-preserved c = text_split_after_put (string_bytes c.loop-number.text) c.as_str.result.now _ _ _ _ c.loop-number.invariant
+    (dated_lines_begin_with_line c.loop-number.number c.args.rows.now _ c.as_str.result.now c.loop-number-test.true
     (c.as_str.ensures.value ∙ c.in_ok-dated_line.ensures))
     c.in_ok-push_str.ensures.bytes
 
 pub returns : goal.returns
-returns c = all_put (string_bytes c.loop-number.text) _ (dated_text c.args.object c.args.rows.now) c.loop-number.invariant
-    (no_dated c.loop-number.number c.loop-number.number c.args.rows.now c.loop-number-test.false)
+returns c = text_is_put_if_nothing_left (string_bytes c.loop-number.text) _ (dated_text c.args.object c.args.rows.now) c.loop-number.invariant
+    (no_dated_lines_past_end c.loop-number.number c.loop-number.number c.args.rows.now c.loop-number-test.false)

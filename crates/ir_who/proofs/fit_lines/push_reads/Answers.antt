@@ -1,23 +1,23 @@
 use Rattle.std.proofs.Common.{◌∙◌, ◌++◌, get_or}
 use Rattle.std.specs.String.{string_bytes}
 use Rattle.ir_past.specs.declared.place.Place.{Place}
-use Rattle.ir_fit_run.proofs.CallerLemmas.{at_index}
+use Rattle.ir_fit_run.proofs.CallerLemmas.{element_below_length_is_listed}
 use Rattle.ir_who.specs.FitLines.{fit_read_lines}
-use Rattle.ir_who.proofs.Shown.{put, all_put, next_fit_read, no_fit_read}
+use Rattle.ir_who.proofs.Shown.{text_split_after_put, text_is_put_if_nothing_left, fit_read_lines_begin_with_line, no_fit_read_lines_past_end}
 use Rattle.ir_who.proofs.fit_lines.push_reads.Goals as goal
 
 pub read_line-requires : goal.read_line-requires
 read_line-requires c =
     let n = c.loop-place.place-index in
     let none : Place = record { thread = 0; event = 0 } in
-    c.requires n (get_or c.args.places.now n none) (at_index c.args.places.now n none c.loop-place-test.true)
+    c.requires n (get_or c.args.places.now n none) (element_below_length_is_listed c.args.places.now n none c.loop-place-test.true)
 
 pub loop-place-preserved : goal.loop-place-preserved
-loop-place-preserved c = put (string_bytes c.loop-place.text) c.as_str.result.now _ _ _ _ c.loop-place.invariant
-    (next_fit_read c.args.fitted.now c.loop-place.place-index c.args.places.now _ c.as_str.result.now c.loop-place-test.true
+loop-place-preserved c = text_split_after_put (string_bytes c.loop-place.text) c.as_str.result.now _ _ _ _ c.loop-place.invariant
+    (fit_read_lines_begin_with_line c.args.fitted.now c.loop-place.place-index c.args.places.now _ c.as_str.result.now c.loop-place-test.true
     (c.as_str.ensures.value ∙ c.in_ok-read_line.ensures))
     c.in_ok-push_str.ensures.bytes
 
 pub returns : goal.returns
-returns c = all_put (string_bytes c.loop-place.text) _ (string_bytes c.args.text.now ++ fit_read_lines c.args.fitted.now c.args.places.now) c.loop-place.invariant
-    (no_fit_read c.args.fitted.now c.loop-place.place-index c.args.places.now c.loop-place-test.false)
+returns c = text_is_put_if_nothing_left (string_bytes c.loop-place.text) _ (string_bytes c.args.text.now ++ fit_read_lines c.args.fitted.now c.args.places.now) c.loop-place.invariant
+    (no_fit_read_lines_past_end c.args.fitted.now c.loop-place.place-index c.args.places.now c.loop-place-test.false)

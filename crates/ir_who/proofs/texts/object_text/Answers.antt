@@ -1,15 +1,15 @@
 use Rattle.std.proofs.Common.{◌∙◌}
 use Rattle.std.specs.String.{string_bytes}
 use Rattle.ir_who.specs.Lines.{object_text}
-use Rattle.ir_who.proofs.Shown.{put, all_put, next_version, no_version}
+use Rattle.ir_who.proofs.Shown.{text_split_after_put, text_is_put_if_nothing_left, version_lines_begin_with_line, no_version_lines_past_end}
 use Rattle.ir_who.proofs.texts.object_text.Goals as goal
 
 pub loop-number-preserved : goal.loop-number-preserved
-loop-number-preserved c = put (string_bytes c.loop-number.text) c.as_str.result.now _ _ _ _ c.loop-number.invariant
-    (next_version c.loop-number.number c.args.rows.now _ c.as_str.result.now c.loop-number-test.true
+loop-number-preserved c = text_split_after_put (string_bytes c.loop-number.text) c.as_str.result.now _ _ _ _ c.loop-number.invariant
+    (version_lines_begin_with_line c.loop-number.number c.args.rows.now _ c.as_str.result.now c.loop-number-test.true
     (c.as_str.ensures.value ∙ c.in_ok-version_line.ensures))
     c.in_ok-push_str.ensures.bytes
 
 pub returns : goal.returns
-returns c = all_put (string_bytes c.loop-number.text) _ (object_text c.args.object c.args.rows.now) c.loop-number.invariant
-    (no_version c.loop-number.number c.loop-number.number c.args.rows.now c.loop-number-test.false)
+returns c = text_is_put_if_nothing_left (string_bytes c.loop-number.text) _ (object_text c.args.object c.args.rows.now) c.loop-number.invariant
+    (no_version_lines_past_end c.loop-number.number c.loop-number.number c.args.rows.now c.loop-number-test.false)

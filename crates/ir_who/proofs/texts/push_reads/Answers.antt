@@ -1,15 +1,15 @@
 use Rattle.std.proofs.Common.{◌∙◌, ◌++◌}
 use Rattle.std.specs.String.{string_bytes}
 use Rattle.ir_who.specs.Lines.{read_lines}
-use Rattle.ir_who.proofs.Shown.{put, all_put, next_read, no_read}
+use Rattle.ir_who.proofs.Shown.{text_split_after_put, text_is_put_if_nothing_left, read_lines_begin_with_line, no_read_lines_past_end}
 use Rattle.ir_who.proofs.texts.push_reads.Goals as goal
 
 pub loop-place-preserved : goal.loop-place-preserved
-loop-place-preserved c = put (string_bytes c.loop-place.text) c.as_str.result.now _ _ _ _ c.loop-place.invariant
-    (next_read c.loop-place.place-index c.args.places.now _ c.as_str.result.now c.loop-place-test.true
+loop-place-preserved c = text_split_after_put (string_bytes c.loop-place.text) c.as_str.result.now _ _ _ _ c.loop-place.invariant
+    (read_lines_begin_with_line c.loop-place.place-index c.args.places.now _ c.as_str.result.now c.loop-place-test.true
     (c.as_str.ensures.value ∙ c.in_ok-read_line.ensures))
     c.in_ok-push_str.ensures.bytes
 
 pub returns : goal.returns
-returns c = all_put (string_bytes c.loop-place.text) _ (string_bytes c.args.text.now ++ read_lines c.args.places.now) c.loop-place.invariant
-    (no_read c.loop-place.place-index c.args.places.now c.loop-place-test.false)
+returns c = text_is_put_if_nothing_left (string_bytes c.loop-place.text) _ (string_bytes c.args.text.now ++ read_lines c.args.places.now) c.loop-place.invariant
+    (no_read_lines_past_end c.loop-place.place-index c.args.places.now c.loop-place-test.false)

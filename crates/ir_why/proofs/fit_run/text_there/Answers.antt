@@ -9,17 +9,17 @@ use Rattle.ir_picture.specs.Placing.{events_of_all}
 use Rattle.ir_picture.specs.declared.circle.Circle.{Circle}
 use Rattle.ir_picture.specs.declared.picture.Picture.{Picture}
 use Rattle.ir_picture.specs.declared.placed_box.PlacedBox.{PlacedBox}
-use Rattle.ir_fit_run.proofs.CallerLemmas.{run_coherent}
-use Rattle.ir_why.proofs.Within.{run_no_circle}
+use Rattle.ir_fit_run.proofs.CallerLemmas.{run_trace_is_coherent}
+use Rattle.ir_why.proofs.Within.{run_trace_has_no_circle}
 use Rattle.ir_why.proofs.fit_run.text_there.Goals as goal
 
 pub picture_of-requires-clause-coherent : goal.picture_of-requires-clause-coherent
-picture_of-requires-clause-coherent c = subst AreCoherent (sym c.trace.ensures.value) (run_coherent c.args.fitted.now c.known.ensures.run)
+picture_of-requires-clause-coherent c = subst AreCoherent (sym c.trace.ensures.value) (run_trace_is_coherent c.args.fitted.now c.known.ensures.run)
 
 pub unreachable-requires : goal.unreachable-requires
 unreachable-requires c =
     let r = c.trace.result.now in
-    run_no_circle c.runs_have_no_circle.ensures c.args.fitted.now c.known.ensures.run r c.trace.ensures.value c.in-Err.field-0.thread c.in-Err.field-0.event
+    run_trace_has_no_circle c.runs_have_no_circle.ensures c.args.fitted.now c.known.ensures.run r c.trace.ensures.value c.in-Err.field-0.thread c.in-Err.field-0.event
     (subst (λ (x : Result Picture Circle). MatchResult x (λ p. HasNoCircle r × IsPicture r None p) (λ d. IsCircleAt r d.thread d.event)) c.in-Err.is
     c.in_ok-picture_of.ensures)
 

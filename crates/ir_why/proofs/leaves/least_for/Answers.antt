@@ -1,15 +1,15 @@
 use Rattle.std.proofs.Common.{arith}
-use Rattle.ir_fit.proofs.CallerLemmas.{entry_within}
-use Rattle.ir_fit_run.proofs.CallerLemmas.{entry_fits}
+use Rattle.ir_fit.proofs.CallerLemmas.{entry_position_below_steps}
+use Rattle.ir_fit_run.proofs.CallerLemmas.{entry_position_fits}
 use Rattle.ir_why.proofs.leaves.least_for.Goals as goal
 
 pub overflow_add-behind : goal.overflow_add-behind
 overflow_add-behind c =
-    let fits = entry_fits c.args.fitted.now c.known.ensures c.args.here.thread c.args.here.event c.requires in
+    let fits = entry_position_fits c.args.fitted.now c.known.ensures c.args.here.thread c.args.here.event c.requires in
     let same = c.step_of-behind.ensures in omega (arith, fits, same)
 
 pub least-requires-clause-steps : goal.least-requires-clause-steps
 least-requires-clause-steps c =
     let inside = c.requires in
-    let within = entry_within c.args.fitted.now c.known.ensures.run c.args.here.thread inside.thread c.args.here.event inside.event in
+    let within = entry_position_below_steps c.args.fitted.now c.known.ensures.run c.args.here.thread inside.thread c.args.here.event inside.event in
     let same = c.step_of-behind.ensures in omega (arith, within, same)

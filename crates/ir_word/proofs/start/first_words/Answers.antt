@@ -3,18 +3,18 @@ use Rattle.std.specs.List.{slice_index_or}
 use Rattle.std.proofs.lemmas.Option.{slice_get_within, slice_get-get_or}
 use Rattle.ir_who.specs.declared.version.Version.{Version}
 use Rattle.ir_word.specs.Words.{unread}
-use Rattle.ir_word.proofs.Begun.{begun, first_worded, none_first, more_first}
+use Rattle.ir_word.proofs.Begun.{object_has_first_words_at_start, first_version_has_first_word, first_versions_of_none, first_versions_step}
 use Rattle.ir_word.proofs.start.first_words.Goals as goal
 
 pub loop-row-init : goal.loop-row-init
-loop-row-init c = none_first c.args.guide.rows.now c.word_at-word.result c.new-words.result.items c.new-words.ensures.items
+loop-row-init c = first_versions_of_none c.args.guide.rows.now c.word_at-word.result c.new-words.result.items c.new-words.ensures.items
 
 pub loop-row-preserved : goal.loop-row-preserved
 loop-row-preserved c =
     let rows = c.args.guide.rows.now in
     let n = c.loop-row.row-index in
     let none : Version = record { made_by = None; readers = 0 } in
-    more_first rows n c.word_at-word.result c.loop-row.words.items c.push.new.self.items _ (get_or rows n none) c.loop-row.invariant
+    first_versions_step rows n c.word_at-word.result c.loop-row.words.items c.push.new.self.items _ (get_or rows n none) c.loop-row.invariant
     (slice_get-get_or rows n none c.loop-row-test.true) c.in_ok-push.ensures.items refl
 
 pub returns-clause-size : goal.returns-clause-size
@@ -29,5 +29,5 @@ returns-clause-first c r x there made =
     let f = c.args.guide.route.fitted.now in
     let w = c.args.guide.word in
     let l : r < c.loop-row.row-index = (let a = slice_get_within c.args.guide.rows.now r x there in let b = c.loop-row-test.false in omega (arith, a, b)) in
-    first_worded f w x (slice_index_or c.loop-row.words.items r unread) c.word_at-word.result (c.loop-row.invariant.each r x l there)
-    (c.word_at-word.ensures ∙ begun f c.args.state.now c.requires.guide.route.last.run c.requires.start w.object w.index c.requires.guide.object) made
+    first_version_has_first_word f w x (slice_index_or c.loop-row.words.items r unread) c.word_at-word.result (c.loop-row.invariant.each r x l there)
+    (c.word_at-word.ensures ∙ object_has_first_words_at_start f c.args.state.now c.requires.guide.route.last.run c.requires.start w.object w.index c.requires.guide.object) made

@@ -1,19 +1,19 @@
 use Rattle.std.proofs.Common.{◌+◌, ◌∙◌, ap, length, length-append, [], ◌∷◌, arith}
 use Rattle.ir_image.specs.Guest.{Guest}
-use Rattle.ir_word.proofs.Built.{none_of_all, one_of_all}
+use Rattle.ir_word.proofs.Built.{all_built_of_no_track, all_built_after_track_added}
 use Rattle.ir_word.proofs.tracks.empty_tracks.Goals as goal
 
 pub loop-init : goal.loop-init
 loop-init c = record {
   size = ap length c.in_ok-tracks.ensures.items;
-  built = none_of_all c.args.guide.route.fitted.now c.args.guide.rows.now c.args.guide.word c.in_ok-tracks.tracks.items c.in_ok-tracks.ensures.items;
+  built = all_built_of_no_track c.args.guide.route.fitted.now c.args.guide.rows.now c.args.guide.word c.in_ok-tracks.tracks.items c.in_ok-tracks.ensures.items;
 }
 
 pub loop-preserved : goal.loop-preserved
 loop-preserved c = record {
   size = ap length c.in_ok-push.ensures.items ∙ length-append c.loop.tracks.items (c.empty_track.result ∷ [])
       ∙ ap (λ n. n + 1) c.loop.invariant.size;
-  built = one_of_all c.args.guide.route.fitted.now c.args.guide.rows.now c.args.guide.word c.loop.tracks.items c.push.new.self.items c.empty_track.result
+  built = all_built_after_track_added c.args.guide.route.fitted.now c.args.guide.rows.now c.args.guide.word c.loop.tracks.items c.push.new.self.items c.empty_track.result
       c.loop.invariant.built c.in_ok-push.ensures.items c.empty_track.ensures.next c.empty_track.ensures.put c.empty_track.ensures.holds;
 }
 

@@ -3,7 +3,7 @@ use Rattle.std.specs.Vec.{with_items}
 use Rattle.std.proofs.lemmas.List.{with_items_is}
 use Rattle.ir_word.specs.Track.{AreBuilt, AreSorted}
 use Rattle.ir_word.specs.declared.track.Track.{Track}
-use Rattle.ir_word.proofs.Built.{all_sorted}
+use Rattle.ir_word.proofs.Built.{all_built_after_sorting}
 use Rattle.ir_word.proofs.tracks.tracks.Goals as goal
 
 pub returns-clause-built : goal.returns-clause-built
@@ -17,5 +17,5 @@ returns-clause-built c =
     let items : (with_items v new).items ≡ new = with_items_is v new (size ∙ sym v.ok.0) in
     let all : c.loop-row.row ≡ length rows = (let a = c.loop-row-test.false in let b = c.loop-row.auto.row-end in omega (arith, a, b)) in
     subst (AreBuilt f rows w (length rows)) (sym items)
-    (all_sorted f rows w (length rows) v.items new (subst (λ n. AreBuilt f rows w n v.items) all c.loop-row.invariant.built)
+    (all_built_after_sorting f rows w (length rows) v.items new (subst (λ n. AreBuilt f rows w n v.items) all c.loop-row.invariant.built)
     (subst (λ (xs : List Track). AreSorted xs new) c.deref_mut-2.ensures.value c.in_ok-sort_all.ensures.sorted) size)

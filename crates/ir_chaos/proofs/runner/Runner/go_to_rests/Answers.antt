@@ -1,6 +1,6 @@
 use Rattle.std.proofs.Common.{◌≡◌, ◌∙◌, length, refl, ap, arith}
-use Rattle.ir_chaos.proofs.Ready.{rest_more}
-use Rattle.ir_chaos.proofs.Runs.{ran_nothing, ran_both}
+use Rattle.ir_chaos.proofs.Ready.{lower_threads_rest_step}
+use Rattle.ir_chaos.proofs.Runs.{ran_reflexive, ran_transitive}
 use Rattle.ir_chaos.specs.Choices.{before_rounds}
 use Rattle.ir_chaos.specs.Moments.{moment_of}
 use Rattle.ir_chaos.proofs.runner.Runner.go_to_rests.Goals as goal
@@ -8,7 +8,7 @@ use Rattle.ir_chaos.proofs.runner.Runner.go_to_rests.Goals as goal
 pub threads-init : goal.threads-init
 threads-init g c = record {
   kept = refl;
-  ran = λ d. ran_nothing c.args.tries (moment_of g.W.World.answers c.args.self.now) d;
+  ran = λ d. ran_reflexive c.args.tries (moment_of g.W.World.answers c.args.self.now) d;
   ready = c.requires.ready;
   rest = λ u l. absurd (omega (arith, l));
   threads = refl;
@@ -17,10 +17,10 @@ threads-init g c = record {
 pub threads-preserved : goal.threads-preserved
 threads-preserved g c = record {
   kept = c.in_ok-go_on.ensures.kept ∙ c.threads.invariant.kept;
-  ran = λ d. ran_both c.args.tries (moment_of g.W.World.answers c.args.self.now) (moment_of g.W.World.answers c.threads.self)
+  ran = λ d. ran_transitive c.args.tries (moment_of g.W.World.answers c.args.self.now) (moment_of g.W.World.answers c.threads.self)
       (moment_of g.W.World.answers c.go_on.new.self) d d d (c.threads.invariant.ran d) (c.in_ok-go_on.ensures.ran d);
   ready = c.in_ok-go_on.ensures.ready;
-  rest = rest_more c.args.tries c.threads.t c.threads.self.flat c.go_on.new.self.flat c.threads.invariant.rest
+  rest = lower_threads_rest_step c.args.tries c.threads.t c.threads.self.flat c.go_on.new.self.flat c.threads.invariant.rest
       c.in_ok-go_on.ensures.others c.in_ok-go_on.ensures.rests;
   threads = (c.in_ok-go_on.ensures.ran before_rounds).gained.threads ∙ c.threads.invariant.threads;
 }

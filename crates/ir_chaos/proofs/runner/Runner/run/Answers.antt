@@ -1,8 +1,8 @@
 use Rattle.std.proofs.Common.{rules, ◌<◌, ◌∙◌, List, length, sym, ap, subst}
 use Rattle.std.specs.List.{slice_index_or}
 use Rattle.ir_thread.specs.State as thread
-use Rattle.ir_chaos.proofs.Ready.{each_ready, chosen_there, ran_to_end}
-use Rattle.ir_chaos.proofs.Runs.{ran_both, left_less}
+use Rattle.ir_chaos.proofs.Ready.{each_ready, chosen_ready_thread_has_step, ran_to_end_if_none_ready}
+use Rattle.ir_chaos.proofs.Runs.{ran_transitive, steps_left_fall_after_step}
 use Rattle.ir_chaos.specs.Choices.{Serves}
 use Rattle.ir_chaos.specs.Moments.{Ran, moment_of}
 use Rattle.ir_chaos.specs.Schedules.{AreReady}
@@ -21,7 +21,7 @@ choices-init g c = record {
 }
 
 pub returns-then-is_empty-clause-ran : goal.returns-then-is_empty-clause-ran
-returns-then-is_empty-clause-ran g c = ran_to_end c.args.tries (moment_of g.W.World.answers c.args.self.now)
+returns-then-is_empty-clause-ran g c = ran_to_end_if_none_ready c.args.tries (moment_of g.W.World.answers c.args.self.now)
     (moment_of g.W.World.answers c.choices.self) c.args.chooser.now c.choices.chooser c.ready-ready.result.items c.requires.start
     c.choices.invariant.ran c.ready-ready.ensures.are (search rules)
 
@@ -33,16 +33,16 @@ listed g c = subst (AreReady (machine c.choices.self.flat) (tables c.choices.sel
 
 pub choose-thread-requires-clause-within : goal.choose-thread-requires-clause-within
 choose-thread-requires-clause-within g c = λ k d l.
-    subst (λ (xs : List thread.State). slice_index_or c.as_slice.result.now k d < length xs) (sym c.threads.ensures.value)
+    subst (λ (xs : List thread.ThreadState). slice_index_or c.as_slice.result.now k d < length xs) (sym c.threads.ensures.value)
     (each_ready (machine c.choices.self.flat) (tables c.choices.self.flat) (length c.choices.self.flat.threads) c.as_slice.result.now
     (listed g c) k d l).0
 
 pub turn-requires-clause-thread : goal.turn-requires-clause-thread
-turn-requires-clause-thread g c = (chosen_there c.choices.self.flat c.as_slice.result.now c.ready-ready.result.items c.choose-thread.result
+turn-requires-clause-thread g c = (chosen_ready_thread_has_step c.choices.self.flat c.as_slice.result.now c.ready-ready.result.items c.choose-thread.result
     c.as_slice.ensures.value c.ready-ready.ensures.are c.choose-thread.ensures.member).0
 
 pub turn-requires-clause-can : goal.turn-requires-clause-can
-turn-requires-clause-can g c = (chosen_there c.choices.self.flat c.as_slice.result.now c.ready-ready.result.items c.choose-thread.result
+turn-requires-clause-can g c = (chosen_ready_thread_has_step c.choices.self.flat c.as_slice.result.now c.ready-ready.result.items c.choose-thread.result
     c.as_slice.ensures.value c.ready-ready.ensures.are c.choose-thread.ensures.member).1
 
 ran : (g : Over) (c : goal.In_ok-turn g) → Ran c.args.tries (moment_of g.W.World.answers c.choices.self) c.choices.chooser
@@ -58,14 +58,14 @@ ran g c = c.in_ok-turn.ensures.ran c.choices.chooser c.choose-thread.new.self (r
 pub choices-preserved : goal.choices-preserved
 choices-preserved g c = record {
   kept = c.in_ok-turn.ensures.kept ∙ c.choices.invariant.kept;
-  ran = ran_both c.args.tries (moment_of g.W.World.answers c.args.self.now) (moment_of g.W.World.answers c.choices.self)
+  ran = ran_transitive c.args.tries (moment_of g.W.World.answers c.args.self.now) (moment_of g.W.World.answers c.choices.self)
       (moment_of g.W.World.answers c.turn.new.self) c.args.chooser.now c.choices.chooser c.choose-thread.new.self c.choices.invariant.ran
       (ran g c);
   ready = c.in_ok-turn.ensures.ready;
   rest = c.in_ok-turn.ensures.rest;
   serves = subst (λ n. Serves n c.choose-thread.new.self)
-      (ap (λ (xs : List thread.State). length xs) c.threads.ensures.value ∙ sym (ran g c).gained.threads) c.choose-thread.ensures.serves;
+      (ap (λ (xs : List thread.ThreadState). length xs) c.threads.ensures.value ∙ sym (ran g c).gained.threads) c.choose-thread.ensures.serves;
 }
 
 pub choices-smaller : goal.choices-smaller
-choices-smaller g c = left_less c.choices.self.flat c.turn.new.self.flat (ran g c).gained.threads c.in_ok-turn.ensures.fewer
+choices-smaller g c = steps_left_fall_after_step c.choices.self.flat c.turn.new.self.flat (ran g c).gained.threads c.in_ok-turn.ensures.fewer

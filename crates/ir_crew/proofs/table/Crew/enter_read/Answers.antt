@@ -4,14 +4,14 @@ use Rattle.ir_runs.specs.declared.access.Access.TheVariants.{Reading}
 use Rattle.ir_crew.specs.Plays.{M, history, inside_by, did, read_entry}
 use Rattle.ir_crew.specs.declared.deed.Deed.TheVariants.{Enter}
 use Rattle.ir_crew.specs.Rule.{entries, shared_of}
-use Rattle.ir_crew.proofs.Steps.{looks, enters_read, tried_hit, alone_as}
+use Rattle.ir_crew.proofs.Steps.{look_is_allowed, read_entry_is_allowed, tried_step_was_taken, alone_if_same_seat}
 use Rattle.ir_crew.proofs.table.Crew.enter_read.Goals as goal
 
 pub load-seen-requires : goal.load-seen-requires
 load-seen-requires g c = (
   c.requires.seat.0,
   (let o = c.requires.object in let w = c.args.self.now.words in omega (arith, o, w)),
-  looks _ _
+  look_is_allowed _ _
       _ c.args.object c.args.seat.now.me c.requires.seat.1 c.requires.object,
 )
 
@@ -25,7 +25,7 @@ pub compare_exchange-found-requires : goal.compare_exchange-found-requires
 compare_exchange-found-requires g c = let me = c.loop.invariant.me in (
   c.loop.invariant.table ∙ c.requires.seat.0,
   (let o = c.requires.object in let w = c.args.self.now.words in omega (arith, o, w)),
-  enters_read _ _ _ c.args.object c.loop.seen c.loop.seat.me (alone_as c.loop.seat.me c.args.seat.now.me me c.requires.seat.1)
+  read_entry_is_allowed _ _ _ c.args.object c.loop.seen c.loop.seat.me (alone_if_same_seat c.loop.seat.me c.args.seat.now.me me c.requires.seat.1)
       c.requires.object
       (subst (λ (m : M). entries (map shared_of (history m.0)) < most_events) (sym me) c.requires.room)
       (subst (λ (m : M). inside_by c.args.object (history m.0) ≡ None) (sym me) c.requires.outside)
@@ -38,7 +38,7 @@ returns-then-found-seen-clause-seat g c = let e = c.compare_exchange-found.ensur
 
 pub returns-then-found-seen-clause-entered : goal.returns-then-found-seen-clause-entered
 returns-then-found-seen-clause-entered g c =
-    tried_hit read_entry c.args.self.now.table.shared.table_id.slots c.args.object c.loop.seen (c.loop.seen + 2)
+    tried_step_was_taken read_entry c.args.self.now.table.shared.table_id.slots c.args.object c.loop.seen (c.loop.seen + 2)
     c.compare_exchange-found.result c.loop.seat.me c.args.seat.now.me c.compare_exchange-found.new.seat.me
     c.compare_exchange-found.ensures.2 c.if-found-seen.true c.loop.invariant.me
     ∙ ap (λ v. (did c.args.seat.now.me.0 c.args.object (Enter Reading v 0), c.args.seat.now.me.1)) (sym c.version.ensures)
@@ -51,7 +51,7 @@ pub load-seen-requires-else-can_read : goal.load-seen-requires-else-can_read
 load-seen-requires-else-can_read g c = (
   c.loop.invariant.table ∙ c.requires.seat.0,
   (let o = c.requires.object in let w = c.args.self.now.words in omega (arith, o, w)),
-  looks _ _ _ c.args.object c.loop.seat.me (alone_as c.loop.seat.me c.args.seat.now.me c.loop.invariant.me c.requires.seat.1)
+  look_is_allowed _ _ _ c.args.object c.loop.seat.me (alone_if_same_seat c.loop.seat.me c.args.seat.now.me c.loop.invariant.me c.requires.seat.1)
       c.requires.object,
 )
 

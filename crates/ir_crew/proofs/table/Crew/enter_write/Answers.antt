@@ -4,14 +4,14 @@ use Rattle.ir_runs.specs.declared.access.Access.TheVariants.{Writing}
 use Rattle.ir_crew.specs.Plays.{M, history, did, write_entry}
 use Rattle.ir_crew.specs.declared.deed.Deed.TheVariants.{Enter}
 use Rattle.ir_crew.specs.Rule.{entries, shared_of}
-use Rattle.ir_crew.proofs.Steps.{looks, enters_write, tried_hit, alone_as}
+use Rattle.ir_crew.proofs.Steps.{look_is_allowed, write_entry_is_allowed, tried_step_was_taken, alone_if_same_seat}
 use Rattle.ir_crew.proofs.table.Crew.enter_write.Goals as goal
 
 pub load-seen-requires : goal.load-seen-requires
 load-seen-requires g c = (
   c.requires.seat.0,
   (let o = c.requires.object in let w = c.args.self.now.words in omega (arith, o, w)),
-  looks _ _
+  look_is_allowed _ _
       _ c.args.object c.args.seat.now.me c.requires.seat.1 c.requires.object,
 )
 
@@ -25,7 +25,7 @@ pub compare_exchange-found-requires : goal.compare_exchange-found-requires
 compare_exchange-found-requires g c = let me = c.loop.invariant.me in (
   c.loop.invariant.table ∙ c.requires.seat.0,
   (let o = c.requires.object in let w = c.args.self.now.words in omega (arith, o, w)),
-  enters_write _ _ _ c.args.object c.loop.seen c.loop.seat.me (alone_as c.loop.seat.me c.args.seat.now.me me c.requires.seat.1)
+  write_entry_is_allowed _ _ _ c.args.object c.loop.seen c.loop.seat.me (alone_if_same_seat c.loop.seat.me c.args.seat.now.me me c.requires.seat.1)
       c.requires.object
       (subst (λ (m : M). entries (map shared_of (history m.0)) < most_events) (sym me) c.requires.room)
       (c.can_write.ensures.0 c.if-can_write.true),
@@ -37,7 +37,7 @@ returns-then-found-seen-clause-seat g c = let e = c.compare_exchange-found.ensur
 
 pub returns-then-found-seen-clause-entered : goal.returns-then-found-seen-clause-entered
 returns-then-found-seen-clause-entered g c =
-    tried_hit write_entry c.args.self.now.table.shared.table_id.slots c.args.object c.loop.seen (c.loop.seen + 1)
+    tried_step_was_taken write_entry c.args.self.now.table.shared.table_id.slots c.args.object c.loop.seen (c.loop.seen + 1)
     c.compare_exchange-found.result c.loop.seat.me c.args.seat.now.me c.compare_exchange-found.new.seat.me
     c.compare_exchange-found.ensures.2 c.if-found-seen.true c.loop.invariant.me
     ∙ (λ i. (did c.args.seat.now.me.0 c.args.object (Enter Writing (sym c.version.ensures i) (sym c.left.ensures i)), c.args.seat.now.me.1))
@@ -50,7 +50,7 @@ pub load-seen-requires-else-can_write : goal.load-seen-requires-else-can_write
 load-seen-requires-else-can_write g c = (
   c.loop.invariant.table ∙ c.requires.seat.0,
   (let o = c.requires.object in let w = c.args.self.now.words in omega (arith, o, w)),
-  looks _ _ _ c.args.object c.loop.seat.me (alone_as c.loop.seat.me c.args.seat.now.me c.loop.invariant.me c.requires.seat.1)
+  look_is_allowed _ _ _ c.args.object c.loop.seat.me (alone_if_same_seat c.loop.seat.me c.args.seat.now.me c.loop.invariant.me c.requires.seat.1)
       c.requires.object,
 )
 

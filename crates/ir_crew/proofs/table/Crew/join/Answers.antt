@@ -1,5 +1,5 @@
 use Rattle.std.proofs.Common.{arith}
-use Rattle.ir_crew.proofs.Seats.{joins}
+use Rattle.ir_crew.proofs.Seats.{kept_seats_join}
 use Rattle.ir_crew.proofs.table.Crew.join.Goals as goal
 
 pub join_seat-requires : goal.join_seat-requires
@@ -8,5 +8,5 @@ join_seat-requires c = (
   c.requires.other.0,
   c.requires.other.1,
   (let w = c.args.self.now.words in omega (arith, w)),
-  joins _ _ _ _ _,
+  kept_seats_join _ _ _ _ _,
 )

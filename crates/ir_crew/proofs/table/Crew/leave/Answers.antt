@@ -1,31 +1,31 @@
 use Rattle.std.proofs.Common.{◌≡◌, ℕ, ◌∙◌, ◌/◌, ◌^◌, ap, sym, subst, arith, Some}
 use Rattle.ir_runs.specs.declared.access.Access.TheVariants.{Writing}
 use Rattle.ir_crew.specs.Plays.{M, history, inside_by}
-use Rattle.ir_crew.proofs.Steps.{looks, leaves_read, leaves_write_by, seen_version, alone_as}
+use Rattle.ir_crew.proofs.Steps.{look_is_allowed, read_leave_is_allowed, write_leave_is_allowed_by_word, looked_version_is_of_entry, alone_if_same_seat}
 use Rattle.ir_crew.proofs.table.Crew.leave.Goals as goal
 
 pub fetch_add-requires : goal.fetch_add-requires
 fetch_add-requires c = (
   c.requires.seat.0,
   (let o = c.requires.object in let w = c.args.self.now.words in omega (arith, o, w)),
-  leaves_read _ _ _ c.args.object c.args.seat.now.me c.requires.seat.1 c.requires.object (c.requires.inside ∙ ap Some c.in-Reading.is),
+  read_leave_is_allowed _ _ _ c.args.object c.args.seat.now.me c.requires.seat.1 c.requires.object (c.requires.inside ∙ ap Some c.in-Reading.is),
 )
 
 pub load-seen-requires : goal.load-seen-requires
 load-seen-requires c = (
   c.requires.seat.0,
   (let o = c.requires.object in let w = c.args.self.now.words in omega (arith, o, w)),
-  looks _ _ _ c.args.object c.args.seat.now.me c.requires.seat.1 c.requires.object,
+  look_is_allowed _ _ _ c.args.object c.args.seat.now.me c.requires.seat.1 c.requires.object,
 )
 
 pub store-requires : goal.store-requires
 store-requires c = let e = c.load-seen.ensures in let v : ℕ = c.load-seen.result / 2 ^ 32 in (
   e.0 ∙ c.requires.seat.0,
   (let o = c.requires.object in let w = c.args.self.now.words in omega (arith, o, w)),
-  leaves_write_by _ _ _ c.args.object v c.next_version-left.result.bits c.load-seen.new.seat.me
-      (alone_as _ c.args.seat.now.me e.2.0 c.requires.seat.1) c.requires.object
+  write_leave_is_allowed_by_word _ _ _ c.args.object v c.next_version-left.result.bits c.load-seen.new.seat.me
+      (alone_if_same_seat _ c.args.seat.now.me e.2.0 c.requires.seat.1) c.requires.object
       (subst (λ (m : M). inside_by c.args.object (history m.0) ≡ Some Writing) (sym e.2.0) (c.requires.inside ∙ ap Some c.in-Writing.is))
-      (seen_version c.args.seat.now.me c.load-seen.new.seat.me c.args.object c.load-seen.result c.args.self.now.table.shared.table_id.slots
+      (looked_version_is_of_entry c.args.seat.now.me c.load-seen.new.seat.me c.args.object c.load-seen.result c.args.self.now.table.shared.table_id.slots
       e.2 (c.requires.inside ∙ ap Some c.in-Writing.is))
       (c.next_version-left.ensures ∙ omega arith),
 )

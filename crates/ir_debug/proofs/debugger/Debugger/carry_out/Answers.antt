@@ -2,22 +2,23 @@ use Rattle.std.proofs.Common.{◌≡◌, true, sym, ap, subst, ◌∙◌}
 use Rattle.std.specs.Prelude.{nat_lt}
 use Rattle.ir_fit.specs.Fit.{FittedTrace}
 use Rattle.ir_cut.specs.Positions.{IsConsistentCut}
-use Rattle.ir_timeline.specs.Positions.{threads_of, Cuts}
-use Rattle.ir_debug.specs.Machine.Refusals.{if_some, thread_moved}
+use Rattle.ir_timeline.specs.Positions.{threads_of, IsCutOf}
+use Rattle.ir_debug.specs.Machine.Refusals.{if_some, thread_named}
+use Rattle.ir_command.specs.declared.command.Command.TheVariants as command
 use Rattle.ir_debug.specs.Debugging.{Debugging}
-use Rattle.ir_debug.proofs.CarriedOut.{mover_there}
+use Rattle.ir_debug.proofs.CarriedOut.{thread_of_permitted_move_exists}
 use Rattle.ir_debug.proofs.debugger.Debugger.carry_out.Goals as goal
 
 pub destination-requires-clause-cut : goal.destination-requires-clause-cut
 destination-requires-clause-cut g c =
     let held = c.self.invariant.desk in
-    subst (λ (f : FittedTrace). Cuts f c.self.inside.at) (sym c.fitted.ensures.value) (held.size, held.at)
+    subst (λ (f : FittedTrace). IsCutOf f c.self.inside.at) (sym c.fitted.ensures.value) (held.size, held.at)
 
 pub destination-requires-clause-thread : goal.destination-requires-clause-thread
 destination-requires-clause-thread g c =
-    subst (λ (f : FittedTrace). if_some (thread_moved c.args.to) (λ t. nat_lt t (threads_of f)) ≡ true)
+    subst (λ (f : FittedTrace). if_some (thread_named (command.Move c.args.to)) (λ t. nat_lt t (threads_of f)) ≡ true)
     (sym (c.fitted.ensures.value ∙ ap (λ (d : Debugging). d.desk.fitted) c.self.view_is))
-    (mover_there c.args.self.now.desk c.args.to c.requires)
+    (thread_of_permitted_move_exists c.args.self.now.desk c.args.to c.requires)
 
 pub go_to-requires-clause-consistent : goal.go_to-requires-clause-consistent
 go_to-requires-clause-consistent g c κs within =

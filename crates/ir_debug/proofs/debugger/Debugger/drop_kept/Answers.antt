@@ -1,22 +1,23 @@
-use Rattle.std.proofs.Common.{length, sym, ap, subst, arith, List}
+use Rattle.std.proofs.Common.{◌==◌, length, sym, ap, subst, arith, List}
+use Rattle.std.specs.Prelude.{not}
 use Rattle.ir_timeline.specs.Replaying.{Replaying}
 use Rattle.ir_debug.specs.Machine.Desk.{Kept}
-use Rattle.ir_debug.specs.Within.{AllKept}
-use Rattle.ir_debug.proofs.Desks.{desk_over}
-use Rattle.ir_debug.proofs.KeptCuts.{all_without, fewer}
+use Rattle.ir_debug.specs.Debugging.{AllKept}
+use Rattle.ir_debug.proofs.Desks.{desk_of_equal_trace}
+use Rattle.ir_debug.proofs.Chosen.{all_without, fewer}
 use Rattle.ir_debug.proofs.debugger.Debugger.drop_kept.Goals as goal
 
 pub invariant_of-self : goal.invariant_of-self
 invariant_of-self c =
     let held = c.self.invariant.desk in
-    let less = fewer c.self.inside.kept.items c.args.number in
+    let less = fewer (λ (k : Kept). not (k.number == c.args.number)) c.self.inside.kept.items in
     let same = ap (λ (z : List Kept). length z) c.forget.ensures in
     let few = held.few in
     record {
-      desk = desk_over c.self.inside.timeline.fitted _ (ap (λ (r : Replaying). r.fitted) c.drop_kept.ensures) held.run (held.size, held.at)
+      desk = desk_of_equal_trace c.self.inside.timeline.fitted _ (ap (λ (r : Replaying). r.fitted) c.give_up.ensures) held.run (held.size, held.at)
           held.points
           (subst (AllKept c.self.inside.timeline.fitted) (sym c.forget.ensures)
-          (all_without c.self.inside.timeline.fitted c.self.inside.kept.items c.args.number held.kept))
+          (all_without _ _ c.self.inside.kept.items held.kept))
           (omega (arith, less, same, few));
       fresh = λ e. absurd (cc e);
     }

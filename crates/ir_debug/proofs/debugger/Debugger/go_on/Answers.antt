@@ -2,46 +2,37 @@ use Rattle.std.proofs.Common.{◌<◌, refl, sym, ap, subst, ◌∙◌}
 use Rattle.ir_cut.specs.Positions.{IsConsistentCut, EachRun, cut_of}
 use Rattle.ir_fit.specs.Fit.{FittedTrace, HasRun}
 use Rattle.ir_command.specs.declared.command.Command.TheVariants as command
-use Rattle.ir_timeline.specs.Positions.{threads_of, Cuts, Finds}
+use Rattle.ir_timeline.specs.Positions.{threads_of, IsCutOf, Finds}
 use Rattle.ir_debug.specs.Debugging.{Debugging}
-use Rattle.ir_debug.proofs.Desks.{desk_same}
-use Rattle.ir_debug.proofs.Passed.{thread_below}
-use Rattle.ir_debug.proofs.SetPoints.{stop_within}
+use Rattle.ir_debug.proofs.Desks.{spoke}
+use Rattle.ir_debug.proofs.Passed.{named_thread_exists}
+use Rattle.ir_debug.proofs.SetPoints.{stop_at_most_last_position}
 use Rattle.ir_debug.proofs.debugger.Debugger.go_on.Goals as goal
 
 pub search-requires-clause-thread : goal.search-requires-clause-thread
 search-requires-clause-thread g c κs within =
     subst (λ (f : FittedTrace). c.args.thread < threads_of f) (sym (ap (λ (d : Debugging). d.desk.fitted) c.self.view_is))
-    (thread_below c.args.self.now.desk (command.Continue c.args.thread c.args.direction) c.args.thread c.requires refl)
+    (named_thread_exists c.args.self.now.desk (command.Continue c.args.thread c.args.direction) c.args.thread c.requires refl)
 
 pub invariant_of-self : goal.invariant_of-self
-invariant_of-self g c = record {
-  desk = desk_same _ _ c.search.ensures.fitted refl refl refl c.self.invariant.desk;
-  fresh = λ e. absurd (cc e);
-}
+invariant_of-self g c = spoke _ _ _ c.search.ensures.fitted refl refl refl refl c.self.invariant.desk
 
 pub invariant_of-self-in_err-cut : goal.invariant_of-self-in_err-cut
-invariant_of-self-in_err-cut g c = record {
-  desk = desk_same _ _ c.search.ensures.fitted refl refl refl c.self.invariant.desk;
-  fresh = λ e. absurd (cc e);
-}
+invariant_of-self-in_err-cut g c = spoke _ _ _ c.search.ensures.fitted refl refl refl refl c.self.invariant.desk
 
 pub invariant_of-self-2 : goal.invariant_of-self-2
-invariant_of-self-2 g c = record {
-  desk = desk_same _ _ c.search.ensures.fitted refl refl refl c.self.invariant.desk;
-  fresh = λ e. absurd (cc e);
-}
+invariant_of-self-2 g c = spoke _ _ _ c.search.ensures.fitted refl refl refl refl c.self.invariant.desk
 
 pub stop-requires-clause-cut : goal.stop-requires-clause-cut
 stop-requires-clause-cut g c =
     let held = c.self.invariant.desk in
-    subst (λ (f : FittedTrace). Cuts f c.self.inside.at) (sym (c.fitted-fitted.ensures.value ∙ c.search.ensures.fitted)) (held.size, held.at)
+    subst (λ (f : FittedTrace). IsCutOf f c.self.inside.at) (sym (c.fitted-fitted.ensures.value ∙ c.search.ensures.fitted)) (held.size, held.at)
 
 pub stop-requires-clause-thread : goal.stop-requires-clause-thread
 stop-requires-clause-thread g c =
     subst (λ (f : FittedTrace). c.args.thread < threads_of f)
     (sym (c.fitted-fitted.ensures.value ∙ c.search.ensures.fitted ∙ ap (λ (d : Debugging). d.desk.fitted) c.self.view_is))
-    (thread_below c.args.self.now.desk (command.Continue c.args.thread c.args.direction) c.args.thread c.requires refl)
+    (named_thread_exists c.args.self.now.desk (command.Continue c.args.thread c.args.direction) c.args.thread c.requires refl)
 
 pub stop-requires-clause-within : goal.stop-requires-clause-within
 stop-requires-clause-within g c =
@@ -50,7 +41,7 @@ stop-requires-clause-within g c =
     let f = c.self.inside.timeline.fitted in
     let finds = subst (λ points. EachRun f (λ run. Finds run f points c.args.thread (cut_of c.self.inside.at c.args.thread)
     c.args.direction c.in_ok-hit.hit)) c.as_slice-points.ensures c.in_ok-hit.ensures.finds in
-    stop_within c.fitted-fitted.result.now c.args.self.now.desk c.args.thread c.args.direction c.in_ok-hit.hit (sym same)
+    stop_at_most_last_position c.fitted-fitted.result.now c.args.self.now.desk c.args.thread c.args.direction c.in_ok-hit.hit (sym same)
     (subst HasRun (sym there) c.self.invariant.desk.run) (stop-requires-clause-thread g c)
     (subst (λ (z : Debugging). EachRun z.desk.fitted (λ run. Finds run z.desk.fitted z.desk.points c.args.thread
     (cut_of z.desk.at c.args.thread) c.args.direction c.in_ok-hit.hit)) c.self.view_is finds)

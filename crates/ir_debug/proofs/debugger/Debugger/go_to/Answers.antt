@@ -1,27 +1,24 @@
 use Rattle.std.proofs.Common.{sym, ap, subst, refl}
 use Rattle.ir_fit.specs.Fit.{FittedTrace}
-use Rattle.ir_timeline.specs.Positions.{Cuts}
+use Rattle.ir_timeline.specs.Positions.{IsCutOf}
 use Rattle.ir_debug.specs.Debugging.{Debugging}
-use Rattle.ir_debug.proofs.Desks.{desk_over, desk_same}
+use Rattle.ir_debug.proofs.Desks.{desk_of_equal_trace, spoke}
 use Rattle.ir_debug.proofs.debugger.Debugger.go_to.Goals as goal
 
 pub go_to-requires-after_bounds : goal.go_to-requires-after_bounds
 go_to-requires-after_bounds g c κs within =
-    subst (λ (f : FittedTrace). Cuts f c.args.to) (sym (ap (λ (d : Debugging). d.desk.fitted) c.self.view_is))
+    subst (λ (f : FittedTrace). IsCutOf f c.args.to) (sym (ap (λ (d : Debugging). d.desk.fitted) c.self.view_is))
     (c.requires.size, c.requires.consistent)
 
 pub invariant_of-self : goal.invariant_of-self
-invariant_of-self g c = record {
-  desk = desk_same _ _ c.go_to.ensures.fitted refl refl refl c.self.invariant.desk;
-  fresh = λ e. absurd (cc e);
-}
+invariant_of-self g c = spoke _ _ _ c.go_to.ensures.fitted refl refl refl refl c.self.invariant.desk
 
 pub invariant_of-self-2 : goal.invariant_of-self-2
 invariant_of-self-2 g c =
     let held = c.self.invariant.desk in
     record {
-      desk = desk_over c.self.inside.timeline.fitted _ c.go_to.ensures.fitted held.run
-          (subst (λ (f : FittedTrace). Cuts f c.args.to) (sym (ap (λ (d : Debugging). d.desk.fitted) c.self.view_is))
+      desk = desk_of_equal_trace c.self.inside.timeline.fitted _ c.go_to.ensures.fitted held.run
+          (subst (λ (f : FittedTrace). IsCutOf f c.args.to) (sym (ap (λ (d : Debugging). d.desk.fitted) c.self.view_is))
           (c.requires.size, c.requires.consistent)) held.points held.kept held.few;
       fresh = λ e. c.in_ok-go_to.ensures.there;
     }

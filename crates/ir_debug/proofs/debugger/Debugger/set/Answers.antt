@@ -2,18 +2,18 @@ use Rattle.std.proofs.Common.{◌<◌, List, length, sym, ap, subst, arith}
 use Rattle.ir_hits.specs.Hits.{Numbered, AreWatchable, IsWatchable}
 use Rattle.ir_debug.specs.Debugging.{Debugging}
 use Rattle.ir_debug.specs.Machine.Desk.{most_points, most_number}
-use Rattle.ir_debug.proofs.SetPoints.{all_more}
-use Rattle.ir_debug.proofs.Passed.{point_place, point_number, watchable}
+use Rattle.ir_debug.proofs.Chosen.{all_more}
+use Rattle.ir_debug.proofs.Passed.{point_room, permitted_point_is_watchable}
 use Rattle.ir_debug.proofs.debugger.Debugger.set.Goals as goal
 
 pub set-requires : goal.set-requires
 set-requires c =
-    subst (λ (z : Debugging). length z.desk.points < most_points) (sym c.self.view_is) (point_place c.args.self.now.desk c.args.point c.requires)
+    subst (λ (z : Debugging). length z.desk.points < most_points) (sym c.self.view_is) (point_room c.args.self.now.desk c.args.point c.requires).0
 
 pub overflow_add-number : goal.overflow_add-number
 overflow_add-number c =
     let left : c.self.inside.last_point < most_number = subst (λ (z : Debugging). z.desk.last_point < most_number) (sym c.self.view_is)
-    (point_number c.args.self.now.desk c.args.point c.requires) in
+    (point_room c.args.self.now.desk c.args.point c.requires).1 in
     omega (arith, left)
 
 pub invariant_of-self : goal.invariant_of-self
@@ -25,8 +25,8 @@ invariant_of-self c =
         run = held.run;
         size = held.size;
         at = held.at;
-        points = subst AreWatchable (sym c.set.ensures) (all_more old c.new.result held.points
-            (subst IsWatchable (sym (ap (λ (p : Numbered). p.point) c.new.ensures)) (watchable c.args.self.now.desk c.args.point c.requires)));
+        points = subst AreWatchable (sym c.set.ensures) (all_more _ old c.new.result held.points
+            (subst IsWatchable (sym (ap (λ (p : Numbered). p.point) c.new.ensures)) (permitted_point_is_watchable c.args.self.now.desk c.args.point c.requires)));
         kept = held.kept;
         few = held.few;
       };

@@ -1,16 +1,13 @@
 use Rattle.std.proofs.Common.{sym, ap, subst, refl}
 use Rattle.ir_fit.specs.Fit.{FittedTrace}
-use Rattle.ir_timeline.specs.Positions.{Cuts}
+use Rattle.ir_timeline.specs.Positions.{IsCutOf}
 use Rattle.ir_debug.specs.Debugging.{Debugging}
-use Rattle.ir_debug.proofs.Desks.{desk_same}
+use Rattle.ir_debug.proofs.Desks.{spoke}
 use Rattle.ir_debug.proofs.debugger.Debugger.visit.Goals as goal
 
 pub go_to-requires-after_bounds : goal.go_to-requires-after_bounds
 go_to-requires-after_bounds g c κs within =
-    subst (λ (f : FittedTrace). Cuts f c.args.cut.now) (sym (ap (λ (d : Debugging). d.desk.fitted) c.self.view_is)) c.requires
+    subst (λ (f : FittedTrace). IsCutOf f c.args.cut.now) (sym (ap (λ (d : Debugging). d.desk.fitted) c.self.view_is)) c.requires
 
 pub invariant_of-self : goal.invariant_of-self
-invariant_of-self g c = record {
-  desk = desk_same _ _ c.go_to.ensures.fitted refl refl refl c.self.invariant.desk;
-  fresh = λ e. absurd (cc e);
-}
+invariant_of-self g c = spoke _ _ _ c.go_to.ensures.fitted refl refl refl refl c.self.invariant.desk

@@ -1,7 +1,7 @@
 use Rattle.std.proofs.Common.{subst}
 use Rattle.ir_fit.specs.Fit.{FittedTrace}
 use Rattle.ir_fit.specs.Visits.{OnlyEntries, AllEntries}
-use Rattle.ir_fit.proofs.Found.{only_entries, all_entries}
+use Rattle.ir_fit.proofs.Found.{listed_entries_are_only_entries, listed_entries_are_all_entries}
 use Rattle.ir_fit.proofs.fitted.Fitted.entries_at.Goals as goal
 
 pub returns-clause-only : goal.returns-clause-only
@@ -9,7 +9,7 @@ returns-clause-only c =
     let inside = c.self.inside in
     let f : FittedTrace = record { guest = inside.image; recorded = inside.trace; placed = inside.places.items } in
     subst (λ g. OnlyEntries g c.args.object c.args.access c.args.version c.at.result.now) c.self.view_is
-    (only_entries f inside.entered c.self.invariant.1 c.args.object c.args.access c.args.version c.at.result.now
+    (listed_entries_are_only_entries f inside.entered c.self.invariant.1 c.args.object c.args.access c.args.version c.at.result.now
     c.at.ensures.emitted)
 
 pub returns-clause-all : goal.returns-clause-all
@@ -17,5 +17,5 @@ returns-clause-all c =
     let inside = c.self.inside in
     let f : FittedTrace = record { guest = inside.image; recorded = inside.trace; placed = inside.places.items } in
     subst (λ g. AllEntries g c.args.object c.args.access c.args.version c.at.result.now) c.self.view_is
-    (all_entries f inside.entered c.self.invariant.1 c.args.object c.args.access c.args.version c.at.result.now
+    (listed_entries_are_all_entries f inside.entered c.self.invariant.1 c.args.object c.args.access c.args.version c.at.result.now
     c.at.ensures.all)

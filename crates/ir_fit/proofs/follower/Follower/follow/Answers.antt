@@ -1,11 +1,11 @@
 use Rattle.std.proofs.Common.{refl, ◌∙◌}
-use Rattle.ir_fit.proofs.Moves.{stays, chained, chained_less}
-use Rattle.ir_fit.proofs.Passed.{along_of, passed_on}
+use Rattle.ir_fit.proofs.Moves.{goes_on_is_reflexive, goes_on_through_look, fewer_ahead_through_look}
+use Rattle.ir_fit.proofs.Passed.{follower_is_along_trace, passed_states_if_run_same}
 use Rattle.ir_fit.proofs.follower.Follower.follow.Goals as goal
 
 pub moves-init : goal.moves-init
 moves-init g c = record {
-  goes = stays c.args.self.now.trace c.args.self.now.flat c.args.self.now.places.items;
+  goes = goes_on_is_reflexive c.args.self.now.trace c.args.self.now.flat c.args.self.now.places.items;
   trace = refl;
   sized =
       c.requires;
@@ -14,7 +14,7 @@ moves-init g c = record {
 
 pub moves-preserved : goal.moves-preserved
 moves-preserved g c = record {
-  goes = chained c.args.self.now.trace c.next.new.self.trace c.take.new.self.trace c.args.self.now.flat c.moves.self.flat
+  goes = goes_on_through_look c.args.self.now.trace c.next.new.self.trace c.take.new.self.trace c.args.self.now.flat c.moves.self.flat
       c.next.new.self.flat c.take.new.self.flat c.advance.new.self.flat
       c.args.self.now.places.items c.moves.self.places.items c.next.new.self.places.items c.take.new.self.places.items
       c.advance.new.self.places.items
@@ -22,19 +22,19 @@ moves-preserved g c = record {
       c.take.ensures.trace c.advance.ensures.goes;
   trace = c.advance.ensures.trace ∙ c.take.ensures.trace ∙ c.next.ensures.trace ∙ c.moves.invariant.trace;
   sized = c.advance.ensures.sized;
-  passed = λ guest k passed. passed_on guest c.args.self.now.trace c.moves.self.trace c.moves.self.flat c.moves.self.flat
+  passed = λ guest k passed. passed_states_if_run_same guest c.args.self.now.trace c.moves.self.trace c.moves.self.flat c.moves.self.flat
       c.moves.passing.states.items c.next.new.passing.states.items c.moves.invariant.trace refl (c.next.ensures.passed guest)
-      (along_of guest c.args.self.now.trace c.moves.self.flat c.moves.self.places.items (c.moves.invariant.goes.follows guest k))
+      (follower_is_along_trace guest c.args.self.now.trace c.moves.self.flat c.moves.self.places.items (c.moves.invariant.goes.follows guest k))
       (c.moves.invariant.passed guest k passed);
 }
 
 pub returns-clause-passed : goal.returns-clause-passed
-returns-clause-passed g c = λ guest k passed. passed_on guest c.args.self.now.trace c.moves.self.trace c.moves.self.flat c.moves.self.flat
+returns-clause-passed g c = λ guest k passed. passed_states_if_run_same guest c.args.self.now.trace c.moves.self.trace c.moves.self.flat c.moves.self.flat
     c.moves.passing.states.items c.next.new.passing.states.items c.moves.invariant.trace refl (c.next.ensures.passed guest)
-    (along_of guest c.args.self.now.trace c.moves.self.flat c.moves.self.places.items (c.moves.invariant.goes.follows guest k))
+    (follower_is_along_trace guest c.args.self.now.trace c.moves.self.flat c.moves.self.places.items (c.moves.invariant.goes.follows guest k))
     (c.moves.invariant.passed guest k passed)
 
 pub moves-smaller : goal.moves-smaller
-moves-smaller g c = chained_less c.moves.self.trace c.next.new.self.trace c.take.new.self.trace c.advance.new.self.trace c.moves.self.flat
+moves-smaller g c = fewer_ahead_through_look c.moves.self.trace c.next.new.self.trace c.take.new.self.trace c.advance.new.self.trace c.moves.self.flat
     c.next.new.self.flat c.take.new.self.flat c.advance.new.self.flat c.take.new.self.places.items c.advance.new.self.places.items
     c.next.ensures.flat c.next.ensures.trace c.take.ensures.fewer c.advance.ensures.goes c.advance.ensures.trace

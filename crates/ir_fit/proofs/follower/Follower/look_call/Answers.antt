@@ -4,7 +4,7 @@ use Rattle.ir_flat.specs.Flat.{thread_of}
 use Rattle.ir_log.specs.Asked.{Suits}
 use Rattle.ir_thread.specs.declared.ask.Ask.TheVariants.{Env}
 use Rattle.ir_trace.specs.Recorded.{recorded_thread}
-use Rattle.ir_fit.proofs.Seen.{call_follows, call_disagrees, asks_env}
+use Rattle.ir_fit.proofs.Seen.{suited_call_can_follow, unsuited_call_disagrees, environment_call_is_not_done}
 use Rattle.ir_fit.proofs.follower.Follower.look_call.Goals as goal
 
 pub returns-in-Ok-Answer : goal.returns-in-Ok-Answer
@@ -18,14 +18,14 @@ returns-in-Ok-Answer c =
       record {
         below = c.requires.thread;
         asked = sym c.requires.asked;
-        follows = call_follows r f c.args.t c.in-Ok-Answer.result c.args.kind c.in-Ok-Answer.field-0-0 c.next_event.ensures.within
+        follows = suited_call_can_follow r f c.args.t c.in-Ok-Answer.result c.args.kind c.in-Ok-Answer.field-0-0 c.next_event.ensures.within
             c.requires.asked c.requires.steps next suits;
       },
     )
 
 pub returns-in-Err : goal.returns-in-Err
 returns-in-Err c = (
-  asks_env _ c.args.kind c.requires.asked,
-  call_disagrees c.args.self.now.trace c.args.self.now.flat c.args.t c.args.kind
+  environment_call_is_not_done _ c.args.kind c.requires.asked,
+  unsuited_call_disagrees c.args.self.now.trace c.args.self.now.flat c.args.t c.args.kind
       c.requires.asked c.in-Err.ensures.disagrees,
 )

@@ -1,5 +1,5 @@
 use Rattle.std.proofs.Common.{refl, sym}
-use Rattle.ir_fit.proofs.Seen.{end_follows, end_disagrees, asks_end, test_false}
+use Rattle.ir_fit.proofs.Seen.{end_as_recorded_can_follow, end_not_as_recorded_disagrees, end_is_not_done, false_test_refutes}
 use Rattle.ir_fit.proofs.follower.Follower.look_end.Goals as goal
 
 pub returns-then-ends_so : goal.returns-then-ends_so
@@ -8,14 +8,14 @@ returns-then-ends_so c = (
   record {
     below = c.requires.thread;
     asked = sym c.requires.asked;
-    follows = end_follows c.args.self.now.trace c.args.self.now.flat c.args.t c.args.end c.requires.asked c.requires.steps
+    follows = end_as_recorded_can_follow c.args.self.now.trace c.args.self.now.flat c.args.t c.args.end c.requires.asked c.requires.steps
         (c.ends_so.ensures.0 c.if-ends_so.true);
   },
 )
 
 pub returns-else-ends_so : goal.returns-else-ends_so
 returns-else-ends_so c = (
-  asks_end _ c.args.end c.requires.asked,
-  end_disagrees c.args.self.now.trace c.args.self.now.flat c.args.t
-      c.args.end c.requires.asked (test_false c.ends_so.result _ c.ends_so.ensures c.if-ends_so.false),
+  end_is_not_done _ c.args.end c.requires.asked,
+  end_not_as_recorded_disagrees c.args.self.now.trace c.args.self.now.flat c.args.t
+      c.args.end c.requires.asked (false_test_refutes c.ends_so.result _ c.ends_so.ensures c.if-ends_so.false),
 )

@@ -1,17 +1,17 @@
 use Rattle.std.proofs.Common.{refl, sym}
 use Rattle.ir_flat.specs.Flat.{cell_of}
-use Rattle.ir_flat.proofs.CallerLemmas.{enter_object}
-use Rattle.ir_fit.proofs.Seen.{entry_follows, entry_waits, entry_agrees, entry_awaits, entry_disagrees, asks_entry, found_open, found_shut}
+use Rattle.ir_flat.proofs.CallerLemmas.{entered_object_is_of_state}
+use Rattle.ir_fit.proofs.Seen.{open_entry_can_follow, shut_entry_is_stopped, suited_entry_agrees, entry_awaits_event, unsuited_entry_disagrees, entry_is_not_done, found_cell_open_if_test_true, found_cell_shut_if_test_false}
 use Rattle.ir_fit.proofs.follower.Follower.look_entry.Goals as goal
 
 pub object-requires : goal.object-requires
-object-requires c = enter_object c.args.self.now.flat c.args.t c.args.object c.args.access c.next_event.ensures.flat c.requires.thread
+object-requires c = entered_object_is_of_state c.args.self.now.flat c.args.t c.args.object c.args.access c.next_event.ensures.flat c.requires.thread
     c.requires.asked
 
 pub returns-in-Err : goal.returns-in-Err
 returns-in-Err c = (
-  asks_entry _ c.args.object c.args.access c.requires.asked,
-  entry_disagrees c.args.self.now.trace c.args.self.now.flat
+  entry_is_not_done _ c.args.object c.args.access c.requires.asked,
+  unsuited_entry_disagrees c.args.self.now.trace c.args.self.now.flat
       c.args.t c.args.object c.args.access c.requires.asked c.in-Err.ensures.disagrees,
 )
 
@@ -21,9 +21,9 @@ returns-then-is_open c = (
   record {
     below = c.requires.thread;
     asked = sym c.requires.asked;
-    follows = entry_follows c.args.self.now.trace c.args.self.now.flat c.args.t c.args.object c.args.access c.in-Ok.event
+    follows = open_entry_can_follow c.args.self.now.trace c.args.self.now.flat c.args.t c.args.object c.args.access c.in-Ok.event
         c.next_event.ensures.flat c.requires.thread c.requires.asked c.requires.steps c.in-Ok.ensures.next c.in-Ok.ensures.suits
-        (found_open c.is_open.result c.object.result.now (cell_of c.args.self.now.flat c.args.object) c.in-Ok.event c.object.ensures
+        (found_cell_open_if_test_true c.is_open.result c.object.result.now (cell_of c.args.self.now.flat c.args.object) c.in-Ok.event c.object.ensures
         c.is_open.ensures c.if-is_open.true);
   },
 )
@@ -31,13 +31,13 @@ returns-then-is_open c = (
 pub returns-else-is_open : goal.returns-else-is_open
 returns-else-is_open c = (
   record {
-    awaits = entry_awaits c.args.self.now.trace c.args.self.now.flat c.args.t c.args.object c.args.access c.requires.asked;
+    awaits = entry_awaits_event c.args.self.now.trace c.args.self.now.flat c.args.t c.args.object c.args.access c.requires.asked;
     next = c.in-Ok.ensures.next;
   },
-  entry_agrees c.args.self.now.trace c.args.self.now.flat c.args.t c.args.object c.args.access c.in-Ok.event c.requires.asked
+  suited_entry_agrees c.args.self.now.trace c.args.self.now.flat c.args.t c.args.object c.args.access c.in-Ok.event c.requires.asked
       c.requires.steps c.in-Ok.ensures.next c.in-Ok.ensures.suits,
-  entry_waits c.args.self.now.trace c.args.self.now.flat c.args.t c.args.object c.args.access c.in-Ok.event c.next_event.ensures.flat
+  shut_entry_is_stopped c.args.self.now.trace c.args.self.now.flat c.args.t c.args.object c.args.access c.in-Ok.event c.next_event.ensures.flat
       c.requires.thread c.requires.asked c.in-Ok.ensures.next c.in-Ok.ensures.suits
-      (found_shut c.is_open.result c.object.result.now (cell_of c.args.self.now.flat c.args.object) c.in-Ok.event c.object.ensures
+      (found_cell_shut_if_test_false c.is_open.result c.object.result.now (cell_of c.args.self.now.flat c.args.object) c.in-Ok.event c.object.ensures
       c.is_open.ensures c.if-is_open.false),
 )

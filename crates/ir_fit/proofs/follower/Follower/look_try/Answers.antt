@@ -4,17 +4,17 @@ use Rattle.ir_flat.specs.Flat.{thread_of, cell_of}
 use Rattle.ir_log.specs.Asked.{Suits}
 use Rattle.ir_thread.specs.declared.ask.Ask.TheVariants.{Try}
 use Rattle.ir_trace.specs.Recorded.{recorded_thread}
-use Rattle.ir_flat.proofs.CallerLemmas.{try_object}
-use Rattle.ir_fit.proofs.Seen.{refused_follows, try_enters, try_waits, try_agrees, try_awaits, try_disagrees, asks_try, got_in, found_open, found_shut}
+use Rattle.ir_flat.proofs.CallerLemmas.{tried_object_is_of_state}
+use Rattle.ir_fit.proofs.Seen.{refused_try_can_follow, open_try_can_follow, shut_try_is_stopped, suited_try_agrees, try_that_got_in_awaits, unsuited_try_disagrees, try_is_not_done, try_not_refused_got_in, found_cell_open_if_test_true, found_cell_shut_if_test_false}
 use Rattle.ir_fit.proofs.follower.Follower.look_try.Goals as goal
 
 pub object-requires : goal.object-requires
-object-requires c = try_object c.args.self.now.flat c.args.t c.args.object c.next_event.ensures.flat c.requires.thread c.requires.asked
+object-requires c = tried_object_is_of_state c.args.self.now.flat c.args.t c.args.object c.next_event.ensures.flat c.requires.thread c.requires.asked
 
 pub returns-in-Err : goal.returns-in-Err
 returns-in-Err c = (
-  asks_try _ c.args.object c.requires.asked,
-  try_disagrees c.args.self.now.trace c.args.self.now.flat c.args.t c.args.object c.requires.asked c.in-Err.ensures.disagrees,
+  try_is_not_done _ c.args.object c.requires.asked,
+  unsuited_try_disagrees c.args.self.now.trace c.args.self.now.flat c.args.t c.args.object c.requires.asked c.in-Err.ensures.disagrees,
 )
 
 pub returns-in-Try : goal.returns-in-Try
@@ -28,7 +28,7 @@ returns-in-Try c =
       record {
         below = c.requires.thread;
         asked = sym c.requires.asked;
-        follows = refused_follows r f c.args.t c.args.object c.in-Try.object c.requires.asked c.requires.steps next suits;
+        follows = refused_try_can_follow r f c.args.t c.args.object c.in-Try.object c.requires.asked c.requires.steps next suits;
       },
     )
 
@@ -38,25 +38,25 @@ returns-then-is_open c = (
   record {
     below = c.requires.thread;
     asked = sym c.requires.asked;
-    follows = try_enters c.args.self.now.trace c.args.self.now.flat c.args.t c.args.object c.in-Ok.logged c.next_event.ensures.flat
+    follows = open_try_can_follow c.args.self.now.trace c.args.self.now.flat c.args.t c.args.object c.in-Ok.logged c.next_event.ensures.flat
         c.requires.thread c.requires.asked c.requires.steps c.in-Ok.ensures.next c.in-Ok.ensures.suits
-        (found_open c.is_open.result c.object.result.now (cell_of c.args.self.now.flat c.args.object) c.in-Ok.logged c.object.ensures
+        (found_cell_open_if_test_true c.is_open.result c.object.result.now (cell_of c.args.self.now.flat c.args.object) c.in-Ok.logged c.object.ensures
         c.is_open.ensures c.if-is_open.true);
   },
 )
 
 pub returns-else-is_open : goal.returns-else-is_open
 returns-else-is_open c =
-    let in_ = got_in c.args.object c.in-Ok.logged c.in-Ok.ensures.suits c.in_default.not-Try in (
+    let in_ = try_not_refused_got_in c.args.object c.in-Ok.logged c.in-Ok.ensures.suits c.in_default.not-Try in (
       record {
-        awaits = try_awaits c.args.self.now.trace c.args.self.now.flat c.args.t c.args.object c.in-Ok.logged c.requires.asked
+        awaits = try_that_got_in_awaits c.args.self.now.trace c.args.self.now.flat c.args.t c.args.object c.in-Ok.logged c.requires.asked
             c.in-Ok.ensures.next in_;
         next = c.in-Ok.ensures.next;
       },
-      try_agrees c.args.self.now.trace c.args.self.now.flat c.args.t c.args.object c.in-Ok.logged c.requires.asked c.requires.steps
+      suited_try_agrees c.args.self.now.trace c.args.self.now.flat c.args.t c.args.object c.in-Ok.logged c.requires.asked c.requires.steps
           c.in-Ok.ensures.next c.in-Ok.ensures.suits,
-      try_waits c.args.self.now.trace c.args.self.now.flat c.args.t c.args.object c.in-Ok.logged c.next_event.ensures.flat
+      shut_try_is_stopped c.args.self.now.trace c.args.self.now.flat c.args.t c.args.object c.in-Ok.logged c.next_event.ensures.flat
           c.requires.thread c.requires.asked c.in-Ok.ensures.next c.in-Ok.ensures.suits in_
-          (found_shut c.is_open.result c.object.result.now (cell_of c.args.self.now.flat c.args.object) c.in-Ok.logged c.object.ensures
+          (found_cell_shut_if_test_false c.is_open.result c.object.result.now (cell_of c.args.self.now.flat c.args.object) c.in-Ok.logged c.object.ensures
           c.is_open.ensures c.if-is_open.false),
     )

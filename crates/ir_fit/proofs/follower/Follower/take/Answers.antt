@@ -2,20 +2,20 @@ use Rattle.std.proofs.Common.{◌≡◌, ◌<◌, sym, ◌∙◌, ap, subst, len
 use Rattle.ir_thread.specs.Calls.{ask_of}
 use Rattle.ir_flat.specs.Flat.{thread_of}
 use Rattle.ir_fit.specs.Follower.{all_ahead, IsPlaced}
-use Rattle.ir_fit.proofs.Moves.{Taken, taken_by, leave_object}
+use Rattle.ir_fit.proofs.Moves.{MoveTaken, move_taken_by_result, left_object_is_of_state}
 use Rattle.ir_fit.proofs.follower.Follower.take.Goals as goal
 use Rattle.ir_fit.proofs.follower.Follower.take.Goals.{After-wake}
 
-left : (c : After-wake) → Taken c.args.self.now.trace c.args.self.now.flat c.args.self.now.places.items c.take.new.self
+left : (c : After-wake) → MoveTaken c.args.self.now.trace c.args.self.now.flat c.args.self.now.places.items c.take.new.self
     c.place.new.self.places.items
-left c = taken_by c.take.result c.args.self.now.trace c.args.self.now.flat c.take.new.self c.place.new.self.flat
+left c = move_taken_by_result c.take.result c.args.self.now.trace c.args.self.now.flat c.take.new.self c.place.new.self.flat
     c.args.self.now.places.items c.place.new.self.places.items c.args.next c.requires.follows c.requires.sized.placed c.place.ensures.places
     c.place.ensures.flat
     c.take.ensures.taken c.take.ensures.code c.take.ensures.threads c.take.ensures.objects c.take.ensures.refused
 
-taken : (c : goal.In_default) → Taken c.args.self.now.trace c.args.self.now.flat c.args.self.now.places.items c.take.new.self
+taken : (c : goal.In_default) → MoveTaken c.args.self.now.trace c.args.self.now.flat c.args.self.now.places.items c.take.new.self
     c.place.new.self.places.items
-taken c = taken_by c.take.result c.args.self.now.trace c.args.self.now.flat c.take.new.self c.place.new.self.flat
+taken c = move_taken_by_result c.take.result c.args.self.now.trace c.args.self.now.flat c.take.new.self c.place.new.self.flat
     c.args.self.now.places.items c.place.new.self.places.items c.args.next c.requires.follows c.requires.sized.placed c.place.ensures.places
     c.place.ensures.flat
     c.take.ensures.taken c.take.ensures.code c.take.ensures.threads c.take.ensures.objects c.take.ensures.refused
@@ -56,7 +56,7 @@ take-requires-clause-asked c = subst (λ f. c.args.next.asked ≡ ask_of f.code 
 
 pub bounds-objects-object : goal.bounds-objects-object
 bounds-objects-object c =
-    let within = leave_object c.args.self.now.flat c.args.next.thread c.in-Leave.object c.in-Leave.field-1 c.place.ensures.within
+    let within = left_object_is_of_state c.args.self.now.flat c.args.next.thread c.in-Leave.object c.in-Leave.field-1 c.place.ensures.within
     c.requires.follows.below (sym c.requires.follows.asked ∙ c.in-Leave.is) in
     let same = ap (λ xs. length xs) c.objects.ensures.value ∙ c.take.ensures.objects ∙ ap (λ z. length z.objects) c.place.ensures.flat in
     subst (λ n. c.in-Leave.object < n) (sym same) within

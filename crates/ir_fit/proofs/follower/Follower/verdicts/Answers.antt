@@ -2,7 +2,7 @@ use Rattle.std.proofs.Common.{◌≡◌, [], ◌∷◌, length, Some, slice_get,
 use Rattle.ir_flat.specs.Flat.{start_flat, tables, machine}
 use Rattle.ir_trace.specs.Recorded.{trace_of}
 use Rattle.ir_runs.specs.Standing.{StandsAs}
-use Rattle.ir_fit.proofs.Furthest.{get_pushed}
+use Rattle.ir_fit.proofs.Furthest.{slice_get_after_push_cases}
 use Rattle.ir_fit.proofs.follower.Follower.verdicts.Goals as goal
 
 pub loop-t-preserved : goal.loop-t-preserved
@@ -10,7 +10,7 @@ loop-t-preserved c = record {
   size = ap (λ xs. length xs) c.in_ok-push.ensures.items
       ∙ (let long = length-append c.loop-t.verdicts.items (c.verdict.result ∷ []) in let size = c.loop-t.invariant.size in
       omega (arith, long, size));
-  stand = λ guest k t v h. elim (get_pushed c.loop-t.verdicts.items c.verdict.result t v
+  stand = λ guest k t v h. elim (slice_get_after_push_cases c.loop-t.verdicts.items c.verdict.result t v
       (subst (λ xs. slice_get xs t ≡ Some v) c.in_ok-push.ensures.items h)) [
         | inl g ↦ c.loop-t.invariant.stand guest k t v g
         | inr e ↦

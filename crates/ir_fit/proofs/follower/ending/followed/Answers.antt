@@ -2,21 +2,21 @@ use Rattle.std.proofs.Common.{◌≡◌, sym, ap, subst, ◌∙◌, length, map,
 use Rattle.ir_thread.specs.State.{IsAllowed}
 use Rattle.ir_thread.specs.declared.profile.Profile.{Profile}
 use Rattle.ir_flat.specs.Flat.{start_flat}
-use Rattle.ir_flat.proofs.CallerLemmas.{threads_length}
+use Rattle.ir_flat.proofs.CallerLemmas.{length_of_start_threads}
 use Rattle.ir_fit.specs.Ahead.{IsStopped}
-use Rattle.ir_fit.proofs.Guests.{allowed}
-use Rattle.ir_fit.proofs.Moves.{followed_there, start_follower, start_placed, start_none, room_for}
+use Rattle.ir_fit.proofs.Guests.{guest_with_header_is_allowed}
+use Rattle.ir_fit.proofs.Moves.{followed_if_all_stopped, start_is_follower, start_is_placed, start_has_no_places, room_for}
 use Rattle.ir_fit.proofs.follower.ending.followed.Goals as goal
 
 pub start-requires-clause-allowed : goal.start-requires-clause-allowed
 start-requires-clause-allowed g c = subst (λ (p : Profile). IsAllowed p c.args.image.now) (sym c.profile.ensures)
-    (allowed c.args.image.now c.args.trace c.budget.ensures.within c.requires)
+    (guest_with_header_is_allowed c.args.image.now c.args.trace c.budget.ensures.within c.requires)
 
 pub follow-requires : goal.follow-requires
 follow-requires g c =
     let start : c.in_ok-flat.flat ≡ start_flat c.args.image.now c.budget.result c.profile.result = c.in_ok-flat.ensures in
     let threads : length c.in_ok-flat.flat.threads ≡ length c.args.image.now.entries = ap (λ f. length f.threads) start
-    ∙ threads_length c.args.image.now c.budget.result c.profile.result 0 (length c.args.image.now.entries) in
+    ∙ length_of_start_threads c.args.image.now c.budget.result c.profile.result 0 (length c.args.image.now.entries) in
     let count : length c.threads-count.result.now ≡ length c.args.image.now.entries = ap (λ xs. length xs) c.threads-count.ensures.value
     ∙ c.requires.threads in
     let rooms : c.in_ok-places.places.items ≡ map room_for c.args.trace.threads = c.in_ok-places.ensures
@@ -24,7 +24,7 @@ follow-requires g c =
     record {
       emitted = c.requires.threads ∙ sym threads;
       known = omega (arith, c.resize.new.self.ok, c.in_ok-resize.ensures.len, count, threads);
-      placed = start_placed c.args.image.now c.args.trace c.in_ok-flat.flat c.in_ok-places.places.items
+      placed = start_is_placed c.args.image.now c.args.trace c.in_ok-flat.flat c.in_ok-places.places.items
           (start ∙ λ i. start_flat c.args.image.now (c.budget.ensures.value i) (c.profile.ensures i)) rooms (c.requires.threads ∙ sym threads);
     }
 
@@ -34,8 +34,8 @@ returns-clause-followed g c =
     ∙ (λ i. start_flat c.args.image.now (c.budget.ensures.value i) (c.profile.ensures i)) in
     let rooms : c.in_ok-places.places.items ≡ map room_for c.args.trace.threads = c.in_ok-places.ensures
     ∙ ap (map room_for) c.threads.ensures.value in
-    followed_there c.args.image.now c.args.trace c.in_ok-flat.flat c.follow.new.self.flat c.in_ok-places.places.items
-    c.follow.new.self.places.items start (start_none c.args.trace c.in_ok-places.places.items rooms) c.follow.ensures.goes
+    followed_if_all_stopped c.args.image.now c.args.trace c.in_ok-flat.flat c.follow.new.self.flat c.in_ok-places.places.items
+    c.follow.new.self.places.items start (start_has_no_places c.args.trace c.in_ok-places.places.items rooms) c.follow.ensures.goes
     (λ t l. subst (λ z. IsStopped z c.follow.new.self.flat t) c.follow.ensures.trace (c.follow.ensures.stopped t l))
 
 pub returns-clause-passed : goal.returns-clause-passed
@@ -44,5 +44,5 @@ returns-clause-passed g c =
     ∙ (λ i. start_flat c.args.image.now (c.budget.ensures.value i) (c.profile.ensures i)) in
     let rooms : c.in_ok-places.places.items ≡ map room_for c.args.trace.threads = c.in_ok-places.ensures
     ∙ ap (map room_for) c.threads.ensures.value in
-    c.follow.ensures.passed c.args.image.now (start_follower c.args.image.now c.args.trace c.in_ok-flat.flat c.in_ok-places.places.items start
-    (start_none c.args.trace c.in_ok-places.places.items rooms))
+    c.follow.ensures.passed c.args.image.now (start_is_follower c.args.image.now c.args.trace c.in_ok-flat.flat c.in_ok-places.places.items start
+    (start_has_no_places c.args.trace c.in_ok-places.places.items rooms))

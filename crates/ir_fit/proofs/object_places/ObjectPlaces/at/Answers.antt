@@ -1,7 +1,7 @@
 use Rattle.std.proofs.Common.{◌∙◌, sym, subst}
 use Rattle.std.specs.List.Sorted.{IsNonDecreasingBy}
 use Rattle.ir_fit.specs.declared.place.Place.{Place}
-use Rattle.ir_fit.proofs.ByVersion.{at_version, rest_in_order}
+use Rattle.ir_fit.proofs.ByVersion.{range_is_exactly_version, take_of_drop_is_non_decreasing}
 use Rattle.ir_fit.proofs.object_places.ObjectPlaces.at.Goals as goal
 
 pub count_before-requires : goal.count_before-requires
@@ -9,15 +9,15 @@ count_before-requires c = subst (IsNonDecreasingBy (λ (p : Place). p.version)) 
     c.requires
 
 pub count_up_to-requires : goal.count_up_to-requires
-count_up_to-requires c = rest_in_order c.as_slice-places.result.now c.count_before.result
+count_up_to-requires c = take_of_drop_is_non_decreasing c.as_slice-places.result.now c.count_before.result
     (subst (IsNonDecreasingBy (λ (p : Place). p.version)) (sym (c.as_slice-places.ensures.value ∙ c.self.view_is)) c.requires)
 
 pub returns-clause-emitted : goal.returns-clause-emitted
-returns-clause-emitted c = (at_version c.as_slice-places.result.now c.args.self.now c.count_before.result c.count_up_to.result c.args.version
+returns-clause-emitted c = (range_is_exactly_version c.as_slice-places.result.now c.args.self.now c.count_before.result c.count_up_to.result c.args.version
     (c.as_slice-places.ensures.value ∙ c.self.view_is) c.count_up_to.ensures.bound c.count_before.ensures.point
     c.count_up_to.ensures.point).0
 
 pub returns-clause-all : goal.returns-clause-all
-returns-clause-all c = (at_version c.as_slice-places.result.now c.args.self.now c.count_before.result c.count_up_to.result c.args.version
+returns-clause-all c = (range_is_exactly_version c.as_slice-places.result.now c.args.self.now c.count_before.result c.count_up_to.result c.args.version
     (c.as_slice-places.ensures.value ∙ c.self.view_is) c.count_up_to.ensures.bound c.count_before.ensures.point
     c.count_up_to.ensures.point).1

@@ -5,7 +5,7 @@ use Rattle.ir_stream.specs.declared.serving.Flow.TheVariants.{Quits}
 use Rattle.ir_packet.specs.Reading.{Reading, item_found, items_found}
 use Rattle.ir_packet.specs.Stream as stream
 use Rattle.ir_gdb.specs.Connection.{Connecting, ends}
-use Rattle.ir_gdb.proofs.Items.{At, payload_few, at_start, at_byte, at_item, quit_ended, quit_known, write_failed}
+use Rattle.ir_gdb.proofs.Items.{AfterBytes, found_payload_within_limit, after_no_bytes, at_byte, at_item, quit_ended, quit_known, write_failed}
 use Rattle.ir_gdb.proofs.connection.Connection.serve.Goals as goal
 
 goes : (f : Flow) (b : Bool) → f ≡ flow_after b → (f ≡ Quits → ⊥) → b ≡ false
@@ -18,7 +18,7 @@ quit f false e is = absurd cc
 
 pub loop-taken-init : goal.loop-taken-init
 loop-taken-init g c = record {
-  at = at_start c.args.self.now.link (g.R.Source.left c.args.reader.now) (g.W.Sink.written c.args.writer.now) c.args.self.now.reading.place
+  at = after_no_bytes c.args.self.now.link (g.R.Source.left c.args.reader.now) (g.W.Sink.written c.args.writer.now) c.args.self.now.reading.place
       c.requires.start;
   reads = c.requires.reads;
   writes = c.requires.writes;
@@ -26,11 +26,11 @@ loop-taken-init g c = record {
 
 pub loop-taken-preserved-in_default : goal.loop-taken-preserved-in_default
 loop-taken-preserved-in_default g c =
-    let at : At c.args.self.now.link (g.R.Source.left c.args.reader.now) (g.W.Sink.written c.args.writer.now)
+    let at : AfterBytes c.args.self.now.link (g.R.Source.left c.args.reader.now) (g.W.Sink.written c.args.writer.now)
     (g.R.Source.left c.loop-taken.reader) (g.W.Sink.written c.loop-taken.writer)
     (record { stub = c.self.inside.remote.stub; acknowledges = c.self.inside.acknowledges; is_owed = c.self.inside.is_owed })
     c.self.inside.reader.place c.loop-taken.taken =
-    subst (λ (x : Connecting). At c.args.self.now.link (g.R.Source.left c.args.reader.now) (g.W.Sink.written c.args.writer.now)
+    subst (λ (x : Connecting). AfterBytes c.args.self.now.link (g.R.Source.left c.args.reader.now) (g.W.Sink.written c.args.writer.now)
     (g.R.Source.left c.loop-taken.reader) (g.W.Sink.written c.loop-taken.writer) x.link x.reading.place c.loop-taken.taken)
     (sym c.self.view_is) c.loop-taken.invariant.at in
     record {
@@ -45,15 +45,15 @@ loop-taken-preserved-in_default g c =
 
 pub take-requires-in-loop-taken-after_bounds : goal.take-requires-in-loop-taken-after_bounds
 take-requires-in-loop-taken-after_bounds g c κs within = λ is.
-    payload_few c.in-Some.found c.self.inside.reader.place c.in-Byte.byte c.take.new.self.payload c.in-Some.ensures.found is
+    found_payload_within_limit c.in-Some.found c.self.inside.reader.place c.in-Byte.byte c.take.new.self.payload c.in-Some.ensures.found is
 
 pub returns-in_err-take-clause-write : goal.returns-in_err-take-clause-write
 returns-in_err-take-clause-write g c =
-    let at : At c.args.self.now.link (g.R.Source.left c.args.reader.now) (g.W.Sink.written c.args.writer.now)
+    let at : AfterBytes c.args.self.now.link (g.R.Source.left c.args.reader.now) (g.W.Sink.written c.args.writer.now)
     (g.R.Source.left c.loop-taken.reader) (g.W.Sink.written c.loop-taken.writer)
     (record { stub = c.self.inside.remote.stub; acknowledges = c.self.inside.acknowledges; is_owed = c.self.inside.is_owed })
     c.self.inside.reader.place c.loop-taken.taken =
-    subst (λ (x : Connecting). At c.args.self.now.link (g.R.Source.left c.args.reader.now) (g.W.Sink.written c.args.writer.now)
+    subst (λ (x : Connecting). AfterBytes c.args.self.now.link (g.R.Source.left c.args.reader.now) (g.W.Sink.written c.args.writer.now)
     (g.R.Source.left c.loop-taken.reader) (g.W.Sink.written c.loop-taken.writer) x.link x.reading.place c.loop-taken.taken)
     (sym c.self.view_is) c.loop-taken.invariant.at in
     λ _. (
@@ -68,11 +68,11 @@ returns-in_err-take-clause-write g c =
 
 pub returns-in-Quits-clause-ended : goal.returns-in-Quits-clause-ended
 returns-in-Quits-clause-ended g c =
-    let at : At c.args.self.now.link (g.R.Source.left c.args.reader.now) (g.W.Sink.written c.args.writer.now)
+    let at : AfterBytes c.args.self.now.link (g.R.Source.left c.args.reader.now) (g.W.Sink.written c.args.writer.now)
     (g.R.Source.left c.loop-taken.reader) (g.W.Sink.written c.loop-taken.writer)
     (record { stub = c.self.inside.remote.stub; acknowledges = c.self.inside.acknowledges; is_owed = c.self.inside.is_owed })
     c.self.inside.reader.place c.loop-taken.taken =
-    subst (λ (x : Connecting). At c.args.self.now.link (g.R.Source.left c.args.reader.now) (g.W.Sink.written c.args.writer.now)
+    subst (λ (x : Connecting). AfterBytes c.args.self.now.link (g.R.Source.left c.args.reader.now) (g.W.Sink.written c.args.writer.now)
     (g.R.Source.left c.loop-taken.reader) (g.W.Sink.written c.loop-taken.writer) x.link x.reading.place c.loop-taken.taken)
     (sym c.self.view_is) c.loop-taken.invariant.at in
     quit_ended c.args.self.now.link (g.R.Source.left c.args.reader.now) (g.W.Sink.written c.args.writer.now)
@@ -85,11 +85,11 @@ returns-in-Quits-clause-ended g c =
 
 pub returns-in-Quits-clause-known : goal.returns-in-Quits-clause-known
 returns-in-Quits-clause-known g c =
-    let at : At c.args.self.now.link (g.R.Source.left c.args.reader.now) (g.W.Sink.written c.args.writer.now)
+    let at : AfterBytes c.args.self.now.link (g.R.Source.left c.args.reader.now) (g.W.Sink.written c.args.writer.now)
     (g.R.Source.left c.loop-taken.reader) (g.W.Sink.written c.loop-taken.writer)
     (record { stub = c.self.inside.remote.stub; acknowledges = c.self.inside.acknowledges; is_owed = c.self.inside.is_owed })
     c.self.inside.reader.place c.loop-taken.taken =
-    subst (λ (x : Connecting). At c.args.self.now.link (g.R.Source.left c.args.reader.now) (g.W.Sink.written c.args.writer.now)
+    subst (λ (x : Connecting). AfterBytes c.args.self.now.link (g.R.Source.left c.args.reader.now) (g.W.Sink.written c.args.writer.now)
     (g.R.Source.left c.loop-taken.reader) (g.W.Sink.written c.loop-taken.writer) x.link x.reading.place c.loop-taken.taken)
     (sym c.self.view_is) c.loop-taken.invariant.at in
     quit_known c.args.self.now.link (g.R.Source.left c.args.reader.now) (g.W.Sink.written c.args.writer.now)
@@ -102,11 +102,11 @@ returns-in-Quits-clause-known g c =
 
 pub loop-taken-preserved : goal.loop-taken-preserved
 loop-taken-preserved g c =
-    let at : At c.args.self.now.link (g.R.Source.left c.args.reader.now) (g.W.Sink.written c.args.writer.now)
+    let at : AfterBytes c.args.self.now.link (g.R.Source.left c.args.reader.now) (g.W.Sink.written c.args.writer.now)
     (g.R.Source.left c.loop-taken.reader) (g.W.Sink.written c.loop-taken.writer)
     (record { stub = c.self.inside.remote.stub; acknowledges = c.self.inside.acknowledges; is_owed = c.self.inside.is_owed })
     c.self.inside.reader.place c.loop-taken.taken =
-    subst (λ (x : Connecting). At c.args.self.now.link (g.R.Source.left c.args.reader.now) (g.W.Sink.written c.args.writer.now)
+    subst (λ (x : Connecting). AfterBytes c.args.self.now.link (g.R.Source.left c.args.reader.now) (g.W.Sink.written c.args.writer.now)
     (g.R.Source.left c.loop-taken.reader) (g.W.Sink.written c.loop-taken.writer) x.link x.reading.place c.loop-taken.taken)
     (sym c.self.view_is) c.loop-taken.invariant.at in
     record {

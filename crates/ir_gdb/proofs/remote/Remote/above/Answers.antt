@@ -5,7 +5,7 @@ use Rattle.ir_timeline.specs.Positions.{threads_of, last_of}
 use Rattle.ir_debug.specs.Machine.Desk.{Desk}
 use Rattle.ir_gdb.specs.Serving.{Serving}
 use Rattle.ir_gdb.specs.Stub.{Stub, spoken}
-use Rattle.ir_gdb.proofs.Stopping.{seen, ends_found, ends_within}
+use Rattle.ir_gdb.proofs.Stopping.{serving_seen, continues_to_by_search, end_of_search_within_last}
 use Rattle.ir_gdb.proofs.remote.Remote.above.Goals as goal
 
 pub returns-clause-within : goal.returns-clause-within
@@ -14,16 +14,16 @@ returns-clause-within g c =
     let same = ap (λ (x : Serving). x.stub.desk.fitted) c.self.view_is ∙ ap (λ (x : Stub). x.desk.fitted) c.speak.ensures in
     let l = subst (λ (f : FittedTrace). c.args.thread < threads_of f) (sym same) c.requires in
     let at = c.last-last.ensures ∙ ap (λ (x : Desk). last_of x.fitted c.args.thread) c.search.ensures.desk in
-    ends_within d.fitted c.args.self.now.stub.desk.fitted c.as_slice-points.result.now c.args.thread (cut_of d.at c.args.thread) c.last-last.result
+    end_of_search_within_last d.fitted c.args.self.now.stub.desk.fitted c.as_slice-points.result.now c.args.thread (cut_of d.at c.args.thread) c.last-last.result
     c.watches_if.result.now c.as_slice.result.now c.in_ok-hit.hit c.end_above.result same (subst HasRun c.fitted.ensures.value c.known.ensures.run) l c.in_ok-hit.ensures.finds at c.end_above.ensures
 
 pub returns-clause-stops : goal.returns-clause-stops
 returns-clause-stops g c =
     let s = c.args.self.now.stub in
-    let u = (seen c.self.view_is).stub in
+    let u = (serving_seen c.self.view_is).stub in
     let t = c.args.thread in
     let same : u ≡ spoken s = ap (λ (x : Serving). x.stub) c.self.view_is ∙ c.speak.ensures in
     let at = c.last-last.ensures ∙ ap (λ (x : Desk). last_of x.fitted t) c.search.ensures.desk in
-    ends_found s u c.speak.new.self.stub c.search.new.self.desk t c.last-last.result c.args.watched c.as_slice-points.result.now c.in_ok-hit.hit
+    continues_to_by_search s u c.speak.new.self.stub c.search.new.self.desk t c.last-last.result c.args.watched c.as_slice-points.result.now c.in_ok-hit.hit
     c.watches_if.result.now c.as_slice.result.now c.end_above.result same c.speak.ensures (c.as_slice-points.ensures.value ∙ c.in_ok-points.ensures.points)
     c.in_ok-hit.ensures.finds c.watches_if.ensures.value c.as_slice.ensures at c.end_above.ensures

@@ -2,17 +2,17 @@ use Rattle.std.proofs.Common.{◌≡◌, ◌≤◌, ◌<◌, length, sym, subst}
 use Rattle.std.proofs.lemmas.Result.{IfOk-weaker}
 use Rattle.std.specs.Prelude.{IfOk}
 use Rattle.ir_cut.specs.Positions.{EachRun, IsConsistentCut, cut_of}
-use Rattle.ir_timeline.specs.Positions.{Cuts, threads_of, last_of}
+use Rattle.ir_timeline.specs.Positions.{IsCutOf, threads_of, last_of}
 use Rattle.ir_gdb.specs.Serving.{Serving}
 use Rattle.ir_gdb.specs.Stops.{position_of}
-use Rattle.ir_gdb.proofs.There.{exact_at, both_ok}
+use Rattle.ir_gdb.proofs.There.{least_cut_is_exact, if_ok_of_both_facts}
 use Rattle.ir_gdb.proofs.remote.Remote.cut_ahead.Goals as goal
 
 pub returns-clause-cut : goal.returns-clause-cut
 returns-clause-cut c =
     let f = c.self.inside.debugger.desk.fitted in
-    subst (λ (s : Serving). IfOk c.cut_with.result (λ cut. Cuts s.stub.desk.fitted cut)) c.self.view_is
-    (both_ok c.cut_with.result (λ cut. length cut ≡ threads_of f) (λ cut. IsConsistentCut f cut) c.cut_with.ensures.size c.cut_with.ensures.consistent)
+    subst (λ (s : Serving). IfOk c.cut_with.result (λ cut. IsCutOf s.stub.desk.fitted cut)) c.self.view_is
+    (if_ok_of_both_facts c.cut_with.result (λ cut. length cut ≡ threads_of f) (λ cut. IsConsistentCut f cut) c.cut_with.ensures.size c.cut_with.ensures.consistent)
 
 pub returns-clause-there : goal.returns-clause-there
 returns-clause-there c =
@@ -22,5 +22,5 @@ returns-clause-there c =
     let l = subst (λ (s : Serving). c.args.thread < threads_of s.stub.desk.fitted) (sym c.self.view_is) c.requires.thread in
     subst (λ (s : Serving). IfOk c.cut_with.result (λ cut. EachRun s.stub.desk.fitted (λ run. cut_of cut c.args.thread ≡ c.args.position))) c.self.view_is
     (IfOk-weaker c.cut_with.result _ (λ cut. EachRun d.fitted (λ run. cut_of cut c.args.thread ≡ c.args.position))
-    (λ cut so. exact_at c.least_exact.ensures d.fitted d.at cut c.args.thread c.args.position c.fitted.ensures.desk.at low high l so)
+    (λ cut so. least_cut_is_exact c.least_exact.ensures d.fitted d.at cut c.args.thread c.args.position c.fitted.ensures.desk.at low high l so)
     c.cut_with.ensures.stops)

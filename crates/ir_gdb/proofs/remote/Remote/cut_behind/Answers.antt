@@ -2,22 +2,22 @@ use Rattle.std.proofs.Common.{◌≡◌, ◌≤◌, length, sym, subst}
 use Rattle.std.proofs.lemmas.Result.{IfOk-weaker}
 use Rattle.std.specs.Prelude.{IfOk}
 use Rattle.ir_cut.specs.Positions.{IsConsistentCut, cut_of}
-use Rattle.ir_timeline.specs.Positions.{Cuts, threads_of}
+use Rattle.ir_timeline.specs.Positions.{IsCutOf, threads_of}
 use Rattle.ir_gdb.specs.Serving.{Serving}
 use Rattle.ir_gdb.specs.Stops.{position_of}
-use Rattle.ir_gdb.proofs.There.{exact_below, both_ok}
+use Rattle.ir_gdb.proofs.There.{greatest_cut_is_exact, if_ok_of_both_facts}
 use Rattle.ir_gdb.proofs.remote.Remote.cut_behind.Goals as goal
 
 pub returns-clause-cut : goal.returns-clause-cut
 returns-clause-cut c =
     let f = c.self.inside.debugger.desk.fitted in
-    subst (λ (s : Serving). IfOk c.cut_with.result (λ cut. Cuts s.stub.desk.fitted cut)) c.self.view_is
-    (both_ok c.cut_with.result (λ cut. length cut ≡ threads_of f) (λ cut. IsConsistentCut f cut) c.cut_with.ensures.size c.cut_with.ensures.consistent)
+    subst (λ (s : Serving). IfOk c.cut_with.result (λ cut. IsCutOf s.stub.desk.fitted cut)) c.self.view_is
+    (if_ok_of_both_facts c.cut_with.result (λ cut. length cut ≡ threads_of f) (λ cut. IsConsistentCut f cut) c.cut_with.ensures.size c.cut_with.ensures.consistent)
 
 pub returns-clause-there : goal.returns-clause-there
 returns-clause-there c =
     let d = c.self.inside.debugger.desk in
     let low = subst (λ (s : Serving). c.args.position ≤ position_of s.stub c.args.thread) (sym c.self.view_is) c.requires.within.0 in
     IfOk-weaker c.cut_with.result _ (λ cut. cut_of cut c.args.thread ≡ c.args.position)
-    (λ cut so. exact_below c.greatest_exact.ensures d.fitted d.at cut c.args.thread c.args.position c.fitted.ensures.desk.run c.fitted.ensures.desk.at low so)
+    (λ cut so. greatest_cut_is_exact c.greatest_exact.ensures d.fitted d.at cut c.args.thread c.args.position c.fitted.ensures.desk.run c.fitted.ensures.desk.at low so)
     c.cut_with.ensures.stops

@@ -1,10 +1,10 @@
 use Rattle.std.proofs.Common.{◌≡◌, length, subst}
 use Rattle.std.specs.Prelude.{IfOk}
 use Rattle.ir_cut.specs.Positions.{EachRun, IsConsistentCut}
-use Rattle.ir_timeline.specs.Positions.{Cuts, threads_of}
+use Rattle.ir_timeline.specs.Positions.{IsCutOf, threads_of}
 use Rattle.ir_gdb.specs.Serving.{Serving}
 use Rattle.ir_gdb.specs.Together.{Comes}
-use Rattle.ir_gdb.proofs.There.{both_ok}
+use Rattle.ir_gdb.proofs.There.{if_ok_of_both_facts}
 use Rattle.ir_gdb.proofs.remote.Remote.cut_to.Goals as goal
 
 pub returns-clause-comes : goal.returns-clause-comes
@@ -15,5 +15,5 @@ returns-clause-comes c =
 pub returns-clause-cut : goal.returns-clause-cut
 returns-clause-cut c =
     let f = c.self.inside.debugger.desk.fitted in
-    subst (λ (s : Serving). IfOk c.cut_with.result (λ cut. Cuts s.stub.desk.fitted cut)) c.self.view_is
-    (both_ok c.cut_with.result (λ cut. length cut ≡ threads_of f) (λ cut. IsConsistentCut f cut) c.cut_with.ensures.size c.cut_with.ensures.consistent)
+    subst (λ (s : Serving). IfOk c.cut_with.result (λ cut. IsCutOf s.stub.desk.fitted cut)) c.self.view_is
+    (if_ok_of_both_facts c.cut_with.result (λ cut. length cut ≡ threads_of f) (λ cut. IsConsistentCut f cut) c.cut_with.ensures.size c.cut_with.ensures.consistent)

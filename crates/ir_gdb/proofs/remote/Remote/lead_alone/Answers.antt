@@ -1,22 +1,22 @@
 use Rattle.std.proofs.Common.{sym}
 use Rattle.std.proofs.lemmas.Result.{on_ok_weaker}
-use Rattle.ir_gdb.proofs.Over.{led_waiting, led_over, led_on}
+use Rattle.ir_gdb.proofs.Over.{leads_alone_if_waiting, leads_alone_by_step_over, leads_alone_by_move}
 use Rattle.ir_gdb.proofs.remote.Remote.lead_alone.Goals as goal
 
 pub returns-then-waits-clause-ok : goal.returns-then-waits-clause-ok
 returns-then-waits-clause-ok g c =
     on_ok_weaker c.move_alone.result
-    (led_waiting c.args.self.now.stub c.move_alone.new.self.stub c.args.thread c.args.motion c.no_more.result (sym c.if-waits.ensures) c.no_more.ensures)
+    (leads_alone_if_waiting c.args.self.now.stub c.move_alone.new.self.stub c.args.thread c.args.motion c.no_more.result (sym c.if-waits.ensures) c.no_more.ensures)
     c.move_alone.ensures.ok
 
 pub returns-then-is_step-clause-ok : goal.returns-then-is_step-clause-ok
 returns-then-is_step-clause-ok g c =
     on_ok_weaker c.step_over.result
-    (led_over c.args.self.now.stub c.step_over.new.self.stub c.args.thread c.args.motion (sym c.if-waits.ensures) (sym c.if-is_step.ensures))
+    (leads_alone_by_step_over c.args.self.now.stub c.step_over.new.self.stub c.args.thread c.args.motion (sym c.if-waits.ensures) (sym c.if-is_step.ensures))
     c.step_over.ensures.ok
 
 pub returns-clause-ok : goal.returns-clause-ok
 returns-clause-ok g c =
     on_ok_weaker c.move_alone-2.result
-    (led_on c.args.self.now.stub c.move_alone-2.new.self.stub c.args.thread c.args.motion (sym c.if-waits.ensures) (sym c.if-is_step.ensures))
+    (leads_alone_by_move c.args.self.now.stub c.move_alone-2.new.self.stub c.args.thread c.args.motion (sym c.if-waits.ensures) (sym c.if-is_step.ensures))
     c.move_alone-2.ensures.ok

@@ -1,20 +1,20 @@
 use Rattle.std.proofs.Common.{◌<◌, ◌≤◌, ◌∙◌, sym, ap, subst, arith}
-use Rattle.ir_timeline.specs.Positions.{Cuts, threads_of}
+use Rattle.ir_timeline.specs.Positions.{IsCutOf, threads_of}
 use Rattle.ir_gdb.specs.Stub.{Stub, spoken}
-use Rattle.ir_gdb.proofs.Over.{none_but, none_next, pc_is, one_found, none_found}
+use Rattle.ir_gdb.proofs.Over.{none_has_hit_step_for_mover, none_has_hit_step, pc_at_read_position, other_has_hit_if_found, no_other_hit_if_none_found}
 use Rattle.ir_gdb.proofs.remote.Remote.other_has_hit.Goals as goal
 
 pub threads-preserved-then-other-thread : goal.threads-preserved-then-other-thread
 threads-preserved-then-other-thread g c = record {
   stub = c.threads.invariant.stub;
   none =
-      none_but c.args.self.now.stub c.in_ok-pc.pc c.args.thread c.threads.other c.args.cut.now c.if-other-thread.true
+      none_has_hit_step_for_mover c.args.self.now.stub c.in_ok-pc.pc c.args.thread c.threads.other c.args.cut.now c.if-other-thread.true
       c.threads.invariant.none;
 }
 
 pub has_hit-requires-clause-cut : goal.has_hit-requires-clause-cut
 has_hit-requires-clause-cut g c κs within =
-    subst (λ (x : Stub). Cuts x.desk.fitted c.args.cut.now) (sym c.threads.invariant.stub) c.requires.cut
+    subst (λ (x : Stub). IsCutOf x.desk.fitted c.args.cut.now) (sym c.threads.invariant.stub) c.requires.cut
 
 pub returns-then-branch-clause-hit : goal.returns-then-branch-clause-hit
 returns-then-branch-clause-hit g c =
@@ -24,15 +24,15 @@ returns-then-branch-clause-hit g c =
     let count = c.count-count.ensures.value in
     let same = ap (λ (x : Stub). threads_of x.desk.fitted) c.pc_at.ensures.stub in
     let below : c.threads.other < threads_of s.desk.fitted = omega (arith, test, count, same) in
-    one_found s c.threads.self.stub c.in_ok-has_hit.field-0 c.in_ok-pc.pc t c.threads.other c.args.cut.now c.threads.invariant.stub c.if-branch.true
+    other_has_hit_if_found s c.threads.self.stub c.in_ok-has_hit.field-0 c.in_ok-pc.pc t c.threads.other c.args.cut.now c.threads.invariant.stub c.if-branch.true
     c.if-other-thread.false below
-    (pc_is s t c.position-position.result c.in_ok-pc.pc c.position-position.ensures.value c.in_ok-pc.ensures.pc) c.in_ok-has_hit.ensures.hit
+    (pc_at_read_position s t c.position-position.result c.in_ok-pc.pc c.position-position.ensures.value c.in_ok-pc.ensures.pc) c.in_ok-has_hit.ensures.hit
 
 pub threads-preserved : goal.threads-preserved
 threads-preserved g c = record {
   stub = c.has_hit.ensures.stub ∙ ap (λ (x : Stub). spoken x) c.threads.invariant.stub;
   none =
-      none_next c.args.self.now.stub c.threads.self.stub c.in_ok-has_hit.field-0 c.in_ok-pc.pc c.args.thread c.threads.other c.args.cut.now
+      none_has_hit_step c.args.self.now.stub c.threads.self.stub c.in_ok-has_hit.field-0 c.in_ok-pc.pc c.args.thread c.threads.other c.args.cut.now
       c.threads.invariant.stub c.if-branch.false c.in_ok-has_hit.ensures.hit c.threads.invariant.none;
 }
 
@@ -44,5 +44,5 @@ returns-clause-hit g c =
     let count = c.count-count.ensures.value in
     let same = ap (λ (x : Stub). threads_of x.desk.fitted) c.pc_at.ensures.stub in
     let all : threads_of s.desk.fitted ≤ c.threads.other = omega (arith, test, count, same) in
-    none_found s c.in_ok-pc.pc t c.threads.other c.args.cut.now all
-    (pc_is s t c.position-position.result c.in_ok-pc.pc c.position-position.ensures.value c.in_ok-pc.ensures.pc) c.threads.invariant.none
+    no_other_hit_if_none_found s c.in_ok-pc.pc t c.threads.other c.args.cut.now all
+    (pc_at_read_position s t c.position-position.result c.in_ok-pc.pc c.position-position.ensures.value c.in_ok-pc.ensures.pc) c.threads.invariant.none

@@ -3,34 +3,34 @@ use Rattle.ir_fit.specs.Fit.{HasRun}
 use Rattle.ir_cut.specs.Positions.{EachRun, cut_of}
 use Rattle.ir_command.specs.declared.hit.Hit.{Hit}
 use Rattle.ir_hits.specs.Searching.{IsNextHit}
-use Rattle.ir_timeline.specs.Positions.{Cuts, last_of}
+use Rattle.ir_timeline.specs.Positions.{IsCutOf, last_of}
 use Rattle.ir_gdb.specs.declared.point.Breakpoint.{Breakpoint}
 use Rattle.ir_gdb.specs.declared.point.Watched.{Watched}
 use Rattle.ir_gdb.specs.declared.stopped.Stopped.{Stopped}
 use Rattle.ir_gdb.specs.Serving.{Serving}
 use Rattle.ir_gdb.specs.Stub.{Stub, spoken}
 use Rattle.ir_gdb.specs.Stops.{watches_if, stop_above, ranged}
-use Rattle.ir_gdb.proofs.Bounds.{stops_above}
-use Rattle.ir_gdb.proofs.Stopping.{seen, watches_after}
-use Rattle.ir_gdb.proofs.Ranging.{ends_at, range_fits, range_on, next_within}
+use Rattle.ir_gdb.proofs.Bounds.{stop_above_within_last}
+use Rattle.ir_gdb.proofs.Stopping.{serving_seen, watches_if_after_spoken_desk}
+use Rattle.ir_gdb.proofs.Ranging.{after_range_of_spoken_stub, range_end_between_own_and_last, ranges_to_found_stop, next_hit_within_target}
 use Rattle.ir_gdb.proofs.remote.Remote.range.Goals as goal
 
 pub search_up_to-requires-clause-cut : goal.search_up_to-requires-clause-cut
 search_up_to-requires-clause-cut g c κs within =
-    subst (λ (x : Serving). Cuts x.stub.desk.fitted c.in_ok-here.here) (sym c.self.view_is) c.in_ok-here.ensures.cut
+    subst (λ (x : Serving). IsCutOf x.stub.desk.fitted c.in_ok-here.here) (sym c.self.view_is) c.in_ok-here.ensures.cut
 
 pub search_up_to-requires-clause-within : goal.search_up_to-requires-clause-within
 search_up_to-requires-clause-within g c κs within =
     let s = c.args.self.now.stub in
-    let u = (seen c.self.view_is).stub in
+    let u = (serving_seen c.self.view_is).stub in
     let t = c.args.thread in
     let left = c.in_ok-left.left in
     let same : u ≡ spoken s = ap (λ (x : Serving). x.stub) c.self.view_is ∙ c.leaves.ensures.stub in
     let e = c.after_range-end.result in
     let v = c.leaves.new.self.stub in
     let said = c.leaves.ensures.stub in
-    let is = ends_at s v t c.last-last.result left e said c.last-last.ensures c.after_range-end.ensures in
-    let fits = range_fits s v t c.args.low c.args.high left c.in_ok-here.here e said
+    let is = after_range_of_spoken_stub s v t c.last-last.result left e said c.last-last.ensures c.after_range-end.ensures in
+    let fits = range_end_between_own_and_last s v t c.args.low c.args.high left c.in_ok-here.here e said
     (subst (λ (x : Serving). HasRun x.stub.desk.fitted) c.self.view_is c.fitted.ensures.desk.run)
     (subst (λ (n : ℕ). n ≤ last_of v.desk.fitted t) c.position.ensures.value c.position.ensures.within) c.in_ok-left.ensures.leaves
     c.in_ok-here.ensures.value is in
@@ -39,21 +39,21 @@ search_up_to-requires-clause-within g c κs within =
 pub returns-in-Some-clause-stops : goal.returns-in-Some-clause-stops
 returns-in-Some-clause-stops g c =
     let s = c.args.self.now.stub in
-    let u = (seen c.self.view_is).stub in
+    let u = (serving_seen c.self.view_is).stub in
     let t = c.args.thread in
     let left = c.in_ok-left.left in
     let same : u ≡ spoken s = ap (λ (x : Serving). x.stub) c.self.view_is ∙ c.leaves.ensures.stub in
     let e = c.after_range-end.result in
     let v = c.leaves.new.self.stub in
     let said = c.leaves.ensures.stub in
-    let is = ends_at s v t c.last-last.result left e said c.last-last.ensures c.after_range-end.ensures in
+    let is = after_range_of_spoken_stub s v t c.last-last.result left e said c.last-last.ensures c.after_range-end.ensures in
     let h = c.in-Some.hit in
     let w = c.args.watched in
-    let mine = c.watches_if.ensures.value ∙ watches_after s u c.search_up_to.new.self.desk w same in
+    let mine = c.watches_if.ensures.value ∙ watches_if_after_spoken_desk s u c.search_up_to.new.self.desk w same in
     let breaks = c.as_slice.ensures ∙ ap (λ (x : Stub). x.breaks) same in
     let ends = c.stop_above.ensures ∙ ap (λ (x : List Watched). stop_above x c.as_slice.result.now h) mine
     ∙ ap (λ (x : List Breakpoint). stop_above (watches_if s w) x h) breaks ∙ ap (λ (x : Option Hit). ranged s t w left x) (sym c.in-Some.is) in
-    range_on s v v t c.args.low c.args.high w left c.in_ok-here.here e c.stop_above.result c.as_slice-points.result.now c.in_ok-hit.hit said said
+    ranges_to_found_stop s v v t c.args.low c.args.high w left c.in_ok-here.here e c.stop_above.result c.as_slice-points.result.now c.in_ok-hit.hit said said
     c.in_ok-left.ensures.leaves c.in_ok-here.ensures.value is (c.as_slice-points.ensures.value ∙ c.in_ok-points.ensures.points)
     (subst (λ (x : Serving). EachRun x.stub.desk.fitted (λ run. IsNextHit x.stub.desk.fitted run c.as_slice-points.result.now t (cut_of c.in_ok-here.here t) e.position c.in_ok-hit.hit))
     c.self.view_is c.in_ok-hit.ensures.finds) ends
@@ -61,42 +61,42 @@ returns-in-Some-clause-stops g c =
 pub returns-in-Some-clause-within : goal.returns-in-Some-clause-within
 returns-in-Some-clause-within g c =
     let s = c.args.self.now.stub in
-    let u = (seen c.self.view_is).stub in
+    let u = (serving_seen c.self.view_is).stub in
     let t = c.args.thread in
     let left = c.in_ok-left.left in
     let same : u ≡ spoken s = ap (λ (x : Serving). x.stub) c.self.view_is ∙ c.leaves.ensures.stub in
     let e = c.after_range-end.result in
     let v = c.leaves.new.self.stub in
     let said = c.leaves.ensures.stub in
-    let is = ends_at s v t c.last-last.result left e said c.last-last.ensures c.after_range-end.ensures in
+    let is = after_range_of_spoken_stub s v t c.last-last.result left e said c.last-last.ensures c.after_range-end.ensures in
     let h = c.in-Some.hit in
-    let fits = range_fits s v t c.args.low c.args.high left c.in_ok-here.here e said
+    let fits = range_end_between_own_and_last s v t c.args.low c.args.high left c.in_ok-here.here e said
     (subst (λ (x : Serving). HasRun x.stub.desk.fitted) c.self.view_is c.fitted.ensures.desk.run)
     (subst (λ (n : ℕ). n ≤ last_of v.desk.fitted t) c.position.ensures.value c.position.ensures.within) c.in_ok-left.ensures.leaves
     c.in_ok-here.ensures.value is in
-    let high = next_within v.desk.fitted t (cut_of c.in_ok-here.here t) e.position c.as_slice-points.result.now c.in_ok-hit.hit h
+    let high = next_hit_within_target v.desk.fitted t (cut_of c.in_ok-here.here t) e.position c.as_slice-points.result.now c.in_ok-hit.hit h
     (subst (λ (x : Serving). HasRun x.stub.desk.fitted) c.self.view_is c.fitted.ensures.desk.run)
     (subst (λ (x : Serving). EachRun x.stub.desk.fitted (λ run. IsNextHit x.stub.desk.fitted run c.as_slice-points.result.now t (cut_of c.in_ok-here.here t) e.position c.in_ok-hit.hit))
     c.self.view_is c.in_ok-hit.ensures.finds) c.in-Some.is in
     let most : h.position ≤ last_of v.desk.fitted t = omega (arith, high, fits.1) in
-    let low = stops_above c.watches_if.result.now c.as_slice.result.now h (last_of v.desk.fitted t) most in
+    let low = stop_above_within_last c.watches_if.result.now c.as_slice.result.now h (last_of v.desk.fitted t) most in
     subst (λ (x : Stub). c.stop_above.result.position ≤ last_of x.desk.fitted t) said
     (subst (λ (x : Stopped). x.position ≤ last_of v.desk.fitted t) (sym c.stop_above.ensures) low)
 
 pub returns-clause-stops : goal.returns-clause-stops
 returns-clause-stops g c =
     let s = c.args.self.now.stub in
-    let u = (seen c.self.view_is).stub in
+    let u = (serving_seen c.self.view_is).stub in
     let t = c.args.thread in
     let left = c.in_ok-left.left in
     let same : u ≡ spoken s = ap (λ (x : Serving). x.stub) c.self.view_is ∙ c.leaves.ensures.stub in
     let e = c.after_range-end.result in
     let v = c.leaves.new.self.stub in
     let said = c.leaves.ensures.stub in
-    let is = ends_at s v t c.last-last.result left e said c.last-last.ensures c.after_range-end.ensures in
+    let is = after_range_of_spoken_stub s v t c.last-last.result left e said c.last-last.ensures c.after_range-end.ensures in
     let w = c.args.watched in
     let ends = is ∙ ap (λ (x : Option Hit). ranged s t w left x) (sym c.in_default.is) in
-    range_on s v v t c.args.low c.args.high w left c.in_ok-here.here e e c.as_slice-points.result.now c.in_ok-hit.hit said said
+    ranges_to_found_stop s v v t c.args.low c.args.high w left c.in_ok-here.here e e c.as_slice-points.result.now c.in_ok-hit.hit said said
     c.in_ok-left.ensures.leaves c.in_ok-here.ensures.value is (c.as_slice-points.ensures.value ∙ c.in_ok-points.ensures.points)
     (subst (λ (x : Serving). EachRun x.stub.desk.fitted (λ run. IsNextHit x.stub.desk.fitted run c.as_slice-points.result.now t (cut_of c.in_ok-here.here t) e.position c.in_ok-hit.hit))
     c.self.view_is c.in_ok-hit.ensures.finds) ends
@@ -104,15 +104,15 @@ returns-clause-stops g c =
 pub returns-clause-within : goal.returns-clause-within
 returns-clause-within g c =
     let s = c.args.self.now.stub in
-    let u = (seen c.self.view_is).stub in
+    let u = (serving_seen c.self.view_is).stub in
     let t = c.args.thread in
     let left = c.in_ok-left.left in
     let same : u ≡ spoken s = ap (λ (x : Serving). x.stub) c.self.view_is ∙ c.leaves.ensures.stub in
     let e = c.after_range-end.result in
     let v = c.leaves.new.self.stub in
     let said = c.leaves.ensures.stub in
-    let is = ends_at s v t c.last-last.result left e said c.last-last.ensures c.after_range-end.ensures in
-    let fits = range_fits s v t c.args.low c.args.high left c.in_ok-here.here e said
+    let is = after_range_of_spoken_stub s v t c.last-last.result left e said c.last-last.ensures c.after_range-end.ensures in
+    let fits = range_end_between_own_and_last s v t c.args.low c.args.high left c.in_ok-here.here e said
     (subst (λ (x : Serving). HasRun x.stub.desk.fitted) c.self.view_is c.fitted.ensures.desk.run)
     (subst (λ (n : ℕ). n ≤ last_of v.desk.fitted t) c.position.ensures.value c.position.ensures.within) c.in_ok-left.ensures.leaves
     c.in_ok-here.ensures.value is in

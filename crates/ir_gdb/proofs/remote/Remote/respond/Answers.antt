@@ -6,8 +6,8 @@ use Rattle.ir_debug.specs.Debugging.{IsAnswer}
 use Rattle.ir_gdb.specs.Stub.{Stub}
 use Rattle.ir_gdb.specs.Serving.{Serving, debugging_of}
 use Rattle.ir_gdb.specs.Connection.{Responds, with_desk}
-use Rattle.ir_gdb.proofs.Answering.{on_ok, on_err}
-use Rattle.ir_gdb.proofs.Lines.{responds, responds_nothing}
+use Rattle.ir_gdb.proofs.Answering.{on_ok_of_implied, on_err_of_implied}
+use Rattle.ir_gdb.proofs.Lines.{responds_by_session_answer, responds_nothing_without_words}
 use Rattle.ir_gdb.proofs.remote.Remote.respond.Goals as goal
 
 pub returns-in_default-clause-ok : goal.returns-in_default-clause-ok
@@ -15,7 +15,7 @@ returns-in_default-clause-ok g c =
     let none = c.in_default.ensures.none in
     subst (λ (s : Stub). Responds c.args.self.now.stub c.args.line.now s (Appends (g.W.Sink.written c.args.writer.now) (g.W.Sink.written c.args.writer.now)))
     (sym (ap (λ (x : Serving). x.stub) none.1))
-    (responds_nothing c.parse_line-asked.result c.args.line.now c.args.self.now.stub
+    (responds_nothing_without_words c.parse_line-asked.result c.args.line.now c.args.self.now.stub
     (Appends (g.W.Sink.written c.args.writer.now) (g.W.Sink.written c.args.writer.now)) c.parse_line-asked.ensures none.0
     (Appends-nil (g.W.Sink.written c.args.writer.now)))
 
@@ -26,7 +26,7 @@ returns-clause-ok g c =
     (sym c.self.view_is) c.in-Some.ensures.some in
     let after : c.consult.new.self.stub ≡ with_desk c.args.self.now.stub c.self.inside.debugger.desk = c.in-Some.ensures.stub
     ∙ ap (λ (x : Serving). with_desk c.args.self.now.stub x.stub.desk) (sym c.self.view_is) in
-    on_ok c.write_answer.result _ _ (λ t. responds c.parse_line-asked.result c.args.line.now c.args.self.now.stub c.consult.new.self.stub
+    on_ok_of_implied c.write_answer.result _ _ (λ t. responds_by_session_answer c.parse_line-asked.result c.args.line.now c.args.self.now.stub c.consult.new.self.stub
     (debugging_of c.args.self.now) c.self.inside.debugger c.in-Some.answer
     (Appends (g.W.Sink.written c.args.writer.now) (g.W.Sink.written c.write_answer.new.writer)) c.parse_line-asked.ensures refl after answers t)
     c.write_answer.ensures.ok
@@ -38,7 +38,7 @@ returns-clause-prefix g c =
     (sym c.self.view_is) c.in-Some.ensures.some in
     let after : c.consult.new.self.stub ≡ with_desk c.args.self.now.stub c.self.inside.debugger.desk = c.in-Some.ensures.stub
     ∙ ap (λ (x : Serving). with_desk c.args.self.now.stub x.stub.desk) (sym c.self.view_is) in
-    on_err c.write_answer.result _ _ (λ t. responds c.parse_line-asked.result c.args.line.now c.args.self.now.stub c.consult.new.self.stub
+    on_err_of_implied c.write_answer.result _ _ (λ t. responds_by_session_answer c.parse_line-asked.result c.args.line.now c.args.self.now.stub c.consult.new.self.stub
     (debugging_of c.args.self.now) c.self.inside.debugger c.in-Some.answer
     (AppendsPrefix (g.W.Sink.written c.args.writer.now) (g.W.Sink.written c.write_answer.new.writer)) c.parse_line-asked.ensures refl after answers t)
     c.write_answer.ensures.prefix

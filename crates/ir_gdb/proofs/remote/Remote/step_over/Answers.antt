@@ -1,17 +1,17 @@
 use Rattle.std.proofs.Common.{◌∙◌, ℕ, Bool, List, sym, ap, subst}
 use Rattle.std.proofs.lemmas.Result.{on_ok_weaker}
-use Rattle.ir_timeline.specs.Positions.{Cuts, last_of}
+use Rattle.ir_timeline.specs.Positions.{IsCutOf, last_of}
 use Rattle.ir_packet.specs.declared.reply.Reason.{Reason}
 use Rattle.ir_packet.specs.declared.reply.Reason.TheVariants as reason
 use Rattle.ir_gdb.specs.Stub.{Stub}
 use Rattle.ir_gdb.specs.Together.{halt}
 use Rattle.ir_gdb.specs.Over.{over, reason_over}
-use Rattle.ir_gdb.proofs.Over.{stepped_over}
+use Rattle.ir_gdb.proofs.Over.{steps_over_and_settles}
 use Rattle.ir_gdb.proofs.remote.Remote.step_over.Goals as goal
 
 pub settle-requires-2-clause-cut : goal.settle-requires-2-clause-cut
 settle-requires-2-clause-cut g c κs within =
-    subst (λ (x : Stub). Cuts x.desk.fitted c.in_ok-cut.cut) (sym c.passes_hit.ensures.stub) c.in_ok-cut.ensures.cut
+    subst (λ (x : Stub). IsCutOf x.desk.fitted c.in_ok-cut.cut) (sym c.passes_hit.ensures.stub) c.in_ok-cut.ensures.cut
 
 pub returns-then-branch-clause-ok : goal.returns-then-branch-clause-ok
 returns-then-branch-clause-ok g c =
@@ -21,7 +21,7 @@ returns-then-branch-clause-ok g c =
     let ends = ap (λ (x : List ℕ). halt t x reason.Waits) here
     ∙ sym (ap (λ (b : Bool). over b s t c.in_ok-cut.cut c.in_ok-to.to) c.if-branch.true) in
     on_ok_weaker c.settle.result
-    (stepped_over s c.stop_of.new.self.stub c.passes_hit.new.self.stub c.settle.new.self.stub t c.in_ok-to.to c.in_ok-cut.cut
+    (steps_over_and_settles s c.stop_of.new.self.stub c.passes_hit.new.self.stub c.settle.new.self.stub t c.in_ok-to.to c.in_ok-cut.cut
     c.in_ok-passes_hit.field-0 (halt t c.in_ok-here.here reason.Waits) c.stop_of.ensures.stub c.passes_hit.ensures.stub c.in_ok-to.ensures.stops
     c.in_ok-cut.ensures.comes c.in_ok-passes_hit.ensures.hit ends)
     c.settle.ensures.ok
@@ -36,7 +36,7 @@ returns-clause-ok g c =
     let ends = ap (λ (x : Reason). halt t c.in_ok-cut.cut x) is
     ∙ sym (ap (λ (b : Bool). over b s t c.in_ok-cut.cut c.in_ok-to.to) c.if-branch.false) in
     on_ok_weaker c.settle-2.result
-    (stepped_over s c.stop_of.new.self.stub c.passes_hit.new.self.stub c.settle-2.new.self.stub t c.in_ok-to.to c.in_ok-cut.cut
+    (steps_over_and_settles s c.stop_of.new.self.stub c.passes_hit.new.self.stub c.settle-2.new.self.stub t c.in_ok-to.to c.in_ok-cut.cut
     c.in_ok-passes_hit.field-0 (halt t c.in_ok-cut.cut why) c.stop_of.ensures.stub c.passes_hit.ensures.stub c.in_ok-to.ensures.stops
     c.in_ok-cut.ensures.comes c.in_ok-passes_hit.ensures.hit ends)
     c.settle-2.ensures.ok

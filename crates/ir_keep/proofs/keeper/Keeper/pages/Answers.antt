@@ -2,24 +2,24 @@ use Rattle.std.proofs.Common.{◌<◌, List, length, ap, sym, ◌∙◌, subst, 
 use Rattle.std.specs.List.{All}
 use Rattle.ir_keep.specs.Keeping.{page_count}
 use Rattle.ir_keep.specs.Store.{Entry, stored, thread_count}
-use Rattle.ir_keep.proofs.Counted.{counted, stored_few, pages_few}
+use Rattle.ir_keep.proofs.Counted.{different_origins_are_stored_pages, stored_pages_bound, page_counts_below_bound}
 use Rattle.ir_keep.proofs.keeper.Keeper.pages.Goals as goal
 
 pub stored-requires-clause-all : goal.stored-requires-clause-all
 stored-requires-clause-all c =
     let entries = c.self.inside.entries.items in
     let store = c.self.invariant in
-    let low : stored entries < 4294967296 = omega (arith, stored_few (thread_count entries) entries store.each store.threads, store.few) in
+    let low : stored entries < 4294967296 = omega (arith, stored_pages_bound (thread_count entries) entries store.each store.threads, store.few) in
     subst (λ (l : List Entry). stored l < 4294967296) (sym c.as_slice.ensures.value) low
 
 pub stored-requires-clause-each : goal.stored-requires-clause-each
 stored-requires-clause-each c =
     let entries = c.self.inside.entries.items in
     let store = c.self.invariant in
-    subst (All (λ (e : Entry). length e.pages < 4294967296)) (sym c.as_slice.ensures.value) (pages_few (thread_count entries) entries store.each store.threads)
+    subst (All (λ (e : Entry). length e.pages < 4294967296)) (sym c.as_slice.ensures.value) (page_counts_below_bound (thread_count entries) entries store.each store.threads)
 
 pub returns : goal.returns
 returns c =
     let entries = c.self.inside.entries.items in
     let store = c.self.invariant in
-    c.stored.ensures ∙ ap stored c.as_slice.ensures.value ∙ sym (counted (thread_count entries) entries store.each store.laid) ∙ ap page_count c.self.view_is
+    c.stored.ensures ∙ ap stored c.as_slice.ensures.value ∙ sym (different_origins_are_stored_pages (thread_count entries) entries store.each store.laid) ∙ ap page_count c.self.view_is

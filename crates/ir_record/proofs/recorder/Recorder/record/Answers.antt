@@ -5,8 +5,8 @@ use Rattle.ir_record.specs.Failures.{StoppedAt}
 use Rattle.ir_record.specs.Progress.{Progress, Took}
 use Rattle.ir_record.specs.Recorders.{progress_of}
 use Rattle.ir_record.specs.Recording.{order_of_turns}
-use Rattle.ir_record.proofs.Steps.{took_both}
-use Rattle.ir_record.proofs.Stopped.{if_error, stopped_within, stopped_after}
+use Rattle.ir_record.proofs.Steps.{took_both_orders}
+use Rattle.ir_record.proofs.Stopped.{if_err_holds_of_error, stopped_in_longer_order, stopped_after_turns}
 use Rattle.ir_record.proofs.recorder.Recorder.record.Goals as goal
 
 pub returns-clause-took : goal.returns-clause-took
@@ -16,7 +16,7 @@ returns-clause-took g c =
     let new = progress_of g.W.World.answers c.rounds.new.self in
     let n = length c.args.self.now.tape.flat.threads in (
       c.in_ok-rounds.ensures.took.0,
-      took_both (order_of_turns c.args.order.now) (rounds n c.in_ok-rounds.ensures.took.0) entry mid new c.in_ok-follow.ensures.took
+      took_both_orders (order_of_turns c.args.order.now) (rounds n c.in_ok-rounds.ensures.took.0) entry mid new c.in_ok-follow.ensures.took
           (subst (λ k. Took (rounds k c.in_ok-rounds.ensures.took.0) mid new) c.in_ok-follow.ensures.took.threads
           c.in_ok-rounds.ensures.took.1),
     )
@@ -34,17 +34,17 @@ pub rounds-requires-clause-asks : goal.rounds-requires-clause-asks
 rounds-requires-clause-asks g c = c.requires.asks ∙ sym c.in_ok-follow.ensures.took.threads
 
 pub returns-in_err-follow-clause-stopped : goal.returns-in_err-follow-clause-stopped
-returns-in_err-follow-clause-stopped g c = if_error _ c.from_residual.result c.in_err-follow.field-0.0 c.from_residual.ensures.1 (
+returns-in_err-follow-clause-stopped g c = if_err_holds_of_error _ c.from_residual.result c.in_err-follow.field-0.0 c.from_residual.ensures.1 (
     let entry : Progress = progress_of g.W.World.answers c.args.self.now in
     let order = order_of_turns c.args.order.now in (
       0,
-      stopped_within order [] (order ++ rounds (length c.args.self.now.tape.flat.threads) 0) (tables entry.flat) entry _ _ refl
+      stopped_in_longer_order order [] (order ++ rounds (length c.args.self.now.tape.flat.threads) 0) (tables entry.flat) entry _ _ refl
           c.in_err-follow.ensures.stopped,
     )
     )
 
 pub returns-in_err-rounds-clause-stopped : goal.returns-in_err-rounds-clause-stopped
-returns-in_err-rounds-clause-stopped g c = if_error _ c.from_residual-in_err-rounds.result c.in_err-rounds.field-0.0 c.from_residual-in_err-rounds.ensures.1 (
+returns-in_err-rounds-clause-stopped g c = if_err_holds_of_error _ c.from_residual-in_err-rounds.result c.in_err-rounds.field-0.0 c.from_residual-in_err-rounds.ensures.1 (
     let entry : Progress = progress_of g.W.World.answers c.args.self.now in
     let mid : Progress = progress_of g.W.World.answers c.follow.new.self in
     let n = length c.args.self.now.tape.flat.threads in
@@ -52,7 +52,7 @@ returns-in_err-rounds-clause-stopped g c = if_error _ c.from_residual-in_err-rou
     let answers = map g.W.World.answers c.rounds.new.self.worlds.items in
     let k = c.in_err-rounds.ensures.stopped in (
       k.0,
-      stopped_after (order_of_turns c.args.order.now) (rounds n k.0) entry mid failed answers c.in_ok-follow.ensures.took
+      stopped_after_turns (order_of_turns c.args.order.now) (rounds n k.0) entry mid failed answers c.in_ok-follow.ensures.took
           (subst (λ i. StoppedAt (rounds i k.0) (tables mid.flat) mid failed answers) c.in_ok-follow.ensures.took.threads k.1),
     )
     )

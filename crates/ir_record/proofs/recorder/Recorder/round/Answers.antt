@@ -5,9 +5,9 @@ use Rattle.ir_flat.specs.Flat.{tables, machine}
 use Rattle.ir_record.specs.Noting.{Noted}
 use Rattle.ir_record.specs.Progress.{Progress}
 use Rattle.ir_record.specs.Recorders.{progress_of}
-use Rattle.ir_record.proofs.Going.{at_lead, still, reached, ahead_there}
-use Rattle.ir_record.proofs.Passing.{none_passed, pass_more, turn_noted}
-use Rattle.ir_record.proofs.Stopped.{if_error, range_all, stopped_within, stopped_ahead}
+use Rattle.ir_record.proofs.Going.{lead_is_read_value, no_turns_take_no_step, reached, ahead_of_reached_state}
+use Rattle.ir_record.proofs.Passing.{pass_after_no_turns, pass_after_turn, round_with_noted_turn_added}
+use Rattle.ir_record.proofs.Stopped.{if_err_holds_of_error, range_splits_at_number, stopped_in_longer_order, stopped_after_turns_ahead}
 use Rattle.ir_record.proofs.recorder.Recorder.round.Goals as goal
 
 pub loop-t-init : goal.loop-t-init
@@ -15,8 +15,8 @@ loop-t-init g c = record {
   went = λ s h. subst (λ z. WentIf z [] s (progress_of g.W.World.answers c.args.self.now)
       c.args.ahead.now.items (progress_of g.W.World.answers c.args.self.now) c.args.ahead.now.items)
       (sym c.new-pass.ensures.moved)
-      (still s (progress_of g.W.World.answers c.args.self.now) c.args.ahead.now.items h);
-  passing = none_passed c.new-pass.result c.args.ahead.now.items c.args.self.now.tape.flat;
+      (no_turns_take_no_step s (progress_of g.W.World.answers c.args.self.now) c.args.ahead.now.items h);
+  passing = pass_after_no_turns c.new-pass.result c.args.ahead.now.items c.args.self.now.tape.flat;
   each = c.requires.each;
   threads = refl;
   asks = c.requires.asks;
@@ -33,8 +33,8 @@ loop-t-preserved g c = record {
       let p : WentIf c.loop-t.pass.moved (range_with_len 0 c.loop-t.t) s a c.args.ahead.now.items b c.loop-t.ahead.items =
       c.loop-t.invariant.went s h in
       let q = c.in_ok-turned.ensures.went (reached p.went)
-      (ahead_there (range_with_len 0 c.loop-t.t) s a b c.args.ahead.now.items c.loop-t.ahead.items p.went) in
-      turn_noted c.in_ok-turned.turned c.loop-t.t c.index.result.now c.loop-t.pass c.note.new.self s a b e c.args.ahead.now.items
+      (ahead_of_reached_state (range_with_len 0 c.loop-t.t) s a b c.args.ahead.now.items c.loop-t.ahead.items p.went) in
+      round_with_noted_turn_added c.in_ok-turned.turned c.loop-t.t c.index.result.now c.loop-t.pass c.note.new.self s a b e c.args.ahead.now.items
       c.loop-t.ahead.items c.turn_ahead.new.ahead.items p q c.note.ensures;
   passing =
       let d : List ℕ = c.turn_ahead.new.ahead.items in
@@ -49,8 +49,8 @@ loop-t-preserved g c = record {
         c.in_ok-turned.ensures.threads,
         c.loop-t.invariant.threads,
       )) in
-      let here : lead d c.loop-t.t ≡ c.index.result.now = at_lead d c.loop-t.t c.index.result.now below c.index.ensures in
-      pass_more c.in_ok-turned.turned c.loop-t.t c.loop-t.pass c.note.new.self c.loop-t.ahead.items d c.loop-t.self.tape.flat
+      let here : lead d c.loop-t.t ≡ c.index.result.now = lead_is_read_value d c.loop-t.t c.index.result.now below c.index.ensures in
+      pass_after_turn c.in_ok-turned.turned c.loop-t.t c.loop-t.pass c.note.new.self c.loop-t.ahead.items d c.loop-t.self.tape.flat
       c.turn_ahead.new.self.tape.flat c.loop-t.invariant.passing
       (record {
         code = c.in_ok-turned.ensures.code;
@@ -88,7 +88,7 @@ returns-clause-free g c =
     c.loop-t.invariant.passing.each
 
 pub returns-in_err-turned-clause-stopped : goal.returns-in_err-turned-clause-stopped
-returns-in_err-turned-clause-stopped g c = if_error _ c.from_residual.result c.in_err-turned.field-0.0 c.from_residual.ensures.1 (
+returns-in_err-turned-clause-stopped g c = if_err_holds_of_error _ c.from_residual.result c.in_err-turned.field-0.0 c.from_residual.ensures.1 (
     λ s h.
     let a : Progress = progress_of g.W.World.answers c.args.self.now in
     let b : Progress = progress_of g.W.World.answers c.loop-t.self in
@@ -97,9 +97,9 @@ returns-in_err-turned-clause-stopped g c = if_error _ c.from_residual.result c.i
     let below : c.loop-t.t < n = omega (arith, e, c.loop-t-test.true, c.loop-t.auto.t-end) in
     let p : WentIf c.loop-t.pass.moved (range_with_len 0 c.loop-t.t) s a c.args.ahead.now.items b c.loop-t.ahead.items =
     c.loop-t.invariant.went s h in
-    stopped_within (range_with_len 0 c.loop-t.t ++ c.loop-t.t ∷ []) (range_with_len (c.loop-t.t + 1) (n - (c.loop-t.t + 1)))
-    (range_with_len 0 n) s a _ _ (range_all c.loop-t.t n below)
-    (stopped_ahead (range_with_len 0 c.loop-t.t) (c.loop-t.t ∷ []) s a b c.args.ahead.now.items c.loop-t.ahead.items _ _ p.went
+    stopped_in_longer_order (range_with_len 0 c.loop-t.t ++ c.loop-t.t ∷ []) (range_with_len (c.loop-t.t + 1) (n - (c.loop-t.t + 1)))
+    (range_with_len 0 n) s a _ _ (range_splits_at_number c.loop-t.t n below)
+    (stopped_after_turns_ahead (range_with_len 0 c.loop-t.t) (c.loop-t.t ∷ []) s a b c.args.ahead.now.items c.loop-t.ahead.items _ _ p.went
     (c.in_err-turned.ensures.stopped (reached p.went)
-    (ahead_there (range_with_len 0 c.loop-t.t) s a b c.args.ahead.now.items c.loop-t.ahead.items p.went)))
+    (ahead_of_reached_state (range_with_len 0 c.loop-t.t) s a b c.args.ahead.now.items c.loop-t.ahead.items p.went)))
     )

@@ -7,11 +7,11 @@ use Rattle.ir_runs.specs.InOrder.{rounds}
 use Rattle.ir_record.specs.Failures.{StoppedAt}
 use Rattle.ir_record.specs.Progress.{Progress}
 use Rattle.ir_record.specs.Recorders.{progress_of}
-use Rattle.ir_record.proofs.Going.{Rounding, reached, ahead_there, first_round, rounded, caught, all_over}
-use Rattle.ir_record.proofs.Joining.{rounds_more}
-use Rattle.ir_record.proofs.Skipping.{Skips, skip_more}
+use Rattle.ir_record.proofs.Going.{Rounding, reached, ahead_of_reached_state, no_rounds_change_nothing, one_more_round_after_rounds, caught, all_over}
+use Rattle.ir_record.proofs.Joining.{rounds_with_round_added}
+use Rattle.ir_record.proofs.Skipping.{RoundThenSkips, round_then_skipped_rounds}
 use Rattle.ir_record.proofs.recorder.Recorder.rounds.Given as given
-use Rattle.ir_record.proofs.Stopped.{if_error, stopped_ahead}
+use Rattle.ir_record.proofs.Stopped.{if_err_holds_of_error, stopped_after_turns_ahead}
 use Rattle.ir_record.proofs.recorder.Recorder.rounds.Goals as goal
 
 pub rounds-init : goal.rounds-init
@@ -19,7 +19,7 @@ rounds-init g c =
     let n : ℕ = length c.args.self.now.tape.flat.threads in
     let a : Progress = progress_of g.W.World.answers c.args.self.now in
     record {
-      went = subst (Rounding n a a) (sym c.requires.level) (first_round n a);
+      went = subst (Rounding n a a) (sym c.requires.level) (no_rounds_change_nothing n a);
       each = ap (λ xs. length xs) c.requires.level ∙ length-replicate {A = ℕ} n 0;
       asks = c.ask_all.ensures;
       ready = c.requires.ready;
@@ -27,10 +27,10 @@ rounds-init g c =
     }
 
 -- the rounds so far, the round that was taken, and those that are skipped
-skipped : (g : given.Over) (c : goal.After-lower g) → Skips c.in_ok-pass.pass.moved (progress_of g.W.World.answers c.args.self.now)
+skipped : (g : given.Over) (c : goal.After-lower g) → RoundThenSkips c.in_ok-pass.pass.moved (progress_of g.W.World.answers c.args.self.now)
     (progress_of g.W.World.answers c.rounds.self) (progress_of g.W.World.answers c.round.new.self) c.rounds.ahead.items
     c.lower.new.ahead.items
-skipped g c = skip_more c.in_ok-pass.pass.free (rounded c.rounds.invariant.went c.rounds.invariant.each c.in_ok-pass.ensures.went)
+skipped g c = round_then_skipped_rounds c.in_ok-pass.pass.free (one_more_round_after_rounds c.rounds.invariant.went c.rounds.invariant.each c.in_ok-pass.ensures.went)
     c.in_ok-pass.ensures.each c.lower.ensures.size c.in_ok-pass.ensures.free c.lower.ensures.each
 
 pub rounds-preserved : goal.rounds-preserved
@@ -47,12 +47,12 @@ rounds-smaller g c = (skipped g c).fewer (not-false c.in_ok-pass.pass.moved c.if
 
 pub returns-then-not-pass-clause-took : goal.returns-then-not-pass-clause-took
 returns-then-not-pass-clause-took g c =
-    caught (rounded c.rounds.invariant.went c.rounds.invariant.each c.in_ok-pass.ensures.went)
+    caught (one_more_round_after_rounds c.rounds.invariant.went c.rounds.invariant.each c.in_ok-pass.ensures.went)
     (not-true c.in_ok-pass.pass.moved c.if-not-pass.true)
 
 pub returns-then-not-pass-clause-over : goal.returns-then-not-pass-clause-over
 returns-then-not-pass-clause-over g c =
-    all_over (rounded c.rounds.invariant.went c.rounds.invariant.each c.in_ok-pass.ensures.went)
+    all_over (one_more_round_after_rounds c.rounds.invariant.went c.rounds.invariant.each c.in_ok-pass.ensures.went)
     (not-true c.in_ok-pass.pass.moved c.if-not-pass.true)
 
 pub returns-then-not-pass-clause-kept : goal.returns-then-not-pass-clause-kept
@@ -62,7 +62,7 @@ pub returns-in_err-pass-clause-kept : goal.returns-in_err-pass-clause-kept
 returns-in_err-pass-clause-kept g c = c.round.ensures.kept ∙ c.rounds.invariant.kept
 
 pub returns-in_err-pass-clause-stopped : goal.returns-in_err-pass-clause-stopped
-returns-in_err-pass-clause-stopped g c = if_error _ c.from_residual.result c.in_err-pass.field-0.0 c.from_residual.ensures.1 (
+returns-in_err-pass-clause-stopped g c = if_err_holds_of_error _ c.from_residual.result c.in_err-pass.field-0.0 c.from_residual.ensures.1 (
     let n : ℕ = length c.args.self.now.tape.flat.threads in
     let a : Progress = progress_of g.W.World.answers c.args.self.now in
     let b : Progress = progress_of g.W.World.answers c.rounds.self in
@@ -70,10 +70,10 @@ returns-in_err-pass-clause-stopped g c = if_error _ c.from_residual.result c.in_
     let answers = map g.W.World.answers c.round.new.self.worlds.items in
     let p : Rounding n a b c.rounds.ahead.items = c.rounds.invariant.went in (
       suc p.0,
-      subst (λ order. StoppedAt order (tables a.flat) a failed answers) (rounds_more n p.0)
-          (stopped_ahead (rounds n p.0) (range_with_len 0 n) (tables a.flat) a b (replicate n 0) c.rounds.ahead.items failed answers p.1
+      subst (λ order. StoppedAt order (tables a.flat) a failed answers) (rounds_with_round_added n p.0)
+          (stopped_after_turns_ahead (rounds n p.0) (range_with_len 0 n) (tables a.flat) a b (replicate n 0) c.rounds.ahead.items failed answers p.1
           (subst (λ k. StoppedAt (range_with_len 0 k) (reached p.1) b failed answers) p.1.threads
           (c.in_err-pass.ensures.stopped (reached p.1)
-          (ahead_there (rounds n p.0) (tables a.flat) a b (replicate n 0) c.rounds.ahead.items p.1)))),
+          (ahead_of_reached_state (rounds n p.0) (tables a.flat) a b (replicate n 0) c.rounds.ahead.items p.1)))),
     )
     )

@@ -3,9 +3,9 @@ use Rattle.ir_flat.specs.Flat.{machine}
 use Rattle.ir_record.specs.Ahead.{alone, lead, AreAsks, WentIf}
 use Rattle.ir_record.specs.Progress.{Progress, TookIf}
 use Rattle.ir_record.specs.Recorders.{progress_of}
-use Rattle.ir_record.proofs.Going.{at_lead, has_none, turn_spent, turn_stays, turn_steps}
-use Rattle.ir_record.proofs.Kept.{at_ask, asks_on}
-use Rattle.ir_record.proofs.Stopped.{if_error, stopped_here}
+use Rattle.ir_record.proofs.Going.{lead_is_read_value, no_step_after_passed_turn, turn_of_thread_ahead_is_spent, turn_of_thread_without_step, turn_with_private_steps_after}
+use Rattle.ir_record.proofs.Kept.{kept_ask_is_read_value, asks_kept_after_turn}
+use Rattle.ir_record.proofs.Stopped.{if_err_holds_of_error, stopped_at_own_turn}
 use Rattle.ir_record.proofs.recorder.Recorder.turn_ahead.Goals as goal
 
 pub returns-then-lead-gt0-clause-went : goal.returns-then-lead-gt0-clause-went
@@ -13,16 +13,16 @@ returns-then-lead-gt0-clause-went g c = λ s h.
     let a : Progress = progress_of g.W.World.answers c.args.self.now in
     let l : c.args.t < length c.args.ahead.now.items = omega (arith, c.requires.each, c.requires.thread) in
     let here : lead c.args.ahead.now.items c.args.t ≡ c.index-lead.result.now =
-    at_lead c.args.ahead.now.items c.args.t c.index-lead.result.now l c.index-lead.ensures in
-    turn_spent s a c.args.ahead.now.items c.args.t (c.index-lead.result.now - 1) l
+    lead_is_read_value c.args.ahead.now.items c.args.t c.index-lead.result.now l c.index-lead.ensures in
+    turn_of_thread_ahead_is_spent s a c.args.ahead.now.items c.args.t (c.index-lead.result.now - 1) l
     (here ∙ (let e : c.index-lead.result.now ≡ suc (c.index-lead.result.now - 1) = omega (arith, c.if-lead-gt0.true) in e)) h
 
 pub returns-then-not-branch-clause-went : goal.returns-then-not-branch-clause-went
 returns-then-not-branch-clause-went g c = λ s h.
     let l : c.args.t < length c.args.ahead.now.items = omega (arith, c.requires.each, c.requires.thread) in
     let here : lead c.args.ahead.now.items c.args.t ≡ c.index-lead.result.now =
-    at_lead c.args.ahead.now.items c.args.t c.index-lead.result.now l c.index-lead.ensures in
-    turn_stays s (progress_of g.W.World.answers c.args.self.now)
+    lead_is_read_value c.args.ahead.now.items c.args.t c.index-lead.result.now l c.index-lead.ensures in
+    turn_of_thread_without_step s (progress_of g.W.World.answers c.args.self.now)
     (progress_of g.W.World.answers c.turn_asked.new.self) c.args.ahead.now.items c.args.t
     c.in_ok-turn_asked.field-0 c.if-not-branch.true
     (omega (arith, here, c.if-lead-gt0.false)) h c.in_ok-turn_asked.ensures.took
@@ -33,12 +33,12 @@ returns-clause-went g c = λ s h.
     let b : Progress = progress_of g.W.World.answers c.turn_asked.new.self in
     let ahead : List ℕ = c.args.ahead.now.items in
     let l : c.args.t < length ahead = omega (arith, c.requires.each, c.requires.thread) in
-    let here : lead ahead c.args.t ≡ c.index-lead.result.now = at_lead ahead c.args.t c.index-lead.result.now l c.index-lead.ensures in
+    let here : lead ahead c.args.t ≡ c.index-lead.result.now = lead_is_read_value ahead c.args.t c.index-lead.result.now l c.index-lead.ensures in
     let took : TookIf true (c.args.t ∷ []) a b =
     subst (λ z. TookIf z (c.args.t ∷ []) a b) c.if-not-branch.false c.in_ok-turn_asked.ensures.took in
     subst (λ ls. WentIf true (c.args.t ∷ []) s a ahead (record b { flat = c.run-ran.new.self.flat; logs = ls.items })
     (set ahead c.args.t c.run-ran.result.0)) (sym c.run-ran.ensures.logs)
-    (turn_steps s a b c.run-ran.new.self.flat ahead c.args.t c.run-ran.result.0 l c.requires.thread c.run-ran.ensures.flat
+    (turn_with_private_steps_after s a b c.run-ran.new.self.flat ahead c.args.t c.run-ran.result.0 l c.requires.thread c.run-ran.ensures.flat
     (omega (arith, here, c.if-lead-gt0.false)) h took c.run-ran.ensures.alone)
 
 pub returns-then-lead-gt0-clause-each : goal.returns-then-lead-gt0-clause-each
@@ -61,31 +61,31 @@ pub returns-then-not-branch-clause-waits : goal.returns-then-not-branch-clause-w
 returns-then-not-branch-clause-waits g c = λ is.
     let a : Progress = progress_of g.W.World.answers c.args.self.now in
     let b : Progress = progress_of g.W.World.answers c.turn_asked.new.self in
-    has_none a b c.args.t c.in_ok-turn_asked.field-0 c.if-not-branch.true c.in_ok-turn_asked.ensures.took
+    no_step_after_passed_turn a b c.args.t c.in_ok-turn_asked.field-0 c.if-not-branch.true c.in_ok-turn_asked.ensures.took
 
 pub turn_asked-requires-clause-asked : goal.turn_asked-requires-clause-asked
 turn_asked-requires-clause-asked g c =
     let l : c.args.t < length c.args.asks.now.items = omega (arith, c.requires.asks.places, c.requires.thread) in
-    sym (at_ask c.args.asks.now.items c.args.t c.index.result.now l c.index.ensures) ∙ c.requires.asks.asked c.args.t c.requires.thread
+    sym (kept_ask_is_read_value c.args.asks.now.items c.args.t c.index.result.now l c.index.ensures) ∙ c.requires.asks.asked c.args.t c.requires.thread
 
 pub returns-then-not-branch-clause-asks : goal.returns-then-not-branch-clause-asks
 returns-then-not-branch-clause-asks g c =
     subst (AreAsks c.args.asks.now.items) (sym (c.in_ok-turn_asked.ensures.none c.if-not-branch.true)) c.requires.asks
 
 pub returns-clause-asks : goal.returns-clause-asks
-returns-clause-asks g c = asks_on c.args.asks.now.items (progress_of g.W.World.answers c.args.self.now)
+returns-clause-asks g c = asks_kept_after_turn c.args.asks.now.items (progress_of g.W.World.answers c.args.self.now)
     (progress_of g.W.World.answers c.turn_asked.new.self) c.run-ran.new.self.flat c.args.t c.run-ran.result.0 c.run-ran.result.1
     c.in_ok-turn_asked.field-0 c.requires.thread c.requires.asks c.run-ran.ensures.still_flat c.in_ok-turn_asked.ensures.took
     c.run-ran.ensures.alone c.run-ran.ensures.asked
 
 pub returns-in_err-turn_asked-clause-stopped : goal.returns-in_err-turn_asked-clause-stopped
-returns-in_err-turn_asked-clause-stopped g c = if_error _ c.from_residual.result c.in_err-turn_asked.field-0.0 c.from_residual.ensures.1 (
+returns-in_err-turn_asked-clause-stopped g c = if_err_holds_of_error _ c.from_residual.result c.in_err-turn_asked.field-0.0 c.from_residual.ensures.1 (
     λ s h.
     let a : Progress = progress_of g.W.World.answers c.args.self.now in
     let l : c.args.t < length c.args.ahead.now.items = omega (arith, c.requires.each, c.requires.thread) in
     let here : lead c.args.ahead.now.items c.args.t ≡ c.index-lead.result.now =
-    at_lead c.args.ahead.now.items c.args.t c.index-lead.result.now l c.index-lead.ensures in
+    lead_is_read_value c.args.ahead.now.items c.args.t c.index-lead.result.now l c.index-lead.ensures in
     let level : lead c.args.ahead.now.items c.args.t ≡ 0 = omega (arith, here, c.if-lead-gt0.false) in
-    stopped_here c.args.t s a _ _ (map g.W.World.broken c.args.self.now.worlds.items) c.requires.ready
+    stopped_at_own_turn c.args.t s a _ _ (map g.W.World.broken c.args.self.now.worlds.items) c.requires.ready
     (sym (h.threads c.args.t ∙ ap (λ k. alone (machine a.flat) k (s.now c.args.t)) level)) c.in_err-turn_asked.ensures.stopped
     )

@@ -2,7 +2,7 @@ use Rattle.std.proofs.Common.{true, [], ◌∷◌, refl, ap, ◌∙◌, arith, l
 use Rattle.ir_record.specs.Progress.{progress, TookIf}
 use Rattle.ir_record.specs.Recorders.{progress_of}
 use Rattle.ir_record.proofs.recorder.Recorder.turn_asked.Given.{Over}
-use Rattle.ir_record.proofs.Ready.{stays_ready}
+use Rattle.ir_record.proofs.Ready.{ready_after_turn}
 use Rattle.ir_record.proofs.recorder.Recorder.turn_asked.Goals as goal
 
 took : (g : Over) (c : goal.After-answer g) → TookIf true (c.args.t ∷ [])
@@ -15,7 +15,7 @@ pub returns-in_ok-value-in-Env-clause-took : goal.returns-in_ok-value-in-Env-cla
 returns-in_ok-value-in-Env-clause-took g c = took g c
 
 pub returns-in_ok-value-in-Env-clause-ready : goal.returns-in_ok-value-in-Env-clause-ready
-returns-in_ok-value-in-Env-clause-ready g c = stays_ready c.args.t true
+returns-in_ok-value-in-Env-clause-ready g c = ready_after_turn c.args.t true
     (progress_of g.W.World.answers c.args.self.now)
     (progress c.answer.new.self (map g.W.World.answers c.answer_to.new.worlds.items))
     (map g.W.World.broken c.args.self.now.worlds.items) (map g.W.World.broken c.answer_to.new.worlds.items)
@@ -27,7 +27,7 @@ pub returns-in-Enter-clause-took : goal.returns-in-Enter-clause-took
 returns-in-Enter-clause-took g c = c.enter.ensures.took (map g.W.World.answers c.args.self.now.worlds.items)
 
 pub returns-in-Enter-clause-ready : goal.returns-in-Enter-clause-ready
-returns-in-Enter-clause-ready g c = stays_ready c.args.t c.enter.result
+returns-in-Enter-clause-ready g c = ready_after_turn c.args.t c.enter.result
     (progress_of g.W.World.answers c.args.self.now)
     (progress c.enter.new.self (map g.W.World.answers c.args.self.now.worlds.items)) (map g.W.World.broken c.args.self.now.worlds.items)
     (map g.W.World.broken c.args.self.now.worlds.items)
@@ -37,7 +37,7 @@ returns-in-Enter-clause-ready g c = stays_ready c.args.t c.enter.result
 pub returns-in_default : goal.returns-in_default
 returns-in_default g c = record {
   took = c.go.ensures.took (map g.W.World.answers c.args.self.now.worlds.items);
-  ready = stays_ready c.args.t c.go.result (progress_of g.W.World.answers c.args.self.now)
+  ready = ready_after_turn c.args.t c.go.result (progress_of g.W.World.answers c.args.self.now)
       (progress c.go.new.self (map g.W.World.answers c.args.self.now.worlds.items)) (map g.W.World.broken c.args.self.now.worlds.items)
       (map g.W.World.broken c.args.self.now.worlds.items)
       c.requires.ready (c.go.ensures.took (map g.W.World.answers c.args.self.now.worlds.items)) c.go.ensures.tape
@@ -52,7 +52,7 @@ pub returns-in-Enter-clause-kept : goal.returns-in-Enter-clause-kept
 returns-in-Enter-clause-kept g c = refl
 
 pub returns-in-Try-clause-ready : goal.returns-in-Try-clause-ready
-returns-in-Try-clause-ready g c = stays_ready c.args.t true
+returns-in-Try-clause-ready g c = ready_after_turn c.args.t true
     (progress_of g.W.World.answers c.args.self.now)
     (progress c.try_to_enter.new.self (map g.W.World.answers c.args.self.now.worlds.items))
     (map g.W.World.broken c.args.self.now.worlds.items) (map g.W.World.broken c.args.self.now.worlds.items)

@@ -3,17 +3,17 @@ use Rattle.ir_flat.specs.Flat.{tables, machine}
 use Rattle.ir_runs.specs.Run.{Can}
 use Rattle.ir_log.specs.Logged.{Logged}
 use Rattle.ir_log.specs.declared.event.Event.TheVariants as event
-use Rattle.ir_record.proofs.Logs.{stepped, has_room, log_found}
-use Rattle.ir_record.proofs.Answering.{Answering, answer_can, answer_room, answer_tape, answer_took}
+use Rattle.ir_record.proofs.Logs.{on_ok_holds_if_can, log_has_room_for_event, found_log_is_log_at}
+use Rattle.ir_record.proofs.Answering.{AnswerLogged, environment_call_can_step, room_to_log_answer, tape_after_answer, turn_taken_by_answer}
 use Rattle.ir_record.proofs.tape.Tape.answer.Goals as goal
 
 pub push-requires : goal.push-requires
-push-requires c = has_room c.args.self.now.flat c.args.self.now.logs.items c.args.t c.index_mut.result.now c.requires.tape c.requires.thread
-    (log_found c.args.self.now.flat c.args.self.now.logs.items c.args.t c.index_mut.result.now c.requires.tape c.requires.thread
+push-requires c = log_has_room_for_event c.args.self.now.flat c.args.self.now.logs.items c.args.t c.index_mut.result.now c.requires.tape c.requires.thread
+    (found_log_is_log_at c.args.self.now.flat c.args.self.now.logs.items c.args.t c.index_mut.result.now c.requires.tape c.requires.thread
     c.index_mut.ensures.value)
-    (answer_room c.args.self.now.flat c.args.t c.args.kind c.requires.asked)
+    (room_to_log_answer c.args.self.now.flat c.args.t c.args.kind c.requires.asked)
 
-answering : (c : goal.After-self-1) → Answering c.args.self.now.flat c.take.new.self c.args.self.now.logs.items
+answering : (c : goal.After-self-1) → AnswerLogged c.args.self.now.flat c.take.new.self c.args.self.now.logs.items
     (set c.args.self.now.logs.items c.args.t c.push.new.self) c.args.t c.args.value c.args.kind
 answering c = record {
   tape = c.requires.tape;
@@ -21,23 +21,23 @@ answering c = record {
   below = c.requires.thread;
   asked = c.requires.asked;
   fits = c.requires.fits;
-  taken = stepped c.take.result (Can (machine c.args.self.now.flat) (tables c.args.self.now.flat) (c.args.t, c.args.value)) _
-      (answer_can c.args.self.now.flat c.args.t c.args.value c.args.kind c.requires.asked c.requires.fits) c.take.ensures.refused
+  taken = on_ok_holds_if_can c.take.result (Can (machine c.args.self.now.flat) (tables c.args.self.now.flat) (c.args.t, c.args.value)) _
+      (environment_call_can_step c.args.self.now.flat c.args.t c.args.value c.args.kind c.requires.asked c.requires.fits) c.take.ensures.refused
       c.take.ensures.taken;
   code = c.take.ensures.code;
   threads = c.take.ensures.threads;
   objects = c.take.ensures.objects;
   new = c.push.new.self;
   pushed = c.push.ensures ∙ ap {A = Logged} {B = Logged} (λ l. record l { events = l.events ++ event.Answer c.args.kind c.args.value ∷ [] })
-      (log_found c.args.self.now.flat c.args.self.now.logs.items c.args.t c.index_mut.result.now c.requires.tape c.requires.thread
+      (found_log_is_log_at c.args.self.now.flat c.args.self.now.logs.items c.args.t c.index_mut.result.now c.requires.tape c.requires.thread
       c.index_mut.ensures.value);
   logged = refl;
 }
 
 pub returns-clause-took : goal.returns-clause-took
-returns-clause-took c = answer_took c.args.self.now.flat c.take.new.self c.args.self.now.logs.items
+returns-clause-took c = turn_taken_by_answer c.args.self.now.flat c.take.new.self c.args.self.now.logs.items
     (set c.args.self.now.logs.items c.args.t c.push.new.self) c.args.t c.args.value c.args.kind (answering c)
 
 pub returns-clause-tape : goal.returns-clause-tape
-returns-clause-tape c = answer_tape c.args.self.now.flat c.take.new.self c.args.self.now.logs.items
+returns-clause-tape c = tape_after_answer c.args.self.now.flat c.take.new.self c.args.self.now.logs.items
     (set c.args.self.now.logs.items c.args.t c.push.new.self) c.args.t c.args.value c.args.kind (answering c)

@@ -1,10 +1,10 @@
 use Rattle.std.proofs.Common.{sym, subst}
 use Rattle.ir_record.specs.Progress.{IsQuiet}
-use Rattle.ir_record.proofs.Entering.{Gone, gone, not_ok}
+use Rattle.ir_record.proofs.Entering.{QuietTurn, quiet_turn_by_result, on_err_holds_if_not_ok}
 use Rattle.ir_record.proofs.tape.Tape.go.Goals as goal
 
-all : (c : goal.After-is_ok) → Gone c.args.self.now.flat c.take.new.self c.args.self.now.logs.items c.args.t c.is_ok.result
-all c = gone c.take.result c.args.self.now.flat c.take.new.self c.args.self.now.logs.items c.args.t c.is_ok.result c.is_ok.ensures.value
+all : (c : goal.After-is_ok) → QuietTurn c.args.self.now.flat c.take.new.self c.args.self.now.logs.items c.args.t c.is_ok.result
+all c = quiet_turn_by_result c.take.result c.args.self.now.flat c.take.new.self c.args.self.now.logs.items c.args.t c.is_ok.result c.is_ok.ensures.value
     c.requires.tape c.requires.flat c.requires.thread (subst IsQuiet (sym c.requires.asked) c.requires.quiet)
     c.take.ensures.admitted c.take.ensures.taken c.take.ensures.code c.take.ensures.threads c.take.ensures.objects c.take.ensures.refused
     c.take.ensures.unchanged
@@ -16,4 +16,4 @@ pub returns-clause-tape : goal.returns-clause-tape
 returns-clause-tape c = (all c).tape
 
 pub returns-clause-none : goal.returns-clause-none
-returns-clause-none c = λ none. not_ok c.take.result c.is_ok.result _ c.is_ok.ensures.value none c.take.ensures.unchanged
+returns-clause-none c = λ none. on_err_holds_if_not_ok c.take.result c.is_ok.result _ c.is_ok.ensures.value none c.take.ensures.unchanged

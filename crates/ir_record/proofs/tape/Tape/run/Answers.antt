@@ -1,10 +1,10 @@
-use Rattle.ir_record.proofs.Running.{run_took, run_tape}
+use Rattle.ir_record.proofs.Running.{turns_taken_by_private_steps, tape_after_private_steps}
 use Rattle.ir_record.proofs.tape.Tape.run.Goals as goal
 
 pub returns-clause-took : goal.returns-clause-took
-returns-clause-took c = run_took c.args.self.now.flat c.run_to_ask.new.self c.args.self.now.logs.items c.args.t
+returns-clause-took c = turns_taken_by_private_steps c.args.self.now.flat c.run_to_ask.new.self c.args.self.now.logs.items c.args.t
     c.run_to_ask.result.0 c.run_to_ask.ensures.flat c.requires.thread c.run_to_ask.ensures.went
 
 pub returns-clause-tape : goal.returns-clause-tape
-returns-clause-tape c = run_tape c.args.self.now.flat c.run_to_ask.new.self c.args.self.now.logs.items c.args.t
+returns-clause-tape c = tape_after_private_steps c.args.self.now.flat c.run_to_ask.new.self c.args.self.now.logs.items c.args.t
     c.run_to_ask.result.0 c.run_to_ask.ensures.went c.requires.tape

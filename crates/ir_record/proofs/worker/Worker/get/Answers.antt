@@ -1,8 +1,8 @@
 use Rattle.std.proofs.Common.{Some, None, refl}
-use Rattle.ir_crew.proofs.CallerLemmas.{act}
+use Rattle.ir_crew.proofs.CallerLemmas.{step_of_deed}
 use Rattle.ir_crew.specs.declared.deed.Deed.TheVariants.{Get}
 use Rattle.ir_thread.specs.declared.ask.Ask.TheVariants as ask
-use Rattle.ir_record.proofs.WorkerSteps.{step_on, below_get, inside_get}
+use Rattle.ir_record.proofs.WorkerSteps.{still_works_after_step, below_get, inside_get}
 use Rattle.ir_record.proofs.worker.Worker.get.Goals as goal
 
 pub get-value-requires-clause-object : goal.get-value-requires-clause-object
@@ -14,7 +14,7 @@ get-value-requires-clause-inside g c = inside_get c.requires.worker c.requires.a
 pub returns-clause-stays : goal.returns-clause-stays
 returns-clause-stays g c = record {
   seat = c.get-value.ensures.seat.0;
-  still = step_on c.requires.worker.same_code (ask.Get c.args.object c.args.index) c.get-value.result
-      (Some (act c.args.object (Get c.args.index c.get-value.result))) None tt refl tt
+  still = still_works_after_step c.requires.worker.same_code (ask.Get c.args.object c.args.index) c.get-value.result
+      (Some (step_of_deed c.args.object (Get c.args.index c.get-value.result))) None tt refl tt
       c.requires.asked c.get-value.ensures.got c.take_asked.ensures refl refl;
 }

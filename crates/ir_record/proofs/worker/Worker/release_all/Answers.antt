@@ -1,7 +1,7 @@
 use Rattle.std.proofs.Common.{◌-◌, ℕ, ◌∙◌, arith, inl, inr}
 use Rattle.std.proofs.lemmas.Bool.{cases_lt}
 use Rattle.ir_crew.specs.declared.deed.Deed.TheVariants.{Leave}
-use Rattle.ir_record.proofs.WorkerSteps.{did_alone, did_elsewhere, did_leave}
+use Rattle.ir_record.proofs.WorkerSteps.{seat_alone_after_deed, inside_after_deed_elsewhere, outside_after_leave}
 use Rattle.ir_record.proofs.worker.Worker.release_all.Goals as goal
 
 pub loop-below-preserved-in-Some : goal.loop-below-preserved-in-Some
@@ -15,14 +15,14 @@ loop-below-preserved-in-Some g c =
       table = c.leave.ensures.seat.0 ∙ i.table;
       world = i.world;
       thread = i.thread;
-      alone = did_alone c.loop-below.self.seat.me c.leave.new.seat.me o (Leave c.in-Some.access e.0) e.1 i.alone;
+      alone = seat_alone_after_deed c.loop-below.self.seat.me c.leave.new.seat.me o (Leave c.in-Some.access e.0) e.1 i.alone;
       low = omega (arith, t, l);
-      inside = λ p k. did_elsewhere c.loop-below.self.seat.me c.leave.new.seat.me o p (Leave c.in-Some.access e.0) e.1 i.alone
+      inside = λ p k. inside_after_deed_elsewhere c.loop-below.self.seat.me c.leave.new.seat.me o p (Leave c.in-Some.access e.0) e.1 i.alone
           (λ q. omega (arith, q, k, t)) ∙ i.inside p (omega (arith, k, t));
       outside = λ p k. elim (cases_lt o p) [
-        | inl later ↦ did_elsewhere c.loop-below.self.seat.me c.leave.new.seat.me o p (Leave c.in-Some.access e.0) e.1 i.alone
+        | inl later ↦ inside_after_deed_elsewhere c.loop-below.self.seat.me c.leave.new.seat.me o p (Leave c.in-Some.access e.0) e.1 i.alone
             (λ q. omega (arith, q, later)) ∙ i.outside p (omega (arith, later, t))
-        | inr same ↦ did_leave c.loop-below.self.seat.me c.leave.new.seat.me o p c.in-Some.access e.0 e.1 i.alone
+        | inr same ↦ outside_after_leave c.loop-below.self.seat.me c.leave.new.seat.me o p c.in-Some.access e.0 e.1 i.alone
             (omega (arith, k, same))
       ];
     }

@@ -3,12 +3,12 @@ use Rattle.std.proofs.lemmas.List.{map_push}
 use Rattle.std.proofs.lemmas.Result.{on_ok_weaker, on_err_weaker}
 use Rattle.ir_freeze.specs.Frozen.{frozen, is_over}
 use Rattle.ir_freeze.specs.Twins.{IsBounded}
-use Rattle.ir_thread.specs.State.{State}
+use Rattle.ir_thread.specs.State.{ThreadState}
 use Rattle.ir_store.specs.Rows.{Row, thread_in, look_of, KnowsOver}
 use Rattle.ir_store.specs.Table.{HasBytes}
 use Rattle.ir_store.specs.Table as table
-use Rattle.ir_store.proofs.Lists.{all_put}
-use Rattle.ir_store.proofs.Rowed.{rows_put, looks_put}
+use Rattle.ir_store.proofs.Lists.{all_by_recursion_after_put}
+use Rattle.ir_store.proofs.Rowed.{all_by_recursion_after_row_put, looks_after_row_put}
 use Rattle.ir_store.proofs.rows.Rows.push.Goals as goal
 
 pub invariant_of-self : goal.invariant_of-self
@@ -30,11 +30,11 @@ invariant_of-self c =
     (subst (λ (z : table.Table). (c.args.look ≡ length z.items) ⊎ HasBytes z.start z.items c.args.look (frozen z.start c.args.thread.now []))
     (sym c.self.view_is) c.requires.look)) in (
       c.self.invariant.0,
-      rows_put (thread_in start) (λ s. s.form ≡ form) rows new row c.self.invariant.1
-          (ap (λ (s : State). s.form) made ∙ c.requires.form ∙ ap (λ (z : table.Table). z.form) (sym c.self.view_is)) c.put.ensures.either,
-      rows_put (thread_in start) IsBounded rows new row c.self.invariant.2 (subst IsBounded (sym made) c.bounded.ensures) c.put.ensures.either,
-      all_put (KnowsOver start) rows new row c.self.invariant.3 (c.in_ok-row.ensures.over ∙ ap is_over (sym made)) c.put.ensures.either,
-      looks_put (thread_in start) look_of start rows new row c.self.invariant.4 is c.put.ensures.either,
+      all_by_recursion_after_row_put (thread_in start) (λ s. s.form ≡ form) rows new row c.self.invariant.1
+          (ap (λ (s : ThreadState). s.form) made ∙ c.requires.form ∙ ap (λ (z : table.Table). z.form) (sym c.self.view_is)) c.put.ensures.either,
+      all_by_recursion_after_row_put (thread_in start) IsBounded rows new row c.self.invariant.2 (subst IsBounded (sym made) c.bounded.ensures) c.put.ensures.either,
+      all_by_recursion_after_put (KnowsOver start) rows new row c.self.invariant.3 (c.in_ok-row.ensures.over ∙ ap is_over (sym made)) c.put.ensures.either,
+      looks_after_row_put (thread_in start) look_of start rows new row c.self.invariant.4 is c.put.ensures.either,
     )
 
 pub returns-clause-ok : goal.returns-clause-ok

@@ -2,8 +2,8 @@ use Rattle.std.proofs.Common.{◌≡◌, ◌<◌, ℕ, length, get_or, map, refl
 use Rattle.std.specs.Prelude.{slice_get}
 use Rattle.ir_flat.specs.Flat.{Flat, IsFlat, idle, thread_of}
 use Rattle.ir_store.specs.Nodes.{Shared, Node, Stored, flat_in, IsNode}
-use Rattle.ir_store.proofs.Lists.{all_at, length_map}
-use Rattle.ir_store.proofs.Rowed.{read_row}
+use Rattle.ir_store.proofs.Lists.{element_of_all_by_recursion, length_map}
+use Rattle.ir_store.proofs.Rowed.{read_row_is_mapped_element}
 use Rattle.ir_store.proofs.Stored.{node_is, flat_is, thread_is}
 use Rattle.ir_store.proofs.store.Store.thread_number.Goals as goal
 
@@ -13,7 +13,7 @@ index-requires c =
     let nodes = c.self.inside.nodes.items in
     let node : Node = c.index-node.result.now in
     let less = subst (λ (z : Stored). c.args.v < length z.items) (sym c.self.view_is) c.requires.node in
-    let here = read_row (flat_in shared) nodes node c.args.v (flat_in shared node) less c.index-node.ensures refl in
+    let here = read_row_is_mapped_element (flat_in shared) nodes node c.args.v (flat_in shared node) less c.index-node.ensures refl in
     let there = subst (λ (z : Stored). slice_get z.items c.args.v ≡ Some (flat_in shared node)) c.self.view_is here in
     let few = c.requires.thread (flat_in shared node) there in
     let many = length_map (λ n. get_or shared.threads n idle) node.threads in
@@ -27,7 +27,7 @@ returns-clause-within c =
     let nodes = c.self.inside.nodes.items in
     let node : Node = c.index-node.result.now in
     let less = subst (λ (z : Stored). c.args.v < length z.items) (sym c.self.view_is) c.requires.node in
-    let here = read_row (flat_in shared) nodes node c.args.v (flat_in shared node) less c.index-node.ensures refl in
+    let here = read_row_is_mapped_element (flat_in shared) nodes node c.args.v (flat_in shared node) less c.index-node.ensures refl in
     let there = subst (λ (z : Stored). slice_get z.items c.args.v ≡ Some (flat_in shared node)) c.self.view_is here in
     let few = c.requires.thread (flat_in shared node) there in
     let many = length_map (λ n. get_or shared.threads n idle) node.threads in
@@ -35,7 +35,7 @@ returns-clause-within c =
     let one = c.index.ensures ∙ ap (λ (z : Node). get_or z.threads c.args.t c.index.result.now) c.node.view_is in
     let in_here : c.index.result.now < length shared.threads =
     subst (λ n. n < length shared.threads) (sym one)
-    (all_at (λ n. n < length shared.threads) node.threads c.args.t c.index.result.now is.within.threads (omega (arith, few, many))) in
+    (element_of_all_by_recursion (λ n. n < length shared.threads) node.threads c.args.t c.index.result.now is.within.threads (omega (arith, few, many))) in
     subst (λ (z : Stored). c.index.result.now < length z.shared.threads) c.self.view_is in_here
 
 pub returns-clause-thread : goal.returns-clause-thread

@@ -4,7 +4,7 @@ use Rattle.ir_flat.specs.Flat.{Flat, idle}
 use Rattle.ir_flat.specs.Next.{with_object, with_thread}
 use Rattle.ir_store.specs.Nodes.{Shared, Node, Stored, cell_in, flat_in}
 use Rattle.ir_store.proofs.Lists.{length_map}
-use Rattle.ir_store.proofs.Rowed.{read_row}
+use Rattle.ir_store.proofs.Rowed.{read_row_is_mapped_element}
 use Rattle.ir_store.proofs.Stored.{both_is}
 use Rattle.ir_store.proofs.store.Store.with_both.Goals as goal
 
@@ -13,7 +13,7 @@ index_mut-requires c =
     let shared : Shared = record { threads = c.self.inside.table.items; words = c.self.inside.words } in
     let node : Node = c.index-node.result.now in
     let less = subst (λ (z : Stored). c.args.v < length z.items) (sym c.self.view_is) c.requires.node in
-    let here = read_row (flat_in shared) c.self.inside.nodes.items node c.args.v (flat_in shared node) less c.index-node.ensures refl in
+    let here = read_row_is_mapped_element (flat_in shared) c.self.inside.nodes.items node c.args.v (flat_in shared node) less c.index-node.ensures refl in
     let there = subst (λ (z : Stored). slice_get z.items c.args.v ≡ Some (flat_in shared node)) c.self.view_is here in
     let few = (c.requires.own (flat_in shared node) there).0 in
     let many = length_map (λ n. get_or shared.threads n idle) node.threads in
@@ -26,7 +26,7 @@ index_mut-requires-2 c =
     let shared : Shared = record { threads = c.self.inside.table.items; words = c.self.inside.words } in
     let node : Node = c.index-node.result.now in
     let less = subst (λ (z : Stored). c.args.v < length z.items) (sym c.self.view_is) c.requires.node in
-    let here = read_row (flat_in shared) c.self.inside.nodes.items node c.args.v (flat_in shared node) less c.index-node.ensures refl in
+    let here = read_row_is_mapped_element (flat_in shared) c.self.inside.nodes.items node c.args.v (flat_in shared node) less c.index-node.ensures refl in
     let there = subst (λ (z : Stored). slice_get z.items c.args.v ≡ Some (flat_in shared node)) c.self.view_is here in
     let few = (c.requires.own (flat_in shared node) there).1 in
     let many = length_map (cell_in shared.words) node.objects in

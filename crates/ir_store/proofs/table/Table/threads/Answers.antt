@@ -2,10 +2,10 @@ use Rattle.std.proofs.Common.{◌≡◌, ◌∙◌, sym, ap, subst, get_or}
 use Rattle.std.specs.Prelude.{slice_get, Some}
 use Rattle.std.proofs.lemmas.Option.{get_or_from_slice_get}
 use Rattle.ir_flat.specs.Flat.{idle}
-use Rattle.ir_thread.specs.State.{State}
+use Rattle.ir_thread.specs.State.{ThreadState}
 use Rattle.ir_store.specs.Table.{HaveForm}
 use Rattle.ir_store.specs.Table as table
-use Rattle.ir_store.proofs.Lists.{all_push, made_more}
+use Rattle.ir_store.proofs.Lists.{all_by_recursion_after_push, mapped_elements_made_step}
 use Rattle.ir_store.proofs.table.Table.threads.Goals as goal
 
 pub loop-n-preserved : goal.loop-n-preserved
@@ -19,10 +19,10 @@ loop-n-preserved c =
     record {
       value =
           c.in_ok-push.ensures.items
-          ∙ made_more (λ k. get_or items k idle) numbers c.loop-n.threads.items x i 0 c.loop-n-test.true c.loop-n.invariant.value
+          ∙ mapped_elements_made_step (λ k. get_or items k idle) numbers c.loop-n.threads.items x i 0 c.loop-n-test.true c.loop-n.invariant.value
           (sym (get_or_from_slice_get items (get_or numbers i 0) x idle at));
       form =
           subst (HaveForm c.args.self.now.form) (sym c.in_ok-push.ensures.items)
-          (all_push (λ (s : State). s.form ≡ c.args.self.now.form) c.loop-n.threads.items x c.loop-n.invariant.form
+          (all_by_recursion_after_push (λ (s : ThreadState). s.form ≡ c.args.self.now.form) c.loop-n.threads.items x c.loop-n.invariant.form
           (c.in_ok-thread.ensures.form ∙ ap (λ (z : table.Table). z.form) c.self.view_is));
     }

@@ -2,7 +2,7 @@ use Rattle.std.proofs.Common.{List, subst, ◌∙◌}
 use Rattle.std.specs.Prelude.{MatchOption}
 use Rattle.ir_symbols.specs.Symbols.{Symbol}
 use Rattle.ir_symbols.specs.Tables.{IsNearest}
-use Rattle.ir_symbols.proofs.Nearest.{NoneReaches, none_by_cases, value_by_cases}
+use Rattle.ir_symbols.proofs.Nearest.{NoneReaches, not_nearest_if_not_found, look_up_is_nearest_by_cases}
 use Rattle.ir_symbols.proofs.table.SymbolTable.nearest.Goals as goal
 
 -- what was found of the table's symbols
@@ -12,7 +12,7 @@ cases c = subst (λ (l : List Symbol). MatchOption c.nearest_of.result (NoneReac
     (c.as_slice.ensures.value ∙ c.self.view_is) c.nearest_of.ensures
 
 pub returns-clause-none : goal.returns-clause-none
-returns-clause-none c = none_by_cases c.nearest_of.result (λ r. r.now) c.args.self.now c.args.address (cases c)
+returns-clause-none c = not_nearest_if_not_found c.nearest_of.result (λ r. r.now) c.args.self.now c.args.address (cases c)
 
 pub returns-clause-value : goal.returns-clause-value
-returns-clause-value c = value_by_cases c.nearest_of.result (λ r. r.now) c.args.self.now c.args.address (cases c)
+returns-clause-value c = look_up_is_nearest_by_cases c.nearest_of.result (λ r. r.now) c.args.self.now c.args.address (cases c)

@@ -2,20 +2,20 @@ use Rattle.std.proofs.Common.{◌∙◌, ◌<◌, length, ap, sym, arith}
 use Rattle.std.specs.Slots.{slots_items}
 use Rattle.ir_object.specs.Layout.{table_length}
 use Rattle.ir_weave.specs.Woven.{IsEnd}
-use Rattle.ir_weave.proofs.Opening.{ends, end_count, none_read, objects_more, closes}
+use Rattle.ir_weave.proofs.Opening.{final_table_is_end, end_cells_count_guest_objects, no_objects_are_read, objects_with_one_set, read_objects_close_table}
 use Rattle.ir_weave.proofs.weave.Weave.close.Goals as goal
 use Rattle.ir_weave.proofs.weave.Weave.close.Goals.{After-close_with-closed}
 
 pub loop-o-init : goal.loop-o-init
-loop-o-init c e = none_read c.args.self.table.shared.key c.args.seat.me.0 (slots_items c.close_with-closed.result.words) e
+loop-o-init c e = no_objects_are_read c.args.self.table.shared.key c.args.seat.me.0 (slots_items c.close_with-closed.result.words) e
     c.args.objects.now c.requires.room
 
 pub object_at-requires-clause-table : goal.object_at-requires-clause-table
 object_at-requires-clause-table c =
     let e : IsEnd c.args.self.table.shared.key c.args.seat.me.0 (slots_items c.close_with-closed.result.words) =
-    ends c.args.self.table.shared.key c.args.seat.id c.args.seat.me.0 (slots_items c.close_with-closed.result.words) _
+    final_table_is_end c.args.self.table.shared.key c.args.seat.id c.args.seat.me.0 (slots_items c.close_with-closed.result.words) _
     c.close_with-closed.ensures.values.2 in
-    let count = end_count c.args.self.table.shared.key c.args.seat.me.0 (slots_items c.close_with-closed.result.words) e in (
+    let count = end_cells_count_guest_objects c.args.self.table.shared.key c.args.seat.me.0 (slots_items c.close_with-closed.result.words) e in (
       c.args.self.table.shared.key,
       c.args.seat.me.0,
       e,
@@ -27,7 +27,7 @@ pub loop-o-preserved : goal.loop-o-preserved
 loop-o-preserved c e =
     let inv = c.loop-o.invariant e in let size = c.loop-o.auto.objects in let l = c.loop-o-test.true in
     let inside : c.loop-o.o < length c.loop-o.objects = omega (arith, size, l) in
-    objects_more e.cells c.loop-o.objects c.loop-o.o c.object_at.result inv inside
+    objects_with_one_set e.cells c.loop-o.objects c.loop-o.o c.object_at.result inv inside
     (c.object_at.ensures c.args.self.table.shared.key c.args.seat.me.0 e (let s = inv.size in omega (arith, s, inside)))
 
 pub free-requires : goal.free-requires
@@ -36,7 +36,7 @@ free-requires c k lt = let e = c.close_with-closed.ensures.counts.1 in let s = c
 pub returns : goal.returns
 returns c =
     let e : IsEnd c.args.self.table.shared.key c.args.seat.me.0 (slots_items c.close_with-closed.result.words) =
-    ends c.args.self.table.shared.key c.args.seat.id c.args.seat.me.0 (slots_items c.close_with-closed.result.words) _
+    final_table_is_end c.args.self.table.shared.key c.args.seat.id c.args.seat.me.0 (slots_items c.close_with-closed.result.words) _
     c.close_with-closed.ensures.values.2 in
-    closes c.args.self.table.shared.key c.args.seat.me.0 (slots_items c.close_with-closed.result.words) e c.loop-o.objects c.loop-o.o
+    read_objects_close_table c.args.self.table.shared.key c.args.seat.me.0 (slots_items c.close_with-closed.result.words) e c.loop-o.objects c.loop-o.o
     (c.loop-o.invariant e) (let size = c.loop-o.auto.objects in let l = c.loop-o-test.false in omega (arith, size, l))

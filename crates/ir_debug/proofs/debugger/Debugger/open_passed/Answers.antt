@@ -3,10 +3,10 @@ use Rattle.ir_fit.specs.Fit.{FittedTrace}
 use Rattle.ir_cut.specs.Positions.{cut_of}
 use Rattle.ir_weave.specs.Standing.{StandsAt}
 use Rattle.ir_hits.specs.Hits.{AreWatchable}
-use Rattle.ir_timeline.specs.Positions.{Cuts}
+use Rattle.ir_timeline.specs.Positions.{IsCutOf}
 use Rattle.ir_debug.specs.Machine.Desk.{Kept}
-use Rattle.ir_debug.specs.Within.{AllKept, IsDesk}
-use Rattle.ir_debug.proofs.debugger.Debugger.open.Goals as goal
+use Rattle.ir_debug.specs.Debugging.{AllKept, IsDesk}
+use Rattle.ir_debug.proofs.debugger.Debugger.open_passed.Goals as goal
 
 pub invariant_of-result : goal.invariant_of-result
 invariant_of-result c =
@@ -28,7 +28,7 @@ invariant_of-result c =
         at = c.in_ok-at.ensures.consistent;
         points = subst AreWatchable (sym c.in_ok-points.ensures) tt;
         kept = subst (AllKept c.args.fitted) (sym one) (
-          subst (Cuts c.args.fitted)
+          subst (IsCutOf c.args.fitted)
               (sym (ap (λ (k : Kept). k.cut) c.new.ensures ∙ c.in_ok-copy.ensures)) (c.in_ok-at.ensures.size, c.in_ok-at.ensures.consistent),
           tt,
         );
