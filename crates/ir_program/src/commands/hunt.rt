@@ -13,6 +13,7 @@ use ir_files::{ExitStatus, Folder, MOST_BYTES};
 use ir_hunt::{HuntPlan, hunt_run};
 use ir_record_run::ParsedImage;
 use ir_stream::Sink;
+use ir_trace::Trace;
 use std::sync::Wait;
 use std::thread::Threads;
 use std::time::Clock;
@@ -26,6 +27,29 @@ fn paths(arguments: &HuntArguments) -> RecordingPaths<'_> {
         list: None,
         output: arguments.options.output.as_ref(),
     }
+}
+
+// Hunts for a run of a guest, whose trace and outputs go into files at these paths.
+fn hunted_into<'a, R, D, O, E>(
+    rt: &R,
+    folder: &'a D,
+    place: &'a str,
+    places: Option<&'a [String]>,
+    image: &ParsedImage<'_>,
+    plan: &HuntPlan<'_>,
+    out: &mut O,
+    faults: &mut E,
+) -> Result<Option<Trace>, ExitStatus>
+where
+    R: Threads + Wait + Sync + Clock + Eprint + AllocGlobal,
+    D: Folder,
+    O: Sink,
+    E: Sink,
+    requires writes { O.broken out.old ≡ false }
+    requires reports { E.broken faults.old ≡ false }
+{
+    let mut files = record_files(rt.alloc(), folder, place, places);
+    hunt_run(rt, image, plan, &mut files, out, faults)
 }
 
 // Hunts for a run of a guest, and records it into a file, and what its threads print into others where they are asked for.
@@ -74,8 +98,8 @@ where
         is_shown: explains,
     };
     let places = outputs.as_ref().map(|each| each.as_slice());
-    let mut files = record_files(alloc, folder, arguments.trace.as_str(), places);
-    match hunt_run(rt, &image, &plan, &mut files, out, faults) {
+    let place = arguments.trace.as_str();
+    match hunted_into(rt, folder, place, places, &image, &plan, out, faults) {
         Ok(Some(recorded)) => {
             if explains {
                 tell_ends(alloc, &recorded, faults);
