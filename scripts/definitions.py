@@ -33,7 +33,7 @@ PARTS = [
     }),
     ("recording, beside these", "### Recording", {
         "ir_record/src/by_threads.rt": ["record"],
-        "ir_record/src/in_order.rt": ["record_in_order", "record_in_turns"],
+        "ir_record/src/in_order.rt": ["record_in_order", "record_in_turns", "record_with_refusals"],
         "ir_record/src/world.rt": ["World"],
     }),
     ("`fit`, beside these", "### Fit", {"ir_fit/src/fitting.rt": ["fit"]}),

@@ -80,8 +80,13 @@ ARGUMENTS = [
     ("debug d.img none.trc", 1, "ir: none.trc can't be read: no such file or folder\n"),
     ("record d.s d.trc", 3, "ir: the image is refused, 2: these bytes are no image\n"),
     ("record d.img d.trc --order 1", 3, "ir: LIST: the item '1' names no thread of the image\n"),
-    ("record d.img d.trc --order -1", 3, "ir: LIST: the item '-1' is neither T nor TxN\n"),
+    ("record d.img d.trc --order -1", 3, "ir: LIST: the item '-1' is none of T, TxN, T! and T!xN\n"),
     ("record d.img d.trc --order 0x0", 3, "ir: LIST: the item '0x0' has an N that is not from 1 to 1000000\n"),
+    ("record d.img d.trc --order 0!!", 3, "ir: LIST: the item '0!!' is none of T, TxN, T! and T!xN\n"),
+    ("record d.img d.trc --order 0,!", 3, "ir: LIST: the item '!' is none of T, TxN, T! and T!xN\n"),
+    ("record d.img d.trc --order 0x2!", 3, "ir: LIST: the item '0x2!' is none of T, TxN, T! and T!xN\n"),
+    ("record d.img d.trc --order 1!x2", 3, "ir: LIST: the item '1!x2' names no thread of the image\n"),
+    ("record d.img d.trc --order 0!x0", 3, "ir: LIST: the item '0!x0' has an N that is not from 1 to 1000000\n"),
     ("record d.img none/d.trc", 1, "ir: none/d.trc can't be written: no such file or folder\n"),
     ("trace", 2, "ir: the following required arguments were not provided: <TRACE>\n"),
     ("trace none.trc", 1, "ir: none.trc can't be read: no such file or folder\n"),
@@ -112,6 +117,9 @@ main:   addi a0, zero, 0
         ecall
 """
 TRY_LINES = b"thread 0 end 1 code 1 steps 6 events 1\nthread 1 end 1 code 0 steps 5 events 1\n"
+# What is printed if its try is refused, and if that of the first of two is.
+TRY_REFUSED = b"thread 0 end 1 code 0 steps 5 events 1\n"
+OTHER_TRY_LINES = b"thread 0 end 1 code 0 steps 5 events 1\nthread 1 end 1 code 1 steps 6 events 1\n"
 
 # Each row: the arguments of a recording of two threads whose outputs would be written over another of its files, and the
 # message.
@@ -251,7 +259,7 @@ def test_names(folder):
     for words, status, error in (
         (["debug", "a\nb", "d.trc"], 1, "ir: a?b can't be read: no such file or folder\n"),
         (["asm", "d.s", "none/\x1b[2J"], 1, "ir: none/?[2J can't be written: no such file or folder\n"),
-        (["record", "d.img", "d.trc", "--order", "0\n1"], 3, "ir: LIST: the item '0?1' is neither T nor TxN\n"),
+        (["record", "d.img", "d.trc", "--order", "0\n1"], 3, "ir: LIST: the item '0?1' is none of T, TxN, T! and T!xN\n"),
         (["record", "d.img", "d.trc", "--random", "5\n"], 2, "ir: --random: '5?' is no number up to 18446744073709551615\n"),
         (["debug", "d\u00e9", "d.trc"], 1, "ir: d\u00e9 can't be read: no such file or folder\n"),
     ):
@@ -320,7 +328,7 @@ def test_failed_outputs(folder):
 
 
 def test_profiles(folder):
-    """A guest that tries: in the second profile it enters, beside a writer it is refused, and in the first there is no such call."""
+    """A guest that tries: in the second profile it enters, beside a writer and by T! it is refused, and in the first there is no such call."""
     for threads in (1, 2):
         assembled(folder, f"try{threads}", ".objects 1\n" + threads * ".thread main\n" + TRY)
     for arguments, magic, lines in (
@@ -328,6 +336,11 @@ def test_profiles(folder):
         ("try1.img try.trc --profile 2 --order 0", b"IRT2", b"thread 0 end 1 code 1 steps 6 events 1\n"),
         ("try1.img try.trc --profile 1", b"IRT1", b"thread 0 end 8 code 0 steps 3 events 0\n"),
         ("try1.img try.trc", b"IRT1", b"thread 0 end 8 code 0 steps 3 events 0\n"),
+        ("try1.img try.trc --profile 2 --order 0x2,0!", b"IRT2", TRY_REFUSED),
+        ("try1.img try.trc --profile 2 --order 0!x1000000", b"IRT2", TRY_REFUSED),
+        ("try1.img try.trc --profile 2 --order 0!,0", b"IRT2", b"thread 0 end 1 code 1 steps 6 events 1\n"),
+        ("try1.img try.trc --profile 2 --order 0x3,0!", b"IRT2", b"thread 0 end 1 code 1 steps 6 events 1\n"),
+        ("try2.img try.trc --profile 2 --order 0x2,0!,1x3", b"IRT2", OTHER_TRY_LINES),
         ("try2.img try.trc --profile 2 --order 0x3,1x5", b"IRT2", TRY_LINES),
     ):
         ended = run(f"record {arguments}", folder)
@@ -553,8 +566,9 @@ def test_large_order(folder):
         resource.setrlimit(resource.RLIMIT_AS, (400_000_000, 400_000_000))
 
     start = time.monotonic()
-    ended = run("record d.img d.trc --order " + ",".join(["0x1000000"] * 1500), folder, preexec_fn=little_memory)
-    wants("the recording", (ended.returncode, ended.stdout, ended.stderr), (0, DOUBLE_LINE, b""))
+    for item in ("0x1000000", "0!x1000000"):
+        ended = run("record d.img d.trc --order " + ",".join([item] * 1500), folder, preexec_fn=little_memory)
+        wants(f"the recording by {item}", (ended.returncode, ended.stdout, ended.stderr), (0, DOUBLE_LINE, b""))
     if time.monotonic() - start > 2:
         raise Wrong(f"it took {time.monotonic() - start:.1f} s")
 

@@ -11,6 +11,8 @@ requests. The start of a thread is a request too.
 - A session that can't be opened writes nothing.
 - `ir asm`, `ir record`, `ir trace`, `ir stale`, `ir who`, `ir why`, `ir diff` and `ir view` end as with ample memory, or with status 1 and a line that says why.
   Then only the last lines may be missing, and a file that is there is whole.
+- `ir explore` ends as with ample memory, with status 1 and a line that says why, or with status 5 and the line `stopped memory`: then the outcomes
+  before that line are the first of those with ample memory, and all of those that it says are covered. With `--until` nothing is recorded then.
 - If a thread isn't started, all is as with ample memory.
 
 Then the same with all requests refused from that one on. A session may then run out of memory again and again, and ends by `quit`. With
@@ -23,6 +25,8 @@ import collections
 import concurrent.futures
 import contextlib
 import os
+import re
+import shlex
 import subprocess
 import sys
 import tempfile
@@ -105,6 +109,38 @@ RUNS = (
     ("ir view of a part", "view --json --around 0 1 --span 1 lost_update.trc", ()),
 )
 
+# What is explored: a name, the words, the words that print all its outcomes, the files that may be written.
+EXPLORED = (
+    ("ir explore", "explore lost_update.img", "explore lost_update.img", ()),
+    ("ir explore of few switches", "explore lost_update.img --switches 1", "explore lost_update.img --switches 1", ()),
+    ("ir explore of two locks", "explore two_locks.img", "explore two_locks.img", ()),
+    ("ir explore of a hang", "explore polling.img", "explore polling.img", ()),
+    ("ir explore up to a lost update", "explore lost_update.img new.trc --until 'word 0 0 1'", "explore lost_update.img", ("new.trc",)),
+    ("ir explore up to what never is", "explore lost_update.img new.trc --until 'word 0 0 3'", "explore lost_update.img", ("new.trc",)),
+)
+
+# One thread that reads word 0 of object 0 until it isn't 0, which it stays.
+POLLING = """
+        .objects 1
+        .thread main
+main:   addi a0, zero, 0
+        addi a7, zero, 7
+        ecall
+        addi a0, zero, 0
+        addi a1, zero, 0
+        addi a7, zero, 10
+        ecall
+        addi s0, a0, 0
+        addi a0, zero, 0
+        addi a7, zero, 9
+        ecall
+        beq s0, zero, main
+        addi a7, zero, 1
+        ecall
+"""
+
+STOPPED = re.compile(rb"stopped memory covered (-|\d+) outcomes (\d+) states \d+\n")
+
 
 class Refused:
     """A run of a program whose request of this number is refused, and if that lasts all after it; with 0 none is."""
@@ -116,7 +152,7 @@ class Refused:
         self.reader, report = os.pipe()
         os.set_blocking(self.reader, False)
         more = {"LD_PRELOAD": Refused.library, "REFUSED": str(number), "TOLD": str(report)} | ({"LASTS": "1"} if lasts else {})
-        self.run = subprocess.Popen([other or program(), *words.split()], cwd=folder, env=os.environ | more, pass_fds=(report,),
+        self.run = subprocess.Popen([other or program(), *shlex.split(words)], cwd=folder, env=os.environ | more, pass_fds=(report,),
                                     stdout=subprocess.PIPE, stderr=subprocess.PIPE, **streams)
         os.close(report)
 
@@ -307,6 +343,48 @@ def one_run(folder, words, files, ample, number):
     return met, became
 
 
+def switches_of(text):
+    """The switches of each outcome of a text of `ir explore`."""
+    return [int(line.split()[3]) for line in text.splitlines() if line.startswith(b"outcome ")]
+
+
+def is_cut(out, ample):
+    """Whether lines of `ir explore` are the first outcomes of those with ample memory and the line that memory ran out, as far as it says."""
+    lines, _, last = out[:-1].rpartition(b"\n")
+    said = STOPPED.fullmatch(last + b"\n")
+    listed = lines + b"\n" if lines else b""
+    left = ample.removeprefix(listed)
+    if not said or not ample.startswith(listed) or not left.startswith((b"outcome ", b"hang ", b"finished ", b"covered ")):
+        return False
+    covered = -1 if said[1] == b"-" else int(said[1])
+    least = [many for many in switches_of(ample) if many <= covered]
+    return len(switches_of(listed)) == int(said[2]) >= len(least)
+
+
+def explored_run(folder, row, ample, lines, number, lasts):
+    """A run of `ir explore` with one refusal or with all from there on: what was refused first, and what became of it."""
+    _, words, _, files = row
+    found, met = whole(folder, words, files, number, lasts)
+    status, out, error, written = found
+    if found == ample:
+        return met, "done as with ample memory"
+    if met != "m" and not lasts:
+        raise Wrong(f"{met!r} {found[:3]!r}")
+    if (status, error.count(b"\n")) == (1, 1) and (ample[1].startswith(out) or lines.startswith(out)) and not written:
+        return met, "ended with status 1"
+    if (status, error, written) == (5, b"", {}) and is_cut(out, lines):
+        return met, "stopped as it says"
+    raise Wrong(f"{found[:3]!r} and {sorted(written)}")
+
+
+def one_exploring(folder, row, ample, lines, number):
+    """A run of `ir explore` with one refusal, and another in which it lasts."""
+    met, became = explored_run(folder, row, ample, lines, number, False)
+    if met:
+        explored_run(folder, row, ample, lines, number, True)
+    return met, became
+
+
 def one_test(folder, program, name, number):
     """A test with one refusal, which has to pass: what was refused."""
     status, out, error, met = Refused(name, folder, number, False, program, stdin=subprocess.DEVNULL).ended()
@@ -323,6 +401,10 @@ def tried(kind, folder, row):
     if kind == "run":
         found, _ = whole(folder, row[1], row[2], 0)
         return lambda number: one_run(folder, row[1], row[2], found, number)
+    if kind == "explore":
+        found, _ = whole(folder, row[1], row[3], 0)
+        lines = whole(folder, row[2], (), 0)[0][1]
+        return lambda number: one_exploring(folder, row, found, lines, number)
     return lambda number: one_test(folder, row[1], row[0], number)
 
 
@@ -350,7 +432,7 @@ def walked(kind, row):
 def prepare(folder):
     """The guests and their recordings."""
     sources = examples() | {"doubled": DOUBLE, "reentered": REENTERED, "stores": STORES, "long": LONG,
-                            "two_counters": counters(2), "eight_counters": counters(8)}
+                            "polling": POLLING, "two_counters": counters(2), "eight_counters": counters(8)}
     for name, source in sources.items():
         assembled(folder, name, source)
     for _, name, order, _ in SESSIONS:
@@ -371,6 +453,7 @@ def main():
     use(words.program)
     passed, failed = 0, 0
     rows = [("session", row) for row in SESSIONS] + [("run", row) for row in RUNS]
+    rows += [("explore", row) for row in EXPLORED]
     rows += memory_tests(os.path.abspath(words.tests)) if words.tests else []
     with tempfile.TemporaryDirectory() as name:
         Refused.library = library(name, "refusing")

@@ -29,7 +29,8 @@ The last line says how the search ended, by K outcomes and N states in which eac
                                                  calls CLOCK, RANDOM or INPUT, or `try T`, TRY_WRITE, which can't be explored
                                                  yet; `log T`, a log is full; `order N`; or `memory`
 Runs in which a budget is spent or a log is full have no outcome. What a thread has changed in its private memory is kept
-once for all states in which the thread is the same.
+once for all states in which the thread is the same. At a terminal standard error shows once a second how many states were
+found, after how many switches, and how many outcomes by the end of the level before.
 With TRACE and COND the outcomes are printed up to the first that fulfils each COND, and the search ends there. Then come
   found outcome K switches C order LIST          no complete run of fewer than C switches has an outcome that fulfils them
 and the lines of `ir record`. TRACE is written as `ir record IMAGE TRACE --order LIST --budget 1000000000000` writes it.

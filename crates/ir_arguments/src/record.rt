@@ -39,6 +39,8 @@ With LIST all run on one thread, and recordings don't differ. LIST is items join
 and `TxN` is N steps of it, N from 1 to 1000000. A turn of a thread that is done or must wait takes no step. After the list,
 rounds over the threads from 0 on take one step of each that has one, until all are done. 1x18 lets thread 1 take 18 steps
 before thread 0 takes its first. 0x10 is ten steps of thread 0, and no hexadecimal number. A line feed may end LISTFILE.
+`T!` is a step of thread T in which a try is answered 0 whether or not a thread holds the object, and `T!xN` is N such steps. If
+the thread doesn't try, its step is as that of `T`.
 With SEED all run on one thread too, by the order that SEED gives: `ir hunt --help` says how. The same SEED gives the same order.
 A guest that polls enters an object again and again until a word there changes. It may take hundreds of turns before the
 thread that changes the word gets in. It then ends by 13, its budget spent, though nothing is stuck: give a larger B, or LIST.
@@ -47,7 +49,7 @@ RANDOM gives PCG32's words, started by S plus the thread's number. Each thread r
 1048576 bytes, or nothing. TRACE is written to a new file, TRACE.part, which is renamed once it is whole.
 With P 2 guests may call TRY_WRITE too, call 13, and TRACE is of the second form, IRT2. With P 1 it is an unknown call, TRACE
 is an IRT1, and a guest has at most 8 threads and 16 objects. A try is answered 0 if another thread holds the object. It may
-also be answered 0 if none does, but not with LIST.
+also be answered 0 if none does; with LIST only in a step of `T!`.
 With PREFIX what thread T printed is then written to PREFIX.T, before the lines. The file is empty if T printed nothing.
 A line is `thread T end E code C steps S events N`; the ends E are
    1 END                   6 a bad load              11 an object that isn't held

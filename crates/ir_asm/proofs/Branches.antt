@@ -4,7 +4,8 @@ use Rattle.std.specs.Prelude.{◌&&◌, not, ◌==◌, decimal, codes, ℤ, pos,
 use Rattle.std.specs.List.{list_all}
 use Rattle.std.proofs.lemmas.Bool.{and_parts, le-leb}
 use Rattle.std.proofs.lemmas.Grind.{common_steps}
-use Rattle.ir_isa.specs.Fields.{IsEven, low_bits, register_name}
+use Rattle.ir_isa.specs.Fields.{low_bits, register_name}
+use Rattle.ir_isa.specs.Even.{IsEven}
 use Rattle.ir_isa.specs.Words.{word_of}
 use Rattle.ir_isa.specs.declared.inst.Inst.TheVariants.{Branch, Shift}
 use Rattle.ir_isa.specs.declared.inst.BranchOp.{BranchOp}
@@ -17,7 +18,8 @@ use Rattle.ir_asm.specs.declared.form.Form.TheVariants.{Shifts, Branches, Words}
 use Rattle.ir_asm.specs.declared.item.Operand.TheVariants.{Index, Integer}
 use Rattle.ir_asm.specs.declared.item.Item.TheVariants.{Code}
 use Rattle.ir_asm.specs.Text.{trim, trim_end}
-use Rattle.ir_disasm.specs.Printed.{branch_name, shift_name, one, far, distance, hex, instruction_text}
+use Rattle.ir_disasm.specs.Printed.{far, distance, hex, instruction_text}
+use Rattle.ir_disasm.specs.Names.{branch_name, shift_name, one}
 use Rattle.ir_asm.specs.Forms.{form_named}
 use Rattle.ir_asm.specs.Operands.{operands_of, int_le, is_even, distance_in, distance_text}
 use Rattle.ir_asm.specs.Items.{instruction}

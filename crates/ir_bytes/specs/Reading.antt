@@ -1,11 +1,13 @@
 -- Reading fields from the left: each is read whole and then tested, and the first fault is named. Faults are of any type.
-use Rattle.std.specs.Prelude.{◌≡◌, ℕ, zero, suc, Bool, List, [], ◌∷◌, length, take, drop, Option, Some, None, Result, Ok, Err, nat_lt, nat_le, ◌==◌, ◌&&◌, if◌then◌else◌}
+use Rattle.std.specs.Prelude.{ℕ, zero, suc, Bool, List, [], ◌∷◌, length, take, drop, Option, Some, None, Result, Ok, Err, nat_lt, nat_le, ◌&&◌, if◌then◌else◌, ◌^◌, ◌<◌}
 use Rattle.byteorder.specs.Endian.{little_number}
 
--- an answer, seen by a view, is what reading gives
-abbrev pub IsRead : {X Y E : Type 0} → (X → Y) → Result X E → Result Y E → Type 0
-IsRead view (Ok x) read = read ≡ Ok (view x)
-IsRead view (Err e) read = read ≡ Err e
+-- a number of four bytes
+abbrev pub IsWord : ℕ → Type 0
+IsWord n = n < 2 ^ 32
+
+abbrev pub IsByte : ℕ → Type 0
+IsByte n = n < 2 ^ 8
 
 -- what takes something from the prefix: it gives that and the bytes after it, or a fault
 abbrev pub Reader : Type 0 → Type 0 → Type 0
@@ -24,25 +26,13 @@ pub record Field (E : Type 0) : Type 0 where
   pub size : ℕ
   pub fault : ℕ → Option E
 
--- a field that may hold any number
-abbrev pub plain : {E : Type 0} → ℕ → Field E
-plain size = record { size = size; fault = λ _. None }
-
--- the fault of a number that doesn't pass
-abbrev pub unless : {E : Type 0} → (ℕ → Bool) → E → ℕ → Option E
-unless passes other n = if passes n then None else Some other
-
 -- a field that may hold the numbers that pass
 abbrev pub tested : {E : Type 0} → ℕ → (ℕ → Bool) → E → Field E
-tested size passes other = record { size = size; fault = unless passes other }
+tested size passes other = record { size = size; fault = λ n. if passes n then None else Some other }
 
 -- a field from one number to another
 abbrev pub within : {E : Type 0} → ℕ → ℕ → ℕ → E → Field E
 within size low high = tested size (λ n. nat_le low n && nat_le n high)
-
--- a field that holds one number
-abbrev pub fixed : {E : Type 0} → ℕ → ℕ → E → Field E
-fixed size number = tested size (λ n. n == number)
 
 -- ---- reading
 

@@ -3,13 +3,14 @@
 ghost use Rattle.std.specs.Prelude.{◌≡◌};
 
 use crossbeam_utils::CachePadded;
+use ir_explore::Observer;
 use ir_image::MOST_THREADS;
 use ir_object::Gate;
 use ir_runs::Access;
 use ir_sources::millis_since;
 use ir_stream::{DeviceErr, Sink};
 use std::array;
-use std::sync::atomic::{AtomicBool, AtomicU32, AtomicU64, Ordering};
+use std::sync::atomic::{AtomicBool, AtomicU32, AtomicU64, AtomicUsize, Ordering};
 use std::time::{Clock, Instant};
 
 // A thread looks at the clock once in this number of its steps.
@@ -18,11 +19,14 @@ const STEPS_FOR_A_LOOK: u64 = 1 << 22;
 // Stands for the second of a show where there was none yet.
 const NEVER: u32 = u32::MAX;
 
+// How many states are found between two looks at the clock.
+const STATES_FOR_A_LOOK: usize = 1 << 12;
+
 // As long as the longest line.
-const BLANKS: &str = "                              ";
+const BLANKS: &str = "                                                            ";
 
 /// Shows on standard error, once a second, how many steps all threads have taken since the program wrote something last: of a
-/// recording the private ones.
+/// recording the private ones; of a search for all outcomes how many states and outcomes it has found, after how many switches.
 #[derive(Drop)]
 pub struct Progress<'a, R> {
     rt: &'a R,
@@ -34,6 +38,8 @@ pub struct Progress<'a, R> {
     shown: AtomicU32,
     // Whether its line stands on the terminal.
     stands: AtomicBool,
+    // How many outcomes a search has found.
+    outcomes: AtomicUsize,
 }
 
 impl<'a, R: Clock> Progress<'a, R> {
@@ -50,15 +56,16 @@ impl<'a, R: Clock> Progress<'a, R> {
             steps: array::from_fn(|_| CachePadded::new(AtomicU64::new(0))),
             shown: AtomicU32::new(NEVER),
             stands: AtomicBool::new(false),
+            outcomes: AtomicUsize::new(0),
         }
     }
 }
 
 impl<R: Clock + Eprint> Progress<'_, R> {
-    // Shows the sum, if none was shown in this second. The first second is that of the first look.
-    fn show(&self, start: Instant) {
+    // Whether nothing was shown in this second. The first second is that of the first look.
+    fn is_due(&self, start: Instant) -> bool {
         let Some(millis) = millis_since(self.rt, start) else {
-            return;
+            return false;
         };
         let second = millis / 1000;
         let last = self.shown.load(Ordering::Relaxed);
@@ -66,9 +73,11 @@ impl<R: Clock + Eprint> Progress<'_, R> {
             .shown
             .compare_exchange(last, second, Ordering::Relaxed, Ordering::Relaxed)
             .is_ok();
-        if second == last || last == NEVER || !is_first {
-            return;
-        }
+        second != last && last != NEVER && is_first
+    }
+
+    // Shows the sum.
+    fn show_steps(&self) {
         self.stands.store(true, Ordering::Relaxed);
         let mut sum = 0u64;
         for steps in &self.steps {
@@ -108,9 +117,29 @@ impl<R: Clock + Eprint> Gate for Progress<'_, R> {
         let before = own.load(Ordering::Relaxed);
         let after = before.saturating_add(steps);
         own.store(after, Ordering::Relaxed);
-        if before / STEPS_FOR_A_LOOK != after / STEPS_FOR_A_LOOK {
-            self.show(start);
+        if before / STEPS_FOR_A_LOOK != after / STEPS_FOR_A_LOOK && self.is_due(start) {
+            self.show_steps();
         }
+    }
+}
+
+impl<R: Clock + Eprint> Observer for Progress<'_, R> {
+    fn searched(&self, states: usize, switches: usize) {
+        let Some(start) = self.start else {
+            return;
+        };
+        if states % STATES_FOR_A_LOOK != 0 || !self.is_due(start) {
+            return;
+        }
+        self.stands.store(true, Ordering::Relaxed);
+        let outcomes = self.outcomes.load(Ordering::Relaxed);
+        let _ = self.rt.eprint(format_args!(
+            "{states} states, {switches} switches, {outcomes} outcomes\r"
+        ));
+    }
+
+    fn listed(&self, outcomes: usize) {
+        self.outcomes.store(outcomes, Ordering::Relaxed);
     }
 }
 

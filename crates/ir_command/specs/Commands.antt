@@ -32,27 +32,10 @@ most_position = 2 ^ 64 - 1
 abbrev pub most_bytes : ℕ
 most_bytes = 256
 
--- n, if one command may show n bytes
-abbrev pub byte_count : ℕ → Option ℕ
-byte_count n = if nat_le 1 n && nat_le n most_bytes then Some n else None
-
--- the most digits of a number
-abbrev pub most_decimal : ℕ
-most_decimal = 20
-
-abbrev pub most_hexadecimal : ℕ
-most_hexadecimal = 16
-
--- whether the byte is a digit of the radix
-abbrev pub is_digit : ℕ → ℕ → Bool
-is_digit radix c = nat_lt (digit_value c) radix
-
--- from one digit of the radix to the most
-abbrev pub is_numeral : ℕ → ℕ → List ℕ → Bool
-is_numeral radix most digits = (nat_le 1 (length digits) && nat_le (length digits) most) && list_all (is_digit radix) digits
-
+-- the number of one digit of the radix to the most; none of other bytes
 unfoldable pub numeral : ℕ → ℕ → List ℕ → Option ℕ
-numeral radix most digits = if is_numeral radix most digits then Some (digits_value radix digits) else None
+numeral radix most digits =
+    if (nat_le 1 (length digits) && nat_le (length digits) most) && list_all (λ c. nat_lt (digit_value c) radix) digits then Some (digits_value radix digits) else None
 
 -- `0x`
 abbrev pub starts_hexadecimal : List ℕ → Bool
@@ -61,7 +44,7 @@ starts_hexadecimal digits = false
 
 -- 1 to 20 decimal digits, or `0x` and 1 to 16 hexadecimal digits of either case
 unfoldable pub number_of : List ℕ → Option ℕ
-number_of word = if starts_hexadecimal word then numeral 16 most_hexadecimal (drop 2 word) else numeral 10 most_decimal word
+number_of word = if starts_hexadecimal word then numeral 16 16 (drop 2 word) else numeral 10 20 word
 
 -- a number that may not pass the limit
 abbrev pub number_up_to : ℕ → List ℕ → Option ℕ
@@ -71,14 +54,13 @@ number_up_to limit word = option_and_then (λ n. if nat_le n limit then Some n e
 abbrev pub argument : Kind → List ℕ → Option ℕ
 argument Small word = number_up_to most_small word
 argument Position word = number_up_to most_position word
-argument Bytes word = option_and_then byte_count (number_of word)
+argument Bytes word = option_and_then (λ n. if nat_le 1 n && nat_le n most_bytes then Some n else None) (number_of word)
 
 -- the numbers that the words write, if there is a word of each kind and no other
 abbrev pub arguments : List Kind → List (List ℕ) → Option (List ℕ)
 arguments [] [] = Some []
-arguments [] (word ∷ words) = None
-arguments (kind ∷ kinds) [] = None
 arguments (kind ∷ kinds) (word ∷ words) = option_and_then (λ n. option_map (λ ns. n ∷ ns) (arguments kinds words)) (argument kind word)
+arguments kinds words = None
 
 -- a command's name, the kinds of its arguments, and the command that they make
 pub record Row : Type 0 where
@@ -125,10 +107,6 @@ table =
     row (codes "quit") [] (λ ns. command.Quit) ∷
     []
 
--- the row of a name
-abbrev pub row_of : List ℕ → Option Row
-row_of name = find (λ r. bytes_eq name r.name) table
-
 abbrev pub made_by : Row → Option (List ℕ) → Result Command Refusal
 made_by r (Some ns) = Ok (r.makes ns)
 made_by r None = Err BadArgument
@@ -140,7 +118,7 @@ made_of None words = Err UnknownCommand
 
 -- the command of this name with these arguments
 unfoldable pub command_named : List ℕ → List (List ℕ) → Result Command Refusal
-command_named name words = made_of (row_of name) words
+command_named name words = made_of (find (λ r. bytes_eq name r.name) table) words
 
 abbrev pub some_command : Result Command Refusal → Result (Option Command) Refusal
 some_command (Ok command) = Ok (Some command)
@@ -155,17 +133,13 @@ command_of_words (name ∷ words) = some_command (command_named name words)
 abbrev pub without_return : List ℕ → List ℕ
 without_return line = if slice_index line (length line - 1) == 13 then take (length line - 1) line else line
 
--- a space or a tab
-abbrev pub is_blank : ℕ → Bool
-is_blank b = (b == 32) || (b == 9)
-
 abbrev pub is_empty : List ℕ → Bool
 is_empty [] = true
 is_empty (b ∷ bytes) = false
 
--- the words of a line, parted by blanks
+-- the words of a line, parted by spaces and tabs
 unfoldable pub words_of : List ℕ → List (List ℕ)
-words_of line = filter (λ word. not (is_empty word)) (slice_split is_blank line)
+words_of line = filter (λ word. not (is_empty word)) (slice_split (λ b. (b == 32) || (b == 9)) line)
 
 -- the most bytes of a line, a carriage return among them
 abbrev pub most_line : ℕ

@@ -2,15 +2,15 @@
 
 ghost use Rattle.std.specs.Prelude.{◌≡◌, ◌<◌, map, None};
 ghost use Rattle.ir_image.specs.Guest.{object_count};
-ghost use Rattle.ir_thread.specs.Calls.{most_events};
+ghost use Rattle.ir_thread.specs.State.{most_events};
 ghost use Rattle.ir_runs.specs.declared.access.Access.TheVariants.{Reading, Writing};
 ghost use Rattle.ir_crew.specs.Rule.{entries, shared_of};
 ghost use Rattle.ir_crew.specs.Plays.{IsAlone, history, did, inside_by};
 ghost use Rattle.ir_crew.specs.declared.deed.Deed.TheVariants.{Enter};
 
+use crate::pauses::Pauses;
 use crate::plays::{EnterRead, EnterWrite, Look};
 use crate::table::{Crew, CrewSeat};
-use crossbeam_utils::Backoff;
 use ir_object::{APART, WORD_PLACE, Word};
 use std::sync::Wait;
 
@@ -26,7 +26,7 @@ impl Crew {
     {
         let place = WORD_PLACE + APART * object as usize;
         let shared = &self.table.shared;
-        let backoff = Backoff::new();
+        let mut pauses = Pauses::new();
         let mut seen = shared.load::<Look>(seat, place);
         for _ in rt.forever() {
             let word = Word { bits: seen };
@@ -36,10 +36,10 @@ impl Crew {
                 if found == seen {
                     return word.version();
                 }
-                backoff.spin();
+                pauses.pause();
                 seen = found;
             } else {
-                backoff.snooze();
+                pauses.pause();
                 seen = shared.load::<Look>(seat, place);
             }
         }
@@ -57,7 +57,7 @@ impl Crew {
     {
         let place = WORD_PLACE + APART * object as usize;
         let shared = &self.table.shared;
-        let backoff = Backoff::new();
+        let mut pauses = Pauses::new();
         let mut seen = shared.load::<Look>(seat, place);
         for _ in rt.forever() {
             let word = Word { bits: seen };
@@ -67,10 +67,10 @@ impl Crew {
                 if found == seen {
                     return (word.version(), word.left());
                 }
-                backoff.spin();
+                pauses.pause();
                 seen = found;
             } else {
-                backoff.snooze();
+                pauses.pause();
                 seen = shared.load::<Look>(seat, place);
             }
         }

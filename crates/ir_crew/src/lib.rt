@@ -4,6 +4,7 @@
 mod deed;
 mod entries;
 mod opening;
+mod pauses;
 mod plays;
 mod table;
 mod tries;

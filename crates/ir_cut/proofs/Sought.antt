@@ -5,16 +5,15 @@ use Rattle.std.specs.List.{Contains}
 use Rattle.std.proofs.lemmas.Option.{slice_get_read, slice_get_within, get_or_from_slice_get}
 use Rattle.ir_runs.specs.Machine.{Label, In, Out}
 use Rattle.ir_runs.specs.declared.access.Access.{Access}
-use Rattle.ir_runs.specs.Run.{Step, count}
-use Rattle.ir_trace.specs.Within.{IsRecorded}
-use Rattle.ir_runs.specs.Cuts.{Emits, Cut}
+use Rattle.ir_runs.specs.Run.{Step, count, Emits, Cut}
+use Rattle.ir_trace.specs.Recorded.{IsRecorded}
 use Rattle.ir_fit.specs.Fit.{FittedTrace, HasRun, IsRunOf}
 use Rattle.ir_fit.specs.Within.{IsFitted}
 use Rattle.ir_coherence.proofs.CallerLemmas.{recorded_thread_at_number_is_recorded}
 use Rattle.ir_cut.specs.Moving.{ArePlaced, EachPlace, IsRaised, IsLowered}
 use Rattle.ir_cut.specs.Positions.{machine_of, start_of, cut_of, EachRun}
 use Rattle.ir_cut.specs.Searching.{AreInside, RaisedFor, LoweredFor}
-use Rattle.ir_fit.specs.Visits.{OnlyLeaves, AllLeaves, OnlyEntries, AllEntries}
+use Rattle.ir_fit.specs.Listed.{OnlyLeaves, AllLeaves, OnlyEntries, AllEntries}
 use Rattle.ir_fit.specs.declared.place.Place.{Place}
 use Rattle.ir_cut.proofs.Again.{has_run_from_any_run, emitting_thread_exists, emitting_step_below_count}
 

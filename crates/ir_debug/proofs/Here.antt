@@ -4,10 +4,9 @@ use Rattle.std.specs.List.{slice_index_or}
 use Rattle.std.proofs.lemmas.List.{get_or_default}
 use Rattle.ir_image.specs.Guest.{object_words}
 use Rattle.ir_object.specs.Cell.{Cell}
-use Rattle.ir_flat.specs.Flat.{empty, object_with}
+use Rattle.ir_flat.specs.Room.{empty, object_with}
 use Rattle.ir_runs.specs.Machine.{Label, Object}
-use Rattle.ir_runs.specs.Run.{Step}
-use Rattle.ir_runs.specs.Cuts.{object_at}
+use Rattle.ir_runs.specs.Run.{Step, object_at}
 use Rattle.ir_thread.specs.State as thread
 use Rattle.ir_cut.specs.Positions.{machine_of, start_of, cut_of, EachRun}
 use Rattle.ir_weave.specs.Standing.{flat_in, IsAt}
@@ -19,13 +18,12 @@ use Rattle.ir_command.specs.declared.command.Command.TheVariants as command
 use Rattle.ir_debug.specs.declared.answer.Answer.{Answer}
 use Rattle.ir_debug.specs.declared.answer.Answer.TheVariants.{Shown}
 use Rattle.ir_debug.specs.declared.answer.Answer.TheVariants as answer
-use Rattle.ir_debug.specs.Debugging.{Debugging, IsThere, IsLast, IsText, answer_text, IsDesk}
+use Rattle.ir_debug.specs.Debugging.{Debugging, IsThere, IsLast, IsText, answer_text, IsDesk, logged_so_far}
 use Rattle.ir_debug.proofs.Passed.{named_thread_exists, named_object_exists}
 use Rattle.ir_text.specs.Held.{held_by}
 use Rattle.ir_debug.specs.AtHand.{thread_here, object_here, events_of, shown_here, text_here, ShowsHere}
 use Rattle.ir_timeline.specs.Positions.{threads_of}
-use Rattle.ir_debug.specs.Machine.Refusals.{thread_named}
-use Rattle.ir_debug.specs.Machine.Shown.{shown, current, logged_so_far}
+use Rattle.ir_debug.specs.Machine.{thread_named, shown, current}
 
 -- a thread in hand is the run's at its position
 thread_in_hand_is_run_thread : (d : Debugging) (run : List Step) → IsAt d.desk.fitted (cut_of d.desk.at) (flat_in d.desk.fitted d.state) run → (t : ℕ)

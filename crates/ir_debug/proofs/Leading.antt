@@ -2,15 +2,17 @@
 use Rattle.std.proofs.Common.{◌≡◌, ℕ, ◌+◌, ◌-◌, ◌^◌, ◌<◌, ◌≤◌, min, arith, List, sym, ap, subst, ◌∙◌}
 use Rattle.std.specs.Prelude.{if◌then◌else◌}
 use Rattle.std.proofs.lemmas.Bool.{le-leb, lt-leb}
-use Rattle.ir_runs.specs.Cuts.{IsLeast, IsGreatest}
+use Rattle.ir_runs.specs.Run.{IsLeast, IsGreatest}
 use Rattle.ir_fit.specs.Fit.{FittedTrace}
-use Rattle.ir_cut.specs.Positions.{machine_of, start_of, cut_of, EachRun, IsLeastCut, IsGreatestCut}
+use Rattle.ir_cut.specs.Positions.{machine_of, start_of, cut_of, EachRun}
+use Rattle.ir_cut.specs.Searching.{IsLeastCut, IsGreatestCut}
 use Rattle.ir_command.specs.declared.command.Direction.{Direction}
 use Rattle.ir_command.specs.declared.command.Direction.TheVariants.{Forwards, Backwards}
 use Rattle.ir_command.specs.declared.command.Move.{Move}
 use Rattle.ir_command.specs.declared.command.Move.TheVariants.{Step, Back}
 use Rattle.ir_timeline.specs.Positions.{last_of}
-use Rattle.ir_debug.specs.Machine.Moves.{Leads, ToLeast, ToGreatest, ToPosition, StopsAt}
+use Rattle.ir_debug.specs.Machine.{Leads, StopsAt}
+use Rattle.ir_debug.specs.Debugging.{ToPosition, ToLeast, ToGreatest}
 
 least_cut_leads_up : (f : FittedTrace) (at to : List ℕ) (t k j : ℕ) → IsLeastCut f at t k to → k ≡ j
     → EachRun f (λ run. ToLeast run f at t j to)

@@ -4,13 +4,12 @@ use Rattle.std.proofs.Common.{ap, ◌∙◌, sym, subst, arith, inl, inr}
 use Rattle.std.proofs.lemmas.Bool.{cases_lt, lt-ltb}
 use Rattle.std.proofs.lemmas.List.{take_all, length-take}
 use Rattle.ir_cut.specs.Positions.{EachRun}
-use Rattle.ir_stream.specs.Answers.{most_kept_bytes}
+use Rattle.ir_stream.specs.Written.{most_kept_bytes}
 use Rattle.ir_command.specs.Commands.{most_line, command_of}
 use Rattle.ir_command.specs.declared.command.Command.{Command}
 use Rattle.ir_command.specs.declared.refusal.Refusal.{Refusal}
 use Rattle.ir_command.specs.declared.refusal.Refusal.TheVariants.{LineTooLong}
-use Rattle.ir_debug.specs.Machine.Desk.{Desk}
-use Rattle.ir_debug.specs.Machine.Answers.{RepliesBy, Replies, quits_by, quits}
+use Rattle.ir_debug.specs.Machine.{Desk, RepliesBy, Replies, quits_by, quits}
 
 too_long : (line : List ℕ) → most_line < length line → command_of line ≡ Err LineTooLong
 unfolding command_of

@@ -15,10 +15,9 @@ use Rattle.ir_command.specs.declared.command.Show.TheVariants.{Registers, Memory
 use Rattle.ir_command.specs.declared.refusal.Refusal.{Refusal}
 use Rattle.ir_command.specs.declared.refusal.Refusal.TheVariants.{UnknownCommand, BadArgument, NoSuchThread, NoSuchObject, BadAddress, LineTooLong}
 use Rattle.ir_fit.specs.Fit.{FittedTrace}
-use Rattle.ir_timeline.specs.Positions.{last_cut, last_positions}
-use Rattle.ir_debug.specs.Machine.Desk.{Desk, desk_of}
-use Rattle.ir_debug.specs.Machine.Answers.{moved_text}
-use Rattle.ir_debug.specs.Machine.Refusals.{refusal_of, may_lack}
+use Rattle.ir_timeline.specs.Positions.{last_cut}
+use Rattle.ir_debug.specs.Machine.{Desk, desk_of, refusal_of, may_lack}
+use Rattle.ir_debug.specs.Debugging.{moved_text}
 
 abbrev AskedCommand : Type 0
 AskedCommand = Result (Option Command) Refusal
@@ -95,5 +94,4 @@ unfolding digits
 moves = (refl, refl, refl, refl)
 
 row_last_cut : last_cut trace_of_nine_steps ≡ 9 ∷ []
-unfolding last_positions
 row_last_cut = refl

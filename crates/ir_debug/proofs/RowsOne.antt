@@ -7,7 +7,7 @@ use Rattle.ir_image.specs.declared.form.ImageForm.{ImageForm}
 use Rattle.ir_image.specs.declared.form.ImageForm.TheVariants.{Small, Large}
 use Rattle.ir_isa.specs.Decoded as decoded
 use Rattle.ir_runs.specs.Machine.{upd}
-use Rattle.ir_thread.specs.Calls.{after_reply}
+use Rattle.ir_thread.specs.State.{after_reply}
 use Rattle.ir_thread.specs.declared.end.End.TheVariants.{Exit}
 use Rattle.ir_thread.specs.declared.profile.Profile.{Profile}
 use Rattle.ir_thread.specs.declared.profile.Profile.TheVariants.{One, Two}
@@ -15,8 +15,7 @@ use Rattle.ir_runs.specs.Run.{Step, after}
 use Rattle.ir_fit.specs.Fit.{FittedTrace}
 use Rattle.ir_text.specs.Texts.{registers_text, inside_for, event_lines, memory_lines, output_lines, bytes_from}
 use Rattle.ir_command.specs.declared.command.Show.TheVariants.{Registers, Memory, Output, Object, Log, Next}
-use Rattle.ir_debug.specs.Machine.Desk.{Desk, desk_of}
-use Rattle.ir_debug.specs.Machine.Shown.{shown}
+use Rattle.ir_debug.specs.Machine.{Desk, desk_of, shown}
 
 abbrev fitted_by : ImageForm → Profile → List ℕ → ℕ → ℕ → FittedTrace
 fitted_by form profile code objects steps = record {

@@ -6,7 +6,7 @@ use Rattle.hex.specs.Hex.{encode_with}
 use Rattle.ir_image.specs.declared.form.ImageForm.TheVariants.{Small}
 use Rattle.ir_isa.specs.Decoded as decoded
 use Rattle.ir_runs.specs.Machine.{upd}
-use Rattle.ir_thread.specs.Calls.{after_reply}
+use Rattle.ir_thread.specs.State.{after_reply}
 use Rattle.ir_thread.specs.declared.end.End.TheVariants.{Exit}
 use Rattle.ir_thread.specs.declared.profile.Profile.TheVariants.{One}
 use Rattle.ir_log.specs.declared.event.Event.TheVariants.{Write}
@@ -14,9 +14,8 @@ use Rattle.ir_runs.specs.Run.{Step, after}
 use Rattle.ir_fit.specs.Fit.{FittedTrace}
 use Rattle.ir_command.specs.declared.command.Show.TheVariants.{Object, Log, Next}
 use Rattle.ir_hits.specs.Hits.{thread_at}
-use Rattle.ir_debug.specs.Machine.Desk.{Desk, desk_of}
+use Rattle.ir_debug.specs.Machine.{Desk, desk_of, shown}
 use Rattle.ir_text.specs.Texts.{inside_for, event_lines}
-use Rattle.ir_debug.specs.Machine.Shown.{shown}
 
 abbrev code_of_two_threads : List ℕ
 code_of_two_threads =

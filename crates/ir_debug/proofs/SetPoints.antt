@@ -1,7 +1,7 @@
 -- Where a thread stops at points that are set.
 use Rattle.std.proofs.Common.{◌≡◌, ◌<◌, ◌≤◌, ℕ, suc, List, Option, Some, None, sym, ap, ◌∙◌, subst, arith, inl, inr}
 use Rattle.std.proofs.lemmas.Bool.{cases_lt}
-use Rattle.ir_mach.specs.Memory.{memory_word}
+use Rattle.ir_mach.specs.Execution.{memory_word}
 use Rattle.ir_thread.specs.State as thread
 use Rattle.ir_runs.specs.declared.access.Access.TheVariants.{Writing}
 use Rattle.ir_runs.specs.Machine.{Out}
@@ -14,11 +14,11 @@ use Rattle.ir_command.specs.declared.command.Direction.{Direction}
 use Rattle.ir_command.specs.declared.command.Direction.TheVariants.{Forwards, Backwards}
 use Rattle.ir_command.specs.declared.command.Point.{Point}
 use Rattle.ir_command.specs.declared.command.Point.TheVariants.{Break, Watch, WatchObject}
-use Rattle.ir_hits.specs.Hits.{Numbered, HitBy, thread_at, steps_of}
+use Rattle.ir_hits.specs.Hits.{Numbered, HitBy, thread_at}
+use Rattle.ir_hits.specs.Seeing.{steps_of}
 use Rattle.ir_command.specs.declared.hit.Hit.{Hit}
-use Rattle.ir_debug.specs.Machine.Desk.{Desk}
+use Rattle.ir_debug.specs.Machine.{Desk, stop_of}
 use Rattle.ir_timeline.specs.Positions.{threads_of, last_of, Finds}
-use Rattle.ir_debug.specs.Machine.Moves.{stop_of}
 
 -- after its last step a thread stays as it is
 pub thread_same_after_last_step : (f : FittedTrace) (run : List Step) (t j : ℕ) → steps_of f run t ≤ j → thread_at f run t j ≡ thread_at f run t (suc j)

@@ -3,7 +3,8 @@ use Rattle.std.specs.Prelude.{◌≡◌, ◌<◌, ℕ, List, take, map, length, 
 use Rattle.ir_image.specs.Guest.{object_words}
 use Rattle.ir_thread.specs.State as thread
 use Rattle.ir_runs.specs.Machine as machine
-use Rattle.ir_flat.specs.Flat.{thread_of, cell_of, object_with}
+use Rattle.ir_flat.specs.Flat.{thread_of, cell_of}
+use Rattle.ir_flat.specs.Room.{object_with}
 use Rattle.ir_log.specs.Logging.{label_of}
 use Rattle.ir_log.specs.declared.event.Event.{Event}
 use Rattle.ir_trace.specs.Recorded.{recorded_thread}
@@ -16,8 +17,7 @@ use Rattle.ir_debug.specs.declared.answer.Answer.{Answer}
 use Rattle.ir_text.specs.Texts.{machine_text, bytes_from, memory_text, output_text, object_text, log_text, next_text}
 use Rattle.ir_debug.specs.Debugging.{Debugging, IsThere, text_by}
 use Rattle.ir_timeline.specs.Positions.{threads_of}
-use Rattle.ir_debug.specs.Machine.Refusals.{thread_named}
-use Rattle.ir_debug.specs.Machine.Shown.{shown}
+use Rattle.ir_debug.specs.Machine.{thread_named, shown}
 use Rattle.ir_text.specs.Held.{held_by}
 
 -- a thread in hand

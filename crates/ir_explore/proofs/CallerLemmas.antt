@@ -5,3 +5,5 @@ pub use Rattle.ir_explore.proofs.Meant.{switches_after_repeated_turn, switches_o
 pub use Rattle.ir_explore.proofs.Gone.{covered_below_gone_over_level}
 -- a list with one more
 pub use Rattle.ir_explore.proofs.Reached.{slice_get_after_push_cases, slice_get_kept_by_append, place_of_element_is_below_length}
+-- a search with no next level
+pub use Rattle.ir_explore.proofs.Between.{finished_asked}

@@ -8,7 +8,7 @@ use Rattle.std.proofs.Math.Dec.{leb}
 use Rattle.ir_states.proofs.CallerLemmas.{more_levels}
 use Rattle.ir_explore.specs.declared.origin.Origin.{Origin}
 use Rattle.ir_explore.specs.Following.{Leading, Keeps, GoesTo}
-use Rattle.ir_explore.specs.Levels.{AllFollowed, AllOpen, AreWithin, AreAsked, Covered, AreGoneOver}
+use Rattle.ir_explore.specs.Levels.{AllFollowed, AllOpen, AreWithin, LevelEnds, AreAsked, Covered, AreGoneOver}
 use Rattle.ir_explore.specs.Origins.{BeginsAt, Adds}
 use Rattle.ir_explore.proofs.Opens.{open_if_element_or_false_true, element_or_false_true_if_open}
 use Rattle.ir_explore.proofs.Reached.{place_of_element_is_below_length}
@@ -64,15 +64,6 @@ pub gone_over_if_notes_kept : (noted more : ℕ → Leading) (threads : ℕ) (no
     → AreGoneOver more threads new number
 gone_over_if_notes_kept noted more threads nodes new zero kept stays h = tt
 gone_over_if_notes_kept noted more threads nodes new (suc c) kept stays h = covered_if_notes_kept noted more threads nodes new c kept stays h
-
--- What a level's end has in its rows: what is opened is followed and a node of these levels, and the nodes from the first to `until` are
--- opened for each thread.
-pub record LevelEnds (noted : ℕ → Leading) (threads : ℕ) (nodes : List Origin) (opened : List (List Bool)) (until number : ℕ) : Type 0 where
-  pub threads_are : length opened ≡ threads
-  pub followed : AllFollowed noted opened
-  pub opens : AllOpen opened 0 until threads
-  pub within : AreWithin opened (length nodes)
-  pub levels : (v : ℕ) (n : Origin) → slice_get nodes v ≡ Some n → n.level ≤ number
 
 module _ (noted : ℕ → Leading) (threads : ℕ) (nodes : List Origin) (opened : List (List Bool)) where
   within_now : (until number : ℕ) → LevelEnds noted threads nodes opened until number → (v t : ℕ) → t < threads → is_opened_for opened v t ≡ true

@@ -10,6 +10,10 @@ Leading = ℕ → Option (Option ℕ)
 abbrev pub Keeps : Leading → Leading → Type 0
 Keeps old new = (v : ℕ) (next : Option ℕ) → old v ≡ Some next → new v ≡ Some next
 
+-- no more than nodes were added
+abbrev pub Stay : {A : Type 0} → List A → List A → Type 0
+Stay {A} old new = (v : ℕ) (x : A) → slice_get old v ≡ Some x → slice_get new v ≡ Some x
+
 -- node v is opened
 abbrev pub IsOpen : List Bool → ℕ → Type 0
 IsOpen opened v = slice_get opened v ≡ Some true

@@ -24,6 +24,15 @@ AreWithin opened n = (t : ℕ) (row : List Bool) → slice_get opened t ≡ Some
 abbrev pub AreAsked : (ℕ → Leading) → ℕ → ℕ → Type 0
 AreAsked noted threads size = (v t : ℕ) → v < size → t < threads → GoesTo (noted t) (λ w. w < size) v
 
+-- What a level's end has in its rows: what is opened is followed and a node of these levels, and the nodes from the first to `until` are
+-- opened for each thread.
+pub record LevelEnds (noted : ℕ → Leading) (threads : ℕ) (nodes : List Origin) (opened : List (List Bool)) (until number : ℕ) : Type 0 where
+  pub threads_are : length opened ≡ threads
+  pub followed : AllFollowed noted opened
+  pub opens : AllOpen opened 0 until threads
+  pub within : AreWithin opened (length nodes)
+  pub levels : (v : ℕ) (n : Origin) → slice_get nodes v ≡ Some n → n.level ≤ number
+
 -- A search has gone over the levels from 0 to c: levels k v t says that by the end of level k node v was opened for thread t.
 pub record Covered (noted : ℕ → Leading) (threads : ℕ) (nodes : List Origin) (c : ℕ) : Type 0 where
   pub levels : ℕ → ℕ → ℕ → Bool

@@ -3,3 +3,4 @@ pub mod Meaning
 pub mod Origins
 pub mod Levels
 pub mod Ways
+pub mod Searching

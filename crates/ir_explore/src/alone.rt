@@ -2,19 +2,21 @@
 
 ghost use Rattle.std.specs.Prelude.{◌≡◌, ◌⊎◌, ◌++◌, ℕ, false, [], ◌∷◌, ◌<◌, ◌≤◌, length, OnErr, IfErr, IsErrOf, OnOk};
 ghost use Rattle.ir_explore.specs.declared.stop.Stop.TheVariants.{Nodes, Memory};
-ghost use Rattle.ir_explore.specs.Following.{Keeps, IsOpen, StaysOpen, IsFollowed};
+ghost use Rattle.ir_explore.specs.Following.{Keeps, Stay, IsOpen, StaysOpen, IsFollowed};
 ghost use Rattle.ir_explore.specs.Origins.{BeginsAt, AreReached, Adds};
 
+use crate::observer::Observer;
 use crate::origin::Origin;
 use crate::stop::Stop;
 use crate::successors::Successors;
 
 // A node that isn't among them yet joins them, and isn't opened.
-fn join(
+fn join<O: Observer>(
     opened: &mut Vec<bool>,
     nodes: &mut Vec<Origin>,
     node: usize,
     origin: Origin,
+    observer: &O,
 ) -> Result<(), Stop>
     ensures old { OnOk result ((node ≡ length nodes.old.items → ⊥) → (opened.new.items ≡ opened.old.items) × (nodes.new.items ≡ nodes.old.items)) }
     ensures new { OnOk result (node ≡ length nodes.old.items → (opened.new.items ≡ opened.old.items ++ false ∷ []) × (nodes.new.items ≡ nodes.old.items ++ origin ∷ [])) }
@@ -25,6 +27,7 @@ fn join(
     if node == nodes.len() {
         opened.push(false)?;
         nodes.push(origin)?;
+        observer.searched(nodes.len(), origin.level);
     }
     Ok(())
 }
@@ -34,11 +37,12 @@ fn join(
 ///
 /// # Errors
 /// The graph stops, or out of memory. What was opened stays so, but isn't followed.
-pub fn go_alone<S: Successors>(
+pub fn go_alone<S: Successors, O: Observer>(
     graph: &mut S,
     opened: &mut Vec<bool>,
     nodes: &mut Vec<Origin>,
     start: Origin,
+    observer: &O,
 ) -> Result<(), Stop>
     requires followed { IsFollowed (S.noted graph.old start.thread) opened.old.items }
     requires begins { BeginsAt nodes.old.items start.level start.from }
@@ -61,6 +65,7 @@ pub fn go_alone<S: Successors>(
     ensures adds { Adds start.level nodes.old.items nodes.new.items }
     ensures few { length nodes.new.items ≤ S.size graph.new }
     ensures kept { (t : ℕ) → Keeps (S.noted graph.old t) (S.noted graph.new t) }
+    ensures stay { Stay (S.nodes graph.old) (S.nodes graph.new) }
     ensures room { S.size graph.new ≤ S.most graph.new }
     ensures limit { S.most graph.new ≡ S.most graph.old }
     ensures origin { S.origin graph.new ≡ S.origin graph.old }
@@ -77,7 +82,7 @@ pub fn go_alone<S: Successors>(
             Some(next) => node = next,
         }
         entries += 1;
-        join(opened, nodes, node, Origin { entries, ..start })?;
+        join(opened, nodes, node, Origin { entries, ..start }, observer)?;
     }
     Ok(())
 }

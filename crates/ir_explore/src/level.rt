@@ -2,10 +2,11 @@
 
 ghost use Rattle.std.specs.Prelude.{◌≡◌, ◌⊎◌, ℕ, ◌<◌, ◌≤◌, length, IfErr, IsErrOf, OnOk};
 ghost use Rattle.ir_explore.specs.declared.stop.Stop.TheVariants.{Nodes, Memory};
-ghost use Rattle.ir_explore.specs.Following.{Keeps};
+ghost use Rattle.ir_explore.specs.Following.{Keeps, Stay};
 ghost use Rattle.ir_explore.specs.Levels.{rows, AllFollowed, AllOpen, AreWithin};
 ghost use Rattle.ir_explore.specs.Origins.{AreReached, IsLevel, Adds};
 
+use crate::observer::Observer;
 use crate::origin::{Level, Origin};
 use crate::stop::Stop;
 use crate::successors::Successors;
@@ -16,11 +17,12 @@ use crate::turn::take_turn;
 ///
 /// # Errors
 /// The graph stops, or out of memory.
-pub fn take_level<S: Successors>(
+pub fn take_level<S: Successors, O: Observer>(
     graph: &mut S,
     opened: &mut [Vec<bool>],
     nodes: &mut Vec<Origin>,
     level: Level,
+    observer: &O,
 ) -> Result<(), Stop>
     requires followed { AllFollowed (S.noted graph.old) (rows opened.old) }
     requires before { AllOpen (rows opened.old) 0 level.first (length opened.old) }
@@ -44,6 +46,7 @@ pub fn take_level<S: Successors>(
     ensures adds { Adds level.number nodes.old.items nodes.new.items }
     ensures few { length nodes.new.items ≤ S.size graph.new }
     ensures kept { (t : ℕ) → Keeps (S.noted graph.old t) (S.noted graph.new t) }
+    ensures stay { Stay (S.nodes graph.old) (S.nodes graph.new) }
     ensures room { S.size graph.new ≤ S.most graph.new }
     ensures limit { S.most graph.new ≡ S.most graph.old }
     ensures origin { S.origin graph.new ≡ S.origin graph.old }
@@ -52,7 +55,7 @@ pub fn take_level<S: Successors>(
     ensures sound { S.is_sound graph.new }
 {
     for thread in 0..opened.len() {
-        take_turn(graph, &mut opened[thread], nodes, thread, level)?;
+        take_turn(graph, &mut opened[thread], nodes, thread, level, observer)?;
     }
     Ok(())
 }

@@ -3,6 +3,7 @@
 
 mod alone;
 mod level;
+mod observer;
 mod origin;
 mod search;
 mod stop;
@@ -12,8 +13,9 @@ mod ways;
 
 pub use alone::go_alone;
 pub use level::take_level;
+pub use observer::{Observer, Unobserved};
 pub use origin::{Level, Origin};
-pub use search::{Ended, Searched, run_search};
+pub use search::{Ended, Search};
 pub use stop::Stop;
 pub use successors::Successors;
 pub use turn::take_turn;

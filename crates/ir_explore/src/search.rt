@@ -1,15 +1,14 @@
-//! The whole search.
+//! A search that goes on level by level.
 
-ghost use Rattle.std.specs.Prelude.{◌≡◌, ◌⊎◌, ℕ, suc, [], ◌∷◌, ◌<◌, ◌≤◌, length, replicate, slice_get, Some, IfOk};
-ghost use Rattle.ir_explore.specs.declared.search.Ended.TheVariants.{Finished, Covered, Stopped};
+ghost use Rattle.std.specs.Prelude.{◌≡◌, ◌⊎◌, ℕ, suc, true, false, [], ◌∷◌, ◌<◌, ◌≤◌, length, replicate, IfOk, IfErr, IsErrOf, OnErr, OnOk};
 ghost use Rattle.ir_explore.specs.declared.stop.Stop.TheVariants.{Nodes, Memory};
-ghost use Rattle.ir_explore.specs.declared.stop.Stop.{Stop};
-ghost use Rattle.ir_explore.specs.declared.origin.Origin.{Origin};
-ghost use Rattle.ir_explore.specs.Following.{Keeps};
-ghost use Rattle.ir_explore.specs.Levels.{rows, AreAsked, AreGoneOver};
-ghost use Rattle.ir_explore.specs.Origins.{first_origin, AreReached, AreRising};
+ghost use Rattle.ir_explore.specs.Following.{Leading, Keeps, Stay};
+ghost use Rattle.ir_explore.specs.Levels.{rows, AreAsked};
+ghost use Rattle.ir_explore.specs.Origins.{first_origin, Adds};
+ghost use Rattle.ir_explore.specs.Searching.{HasGone, IsBetween};
 
 use crate::level::take_level;
+use crate::observer::Observer;
 use crate::origin::{Level, Origin};
 use crate::stop::Stop;
 use crate::successors::Successors;
@@ -26,15 +25,15 @@ pub enum Ended {
     Stopped(Stop),
 }
 
-/// What a search has found.
+/// A search that goes on level by level.
 #[derive(Debug, Drop)]
-pub struct Searched {
+pub struct Search {
     /// How it came to each node.
     pub nodes: Vec<Origin>,
-    /// How many levels it has gone over.
-    pub levels: usize,
-    /// How it ended.
-    pub ended: Ended,
+    /// For each thread, whether each node is opened for it.
+    pub opened: Vec<Vec<bool>>,
+    /// The level that comes next.
+    pub level: Level,
 }
 
 // No node is opened.
@@ -63,77 +62,80 @@ fn first_node(alloc: Global) -> Result<Vec<Origin>, AllocError>
     Ok(nodes)
 }
 
-/// Searches a graph of one node, level by level. In a level each of these threads goes on alone from each node that was found in the
-/// level before. It goes over `most` levels after the first, if it doesn't end before.
-///
-/// # Errors
-/// Out of memory for the first node.
-pub fn run_search<S: Successors>(
-    alloc: Global,
-    graph: &mut S,
-    threads: usize,
-    most: usize,
-) -> Result<Searched, AllocError>
-    requires one { S.size graph.old ≡ 1 }
-    requires room { S.size graph.old ≤ S.most graph.old }
-    requires sound { S.is_sound graph.old }
+impl Search {
+    /// Before the first level, in which each of these threads goes on alone from the one node of a graph.
+    ///
+    /// # Errors
+    /// Out of memory.
+    pub fn new(alloc: Global, threads: usize) -> Result<Search, AllocError>
+        ensures threads { IfOk result (λ s. length (rows s.opened.items) ≡ threads) }
+        ensures number { IfOk result (λ s. s.level.number ≡ 0) }
+        ensures first { IfOk result (λ s. s.level.first ≡ 0) }
+        ensures between { IfOk result (λ s. (noted : ℕ → Leading) → IsBetween noted 1 s.nodes.items (rows s.opened.items) s.level) }
+    {
+        let opened = no_rows(alloc, threads)?;
+        let nodes = first_node(alloc)?;
+        Ok(Search {
+            nodes,
+            opened,
+            level: Level {
+                number: 0,
+                first: 0,
+                until: 1,
+            },
+        })
+    }
 
-    // Once it is finished
-    ensures finished { IfOk result (λ found. found.ended ≡ Finished → AreAsked (S.noted graph.new) threads (S.size graph.new)) }
-    ensures all { IfOk result (λ found. found.ended ≡ Finished → length found.nodes.items ≡ S.size graph.new) }
+    /// Whether the search is finished: no node was found in the last level.
+    pub fn is_finished(&self) -> bool
+        ensures finished { result ≡ true → (noted : ℕ → Leading) (size : ℕ) → IsBetween noted size self.now.nodes.items (rows self.now.opened.items) self.now.level
+            → AreAsked noted (length (rows self.now.opened.items)) size }
+        ensures over { result ≡ true → self.now.level.until ≤ self.now.level.first }
+        ensures more { result ≡ false → self.now.level.first < self.now.level.until }
+    {
+        self.level.first >= self.level.until
+    }
 
-    ensures within { IfOk result (λ found. found.ended ≡ Finished → found.levels ≤ suc most) }
+    /// Goes over the next level: each thread goes on alone from each node that was found in the level before. The observer is told of each node
+    /// that is found.
+    ///
+    /// # Errors
+    /// The graph stops, or out of memory. Then the search can't go on.
+    pub fn go_over<S: Successors, O: Observer>(
+        &mut self,
+        graph: &mut S,
+        observer: &O,
+    ) -> Result<(), Stop>
+        requires between { IsBetween (S.noted graph.old) (S.size graph.old) self.old.nodes.items (rows self.old.opened.items) self.old.level }
+        requires more { self.old.level.first < self.old.level.until }
+        requires room { S.size graph.old ≤ S.most graph.old }
+        requires sound { S.is_sound graph.old }
 
-    // Once all levels that were wanted are gone over, and some node was found in the last
-    ensures covered { IfOk result (λ found. found.ended ≡ Covered → found.levels ≡ suc most) }
-    ensures left { IfOk result (λ found. found.ended ≡ Covered → (v : ℕ) × (n : Origin) × (slice_get found.nodes.items v ≡ Some n) × (n.level ≡ most)) }
+        // Once it has gone over it
+        ensures between { OnOk result (IsBetween (S.noted graph.new) (S.size graph.new) self.new.nodes.items (rows self.new.opened.items) self.new.level) }
+        ensures next { OnOk result (self.new.level.number ≡ suc self.old.level.number) }
 
-    // However it ends
-    ensures gone { IfOk result (λ found. AreGoneOver (S.noted graph.new) threads found.nodes.items found.levels) }
-    ensures reached { IfOk result (λ found. AreReached (S.noted graph.new) found.nodes.items) }
-    ensures rising { IfOk result (λ found. AreRising found.nodes.items) }
-    ensures levels { IfOk result (λ found. (v : ℕ) (n : Origin) → slice_get found.nodes.items v ≡ Some n → n.level ≤ found.levels) }
-    ensures first { IfOk result (λ found. slice_get found.nodes.items 0 ≡ Some first_origin) }
-    ensures few { IfOk result (λ found. length found.nodes.items ≤ S.size graph.new) }
-    ensures kept { (t : ℕ) → Keeps (S.noted graph.old t) (S.noted graph.new t) }
-    ensures room { S.size graph.new ≤ S.most graph.new }
-    ensures limit { S.most graph.new ≡ S.most graph.old }
-    ensures origin { S.origin graph.new ≡ S.origin graph.old }
-    ensures full { IfOk result (λ found. found.ended ≡ Stopped Nodes → S.size graph.new ≡ S.most graph.new) }
-    ensures stopped { IfOk result (λ found. (stop : Stop) → found.ended ≡ Stopped stop → (stop ≡ Memory) ⊎ S.may_stop graph.new stop) }
-    ensures sound { S.is_sound graph.new }
-{
-    let mut opened = no_rows(alloc, threads)?;
-    let mut nodes = first_node(alloc)?;
-    let mut level = Level {
-        number: 0,
-        first: 0,
-        until: 1,
-    };
-    'levels: while level.first < level.until {
-        if level.number > most {
-            return Ok(Searched {
-                nodes,
-                levels: level.number,
-                ended: Ended::Covered,
-            });
-        }
-        if let Err(stop) = take_level(graph, &mut opened, &mut nodes, level) {
-            return Ok(Searched {
-                nodes,
-                levels: level.number,
-                ended: Ended::Stopped(stop),
-            });
-        }
-        level = Level {
+        // Whatever comes
+        ensures has { HasGone (S.noted graph.new) (length (rows self.new.opened.items)) (S.size graph.new) self.new.nodes.items self.old.level.number }
+        ensures level { OnErr result (self.new.level ≡ self.old.level) }
+        ensures adds { Adds self.old.level.number self.old.nodes.items self.new.nodes.items }
+        ensures threads { length (rows self.new.opened.items) ≡ length (rows self.old.opened.items) }
+        ensures kept { (t : ℕ) → Keeps (S.noted graph.old t) (S.noted graph.new t) }
+        ensures stay { Stay (S.nodes graph.old) (S.nodes graph.new) }
+        ensures room { S.size graph.new ≤ S.most graph.new }
+        ensures limit { S.most graph.new ≡ S.most graph.old }
+        ensures origin { S.origin graph.new ≡ S.origin graph.old }
+        ensures full { IsErrOf result Nodes → S.size graph.new ≡ S.most graph.new }
+        ensures stopped { IfErr result (λ stop. (stop ≡ Memory) ⊎ S.may_stop graph.new stop) }
+        ensures sound { S.is_sound graph.new }
+    {
+        let level = self.level;
+        take_level(graph, &mut self.opened, &mut self.nodes, level, observer)?;
+        self.level = Level {
             number: level.number + 1,
             first: level.until,
-            until: nodes.len(),
+            until: self.nodes.len(),
         };
+        Ok(())
     }
-    Ok(Searched {
-        nodes,
-        levels: level.number,
-        ended: Ended::Finished,
-    })
 }

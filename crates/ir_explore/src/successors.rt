@@ -1,8 +1,8 @@
 //! What gives the nodes that come next.
 
-ghost use Rattle.std.specs.Prelude.{◌≡◌, ◌⊎◌, ℕ, suc, ◌<◌, ◌≤◌, Some, IfOk, IfErr, IsErrOf};
+ghost use Rattle.std.specs.Prelude.{◌≡◌, ◌⊎◌, ℕ, suc, ◌<◌, ◌≤◌, List, Some, IfOk, IfErr, IsErrOf};
 ghost use Rattle.std.specs.declared.option.Option.{Option};
-ghost use Rattle.ir_explore.specs.Following.{Keeps};
+ghost use Rattle.ir_explore.specs.Following.{Keeps, Stay};
 ghost use Rattle.ir_explore.specs.declared.stop.Stop.{Stop};
 ghost use Rattle.ir_explore.specs.declared.stop.Stop.TheVariants.{Nodes};
 
@@ -21,6 +21,12 @@ pub trait Successors {
 
     /// How many nodes there may be.
     ghost most: { Self → ℕ };
+
+    /// What a node stands for.
+    ghost Node: { Type 0 };
+
+    /// What each node stands for.
+    ghost nodes: { Self → List Self.Node };
 
     /// Where a thread leads from a node, once it has been asked: to no node, or to this one.
     ghost noted: { Self → ℕ → ℕ → Option (Option ℕ) };
@@ -48,6 +54,7 @@ pub trait Successors {
         ensures added { IfOk result (λ next. (size self.new ≡ size self.old) ⊎ ((next ≡ Some (size self.old)) × (size self.new ≡ suc (size self.old)))) }
         ensures grown { size self.old ≤ size self.new }
         ensures kept { (t : ℕ) → Keeps (noted self.old t) (noted self.new t) }
+        ensures stay { Stay (nodes self.old) (nodes self.new) }
         ensures room { size self.new ≤ most self.new }
         ensures limit { most self.new ≡ most self.old }
         ensures origin { origin self.new ≡ origin self.old }

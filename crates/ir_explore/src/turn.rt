@@ -2,10 +2,11 @@
 
 ghost use Rattle.std.specs.Prelude.{◌≡◌, ◌⊎◌, ℕ, ◌<◌, ◌≤◌, length, IfErr, IsErrOf, OnOk};
 ghost use Rattle.ir_explore.specs.declared.stop.Stop.TheVariants.{Nodes, Memory};
-ghost use Rattle.ir_explore.specs.Following.{Keeps, AreOpen, StaysOpen, IsFollowed};
+ghost use Rattle.ir_explore.specs.Following.{Keeps, Stay, AreOpen, StaysOpen, IsFollowed};
 ghost use Rattle.ir_explore.specs.Origins.{AreReached, IsLevel, Adds};
 
 use crate::alone::go_alone;
+use crate::observer::Observer;
 use crate::origin::{Level, Origin};
 use crate::stop::Stop;
 use crate::successors::Successors;
@@ -14,12 +15,13 @@ use crate::successors::Successors;
 ///
 /// # Errors
 /// The graph stops, or out of memory. What was opened stays so, but isn't followed.
-pub fn take_turn<S: Successors>(
+pub fn take_turn<S: Successors, O: Observer>(
     graph: &mut S,
     opened: &mut Vec<bool>,
     nodes: &mut Vec<Origin>,
     thread: usize,
     level: Level,
+    observer: &O,
 ) -> Result<(), Stop>
     requires followed { IsFollowed (S.noted graph.old thread) opened.old.items }
     requires level { IsLevel nodes.old.items level }
@@ -42,6 +44,7 @@ pub fn take_turn<S: Successors>(
     ensures adds { Adds level.number nodes.old.items nodes.new.items }
     ensures few { length nodes.new.items ≤ S.size graph.new }
     ensures kept { (t : ℕ) → Keeps (S.noted graph.old t) (S.noted graph.new t) }
+    ensures stay { Stay (S.nodes graph.old) (S.nodes graph.new) }
     ensures room { S.size graph.new ≤ S.most graph.new }
     ensures limit { S.most graph.new ≡ S.most graph.old }
     ensures origin { S.origin graph.new ≡ S.origin graph.old }
@@ -57,7 +60,7 @@ pub fn take_turn<S: Successors>(
             entries: 0,
             level: level.number,
         };
-        go_alone(graph, opened, nodes, start)?;
+        go_alone(graph, opened, nodes, start, observer)?;
     }
     Ok(())
 }

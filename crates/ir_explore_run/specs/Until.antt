@@ -7,17 +7,16 @@ use Rattle.ir_files.specs.declared.exit_status.ExitStatus.{ExitStatus}
 use Rattle.ir_flat.specs.Flat.{Flat}
 use Rattle.ir_graph.specs.Nodes.{told}
 use Rattle.ir_graph.specs.Reached.{AllReached}
-use Rattle.ir_image.specs.Guest.{Guest}
-use Rattle.ir_image.specs.Reading.{guest_at}
+use Rattle.ir_image.specs.Guest.{Guest, guest_at}
 use Rattle.ir_order.specs.Recording.{IsPlanned, IsOfRun}
 use Rattle.ir_outcomes.specs.Explored.{outcome_by, switches_by, IsAt, AreExplored}
 use Rattle.ir_outcomes.specs.declared.shown.Shown.{Shown}
+use Rattle.ir_record.specs.Refusing.{plain_turns}
 use Rattle.ir_record_run.specs.Order.{order_of}
 use Rattle.ir_record_run.specs.Plan.{Plan}
 use Rattle.ir_runs.specs.Run.{Step}
 use Rattle.ir_seen.specs.Seen.{IsCounted}
-use Rattle.ir_thread.specs.State.{IsAllowed}
-use Rattle.ir_thread.specs.Calls.{most_budget}
+use Rattle.ir_thread.specs.State.{IsAllowed, most_budget}
 use Rattle.ir_thread.specs.declared.profile.Profile.TheVariants.{One}
 use Rattle.ir_trace.specs.Recorded.{Recorded}
 use Rattle.ir_explore_run.specs.Conditions.{fulfils_each, NeverFulfils, NeverWithin, NoneBefore, IsFirst}
@@ -36,7 +35,7 @@ recording list = record { order = list; budget = most_budget; random = 0; input 
 -- fewer does, whatever its budget and whatever the world answers.
 pub record IsHit (guest : Guest) (conditions : List Condition) (level : ℕ) (list : List ℕ) : Type 0 where
   pub order : List ℕ
-  pub spelled : order_of (length guest.entries) list ≡ Some order
+  pub spelled : order_of (length guest.entries) list ≡ Some (plain_turns order)
   pub run : List Step
   pub counted : (answers : ℕ → List ℕ) → IsCounted guest most_budget One told answers run
   pub planned : IsPlanned guest (recording (Some list)) order run

@@ -6,20 +6,25 @@ ghost use Rattle.ir_thread.specs.declared.profile.Profile.TheVariants.{One};
 ghost use Rattle.ir_explore_run.specs.Texts.{IsReason, AreKnown, known_of};
 
 use crate::plan::ExplorePlan;
-use ir_explore::Stop;
+use ir_explore::{Observer, Stop};
 use ir_image::Image;
 use ir_outcomes::{Explored, explore};
 use std::alloc::Global;
 
-/// The outcomes of a guest, as far as the plan says.
+/// The outcomes of a guest, as far as the plan says. The observer is told how far the search is.
 ///
 /// # Errors
 /// The search doesn't begin.
-pub fn known<'a>(alloc: Global, image: &'a Image, plan: ExplorePlan) -> Result<Explored<'a>, Stop>
+pub fn known<'a, W: Observer>(
+    alloc: Global,
+    image: &'a Image,
+    plan: ExplorePlan,
+    observer: &W,
+) -> Result<Explored<'a>, Stop>
     requires { IsAllowed One image.now }
     ensures known { IfOk result (λ e. AreKnown image.now plan (known_of e)) }
     ensures refused { IfErr result (λ why. IsReason image.now plan why) }
 {
-    let explored = explore(alloc, image, plan.bounds, plan.switches)?;
+    let explored = explore(alloc, image, plan.bounds, plan.switches, observer)?;
     Ok(explored)
 }

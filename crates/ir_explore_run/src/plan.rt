@@ -4,6 +4,7 @@ ghost use Rattle.std.specs.Prelude.{◌≡◌, ◌≤◌};
 
 use ir_chaos::Condition;
 use ir_graph::Bounds;
+use ir_record_run::ParsedImage;
 
 /// How far a guest is explored.
 #[derive(Clone, Copy, Debug)]
@@ -34,10 +35,14 @@ impl ExplorePlan {
 }
 
 /// What is looked for among the outcomes of a guest, and how far.
-#[derive(Clone, Copy, Debug)]
-pub struct UntilPlan<'a> {
+#[derive(Clone, Copy)]
+pub struct UntilPlan<'a, 'i, 'o, W> {
+    /// The guest's image.
+    pub image: &'a ParsedImage<'i>,
     /// How far the guest is explored.
     pub explore: ExplorePlan,
     /// What has to hold of an outcome, all of it.
     pub conditions: &'a [Condition<'a>],
+    /// What is told how far the search is.
+    pub observer: &'o W,
 }

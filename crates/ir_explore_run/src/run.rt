@@ -12,6 +12,7 @@ use crate::answer::{known_text, stopped_text};
 use crate::fault::ExploreFault;
 use crate::known::known;
 use crate::plan::ExplorePlan;
+use ir_explore::Observer;
 use ir_files::{ExitStatus, tell};
 use ir_image::{Image, read_image};
 use ir_stream::{Sink, write_all};
@@ -19,25 +20,27 @@ use ir_thread::Profile;
 use std::alloc::{AllocError, Global};
 
 // The lines about a guest, and the exit status.
-fn answer(
+fn answer<W: Observer>(
     alloc: Global,
     image: &Image,
     plan: ExplorePlan,
+    observer: &W,
 ) -> Result<(Vec<u8>, ExitStatus), AllocError>
     requires { IsAllowed One image.now }
     ensures { IfOk result (λ answer. IsAnswerAbout image.now plan answer.1 answer.0.items) }
 {
-    match known(alloc, image, plan) {
+    match known(alloc, image, plan, observer) {
         Ok(explored) => known_text(alloc, image, plan, &explored),
         Err(why) => stopped_text(alloc, why),
     }
 }
 
 // Writes the answer about the bytes of an image.
-fn show<O: Sink>(
+fn show<W: Observer, O: Sink>(
     alloc: Global,
     bytes: &[u8],
     plan: ExplorePlan,
+    observer: &W,
     out: &mut O,
 ) -> Result<ExitStatus, ExploreFault>
     requires { O.broken out.old ≡ false }
@@ -51,7 +54,7 @@ fn show<O: Sink>(
     if !Profile::One.allows(&image) {
         return Err(ExploreFault::TooLarge);
     }
-    let (text, answered) = answer(alloc, &image, plan)?;
+    let (text, answered) = answer(alloc, &image, plan, observer)?;
     write_all(out, text.as_slice())?;
     Ok(answered)
 }
@@ -59,11 +62,12 @@ fn show<O: Sink>(
 /// Writes the different outcomes of the guest that these bytes encode, each with a list that spells an order that leads to it, and how the
 /// search for them ended. The exit status is `Done` if all were found that were asked for, and `NotSo` if the search stopped before. It is
 /// `Refused` if the bytes are no image or the guest is too large, and `Failed` if memory ran out or the writer failed: then the fault is
-/// reported in one line.
-pub fn explore_run<O: Sink, E: Sink>(
+/// reported in one line. The observer is told how far the search is.
+pub fn explore_run<W: Observer, O: Sink, E: Sink>(
     alloc: Global,
     bytes: &[u8],
     plan: ExplorePlan,
+    observer: &W,
     out: &mut O,
     faults: &mut E,
 ) -> ExitStatus
@@ -73,7 +77,7 @@ pub fn explore_run<O: Sink, E: Sink>(
         ⊎ ((e : ExploreFault) × (result ≡ fault_status e) × HasNone e bytes.now plan (writer_of (O.written out.old) (O.written out.new) (O.broken out.new))
         × Reports (writer_of (E.written faults.old) (E.written faults.new) (E.broken faults.new)) (fault_text (fault_words e))) }
 {
-    match show(alloc, bytes, plan, out) {
+    match show(alloc, bytes, plan, observer, out) {
         Ok(answered) => answered,
         Err(why) => {
             tell(faults, why.words());

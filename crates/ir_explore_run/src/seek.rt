@@ -12,7 +12,7 @@ ghost use Rattle.ir_explore_run.specs.Until.{IsSought};
 use crate::conditions::first_fulfilling;
 use crate::known::known;
 use crate::plan::{ExplorePlan, UntilPlan};
-use ir_explore::{Ended, Stop};
+use ir_explore::{Ended, Observer, Stop};
 use ir_image::Image;
 use ir_outcomes::Explored;
 use std::alloc::Global;
@@ -30,10 +30,10 @@ pub struct Sought<'a> {
 }
 
 // A search up to these many switches.
-fn search<'a>(
+fn search<'a, W: Observer>(
     alloc: Global,
     image: &'a Image,
-    plan: &UntilPlan<'_>,
+    plan: &UntilPlan<'_, '_, '_, W>,
     switches: usize,
 ) -> Result<Sought<'a>, Stop>
     requires { IsAllowed One image.now }
@@ -42,7 +42,12 @@ fn search<'a>(
     ensures refused { IfErr result (λ why. IsReason image.now plan.now.explore why) }
 {
     let bounds = plan.explore.bounds;
-    let explored = known(alloc, image, ExplorePlan { bounds, switches })?;
+    let explored = known(
+        alloc,
+        image,
+        ExplorePlan { bounds, switches },
+        plan.observer,
+    )?;
     let flats = &explored.states.graph.flats;
     let first = first_fulfilling(flats, explored.outcomes.as_slice(), plan.conditions)?;
     Ok(Sought { explored, first })
@@ -74,7 +79,11 @@ fn widened(switches: usize, most: usize) -> usize
 ///
 /// # Errors
 /// The search doesn't begin.
-pub fn seek<'a>(alloc: Global, image: &'a Image, plan: &UntilPlan<'_>) -> Result<Sought<'a>, Stop>
+pub fn seek<'a, W: Observer>(
+    alloc: Global,
+    image: &'a Image,
+    plan: &UntilPlan<'_, '_, '_, W>,
+) -> Result<Sought<'a>, Stop>
     requires { IsAllowed One image.now }
     ensures sought { IfOk result (λ s. IsSought image.now plan.now.explore (map as_condition plan.now.conditions.now) (known_of s.explored) s.first) }
     ensures refused { IfErr result (λ why. IsReason image.now plan.now.explore why) }

@@ -11,7 +11,7 @@ ghost use Rattle.ir_record_run.specs.Faults as recorded;
 ghost use Rattle.ir_record_run.specs.Faults.{Refuses, Stops, IsReported, unwritten_of};
 ghost use Rattle.ir_record_run.specs.Recording.{lines_of};
 ghost use Rattle.ir_record_run.specs.declared.record_fault.RecordFault.{RecordFault};
-ghost use Rattle.ir_image.specs.Reading.{guest_at};
+ghost use Rattle.ir_image.specs.Guest.{guest_at};
 ghost use Rattle.ir_thread.specs.State.{IsAllowed};
 ghost use Rattle.ir_thread.specs.declared.profile.Profile.TheVariants.{One};
 ghost use Rattle.ir_trace.specs.Encoding.{encoding};
@@ -25,6 +25,7 @@ use crate::answer::{hit_text, known_text, stopped_text};
 use crate::fault::ExploreFault;
 use crate::plan::UntilPlan;
 use crate::seek::{Sought, seek};
+use ir_explore::Observer;
 use ir_files::{ExitStatus, OutputSink, WholeSink, tell};
 use ir_image::Image;
 use ir_object::OpenGate;
@@ -82,10 +83,10 @@ struct Told {
 }
 
 // What is written of what was looked for.
-fn sought_text(
+fn sought_text<W>(
     alloc: Global,
     image: &Image,
-    plan: &UntilPlan<'_>,
+    plan: &UntilPlan<'_, '_, '_, W>,
     sought: &Sought<'_>,
 ) -> Result<Told, AllocError>
     requires allowed { IsAllowed One image.now }
@@ -109,7 +110,11 @@ fn sought_text(
 }
 
 // What is written about a guest.
-fn text_about(alloc: Global, image: &Image, plan: &UntilPlan<'_>) -> Result<Told, AllocError>
+fn text_about<W: Observer>(
+    alloc: Global,
+    image: &Image,
+    plan: &UntilPlan<'_, '_, '_, W>,
+) -> Result<Told, AllocError>
     requires { IsAllowed One image.now }
     ensures { IfOk result (λ told. IsUntilText image.now plan.now.explore (map as_condition plan.now.conditions.now) (option_map (λ s. string_bytes s) told.list) told.text.items) }
 {
@@ -123,19 +128,18 @@ fn text_about(alloc: Global, image: &Image, plan: &UntilPlan<'_>) -> Result<Told
 }
 
 // Writes it: the list of the outcome that was found, if one was.
-fn tell_sought<O: Sink>(
+fn tell_sought<W: Observer, O: Sink>(
     alloc: Global,
-    image: &ParsedImage<'_>,
-    plan: &UntilPlan<'_>,
+    plan: &UntilPlan<'_, '_, '_, W>,
     out: &mut O,
 ) -> Result<Option<String>, ExploreFault>
     requires { O.broken out.old ≡ false }
-    ensures told { IfOk result (λ list. (text : List ℕ) × IsUntil image.now plan.now.explore (map as_condition plan.now.conditions.now) (option_map (λ s. string_bytes s) list) text
+    ensures told { IfOk result (λ list. (text : List ℕ) × IsUntil plan.now.image.now plan.now.explore (map as_condition plan.now.conditions.now) (option_map (λ s. string_bytes s) list) text
         × Appends (O.written out.old) (O.written out.new) text) }
     ensures works { OnOk result (O.broken out.new ≡ false) }
-    ensures fails { IfErr result (λ e. HasNoAnswer e image.now plan.now.explore (map as_condition plan.now.conditions.now) (writer_of (O.written out.old) (O.written out.new) (O.broken out.new))) }
+    ensures fails { IfErr result (λ e. HasNoAnswer e plan.now.image.now plan.now.explore (map as_condition plan.now.conditions.now) (writer_of (O.written out.old) (O.written out.new) (O.broken out.new))) }
 {
-    let guest = match guest_of(image) {
+    let guest = match guest_of(plan.image) {
         Ok(guest) => guest,
         Err(why) => return Err(why),
     };
@@ -146,21 +150,21 @@ fn tell_sought<O: Sink>(
 
 /// Looks for the first outcome of a guest that fulfils each condition, and records a run that has it. The outcomes up to that one are written, then
 /// which one it is, with a list that spells the order of the run, and then all that `record_run` writes of the recording by that list. What was
-/// recorded is handed back.
+/// recorded is handed back. The observer of the plan is told how far the search is.
 ///
 /// # Errors
 /// The exit status. It is `NotSo` if none was found: what `explore_run` writes is written, and nothing is recorded. Else it is that of a fault,
 /// which is reported in one line.
-pub fn explore_until<R, W, P, O, E>(
+pub fn explore_until<R, V, W, P, O, E>(
     rt: &R,
-    image: &ParsedImage<'_>,
-    plan: &UntilPlan<'_>,
+    plan: &UntilPlan<'_, '_, '_, V>,
     files: &mut RecordFiles<W, P>,
     out: &mut O,
     faults: &mut E,
 ) -> Result<Trace, ExitStatus>
 where
     R: Threads + Wait + Sync + Clock + AllocGlobal,
+    V: Observer,
     W: WholeSink,
     P: OutputSink,
     O: Sink,
@@ -171,7 +175,7 @@ where
     requires reports { E.broken faults.old ≡ false }
     // The outcomes up to the first that fulfils each condition were written, and of the run that is told of that one its trace, what its threads
     // printed, and their lines. No fault is reported.
-    ensures found { IfOk result (λ recorded. (text list : List ℕ) × (printed : List (List ℕ)) × IsFinding image.now (map as_condition plan.now.conditions.now) list text recorded printed
+    ensures found { IfOk result (λ recorded. (text list : List ℕ) × (printed : List (List ℕ)) × IsFinding plan.now.image.now (map as_condition plan.now.conditions.now) list text recorded printed
         × Appends (W.written files.old.trace) (W.written files.new.trace) (encoding recorded)
         × TookEach (output_writer_of (P.taken files.old.outputs) (P.taken files.new.outputs) (P.broken files.new.outputs)) printed
         × Appends (O.written out.old) (O.written out.new) (text ++ lines_of recorded)) }
@@ -179,22 +183,22 @@ where
     ensures quiet { OnOk result (faults.new ≡ faults.old) }
     // Else there is none, which is written and nothing else; or nothing is, or that failed; or what was found is told, and its recording stopped.
     ensures stopped { IfErr result (λ status. ((status ≡ NotSo) × (files.new.trace ≡ files.old.trace) × (files.new.outputs ≡ files.old.outputs) × (faults.new ≡ faults.old)
-        × ((text : List ℕ) × IsUntil image.now plan.now.explore (map as_condition plan.now.conditions.now) None text × Appends (O.written out.old) (O.written out.new) text))
+        × ((text : List ℕ) × IsUntil plan.now.image.now plan.now.explore (map as_condition plan.now.conditions.now) None text × Appends (O.written out.old) (O.written out.new) text))
         ⊎ (((e : ExploreFault) × (status ≡ fault_status e) × (files.new.trace ≡ files.old.trace) × (files.new.outputs ≡ files.old.outputs)
-        × HasNoAnswer e image.now plan.now.explore (map as_condition plan.now.conditions.now) (writer_of (O.written out.old) (O.written out.new) (O.broken out.new))
+        × HasNoAnswer e plan.now.image.now plan.now.explore (map as_condition plan.now.conditions.now) (writer_of (O.written out.old) (O.written out.new) (O.broken out.new))
         × Reports (writer_of (E.written faults.old) (E.written faults.new) (E.broken faults.new)) (fault_text (fault_words e)))
         ⊎ ((e : RecordFault) × (status ≡ recorded.fault_status e) × (text list : List ℕ) × (said : O)
-        × IsUntil image.now plan.now.explore (map as_condition plan.now.conditions.now) (Some list) text
+        × IsUntil plan.now.image.now plan.now.explore (map as_condition plan.now.conditions.now) (Some list) text
         × Appends (O.written out.old) (O.written said) text
-        × IsReported e image.now (recording (Some list)) (unwritten_of (W.called files.new.trace) (W.cause files.new.trace)) (unwritten_of (P.called files.new.outputs) (P.cause files.new.outputs))
+        × IsReported e plan.now.image.now (recording (Some list)) (unwritten_of (W.called files.new.trace) (W.cause files.new.trace)) (unwritten_of (P.called files.new.outputs) (P.cause files.new.outputs))
         (writer_of (E.written faults.old) (E.written faults.new) (E.broken faults.new))
-        × Stops e image.now (recording (Some list))
+        × Stops e plan.now.image.now (recording (Some list))
         (writer_of (W.written files.old.trace) (W.written files.new.trace) (W.broken files.new.trace))
         (output_writer_of (P.taken files.old.outputs) (P.taken files.new.outputs) (P.broken files.new.outputs))
         (writer_of (O.written said) (O.written out.new) (O.broken out.new))
         ((files.new.trace ≡ files.old.trace) × (files.new.outputs ≡ files.old.outputs) × (out.new ≡ said)) ((files.new.outputs ≡ files.old.outputs) × (out.new ≡ said)) (out.new ≡ said)))) }
 {
-    let list = match tell_sought(rt.alloc(), image, plan, out) {
+    let list = match tell_sought(rt.alloc(), plan, out) {
         Ok(Some(list)) => list,
         Ok(None) => return Err(ExitStatus::NotSo),
         Err(why) => {
@@ -203,7 +207,10 @@ where
         }
     };
     let how = recording(Some(list.as_str()));
-    let recording = Recording { image, plan: &how };
+    let recording = Recording {
+        image: plan.image,
+        plan: &how,
+    };
     let recorded = record_run(rt, &OpenGate, &recording, files, out, faults)?;
     Ok(recorded)
 }

@@ -1,18 +1,15 @@
 -- Whether a recorded trace is that of a run of a guest's, by the run that follows it furthest.
-use Rattle.std.proofs.Common.{◌≡◌, ◌≢◌, ℕ, zero, suc, ◌<◌, ◌≤◌, true, List, [], ◌∷◌, ◌++◌, ◌⊎◌, length, map, Some, refl, sym, ap, ◌∙◌, subst, arith, inl, inr, get_or}
+use Rattle.std.proofs.Common.{◌≡◌, ◌≢◌, ℕ, zero, suc, ◌<◌, ◌≤◌, List, [], ◌∷◌, ◌++◌, ◌⊎◌, length, map, Some, refl, sym, ap, ◌∙◌, subst, arith, inl, inr, get_or}
 use Rattle.std.specs.Prelude.{slice_get}
 use Rattle.std.proofs.lemmas.List.{length-map}
 use Rattle.std.specs.List.{AllByRecursion}
 use Rattle.std.proofs.lemmas.Bool.{cases_lt}
-use Rattle.std.proofs.lemmas.Bool.Decides.{nat_tests}
 use Rattle.ir_image.specs.Guest.{Guest}
-use Rattle.ir_thread.specs.Instance.{thread_machine, is_result}
+use Rattle.ir_thread.specs.State.{thread_machine}
 use Rattle.ir_runs.specs.Machine.{Label}
-use Rattle.ir_runs.specs.declared.env_kind.EnvKind.{EnvKind}
-use Rattle.ir_runs.specs.declared.env_kind.EnvKind.TheVariants.{Clock, Random, Input}
 use Rattle.ir_thread.proofs.CallerLemmas.{thread_machine_is_lawful, thread_machine_is_closing}
 use Rattle.ir_flat.specs.Flat.{Flat, start_flat, tables}
-use Rattle.ir_runs.specs.Run.{Step, log}
+use Rattle.ir_runs.specs.Run.{Step, log, At}
 use Rattle.ir_runs.specs.Bounds.{trace}
 use Rattle.ir_runs.proofs.CallerLemmas.{state_invariant_at_start, maximal_followers_reach_same_end, AfterThreadEnd, ended_thread_only_leaves, done_follower_is_whole_run, maximal_follower_done_if_whole_run, runs_reaching_same_share_verdict, own_trace_is_coherent, maximal_if_each_thread_stands, verdict_from_standing, thread_not_same_is_not_done, done_if_each_thread_is_same}
 use Rattle.ir_flat.proofs.CallerLemmas.{guest_start_is_idle}
@@ -20,23 +17,20 @@ use Rattle.ir_log.specs.Logging.{label_of}
 use Rattle.ir_log.specs.declared.event.Event.{Event}
 use Rattle.ir_log.specs.declared.event.Event.TheVariants.{Answer, Read, Write, Try}
 use Rattle.ir_thread.specs.declared.profile.Profile.{Profile}
-use Rattle.ir_trace.specs.Recorded.{Recorded, RecordedThread, absent, trace_of}
-use Rattle.ir_trace.specs.Within.{IsRecorded, IsRecordedThread, IsEvent, IsResult}
+use Rattle.ir_trace.specs.Recorded.{Recorded, RecordedThread, trace_of, IsRecorded, IsRecordedThread, IsEvent}
+use Rattle.ir_trace.specs.Absent.{absent}
 use Rattle.ir_coherence.proofs.CallerLemmas.{coherent_trace_is_unbroken}
 use Rattle.ir_fit.proofs.Guests.{guest_start_is_start, guest_start_is_live}
-use Rattle.ir_coherence.specs.Breaking.{IsFirstBreak}
-use Rattle.ir_runs.specs.Coherent.{IsCoherent}
-use Rattle.ir_runs.specs.Cuts.{At}
-use Rattle.ir_fit.specs.Fit.{HasHeader, IsRunOf, HasRun, GoesFurthest, AreVerdicts, IsRefused}
+use Rattle.ir_coherence.specs.Breaking.{HasCause, IsFirstBreak}
+use Rattle.ir_coherence.specs.declared.cause.Cause.{Cause}
+use Rattle.ir_fit.specs.Fit.{HasHeader, IsRunOf, HasRun, GoesFurthest, AreVerdicts, IsRefused, placed_at}
 use Rattle.ir_fit.specs.Within.{BreaksBy}
 use Rattle.ir_fit.specs.Follower.{IsFollowed, AreStanding}
-use Rattle.ir_runs.specs.Following as following
-use Rattle.ir_fit.specs.Places.{placed_at}
+use Rattle.ir_runs.specs.Verdicts as following
 use Rattle.ir_fit.specs.Growing.{Growing, grown, growing_at}
 use Rattle.ir_runs.specs.Standing.{StandsAs}
-use Rattle.ir_runs.specs.Verdicts as verdicts
 use Rattle.ir_runs.specs.Events as events
-use Rattle.ir_runs.specs.Verdicts.{IsWhole}
+use Rattle.ir_runs.specs.Coherent.{IsCoherent}
 use Rattle.ir_runs.specs.Events.{HoldsEvents}
 use Rattle.ir_fit.specs.declared.fit_err.FitErr.{FitErr}
 use Rattle.ir_fit.specs.declared.fit_err.FitErr.TheVariants.{NoMem, Refused}
@@ -46,14 +40,8 @@ use Rattle.ir_fit.specs.declared.verdict.Verdict.TheVariants as verdict
 
 -- ---- what a trace within its limits holds
 
-is_result_true_if_result : (kind : EnvKind) (value : ℕ) → IsResult kind value → is_result kind value ≡ true
-is_result_true_if_result Clock value h = grind (arith, nat_tests, h)
-is_result_true_if_result Random value h = grind (arith, nat_tests, h)
-is_result_true_if_result Input value (inl h) = grind (arith, nat_tests, h)
-is_result_true_if_result Input value (inr h) = grind (arith, nat_tests, h)
-
 event_label_is_machine_event : (code : List ℕ) (profile : Profile) (objects : ℕ) (e : Event) → IsEvent profile objects e → events.IsEvent (thread_machine code) (label_of e)
-event_label_is_machine_event code profile objects (Answer kind value) h = is_result_true_if_result kind value h
+event_label_is_machine_event code profile objects (Answer kind value) h = h
 event_label_is_machine_event code profile objects (Read object version) h = refl
 event_label_is_machine_event code profile objects (Write object version readers) h = tt
 event_label_is_machine_event code profile objects (Try object) h = tt
@@ -185,11 +173,12 @@ broken_coherence_refuses_trace g r header (Refused (verdict.Incoherent t i c)) b
 pub differing_thread_refuses_trace : (g : Guest) (r : Recorded) → IsRecorded r → HasHeader g r → IsCoherent (length g.entries) (trace_of r)
     → (f : Flat) (ps : List Growing) → IsFollowed g r f ps → (vs : List ThreadVerdict) → length vs ≡ length f.threads → AreStanding r f ps vs
     → (t : ℕ) (v : ThreadVerdict) → slice_get vs t ≡ Some v → v ≢ Same
-    → (HasHeader g r × IsCoherent (length g.entries) (trace_of r) × AreVerdicts g r vs) × ((run : List Step) → IsRunOf g r run → ⊥)
+    → (HasHeader g r × ((t i : ℕ) (c : Cause) → HasCause (length g.entries) (trace_of r) t i c → ⊥) × AreVerdicts g r vs)
+    × ((run : List Step) → IsRunOf g r run → ⊥)
 differing_thread_refuses_trace g r is header co f ps followed vs each stand t v at ne =
     let k = followed.follower in
     let both = standing_threads_give_verdicts g r is header co k.run k.follows vs (each ∙ k.threads) (stand g k) in
-    ((header, co, both.1), no_run_if_thread_differs g r co k.run both.0 t v (stand g k t v at) ne)
+    ((header, coherent_trace_is_unbroken (length g.entries) (trace_of r) co, both.1), no_run_if_thread_differs g r co k.run both.0 t v (stand g k t v at) ne)
 
 placed_at_of_grown : (ps : List Growing) (t : ℕ) → placed_at (map grown ps) t ≡ grown (growing_at ps t)
 placed_at_of_grown [] t = refl

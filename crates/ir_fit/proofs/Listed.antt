@@ -2,14 +2,14 @@
 use Rattle.std.proofs.Common.{◌≡◌, ℕ, suc, zero, ◌+◌, ◌<◌, ◌≤◌, ◌⊎◌, inl, inr, List, [], ◌∷◌, length, map, get_or, refl, sym, ap, ◌∙◌, subst, arith}
 use Rattle.std.proofs.lemmas.Bool.{cases_lt}
 use Rattle.std.proofs.lemmas.List.{length-map, get_or-map}
-use Rattle.ir_thread.specs.Instance.{thread_machine}
+use Rattle.ir_thread.specs.State.{thread_machine}
 use Rattle.ir_runs.specs.Machine.{Machine, Label, Quiet, Answer, In, Refused, Out, logged}
 use Rattle.ir_thread.specs.State as thread
 use Rattle.ir_runs.specs.declared.access.Access.{Access}
 use Rattle.ir_runs.specs.declared.env_kind.EnvKind.{EnvKind}
 use Rattle.ir_runs.specs.declared.env_kind.EnvKind.TheVariants.{Clock}
 use Rattle.ir_flat.specs.Flat.{start_flat, tables, machine}
-use Rattle.ir_runs.specs.Run.{State, Step, after, IsRun, trail, count, events}
+use Rattle.ir_runs.specs.Run.{State, Step, after, IsRun, trail, count, events, At}
 use Rattle.ir_runs.specs.Bounds.{IsIdle}
 use Rattle.ir_flat.proofs.CallerLemmas.{guest_start_is_idle}
 use Rattle.ir_log.specs.Logging.{label_of}
@@ -17,10 +17,8 @@ use Rattle.ir_log.specs.declared.event.Event.{Event}
 use Rattle.ir_log.specs.declared.event.Event.TheVariants as logged_event
 use Rattle.ir_trace.specs.Recorded.{recorded_thread}
 use Rattle.ir_runs.proofs.CallerLemmas.{trail_of_cons_other_thread, step_below_idle_keeps_idle}
-use Rattle.ir_runs.specs.Cuts.{At}
-use Rattle.ir_fit.specs.Fit.{FittedTrace, HasRun}
-use Rattle.ir_fit.specs.Places.{placed_at, place_if, places_from, leave_if, leaves_from}
-use Rattle.ir_fit.specs.Visits.{EmitsIn}
+use Rattle.ir_fit.specs.Fit.{FittedTrace, HasRun, placed_at, place_if, places_from, leave_if, leaves_from}
+use Rattle.ir_fit.specs.Listed.{EmitsIn}
 use Rattle.ir_fit.specs.declared.leave.Leave.{Leave}
 
 -- ---- one step

@@ -5,15 +5,13 @@ use Rattle.std.proofs.lemmas.List.{get_or_default, length-map}
 use Rattle.std.proofs.lemmas.List.Folds.{sum_by-replicate}
 use Rattle.std.proofs.Math.Seq.{drop-append_seam}
 use Rattle.ir_image.specs.Guest.{Guest, object_count}
-use Rattle.ir_thread.specs.Calls.{ask_of, after_ask}
-use Rattle.ir_thread.specs.State.{held_count, one_if_held}
+use Rattle.ir_thread.specs.State.{one_if_held, ask_of, after_ask, shared_ask, reply_of, thread_machine}
 use Rattle.ir_thread.proofs.CallerLemmas.{ask_of_permitted, held_count_after_leave}
 use Rattle.ir_runs.proofs.CallerLemmas.{upd_at_own_place, upd_at_other_place, upd_by_cases, trail_append, end_append, trail_of_cons_own_thread, trail_of_cons_other_thread, last_step_can_be_taken, events_then_left_log_is_log, follows_with_last_step_added, done_is_decidable, agrees_is_decidable, last_step_fits, sum_below_is_monotone, sum_below_less_if_one_less}
-use Rattle.ir_thread.specs.Instance.{shared_ask, reply_of, thread_machine}
 use Rattle.ir_runs.specs.Machine as machine
 use Rattle.ir_runs.specs.Machine.{Machine, act_of, target, emitted, reply, Admits, Label, logged, Trace}
 use Rattle.ir_thread.specs.State as thread
-use Rattle.ir_thread.specs.Permitted.{Permits}
+use Rattle.ir_thread.specs.Permitted.{Permits, held_count}
 use Rattle.ir_runs.specs.declared.access.Access.{Access}
 use Rattle.ir_thread.specs.declared.ask.Ask.TheVariants.{Private, Done, Leave as Leaves}
 use Rattle.ir_flat.specs.Alone.{WentAlone}
@@ -21,15 +19,14 @@ use Rattle.ir_flat.specs.Flat.{Flat, thread_of, tables, machine as machine_of, s
 use Rattle.ir_runs.specs.Run.{State, Step, act, asked, Can, after, label, end, trail, events, log, count}
 use Rattle.ir_flat.proofs.CallerLemmas.{tallies_along_run, shared_done_is_done, moved_thread, threads_after_step, start_thread_is_fresh, start_thread_has_no_steps, length_of_start_threads, length_of_start_cells}
 use Rattle.ir_log.specs.Logging.{label_of}
-use Rattle.ir_trace.specs.Recorded.{Recorded, RecordedThread, recorded_thread, absent, trace_of}
+use Rattle.ir_trace.specs.Recorded.{Recorded, RecordedThread, recorded_thread, trace_of}
+use Rattle.ir_trace.specs.Absent.{absent}
 use Rattle.ir_fit.specs.Ahead.{steps_ahead, log_ahead, StepFollows, CanFollow, IsStopped, AgreesAhead, IsMove}
-use Rattle.ir_runs.specs.Coherent.{sum_below}
 use Rattle.ir_fit.specs.Follower.{IsFollower, IsFollowed, IsPlaced, GoesOn, all_ahead}
-use Rattle.ir_fit.specs.Places.{place_if, leave_if, places_of, leaves_of}
-use Rattle.ir_fit.specs.Growing.{Growing, growing_at, placed_by, placed_more, none_growing}
-use Rattle.ir_runs.specs.Following.{Check, unlogged, left_log, left_steps, Fits, Follows, Meets, closing}
+use Rattle.ir_fit.specs.Fit.{place_if, leave_if}
+use Rattle.ir_fit.specs.Growing.{Growing, growing_at, placed_by, placed_more, none_growing, places_of, leaves_of}
 use Rattle.ir_runs.specs.Standing.{StandsAs}
-use Rattle.ir_runs.specs.Verdicts.{Agrees}
+use Rattle.ir_runs.specs.Verdicts.{Agrees, sum_below, Check, unlogged, left_log, left_steps, Fits, Follows, Meets, closing}
 use Rattle.ir_runs.specs.declared.thread_verdict.ThreadVerdict.{ThreadVerdict}
 use Rattle.ir_runs.specs.declared.thread_verdict.ThreadVerdict.TheVariants.{Same, Disagrees, Starves}
 use Rattle.ir_fit.specs.declared.follower.look.Move.{Move}

@@ -1,8 +1,7 @@
 -- What a trace leaves to the threads of a guest, and their next steps beside it.
 use Rattle.std.specs.Prelude.{◌≡◌, ◌≢◌, ℕ, suc, ◌-◌, ◌<◌, ◌≤◌, List, length, map, drop, slice_get, Some, ⊤}
-use Rattle.ir_thread.specs.Calls.{ask_of}
-use Rattle.ir_thread.specs.State.{end_number, end_code, held_count}
-use Rattle.ir_thread.specs.Instance.{shared_ask}
+use Rattle.ir_thread.specs.State.{end_number, end_code, ask_of, shared_ask}
+use Rattle.ir_thread.specs.Permitted.{held_count}
 use Rattle.ir_runs.specs.Machine.{Machine, Label, logged, Trace}
 use Rattle.ir_runs.specs.declared.access.Access.TheVariants.{Reading, Writing}
 use Rattle.ir_thread.specs.declared.ask.Ask as ask
@@ -16,8 +15,7 @@ use Rattle.ir_log.specs.Logging.{label_of}
 use Rattle.ir_log.specs.declared.event.Event.{Event}
 use Rattle.ir_log.specs.declared.event.Event.TheVariants.{Answer, Read, Write, Try}
 use Rattle.ir_trace.specs.Recorded.{Recorded, recorded_thread, trace_of}
-use Rattle.ir_runs.specs.Following.{unlogged, closing}
-use Rattle.ir_runs.specs.Verdicts.{Agrees, Awaits}
+use Rattle.ir_runs.specs.Verdicts.{Agrees, Awaits, unlogged, closing}
 use Rattle.ir_fit.specs.declared.follower.look.Look.{Look}
 use Rattle.ir_fit.specs.declared.follower.look.Look.TheVariants.{Done, Disagrees, Waits, Goes}
 use Rattle.ir_fit.specs.declared.follower.look.Move.{Move}

@@ -1,15 +1,13 @@
 -- A guest that follows a trace.
 use Rattle.std.specs.Prelude.{◌≡◌, ◌<◌, ◌≤◌, ◌+◌, ℕ, List, length, slice_get, Some}
 use Rattle.ir_image.specs.Guest.{Guest, object_count}
-use Rattle.ir_thread.specs.State.{held_count}
+use Rattle.ir_thread.specs.Permitted.{held_count}
 use Rattle.ir_flat.specs.Flat.{Flat, thread_of, tables, machine, start_flat}
 use Rattle.ir_runs.specs.Run.{Step, end, trail, log, count}
 use Rattle.ir_trace.specs.Recorded.{Recorded, recorded_thread, trace_of}
 use Rattle.ir_fit.specs.Ahead.{steps_ahead, IsStopped}
-use Rattle.ir_runs.specs.Coherent.{sum_below}
-use Rattle.ir_runs.specs.Following.{Follows, closing}
-use Rattle.ir_fit.specs.Places.{places_of, leaves_of}
-use Rattle.ir_fit.specs.Growing.{Growing, growing_at}
+use Rattle.ir_runs.specs.Verdicts.{sum_below, Follows, closing}
+use Rattle.ir_fit.specs.Growing.{Growing, growing_at, places_of, leaves_of}
 use Rattle.ir_runs.specs.Standing.{StandsAs}
 use Rattle.ir_fit.specs.declared.follower.Follower.{Follower}
 use Rattle.ir_runs.specs.declared.thread_verdict.ThreadVerdict.{ThreadVerdict}

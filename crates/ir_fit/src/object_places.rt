@@ -63,6 +63,7 @@ impl ObjectPlaces {
     }
 
     // One more.
+    #[inline(always)]
     pub fn push(&mut self, place: Place) -> Result<(), AllocError>
         ensures { OnOk result (self.new ≡ self.old ++ place ∷ []) }
     {

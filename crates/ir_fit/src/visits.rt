@@ -3,7 +3,8 @@
 ghost use Rattle.std.specs.Prelude.{◌≡◌, ◌<◌, [], ◌∷◌, length, OnOk};
 ghost use Rattle.std.specs.List.{Contains};
 ghost use Rattle.std.specs.List.Sorted.{IsNonDecreasingBy};
-ghost use Rattle.ir_fit.specs.Visits.{Listing, lists_for, listed, AreSame, IsOneMore, AddsAll, none_listed, AreSorted, IsInOrder};
+ghost use Rattle.ir_fit.specs.Fit.{Listing, lists_for, listed};
+ghost use Rattle.ir_fit.specs.Listed.{AreSame, IsOneMore, AddsAll, none_listed, AreSorted, IsInOrder};
 ghost use Rattle.ir_fit.specs.declared.place.Place.{Place};
 
 use crate::object_places::ObjectPlaces;
@@ -73,6 +74,7 @@ fn reach(
 }
 
 // One more of the object.
+#[inline(always)]
 fn add_to(
     alloc: Global,
     lists: &mut Vec<ObjectPlaces>,
@@ -82,7 +84,9 @@ fn add_to(
 ) -> Result<(), AllocError>
     ensures { OnOk result (IsOneMore lists.old.items lists.new.items object place) }
 {
-    reach(alloc, lists, rooms, object)?;
+    if object as usize >= lists.len() {
+        reach(alloc, lists, rooms, object)?;
+    }
     lists[object as usize].push(place)
 }
 
@@ -110,6 +114,7 @@ impl Visits {
     }
 
     // One more. The list of its object has the room that is said there.
+    #[inline(always)]
     pub fn add(
         &mut self,
         rooms: &Rooms,

@@ -1,10 +1,8 @@
 -- Each step keeps what is kept.
 use Rattle.std.proofs.Common.{◌≡◌, ◌≢◌, ℕ, zero, suc, ◌+◌, ◌*◌, ◌<◌, ◌≤◌, List, length, length-set, Option, Some, None, refl, sym, le_refl, ap, ◌∙◌, arith, inl, inr}
 use Rattle.std.proofs.lemmas.Bool.{cases_eq}
-use Rattle.ir_thread.specs.Calls.{ask_of, held_after_try, after_ask, after_reply, most_events}
 use Rattle.ir_thread.specs.Permitted.{Permits}
-use Rattle.ir_thread.specs.State.{held_at}
-use Rattle.ir_thread.specs.Instance.{shared_ask, reply_of, thread_machine}
+use Rattle.ir_thread.specs.State.{held_at, ask_of, held_after_try, after_ask, after_reply, most_events, shared_ask, reply_of, thread_machine}
 use Rattle.ir_runs.specs.Machine.{act_of, upd, Object, target, Admits, acted, reply}
 use Rattle.ir_thread.specs.State as thread
 use Rattle.ir_runs.specs.declared.access.Access.{Access}
@@ -14,10 +12,12 @@ use Rattle.ir_thread.specs.declared.ask.Ask.TheVariants.{Private, Env, Enter, Tr
 use Rattle.ir_thread.specs.declared.ask.Reply.{Reply}
 use Rattle.ir_thread.specs.declared.ask.Reply.TheVariants.{Go, Value}
 use Rattle.ir_thread.proofs.CallerLemmas.{ask_of_permitted, thread_machine_is_lawful, nothing_held_above_highest, held_after_other_try_answer}
-use Rattle.ir_object.specs.Cell.{has_writer, one_if_reading, is_writing, bit_of}
+use Rattle.ir_object.specs.Cell.{has_writer, one_if_reading, is_writing}
+use Rattle.ir_object.specs.Word.{bit_of}
 use Rattle.ir_runs.proofs.CallerLemmas.{upd_at_own_place, upd_at_other_place, upd_by_cases, StateInvariant, state_invariant_after_step}
 use Rattle.ir_object.proofs.CallerLemmas.{readers_after_change, no_writer_if_nobody_writes, has_writer_if_writer, has_writer_after_equal_change}
-use Rattle.ir_flat.specs.Kept.{IsKept, events_below, entries_seen}
+use Rattle.ir_flat.specs.Flat.{IsKept, events_below}
+use Rattle.ir_flat.specs.Room.{entries_seen}
 use Rattle.ir_runs.specs.Run.{State, Step, act, Can, after}
 
 -- how many events a step adds

@@ -4,10 +4,8 @@ use Rattle.std.proofs.Math.Path.{fun_ext}
 use Rattle.std.specs.Prelude.{slice_set}
 use Rattle.std.proofs.lemmas.Bool.{cases_eq}
 use Rattle.ir_image.specs.Guest.{most_object_words}
-use Rattle.ir_thread.specs.Calls.{ask_of, after_ask, after_reply}
 use Rattle.ir_thread.specs.Permitted.{Permits}
-use Rattle.ir_thread.specs.State.{held_at}
-use Rattle.ir_thread.specs.Instance.{shared_ask, reply_of}
+use Rattle.ir_thread.specs.State.{held_at, ask_of, after_ask, after_reply, shared_ask, reply_of}
 use Rattle.ir_runs.specs.Machine.{act_of, upd, Exit, Store, Object, target, acted, reply}
 use Rattle.ir_thread.specs.State as thread
 use Rattle.ir_runs.specs.declared.access.Access.{Access}
@@ -18,7 +16,8 @@ use Rattle.ir_thread.specs.declared.ask.Reply.TheVariants.{Go, Value}
 use Rattle.ir_object.specs.Cell.{Cell}
 use Rattle.ir_object.specs.Word.{entered, left_by}
 use Rattle.ir_runs.proofs.CallerLemmas.{upd_at_own_place, upd_at_other_place, upd_by_cases, upd_with_old_value}
-use Rattle.ir_flat.specs.Flat.{Flat, idle, empty, thread_of, cell_of, inside_of, object_with, tables, machine, IsFlat}
+use Rattle.ir_flat.specs.Flat.{Flat, idle, thread_of, cell_of, inside_of, tables, machine, IsFlat}
+use Rattle.ir_flat.specs.Room.{empty, object_with}
 use Rattle.ir_flat.specs.Next.{with_thread, with_object, next, MayStep}
 use Rattle.ir_runs.specs.Run.{State, after}
 

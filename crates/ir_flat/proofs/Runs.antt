@@ -3,9 +3,8 @@ use Rattle.std.proofs.Common.{◌≡◌, ℕ, ◌<◌, ◌≤◌, true, List, []
 use Rattle.std.proofs.lemmas.Bool.{cases_lt}
 use Rattle.std.proofs.lemmas.List.{get_or_past}
 use Rattle.ir_image.specs.Guest.{Guest, object_count}
-use Rattle.ir_thread.specs.Calls.{ask_of, after_ask, after_reply}
+use Rattle.ir_thread.specs.State.{ask_of, after_ask, after_reply, shared_ask, reply_of, is_result, thread_machine}
 use Rattle.ir_thread.specs.Permitted.{Permits}
-use Rattle.ir_thread.specs.Instance.{shared_ask, reply_of, is_result, thread_machine}
 use Rattle.ir_runs.specs.Machine as machine
 use Rattle.ir_runs.specs.Machine.{upd, target, Admits, reply}
 use Rattle.ir_thread.specs.declared.profile.Profile.{Profile}
@@ -17,8 +16,7 @@ use Rattle.ir_runs.specs.declared.env_kind.EnvKind.{EnvKind}
 use Rattle.ir_runs.specs.declared.env_kind.EnvKind.TheVariants.{Clock, Random, Input}
 use Rattle.ir_thread.proofs.CallerLemmas.{ask_of_permitted, thread_machine_is_lawful}
 use Rattle.ir_runs.proofs.CallerLemmas.{upd_by_cases, idle_after_run, idle_after_step, some_thread_can_step}
-use Rattle.ir_flat.specs.Flat.{idle, thread_of, tables, start_threads, start_flat}
-use Rattle.ir_flat.specs.Kept.{IsKept}
+use Rattle.ir_flat.specs.Flat.{idle, thread_of, tables, start_threads, start_flat, IsKept}
 use Rattle.ir_flat.specs.Laws.{NothingStuck, WritersAlone, HeldInside, CountsFit}
 use Rattle.ir_runs.specs.Run.{State, Step, act, Can, after, IsRun, end}
 use Rattle.ir_runs.specs.Bounds.{IsIdle, IsBounded}

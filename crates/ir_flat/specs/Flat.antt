@@ -1,18 +1,31 @@
 -- The threads and objects of a guest.
-use Rattle.std.specs.Prelude.{◌≡◌, ◌<◌, ◌≤◌, ℕ, zero, suc, List, [], ◌∷◌, length, slice_index, Option, Some, false}
+use Rattle.std.specs.Prelude.{◌≡◌, ◌<◌, ◌≤◌, ℕ, zero, suc, List, [], ◌∷◌, length, slice_index, Option, Some, false, ◌≢◌, ◌+◌, None, if◌then◌else◌}
 use Rattle.std.specs.List.{slice_index_or}
 use Rattle.ir_image.specs.Guest.{Guest, most_threads, most_objects, most_object_words, object_count, first_words}
 use Rattle.ir_image.specs.declared.form.ImageForm.TheVariants.{Small}
-use Rattle.ir_thread.specs.State.{held_at, ThreadState, start_state}
-use Rattle.ir_thread.specs.Instance.{thread_machine}
-use Rattle.ir_runs.specs.Machine.{Machine, Object}
+use Rattle.ir_thread.specs.State.{held_at, ThreadState, start_state, thread_machine, most_events}
+use Rattle.ir_runs.specs.Machine.{Machine}
 use Rattle.ir_runs.specs.declared.access.Access.{Access}
 use Rattle.ir_thread.specs.declared.end.End.TheVariants.{Breakpoint}
 use Rattle.ir_thread.specs.declared.profile.Profile.{Profile}
 use Rattle.ir_thread.specs.declared.profile.Profile.TheVariants.{One}
-use Rattle.ir_object.specs.Cell.{Cell, Counts}
-use Rattle.ir_flat.specs.Kept.{IsKept}
-use Rattle.ir_runs.specs.Run as run
+use Rattle.ir_object.specs.Cell.{Cell, Counts, readers, has_writer}
+use Rattle.ir_runs.specs.declared.access.Access.TheVariants.{Writing}
+use Rattle.ir_runs.specs.Run.{State}
+
+-- how many events the first n threads have logged
+abbrev pub events_below : ℕ → (ℕ → ThreadState) → ℕ
+events_below zero now = 0
+events_below (suc n) now = events_below n now + (now n).events
+
+-- of n threads: who is inside an object holds it, a writer is alone inside, each entry was logged, and no thread logged more than it may
+pub record IsKept (n : ℕ) (s : State ThreadState) : Type 0 where
+  pub linked : (t o : ℕ) → (s.objects o).inside t ≡ held_at (s.now t).held o
+  pub exclusive : (o t u : ℕ) → t ≢ u → (s.objects o).inside t ≡ Some Writing → (s.objects o).inside u ≡ None
+  pub others : (t o : ℕ) → n ≤ t → (s.objects o).inside t ≡ None
+  pub logged : (o : ℕ) → let b = s.objects o in
+      b.version + b.left + readers n b.inside + (if has_writer n b.inside then 1 else 0) ≤ events_below n s.now
+  pub events : (t : ℕ) → t < n → (s.now t).events ≤ most_events
 
 -- the lists that the code keeps
 pub record Flat : Type 0 where
@@ -31,34 +44,32 @@ idle = record {
   form = Small;
   steps = 0;
   events = 0;
-  output =
-      [];
+  output = [];
   ended = Some Breakpoint;
 }
-
--- an object that is none of the guest's
-abbrev pub empty : Cell
-empty = record { fields = record { version = 0; left = 0; inside = 0; writer = false }; words = [] }
 
 -- the thread of a number
 abbrev pub thread_of : Flat → ℕ → ThreadState
 thread_of f t = slice_index_or f.threads t idle
 
+-- an object that no thread has entered
+abbrev pub start_cell : List ℕ → Cell
+start_cell words = record { fields = record { version = 0; left = 0; inside = 0; writer = false }; words = words }
+
 -- the object of a number, as the code keeps it
 abbrev pub cell_of : Flat → ℕ → Cell
-cell_of f o = slice_index_or f.objects o empty
+cell_of f o = slice_index_or f.objects o (start_cell [])
 
 -- who is inside an object: who holds it
 abbrev pub inside_of : Flat → ℕ → ℕ → Option Access
 inside_of f o t = held_at (thread_of f t).held o
 
--- the object whose word and contents these are, with these threads inside
-abbrev pub object_with : Cell → (ℕ → Option Access) → Object
-object_with c inside = record { version = c.fields.version; left = c.fields.left; inside = inside; words = slice_index c.words }
-
 -- the threads and objects as tables
-abbrev pub tables : Flat → run.State ThreadState
-tables f = record { now = thread_of f; objects = λ o. object_with (cell_of f o) (inside_of f o) }
+abbrev pub tables : Flat → State ThreadState
+tables f = record {
+  now = thread_of f;
+  objects = λ o. let c = cell_of f o in record { version = c.fields.version; left = c.fields.left; inside = inside_of f o; words = slice_index c.words };
+}
 
 -- the machine of each of its threads
 abbrev pub machine : Flat → Machine ThreadState
@@ -68,10 +79,6 @@ machine f = thread_machine f.code
 abbrev pub start_threads : Guest → ℕ → Profile → ℕ → ℕ → List ThreadState
 start_threads guest budget profile from zero = []
 start_threads guest budget profile from (suc n) = start_state guest from budget profile ∷ start_threads guest budget profile (suc from) n
-
--- an object that no thread has entered
-abbrev pub start_cell : List ℕ → Cell
-start_cell words = record { fields = record { version = 0; left = 0; inside = 0; writer = false }; words = words }
 
 -- n objects of a guest from a number on, with their words
 abbrev pub start_cells : Guest → ℕ → ℕ → List Cell
@@ -85,10 +92,6 @@ start_flat guest budget profile = record {
   threads = start_threads guest budget profile 0 (length guest.entries);
   objects = start_cells guest 0 (object_count guest);
 }
-
--- each of these threads has a place for each of this many objects
-abbrev pub HaveRoom : List ThreadState → ℕ → Type 0
-HaveRoom threads objects = (t : ℕ) → t < length threads → length (slice_index_or threads t idle).held ≡ objects
 
 -- an object of a guest's: its word counts who holds it
 pub record IsShared (f : Flat) (o : ℕ) : Type 0 where

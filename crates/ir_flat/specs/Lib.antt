@@ -1,4 +1,3 @@
-pub mod Kept
 pub mod Flat
 pub mod Next
 pub mod Alone
@@ -6,3 +5,4 @@ pub mod Laws
 pub mod Splice
 pub mod Replies
 pub mod Lone
+pub mod Room

@@ -1,5 +1,5 @@
 -- The state that a turn of a thread beside one object leads to.
-use Rattle.std.proofs.Common.{◌≡◌, ◌⊎◌, ℕ, ◌<◌, true, Option, Some, None, List, [], ◌∷◌, ◌++◌, length, refl, sym, ap, ◌∙◌, subst, inl, inr}
+use Rattle.std.proofs.Common.{◌≡◌, ◌⊎◌, ℕ, ◌<◌, true, Option, Some, None, List, [], ◌∷◌, ◌++◌, length, sym, ◌∙◌, subst, inl, inr}
 use Rattle.std.specs.Prelude.{slice_get, IfSome, IfOk, IfErr, Result, Ok, Err}
 use Rattle.std.specs.List.{slice_index_or}
 use Rattle.ir_image.specs.Guest.{Guest}

@@ -13,6 +13,7 @@ mod Listed
 mod Levels
 mod Hangs
 mod Listing
+mod Searched
 pub mod CallerLemmas
 mod Forms
 mod LoneSteps

@@ -1,19 +1,19 @@
 -- A thread that goes on beside one object.
-use Rattle.std.proofs.Common.{◌≡◌, ◌≢◌, ℕ, zero, suc, ◌+◌, ◌<◌, List, length, set, get_or, refl, sym, ap, ◌∙◌, subst, arith, get_or-set_same, get_or-set_other}
+use Rattle.std.proofs.Common.{◌≡◌, ℕ, zero, suc, ◌+◌, ◌<◌, List, length, set, refl, sym, ap, ◌∙◌, subst, arith, get_or-set_same}
 use Rattle.std.proofs.lemmas.List.{set-get_or, set-set}
 use Rattle.std.specs.Prelude.{slice_set}
 use Rattle.ir_object.specs.Cell.{Cell}
 use Rattle.ir_object.specs.Standing.{Admitted, CanLeave}
 use Rattle.ir_object.specs.Word.{IsFields, entered, left_by}
 use Rattle.ir_runs.specs.Run.{Can, after}
-use Rattle.ir_thread.specs.Calls.{ask_of, after_reply, after_ask}
 use Rattle.ir_thread.specs.Permitted.{run_of, step_of, Permits}
 use Rattle.ir_thread.specs.Private.{PrivateSteps}
-use Rattle.ir_thread.specs.State.{ThreadState, held_at}
+use Rattle.ir_thread.specs.State.{ThreadState, held_at, ask_of, after_reply, after_ask}
 use Rattle.ir_thread.specs.declared.ask.Ask.{Ask}
 use Rattle.ir_thread.specs.declared.ask.Ask.TheVariants as ask
 use Rattle.ir_thread.specs.declared.ask.Reply.TheVariants.{Go}
-use Rattle.ir_flat.specs.Flat.{Flat, IsFlat, thread_of, cell_of, tables, machine, idle, empty}
+use Rattle.ir_flat.specs.Flat.{Flat, IsFlat, thread_of, cell_of, tables, machine, idle}
+use Rattle.ir_flat.specs.Room.{empty}
 use Rattle.ir_flat.specs.Next.{with_thread, with_object, next, MayStep}
 use Rattle.ir_flat.proofs.CallerLemmas.{next_is_flat, tables_of_next_are_after, may_step_is_can_for_ask, next_keeps_thread_count, next_keeps_object_count, entered_fields_fit, left_fields_fit, flat_inside_thread_can_leave}
 use Rattle.ir_thread.proofs.CallerLemmas.{ask_of_permitted}

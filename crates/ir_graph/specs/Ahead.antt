@@ -1,5 +1,5 @@
 -- Turns of threads that are known.
-use Rattle.std.specs.Prelude.{◌≡◌, ℕ, ◌<◌, List, length, Some, slice_get}
+use Rattle.std.specs.Prelude.{◌≡◌, ℕ, ◌<◌, List, length}
 use Rattle.std.specs.List.{slice_index_or, AllByRecursion}
 use Rattle.ir_flat.specs.Flat.{Flat, idle, thread_of, cell_of}
 use Rattle.ir_store.specs.Nodes.{Shared, cell_in}

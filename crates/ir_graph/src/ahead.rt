@@ -4,6 +4,7 @@ ghost use Rattle.std.specs.Prelude.{◌≡◌, ◌⊎◌, ◌++◌, [], ◌∷�
 ghost use Rattle.ir_graph.specs.declared.known.Turn.{Turn};
 
 use crate::known::Turn;
+use ir_image::MOST_OBJECTS;
 use ir_store::{Hints, Spot, hash_of_numbers};
 use std::alloc::{AllocError, Global};
 use std::marker::Model;
@@ -21,9 +22,6 @@ impl Model for Ahead {
 
     ghost view = { λ a. a.turns.items };
 }
-
-// As many objects as there may be.
-const MOST_OBJECTS: usize = 64;
 
 // The hash of a thread's number and an object.
 fn key(from: usize, spot: Spot) -> u64 {
@@ -44,7 +42,7 @@ impl Ahead {
 
     /// Which object the thread of a number enters, as far as it is known.
     pub fn object(&self, from: usize) -> Option<usize> {
-        self.objects.number(from as u64, MOST_OBJECTS)
+        self.objects.number(from as u64, MOST_OBJECTS as usize)
     }
 
     /// The turn of a thread beside an object, if it is known.

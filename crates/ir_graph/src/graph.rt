@@ -1,6 +1,7 @@
 //! The graph of a guest, as it grows.
 
 ghost use Rattle.std.specs.Prelude.{ℕ, length};
+ghost use Rattle.ir_flat.specs.Flat.{Flat};
 ghost use Rattle.ir_image.specs.Guest.{Guest};
 ghost use Rattle.ir_graph.specs.Ahead.{AreTurns};
 ghost use Rattle.ir_graph.specs.Graph.{IsGraph};
@@ -13,17 +14,18 @@ use crate::notes::{Row, known, note};
 use ir_explore::{Stop, Successors};
 use ir_image::Image;
 use ir_store::Store;
-use std::alloc::Global;
 
 /// The graph of a guest whose threads call no environment: its states at rest, as the threads can tell them apart.
 #[derive(Drop)]
 pub struct Graph<'a> {
-    pub alloc: Global,
+    /// The image of the guest.
     pub image: &'a Image,
+    /// The states.
     pub flats: Store<'a>,
-    pub ahead: Ahead,
-    pub rows: Vec<Row>,
+    /// How far the search may go.
     pub bounds: Bounds,
+    pub(crate) ahead: Ahead,
+    pub(crate) rows: Vec<Row>,
 }
 
 impl<'a> Successors for Graph<'a> {
@@ -36,6 +38,10 @@ impl<'a> Successors for Graph<'a> {
     ghost most = { λ g. g.bounds.nodes };
 
     ghost may_stop = { λ g. MayStop g.image.now g.flats.items g.bounds.nodes g.bounds.private };
+
+    ghost Node = { Flat };
+
+    ghost nodes = { λ g. g.flats.items };
 
     ghost noted = { λ g. noted_in g.rows.items };
 

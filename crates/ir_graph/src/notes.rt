@@ -1,14 +1,70 @@
 //! Where each thread leads from each node, as far as it is known.
 
-ghost use Rattle.std.specs.Prelude.{◌≡◌, ◌⊎◌, ℕ, ◌<◌, Some, None, length, OnOk, OnErr};
+ghost use Rattle.std.specs.Prelude.{◌≡◌, ◌⊎◌, ℕ, ◌<◌, Some, None, length, IfOk, OnOk, OnErr};
 ghost use Rattle.std.specs.List.{slice_index_or};
 ghost use Rattle.ir_explore.specs.Following.{Keeps};
 ghost use Rattle.ir_graph.specs.Notes.{noted_in};
 
 use std::alloc::AllocError;
+use std::marker::Model;
 
-/// A thread's row: for each node that it was asked at, where it leads.
-pub type Row = Vec<Option<Option<usize>>>;
+// One more than the largest number of a node that a lead can have.
+const MOST_LED: usize = 0xffff_fffe;
+
+/// Where a thread leads from a node, in 32 bits. In clauses it is `None` if the thread hasn't been asked there.
+#[derive(Clone, Copy)]
+pub struct Lead {
+    code: u32,
+}
+
+impl Model for Lead {
+    ghost use Rattle.std.specs.Prelude.{ℕ, Option};
+    ghost use Rattle.ir_graph.specs.Notes.{lead_of, code_of, code_of_lead};
+
+    ghost Value = { Option (Option ℕ) };
+
+    ghost view = { λ n. lead_of n.code };
+
+    ghost inverse = { λ x. record { code = code_of x } };
+
+    ghost inverse_ok = { λ a h. λ i. record { code = code_of_lead a.code i } };
+}
+
+impl Lead {
+    // The thread hasn't been asked.
+    fn unknown() -> Lead
+        ensures { result ≡ None }
+    {
+        Lead { code: 0 }
+    }
+
+    // It leads to no node, or to this one. The error is for a number that is too large.
+    fn of(next: Option<usize>) -> Result<Lead, AllocError>
+        ensures { IfOk result (λ lead. lead ≡ Some next) }
+    {
+        match next {
+            None => Ok(Lead { code: 1 }),
+            Some(node) if node < MOST_LED => Ok(Lead {
+                code: node as u32 + 2,
+            }),
+            Some(_) => Err(AllocError),
+        }
+    }
+
+    // What is known.
+    fn known(self) -> Option<Option<usize>>
+        ensures { result ≡ self }
+    {
+        match self.code {
+            0 => None,
+            1 => Some(None),
+            code => Some(Some((code - 2) as usize)),
+        }
+    }
+}
+
+/// A thread's row: a lead for each node that it was asked at.
+pub type Row = Vec<Lead>;
 
 /// What is known of a thread and a node.
 pub fn known(rows: &[Row], thread: usize, node: usize) -> Option<Option<usize>>
@@ -16,7 +72,11 @@ pub fn known(rows: &[Row], thread: usize, node: usize) -> Option<Option<usize>>
     ensures { result ≡ noted_in rows.now thread node }
 {
     let row = &rows[thread];
-    if node < row.len() { row[node] } else { None }
+    if node < row.len() {
+        row[node].known()
+    } else {
+        None
+    }
 }
 
 // What is known of a node, in a thread's row that is made as long as there are nodes.
@@ -26,17 +86,18 @@ fn put(row: &mut Row, nodes: usize, node: usize, next: Option<usize>) -> Result<
     ensures others { (v : ℕ) → (v ≡ node → ⊥) → slice_index_or row.new.items v None ≡ slice_index_or row.old.items v None }
     ensures err { OnErr result (row.new.items ≡ row.old.items) }
 {
+    let lead = Lead::of(next)?;
     if row.len() < nodes {
-        row.resize(nodes, None)?;
+        row.resize(nodes, Lead::unknown())?;
     }
-    row[node] = Some(next);
+    row[node] = lead;
     Ok(())
 }
 
 /// Notes where a thread leads from a node; there are so many nodes.
 ///
 /// # Errors
-/// Out of memory; nothing is noted.
+/// Out of memory, or the node's number is too large for a lead; nothing is noted.
 pub fn note(
     rows: &mut [Row],
     nodes: usize,

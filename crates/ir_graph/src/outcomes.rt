@@ -1,6 +1,6 @@
 //! The different outcomes of the nodes that were found.
 
-ghost use Rattle.std.specs.Prelude.{◌≡◌, ℕ, suc, ◌<◌, ◌≤◌, true, false, Some, length, slice_get, IfOk, OnOk};
+ghost use Rattle.std.specs.Prelude.{◌≡◌, ℕ, suc, ◌<◌, ◌++◌, [], ◌∷◌, true, false, Some, length, slice_get, IfOk};
 ghost use Rattle.ir_flat.specs.Flat.{Flat};
 ghost use Rattle.ir_graph.specs.Listing.{HasOutcome, AreOutcomes};
 ghost use Rattle.ir_graph.specs.Nodes.{AreNodes};
@@ -9,7 +9,7 @@ ghost use Rattle.ir_graph.specs.Plain.{IsLike};
 use crate::ends::same_outcome;
 use ir_flat::Flat;
 use ir_store::Store;
-use std::alloc::{AllocError, Global};
+use std::alloc::AllocError;
 
 // Whether one of the listed nodes has the outcome of this state.
 fn is_listed(flats: &Store<'_>, listed: &[usize], flat: &Flat<'_>) -> Result<bool, AllocError>
@@ -28,41 +28,21 @@ fn is_listed(flats: &Store<'_>, listed: &[usize], flat: &Flat<'_>) -> Result<boo
     Ok(false)
 }
 
-// A node joins the list, if all threads are done there and its outcome is new.
-fn list_node(flats: &Store<'_>, listed: &mut Vec<usize>, node: usize) -> Result<(), AllocError>
-    requires states { AreNodes flats.now.items }
-    requires within { node < length flats.now.items }
-    requires before { AreOutcomes flats.now.items node listed.old.items }
-    ensures { OnOk result (AreOutcomes flats.now.items (suc node) listed.new.items) }
-{
-    if !flats.is_over(node) {
-        return Ok(());
-    }
-    let flat = flats.get(node)?;
-    let found = is_listed(flats, listed.as_slice(), &flat)?;
-    if found {
-        return Ok(());
-    }
-    listed.push(node)?;
-    Ok(())
-}
-
-/// Of these nodes where all threads are done, the first with each outcome, by rising numbers.
+/// Whether all threads are done at a node, and none of the listed nodes has its outcome.
 ///
 /// # Errors
 /// Out of memory.
-pub fn list_outcomes(
-    alloc: Global,
-    flats: &Store<'_>,
-    nodes: usize,
-) -> Result<Vec<usize>, AllocError>
+pub fn has_new_outcome(flats: &Store<'_>, listed: &[usize], node: usize) -> Result<bool, AllocError>
     requires states { AreNodes flats.now.items }
-    requires within { nodes ≤ length flats.now.items }
-    ensures { IfOk result (λ listed. AreOutcomes flats.now.items nodes listed.items) }
+    requires within { node < length flats.now.items }
+    requires before { AreOutcomes flats.now.items node listed.now }
+    ensures new { IfOk result (λ new. new ≡ true → AreOutcomes flats.now.items (suc node) (listed.now ++ node ∷ [])) }
+    ensures old { IfOk result (λ new. new ≡ false → AreOutcomes flats.now.items (suc node) listed.now) }
 {
-    let mut listed = Vec::new(alloc);
-    for node in 0..nodes {
-        list_node(flats, &mut listed, node)?;
+    if !flats.is_over(node) {
+        return Ok(false);
     }
-    Ok(listed)
+    let flat = flats.get(node)?;
+    let found = is_listed(flats, listed, &flat)?;
+    Ok(!found)
 }

@@ -1,14 +1,11 @@
-//! The states of a guest that its runs lead over, and what is known of them.
+//! The states of a guest that its runs lead over, found level by level.
 
-ghost use Rattle.std.specs.Prelude.{◌≡◌, ◌⊎◌, ℕ, suc, ◌≤◌, Some, length, slice_get, IfOk, IfErr};
-ghost use Rattle.ir_explore.specs.declared.search.Ended.TheVariants.{Finished, Covered, Stopped};
-ghost use Rattle.ir_explore.specs.declared.origin.Origin.{Origin};
-ghost use Rattle.ir_explore.specs.declared.stop.Stop.{Stop};
+ghost use Rattle.std.specs.Prelude.{◌≡◌, ◌⊎◌, ℕ, suc, ◌≤◌, ◌<◌, true, false, length, IfOk, IfErr, OnErr, OnOk};
 ghost use Rattle.ir_explore.specs.declared.stop.Stop.TheVariants.{Memory};
-ghost use Rattle.ir_graph.specs.Hangs.{AreMarked, AllStand, AreWays};
-ghost use Rattle.ir_graph.specs.Outcomes.{AllListed, AllShown};
-ghost use Rattle.ir_graph.specs.Notes.{noted_in};
-ghost use Rattle.ir_graph.specs.Searched.{AreSearched};
+ghost use Rattle.ir_explore.specs.Following.{Stay};
+ghost use Rattle.ir_explore.specs.Origins.{Adds};
+ghost use Rattle.ir_graph.specs.Hangs.{AreMarked};
+ghost use Rattle.ir_graph.specs.Searched.{AreSearched, IsSearch, StandsBetween, IsWhole};
 ghost use Rattle.ir_graph.specs.Stops.{IsStop, MayStop};
 ghost use Rattle.ir_thread.specs.State.{IsAllowed};
 ghost use Rattle.ir_thread.specs.declared.profile.Profile.TheVariants.{One};
@@ -17,7 +14,7 @@ use crate::graph::Graph;
 use crate::marks::mark_states;
 use crate::nodes::Bounds;
 use crate::start::start_graph;
-use ir_explore::{Ended, Searched, Stop, run_search};
+use ir_explore::{Observer, Search, Stop};
 use ir_image::Image;
 use std::alloc::{AllocError, Global};
 
@@ -26,61 +23,75 @@ use std::alloc::{AllocError, Global};
 pub struct States<'a> {
     /// The graph: a state for each node.
     pub graph: Graph<'a>,
-    /// How the search came to each node, and how it ended.
-    pub found: Searched,
-    /// Of a finished search: which of the states can be brought to an end.
-    pub marks: Vec<bool>,
+    /// How the search came to each node, and how far it is.
+    pub search: Search,
 }
 
-// Which of the states can be brought to an end, once the search is finished.
-fn marks_of(alloc: Global, graph: &Graph<'_>, ended: Ended) -> Result<Vec<bool>, AllocError>
-    ensures ways { IfOk result (λ marks. ended ≡ Finished → AreWays (noted_in graph.now.rows.items) (length graph.now.rows.items) graph.now.flats.items marks.items) }
-    ensures few { IfOk result (λ marks. (n : ℕ) → (ended ≡ Finished → n ≡ length graph.now.flats.items) → length marks.items ≤ n) }
-{
-    match ended {
-        Ended::Finished => mark_states(alloc, graph),
-        _ => Ok(Vec::new(alloc)),
+impl<'a> States<'a> {
+    /// The first state of a guest whose threads make the calls of the first profile: where it comes to rest from its start.
+    ///
+    /// # Errors
+    /// Some thread doesn't come to its first entry, as `run_to_rest` says, or out of memory.
+    pub fn start(alloc: Global, image: &'a Image, bounds: Bounds) -> Result<States<'a>, Stop>
+        requires allowed { IsAllowed One image.now }
+        requires some { 1 ≤ bounds.nodes }
+        ensures image { IfOk result (λ s. s.graph.image.now ≡ image.now) }
+        ensures bounds { IfOk result (λ s. s.graph.bounds ≡ bounds) }
+        ensures is { IfOk result IsSearch }
+        ensures between { IfOk result StandsBetween }
+        ensures number { IfOk result (λ s. s.search.level.number ≡ 0) }
+        ensures first { IfOk result (λ s. s.search.level.first ≡ 0) }
+        ensures refused { IfErr result (λ stop. (stop ≡ Memory) ⊎ IsStop image.now bounds.private stop) }
+    {
+        let graph = start_graph(alloc, image, bounds)?;
+        let search = Search::new(alloc, graph.rows.len())?;
+        Ok(States { graph, search })
     }
-}
 
-/// Searches the states of a guest whose threads call no environment, by rising number of switches from thread to thread: `switches` at
-/// most, if it isn't finished before.
-///
-/// # Errors
-/// Some thread doesn't come to its first entry, as `run_to_rest` says, or out of memory.
-pub fn search_states<'a>(
-    alloc: Global,
-    image: &'a Image,
-    bounds: Bounds,
-    switches: usize,
-) -> Result<States<'a>, Stop>
-    requires allowed { IsAllowed One image.now }
-    requires some { 1 ≤ bounds.nodes }
-    // Each outcome of the guest is listed, once it is finished.
-    ensures all { IfOk result (λ states. states.found.ended ≡ Finished → AllListed image.now states.graph.flats.items) }
-    ensures nodes { IfOk result (λ states. states.found.ended ≡ Finished → length states.found.nodes.items ≡ length states.graph.flats.items) }
-    // So are the states at which its runs stand, of which exactly those are marked that can be brought to an end.
-    ensures marked { IfOk result (λ states. states.found.ended ≡ Finished → AreMarked states.graph.flats.items states.marks.items) }
-    ensures stand { IfOk result (λ states. states.found.ended ≡ Finished → AllStand image.now states.graph.flats.items states.found.nodes.items) }
-    ensures few { IfOk result (λ states. length states.marks.items ≤ length states.found.nodes.items) }
-    ensures unknown { IfOk result (λ states. (states.found.ended ≡ Finished → ⊥) → length states.marks.items ≤ 0) }
-    // However it ends, each listed one is an outcome of the guest, and those of runs of fewer switches than levels are listed.
-    ensures shown { IfOk result (λ states. AllShown image.now states.graph.flats.items) }
-    ensures searched { IfOk result (λ states. AreSearched image.now states.graph.flats.items states.found.nodes.items states.found.levels) }
-    // It ends so only where all levels that are wanted are gone over, and some state was found in the last of them.
-    ensures covered { IfOk result (λ states. states.found.ended ≡ Covered → states.found.levels ≡ suc switches) }
-    ensures left { IfOk result (λ states. states.found.ended ≡ Covered → (v : ℕ) × (n : Origin) × (slice_get states.found.nodes.items v ≡ Some n) × (n.level ≡ switches)) }
-    // It stops only for a reason; none of its own but memory, and a thread that is not followed to its first entry.
-    ensures stopped { IfOk result (λ states. (stop : Stop) → states.found.ended ≡ Stopped stop → MayStop image.now states.graph.flats.items bounds.nodes bounds.private stop) }
-    ensures refused { IfErr result (λ stop. (stop ≡ Memory) ⊎ IsStop image.now bounds.private stop) }
-{
-    let mut graph = start_graph(alloc, image, bounds)?;
-    let threads = image.entries().len();
-    let found = run_search(alloc, &mut graph, threads, switches)?;
-    let marks = marks_of(alloc, &graph, found.ended)?;
-    Ok(States {
-        graph,
-        found,
-        marks,
-    })
+    /// Whether all states are found.
+    pub fn is_finished(&self) -> bool
+        ensures finished { result ≡ true → IsSearch self.now → StandsBetween self.now → IsWhole self.now }
+        ensures over { result ≡ true → self.now.search.level.until ≤ self.now.search.level.first }
+        ensures more { result ≡ false → self.now.search.level.first < self.now.search.level.until }
+    {
+        self.search.is_finished()
+    }
+
+    /// Goes over the next level: each thread goes on alone from each state that was found in the level before.
+    ///
+    /// # Errors
+    /// Some thread isn't followed, there are as many states as there may be, or out of memory. Then the search can't go on.
+    pub fn go_over<O: Observer>(&mut self, observer: &O) -> Result<(), Stop>
+        requires is { IsSearch self.old }
+        requires between { StandsBetween self.old }
+        requires more { self.old.search.level.first < self.old.search.level.until }
+        ensures is { IsSearch self.new }
+        ensures image { self.new.graph.image.now ≡ self.old.graph.image.now }
+        ensures bounds { self.new.graph.bounds ≡ self.old.graph.bounds }
+        ensures stay { Stay self.old.graph.flats.items self.new.graph.flats.items }
+        ensures adds { Adds self.old.search.level.number self.old.search.nodes.items self.new.search.nodes.items }
+        // Once it has gone over it
+        ensures between { OnOk result (StandsBetween self.new) }
+        ensures next { OnOk result (self.new.search.level.number ≡ suc self.old.search.level.number) }
+        ensures searched { OnOk result (AreSearched self.new.graph.image.now self.new.graph.flats.items self.new.search.nodes.items self.new.search.level.number) }
+        // Else it has found some states of it
+        ensures level { OnErr result (self.new.search.level ≡ self.old.search.level) }
+        ensures part { AreSearched self.new.graph.image.now self.new.graph.flats.items self.new.search.nodes.items self.old.search.level.number }
+        ensures stopped { IfErr result (λ stop. MayStop self.new.graph.image.now self.new.graph.flats.items self.new.graph.bounds.nodes self.new.graph.bounds.private stop) }
+    {
+        self.search.go_over(&mut self.graph, observer)
+    }
+
+    /// Which of the states can be brought to an end.
+    ///
+    /// # Errors
+    /// Out of memory.
+    pub fn marks(&self, alloc: Global) -> Result<Vec<bool>, AllocError>
+        requires is { IsSearch self.now }
+        requires between { StandsBetween self.now }
+        requires over { self.now.search.level.until ≤ self.now.search.level.first }
+        ensures { IfOk result (λ marks. AreMarked self.now.graph.flats.items marks.items) }
+    {
+        mark_states(alloc, &self.graph)
+    }
 }

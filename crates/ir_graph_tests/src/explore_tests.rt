@@ -3,6 +3,7 @@
 use crate::guests::{ENDLESS_LOOP, LOST_UPDATE, POLLS, PRINTS};
 use crate::page::{ENDLESS, Page, empty_page};
 use ir_asm::assemble;
+use ir_explore::Unobserved;
 use ir_explore_run::{ExplorePlan, explore_run};
 use ir_image::write_image;
 use std::test::Fail;
@@ -44,7 +45,14 @@ fn explored(rt: &HostRuntime, text: &str, plan: ExplorePlan) -> Result<(u8, Page
     let bytes = write_image(alloc, &image)?;
     let mut out = empty_page(rt, 1000, ENDLESS);
     let mut faults = empty_page(rt, 1000, ENDLESS);
-    let status = explore_run(alloc, bytes.as_slice(), plan, &mut out, &mut faults);
+    let status = explore_run(
+        alloc,
+        bytes.as_slice(),
+        plan,
+        &Unobserved,
+        &mut out,
+        &mut faults,
+    );
     Ok((status.number(), out, faults))
 }
 
@@ -105,7 +113,14 @@ fn bytes_that_are_no_image_are_refused(rt: HostRuntime) {
     let mut out = empty_page(&rt, 1000, ENDLESS);
     let mut faults = empty_page(&rt, 1000, ENDLESS);
     let plan = ExplorePlan::new(100, 1000, 100);
-    let status = explore_run(rt.alloc(), b"no image", plan, &mut out, &mut faults);
+    let status = explore_run(
+        rt.alloc(),
+        b"no image",
+        plan,
+        &Unobserved,
+        &mut out,
+        &mut faults,
+    );
     assert_eq!(rt; status.number(), 3);
     assert!(rt; out.bytes.is_empty());
     assert!(rt; !faults.bytes.is_empty());

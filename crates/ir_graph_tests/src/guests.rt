@@ -5,8 +5,10 @@ ghost use Rattle.ir_thread.specs.declared.profile.Profile.TheVariants.{One};
 ghost use Rattle.std.specs.Prelude.{IfOk};
 
 use ir_asm::assemble;
-use ir_graph::{Bounds, States, search_states};
+use ir_explore::Unobserved;
+use ir_graph::Bounds;
 use ir_image::Image;
+use ir_outcomes::{Explored, explore};
 use ir_thread::Profile;
 use std::alloc::Global;
 use std::test::Fail;
@@ -200,16 +202,16 @@ pub fn guest(alloc: Global, text: &str) -> Result<Image, Fail>
     Ok(image)
 }
 
-// Its states, of which there may be 200.
-pub fn states<'a>(alloc: Global, image: &'a Image, switches: usize) -> Result<States<'a>, Fail>
+// What is found out about it up to so many switches, of at most 200 states.
+pub fn explored<'a>(alloc: Global, image: &'a Image, switches: usize) -> Result<Explored<'a>, Fail>
     requires { IsAllowed One image.now }
 {
     let bounds = Bounds {
         nodes: 200,
         private: 1000,
     };
-    match search_states(alloc, image, bounds, switches) {
-        Ok(states) => Ok(states),
+    match explore(alloc, image, bounds, switches, &Unobserved) {
+        Ok(found) => Ok(found),
         Err(_) => Err(Fail::from("no search")),
     }
 }

@@ -1,6 +1,6 @@
 //! How many states guests have, and their outcomes.
 
-use crate::guests::{LOST_UPDATE, OWN_OBJECTS, guest, states};
+use crate::guests::{LOST_UPDATE, OWN_OBJECTS, explored, guest};
 use ir_explore::Ended;
 use ir_flat::Flat;
 use ir_store::Store;
@@ -37,10 +37,10 @@ fn words(flats: &Store<'_>) -> Result<(u32, u32), Fail> {
 fn a_lost_update_has_two_outcomes(rt: HostRuntime) -> Result<(), Fail> {
     let alloc = rt.alloc();
     let image = guest(alloc, LOST_UPDATE)?;
-    let all = states(alloc, &image, 100)?;
-    assert!(rt; all.found.ended == Ended::Finished);
-    assert_eq!(rt; all.graph.flats.len(), 12);
-    assert_eq!(rt; words(&all.graph.flats)?, (1, 1));
+    let all = explored(alloc, &image, 100)?;
+    assert!(rt; all.ended == Ended::Finished);
+    assert_eq!(rt; all.states.graph.flats.len(), 12);
+    assert_eq!(rt; words(&all.states.graph.flats)?, (1, 1));
     Ok(())
 }
 
@@ -48,9 +48,9 @@ fn a_lost_update_has_two_outcomes(rt: HostRuntime) -> Result<(), Fail> {
 fn with_one_switch_no_update_is_lost(rt: HostRuntime) -> Result<(), Fail> {
     let alloc = rt.alloc();
     let image = guest(alloc, LOST_UPDATE)?;
-    let some = states(alloc, &image, 1)?;
-    assert!(rt; some.found.ended == Ended::Covered);
-    assert_eq!(rt; words(&some.graph.flats)?, (0, 1));
+    let some = explored(alloc, &image, 1)?;
+    assert!(rt; some.ended == Ended::Covered);
+    assert_eq!(rt; words(&some.states.graph.flats)?, (0, 1));
     Ok(())
 }
 
@@ -58,8 +58,8 @@ fn with_one_switch_no_update_is_lost(rt: HostRuntime) -> Result<(), Fail> {
 fn threads_that_share_nothing(rt: HostRuntime) -> Result<(), Fail> {
     let alloc = rt.alloc();
     let image = guest(alloc, OWN_OBJECTS)?;
-    let all = states(alloc, &image, 100)?;
-    assert!(rt; all.found.ended == Ended::Finished);
-    assert_eq!(rt; all.graph.flats.len(), 27);
+    let all = explored(alloc, &image, 100)?;
+    assert!(rt; all.ended == Ended::Finished);
+    assert_eq!(rt; all.states.graph.flats.len(), 27);
     Ok(())
 }

@@ -7,8 +7,7 @@ use Rattle.ir_runs.specs.Lawful.{held_after, Holds}
 use Rattle.ir_runs.specs.Machine as machine
 use Rattle.ir_runs.specs.declared.access.Access.{Access}
 use Rattle.ir_runs.specs.declared.access.Access.TheVariants.{Reading, Writing}
-use Rattle.ir_runs.specs.Run.{Step, trail, thread_in, end}
-use Rattle.ir_runs.specs.Cuts.{Emits}
+use Rattle.ir_runs.specs.Run.{Step, trail, thread_in, end, Emits}
 use Rattle.ir_runs.proofs.CallerLemmas.{upd_at_own_place, upd_at_other_place}
 use Rattle.ir_thread.specs.State as thread
 use Rattle.ir_thread.specs.State.{held_at}
@@ -16,7 +15,8 @@ use Rattle.ir_fit.specs.Fit.{FittedTrace, IsRunOf}
 use Rattle.ir_fit.proofs.CallerLemmas.{at_place_of_get_or, get_or_of_at}
 use Rattle.ir_cut.specs.Positions.{machine_of, start_of}
 use Rattle.ir_weave.proofs.CallerLemmas.{StepOf, emitting_step_is_step_of, guest_machine_is_lawful}
-use Rattle.ir_hits.specs.Hits.{thread_at, steps_of, LeavesWritten}
+use Rattle.ir_hits.specs.Hits.{thread_at}
+use Rattle.ir_hits.specs.Seeing.{steps_of, LeavesWritten}
 
 -- ---- one step
 

@@ -1,13 +1,11 @@
 -- What a thread passes over at instructions that aren't marked.
 use Rattle.std.proofs.Common.{◌≡◌, ℕ, suc, zero, ◌+◌, ◌-◌, ◌<◌, ◌≤◌, Bool, true, false, List, refl, sym, ap, ◌∙◌, subst, add-zero, add-suc, inl, inr, arith}
 use Rattle.ir_mach.specs.Marks.{Marked, is_marked}
-use Rattle.ir_mach.specs.Memory.{memory_word}
+use Rattle.ir_mach.specs.Execution.{memory_word}
 use Rattle.ir_runs.specs.Machine.{act_of, reply}
 use Rattle.ir_runs.specs.Run.{Step}
-use Rattle.ir_thread.specs.State.{ThreadState, held_at}
-use Rattle.ir_thread.specs.Calls.{ask_of, after_reply}
+use Rattle.ir_thread.specs.State.{ThreadState, held_at, ask_of, after_reply, reply_of}
 use Rattle.ir_thread.specs.Permitted.{step_of, run_of}
-use Rattle.ir_thread.specs.Instance.{reply_of}
 use Rattle.ir_thread.specs.Private.{UnmarkedSteps}
 use Rattle.ir_thread.specs.declared.ask.Ask.TheVariants as ask
 use Rattle.ir_thread.proofs.CallerLemmas.{private_steps_prefix, held_after_private_steps, unmarked_steps_prefix, thread_unmarked_step_begins_unmarked, thread_memory_after_unmarked_steps}
@@ -19,9 +17,9 @@ use Rattle.ir_weave.specs.Standing.{positions}
 use Rattle.ir_weave.specs.Stepping.{HasGone}
 use Rattle.ir_command.specs.declared.command.Point.{Point}
 use Rattle.ir_command.specs.declared.command.Point.TheVariants.{Break, Watch, WatchObject}
-use Rattle.ir_hits.specs.Hits.{Numbered, thread_at, steps_of, HitBy, Changes, LeavesWritten, NoneWithin}
+use Rattle.ir_hits.specs.Hits.{Numbered, thread_at, HitBy, NoneWithin}
 use Rattle.ir_hits.specs.Passing.{Watches, IsCovered, AreCovered, HasPassed}
-use Rattle.ir_hits.specs.Seeing.{IsNoted, AllNoted}
+use Rattle.ir_hits.specs.Seeing.{IsNoted, AllNoted, steps_of, Changes, LeavesWritten}
 use Rattle.ir_hits.specs.declared.before.Before.{Before}
 use Rattle.ir_hits.specs.declared.before.Before.TheVariants.{Nothing, Word, Inside}
 use Rattle.ir_hits.proofs.Leaves.{held_for_writing_before_leave}

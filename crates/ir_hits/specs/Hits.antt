@@ -1,12 +1,10 @@
 -- Where points hit the threads of a run.
-use Rattle.std.specs.Prelude.{◌≡◌, ◌≢◌, ℕ, suc, ◌<◌, ◌≤◌, ⊤, List, slice_get, Option, Some, None}
-use Rattle.std.specs.List.{AllByRecursion}
-use Rattle.ir_mach.specs.Memory.{IsMemoryWord, memory_word}
+use Rattle.std.specs.Prelude.{◌≡◌, ◌≢◌, ℕ, suc, ◌<◌, ◌≤◌, List, slice_get, Option, Some, None}
+use Rattle.ir_mach.specs.Execution.{memory_word}
 use Rattle.ir_thread.specs.State as thread
 use Rattle.ir_runs.specs.declared.access.Access.TheVariants.{Writing}
 use Rattle.ir_runs.specs.Machine.{Out}
-use Rattle.ir_runs.specs.Run.{Step, th, count}
-use Rattle.ir_runs.specs.Cuts.{Emits}
+use Rattle.ir_runs.specs.Run.{Step, th, count, Emits}
 use Rattle.ir_fit.specs.Fit.{FittedTrace}
 use Rattle.ir_cut.specs.Positions.{machine_of, start_of}
 use Rattle.ir_command.specs.declared.command.Point.{Point}
@@ -18,38 +16,18 @@ pub record Numbered : Type 0 where
   pub number : ℕ
   pub point : Point
 
--- a watched word is one of private memory
-abbrev pub IsWatchable : Point → Type 0
-IsWatchable (Break t address) = ⊤
-IsWatchable (Watch t address) = IsMemoryWord address
-IsWatchable (WatchObject object) = ⊤
-
-abbrev pub AreWatchable : List Numbered → Type 0
-AreWatchable points = AllByRecursion (λ p. IsWatchable p.point) points
-
 -- thread t of the run just after its k-th own step
 abbrev pub thread_at : FittedTrace → List Step → ℕ → ℕ → thread.ThreadState
 thread_at f run t k = th (machine_of f) (start_of f) run t k
 
--- how many steps it takes
-abbrev pub steps_of : FittedTrace → List Step → ℕ → ℕ
-steps_of f run t = count (machine_of f) (start_of f) run t
-
--- the watched word of thread t before step j isn't what it is after it
-abbrev pub Changes : FittedTrace → List Step → ℕ → ℕ → ℕ → Type 0
-Changes f run t address j = memory_word (thread_at f run t j).core.memory address
-    ≢ memory_word (thread_at f run t (suc j)).core.memory address
-
--- step j of thread t leaves the object after writing
-abbrev pub LeavesWritten : FittedTrace → List Step → ℕ → ℕ → ℕ → Type 0
-LeavesWritten f run t object j = (version : ℕ) × Emits (machine_of f) (start_of f) run t j (Out object Writing version)
-
 -- the point hits thread t at position k: its pc is there, and it has a step left; or the step to k changed the word; or it left the
 -- object after writing
 abbrev pub HitBy : FittedTrace → List Step → ℕ → ℕ → Point → Type 0
-HitBy f run t k (Break u address) = (u ≡ t) × ((thread_at f run t k).core.pc ≡ address) × (k < steps_of f run t)
-HitBy f run t k (Watch u address) = (u ≡ t) × ((j : ℕ) × (k ≡ suc j) × Changes f run t address j)
-HitBy f run t k (WatchObject object) = (j : ℕ) × (k ≡ suc j) × LeavesWritten f run t object j
+HitBy f run t k (Break u address) = (u ≡ t) × ((thread_at f run t k).core.pc ≡ address) × (k < count (machine_of f) (start_of f) run t)
+HitBy f run t k (Watch u address) = (u ≡ t) × ((j : ℕ) × (k ≡ suc j)
+    × (memory_word (thread_at f run t j).core.memory address ≢ memory_word (thread_at f run t (suc j)).core.memory address))
+HitBy f run t k (WatchObject object) = (j : ℕ) × (k ≡ suc j)
+    × ((version : ℕ) × Emits (machine_of f) (start_of f) run t j (Out object Writing version))
 
 -- a point of this number hits
 abbrev pub HitByNumber : FittedTrace → List Step → List Numbered → ℕ → ℕ → ℕ → Type 0

@@ -1,11 +1,11 @@
 -- What a hunt finds.
 use Rattle.std.specs.Prelude.{Bool, false, ◌≡◌, ℕ, List, length, true, Option, Some, Ok}
 use Rattle.std.specs.List.{list_all}
-use Rattle.ir_image.specs.Guest.{Guest}
-use Rattle.ir_image.specs.Reading.{guest_at}
+use Rattle.ir_image.specs.Guest.{Guest, guest_at}
 use Rattle.ir_runs.specs.Run.{Step, end}
 use Rattle.ir_flat.specs.Flat.{Flat, tables, machine, start_flat}
 use Rattle.ir_trace.specs.Recorded.{Recorded}
+use Rattle.ir_record.specs.Refusing.{plain_turns}
 use Rattle.ir_record_run.specs.Order.{order_of}
 use Rattle.ir_record_run.specs.Plan.{Plan}
 use Rattle.ir_order.specs.Recording.{IsPlanned, IsOfRun}
@@ -46,7 +46,7 @@ IsOfSeed guest plan way seed choices run = IsSchedule (has_tries plan.profile) (
 -- a list spells the order of the run of the guest by a seed, which fulfils each condition and has what is wanted of its stale writes
 pub record IsFound (guest : Guest) (plan : Plan) (way : Way) (seed : ℕ) (conditions : List Condition) (wanted : Option Bool) (list : List ℕ) : Type 0 where
   pub order : List ℕ
-  pub spelled : order_of (length guest.entries) list ≡ Some order
+  pub spelled : order_of (length guest.entries) list ≡ Some (plain_turns order)
   pub run : List Step
   pub choices : ℕ
   pub of_seed : IsOfSeed guest plan way seed choices run

@@ -1,9 +1,8 @@
 -- The word of an object.
-use Rattle.std.specs.Prelude.{◌≡◌, ◌==◌, ℕ, ◌+◌, ◌-◌, ◌*◌, ◌/◌, ◌%◌, ◌^◌, ◌<◌, true, false}
+use Rattle.std.specs.Prelude.{◌≡◌, ◌==◌, ℕ, ◌+◌, ◌-◌, ◌*◌, ◌/◌, ◌%◌, ◌^◌, ◌<◌, true, false, Bool, if◌then◌else◌}
 use Rattle.ir_runs.specs.declared.access.Access.{Access}
 use Rattle.ir_runs.specs.declared.access.Access.TheVariants.{Reading, Writing}
 use Rattle.ir_object.specs.declared.fields.Fields.{Fields}
-use Rattle.ir_object.specs.Cell.{bit_of}
 
 -- what each adds to the word: a reader who is inside, one who has left, and a version; a writer who is inside adds 1
 abbrev pub reader_unit : ℕ
@@ -31,6 +30,10 @@ pub record IsFields (f : Fields) : Type 0 where
   pub version : f.version < version_unit
   pub left : f.left < left_limit
   pub inside : f.inside < inside_limit
+
+-- 1 where a writer is inside
+abbrev pub bit_of : Bool → ℕ
+bit_of writer = if writer then 1 else 0
 
 -- the word that says so
 abbrev pub word_of : Fields → ℕ

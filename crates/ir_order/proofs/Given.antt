@@ -1,9 +1,10 @@
 -- What the world of a thread answers next.
-use Rattle.std.proofs.Common.{◌≡◌, ◌<◌, ℕ, zero, suc, List, ◌∷◌, refl, sym, ap, ◌∙◌, subst}
+use Rattle.std.proofs.Common.{◌≡◌, ◌<◌, ℕ, zero, suc, Bool, true, false, List, ◌∷◌, refl, sym, ap, ◌∙◌, subst}
 use Rattle.ir_runs.specs.Machine.{Ask, Private, Env, Enter, Try, Leave, Get, Put, Done, Act, act_of, Silent, Result, Entry, Refusal, Exit, Load, Store, Never, Machine, upd, Object, target, Admits, emitted, Label, logged}
 use Rattle.ir_runs.specs.declared.access.Access.TheVariants.{Reading, Writing}
-use Rattle.ir_runs.specs.Run.{State, Step, act, after, events, log}
+use Rattle.ir_runs.specs.Run.{State, Step, asked, act, after, events, log}
 use Rattle.ir_runs.proofs.CallerLemmas.{upd_by_cases, trail_of_cons_own_thread, trail_of_cons_other_thread}
+use Rattle.ir_record.specs.Refusing.{Tries}
 use Rattle.ir_record.specs.Worlds.{answers_in}
 use Rattle.ir_sources.specs.Sources.{Source, given, Gave}
 
@@ -71,25 +72,32 @@ given_after_step m s n sources e run h t l =
 
 -- ---- there is one act of a thread
 
--- a try enters if it can
-abbrev pub EntersIfItCan : {T : Type 0} → Machine T → (ℕ → Object) → Ask → ℕ → Type 0
-EntersIfItCan m objects q r = (o : ℕ) → q ≡ Try o → Admits m (act_of q 1) (objects (target (act_of q 1))) → r ≡ 1
+-- a try is refused, or enters if it can
+abbrev pub EntersIfItCan : {T : Type 0} → Machine T → (ℕ → Object) → Bool → Ask → ℕ → Type 0
+EntersIfItCan m objects true q r = (o : ℕ) → q ≡ Try o → r ≡ 0
+EntersIfItCan m objects false q r = (o : ℕ) → q ≡ Try o → Admits m (act_of q 1) (objects (target (act_of q 1))) → r ≡ 1
 
-pub act_taken_from_source_is_unique : {T : Type 0} (m : Machine T) (objects : ℕ → Object) (source : Source) (q : Ask) (r w : ℕ)
+pub tries_enters : {T : Type 0} (m : Machine T) (s : State T) (t r : ℕ) (refused : Bool) → Tries m s refused (t, r)
+    → EntersIfItCan m s.objects refused (asked m s t) r
+tries_enters m s t r true h = h
+tries_enters m s t r false h = h
+
+pub act_taken_from_source_is_unique : {T : Type 0} (m : Machine T) (objects : ℕ → Object) (source : Source) (refused : Bool) (q : Ask) (r w : ℕ)
     → Admits m (act_of q r) (objects (target (act_of q r))) → Admits m (act_of q w) (objects (target (act_of q w)))
-    → EntersIfItCan m objects q r → EntersIfItCan m objects q w → Takes (act_of q r) source → Takes (act_of q w) source
+    → EntersIfItCan m objects refused q r → EntersIfItCan m objects refused q w → Takes (act_of q r) source → Takes (act_of q w) source
     → act_of q r ≡ act_of q w
-act_taken_from_source_is_unique m objects source Private r w can can' enters enters' takes takes' = refl
-act_taken_from_source_is_unique m objects source (Env k) r w can can' enters enters' takes takes' = ap (Result k) (takes ∙ sym takes')
-act_taken_from_source_is_unique m objects source (Enter o a) r w can can' enters enters' takes takes' = refl
-act_taken_from_source_is_unique m objects source (Try o) zero zero can can' enters enters' takes takes' = refl
-act_taken_from_source_is_unique m objects source (Try o) zero (suc zero) can can' enters enters' takes takes' = absurd (cc (enters o refl can'))
-act_taken_from_source_is_unique m objects source (Try o) zero (suc (suc w)) can can' enters enters' takes takes' = absurd can'
-act_taken_from_source_is_unique m objects source (Try o) (suc zero) zero can can' enters enters' takes takes' = absurd (cc (enters' o refl can))
-act_taken_from_source_is_unique m objects source (Try o) (suc zero) (suc zero) can can' enters enters' takes takes' = refl
-act_taken_from_source_is_unique m objects source (Try o) (suc zero) (suc (suc w)) can can' enters enters' takes takes' = absurd can'
-act_taken_from_source_is_unique m objects source (Try o) (suc (suc r)) w can can' enters enters' takes takes' = absurd can
-act_taken_from_source_is_unique m objects source (Leave o a) r w can can' enters enters' takes takes' = refl
-act_taken_from_source_is_unique m objects source (Get o i) r w can can' enters enters' takes takes' = refl
-act_taken_from_source_is_unique m objects source (Put o i v) r w can can' enters enters' takes takes' = refl
-act_taken_from_source_is_unique m objects source Done r w can can' enters enters' takes takes' = absurd can
+act_taken_from_source_is_unique m objects source refused Private r w can can' enters enters' takes takes' = refl
+act_taken_from_source_is_unique m objects source refused (Env k) r w can can' enters enters' takes takes' = ap (Result k) (takes ∙ sym takes')
+act_taken_from_source_is_unique m objects source refused (Enter o a) r w can can' enters enters' takes takes' = refl
+act_taken_from_source_is_unique m objects source true (Try o) r w can can' enters enters' takes takes' = ap (act_of (Try o)) (enters o refl ∙ sym (enters' o refl))
+act_taken_from_source_is_unique m objects source false (Try o) zero zero can can' enters enters' takes takes' = refl
+act_taken_from_source_is_unique m objects source false (Try o) zero (suc zero) can can' enters enters' takes takes' = absurd (cc (enters o refl can'))
+act_taken_from_source_is_unique m objects source false (Try o) zero (suc (suc w)) can can' enters enters' takes takes' = absurd can'
+act_taken_from_source_is_unique m objects source false (Try o) (suc zero) zero can can' enters enters' takes takes' = absurd (cc (enters' o refl can))
+act_taken_from_source_is_unique m objects source false (Try o) (suc zero) (suc zero) can can' enters enters' takes takes' = refl
+act_taken_from_source_is_unique m objects source false (Try o) (suc zero) (suc (suc w)) can can' enters enters' takes takes' = absurd can'
+act_taken_from_source_is_unique m objects source false (Try o) (suc (suc r)) w can can' enters enters' takes takes' = absurd can
+act_taken_from_source_is_unique m objects source refused (Leave o a) r w can can' enters enters' takes takes' = refl
+act_taken_from_source_is_unique m objects source refused (Get o i) r w can can' enters enters' takes takes' = refl
+act_taken_from_source_is_unique m objects source refused (Put o i v) r w can can' enters enters' takes takes' = refl
+act_taken_from_source_is_unique m objects source refused Done r w can can' enters enters' takes takes' = absurd can

@@ -1,14 +1,17 @@
 -- What a list of items spells.
-use Rattle.std.proofs.Common.{◌≡◌, ◌<◌, ◌≤◌, ◌+◌, ◌-◌, ◌^◌, ℕ, zero, suc, Bool, true, List, [], ◌∷◌, ◌++◌, length, take, get_or, refl, sym, ap, ◌∙◌, subst, arith, inl, inr, append_assoc, append-nil}
+use Rattle.std.proofs.Common.{◌≡◌, ◌<◌, ◌≤◌, ◌+◌, ◌-◌, ◌^◌, ℕ, zero, suc, Bool, true, false, List, [], ◌∷◌, ◌++◌, length, take, get_or, refl, sym, ap, ◌∙◌, subst, arith, inl, inr, append_assoc, append-nil}
 use Rattle.std.specs.Prelude.{◌≢◌, ◌==◌, replicate, Option, Some, None}
 use Rattle.std.specs.List.{AllByRecursion, slice_split, onto_first}
 use Rattle.std.proofs.lemmas.Bool.{eq-eqb, cases_Bool}
 use Rattle.std.proofs.lemmas.List.Splits.{length-slice_split, slice_split-cons_yes, slice_split-cons_no}
-use Rattle.std.proofs.lemmas.List.{replicate-append-replicate}
-use Rattle.ir_record.specs.Recording.{order_of_turns}
+use Rattle.std.proofs.lemmas.List.{replicate-append-replicate, get_or_default}
+use Rattle.ir_record.specs.Recording.{order_of_turns, turns_of_items}
+use Rattle.ir_record.specs.Refusing.{Turn, plain_turns}
+use Rattle.ir_record.specs.declared.item.Item.{Item}
+use Rattle.ir_record.proofs.CallerLemmas.{plain_turns-append}
 use Rattle.ir_record.specs.declared.turns.Turns.{Turns}
 use Rattle.ir_record_run.specs.Order.{most_turns, joined, item_of, items_of, order_of}
-use Rattle.ir_order.specs.Spelling.{item_text, with_item, Spells, IsListOf}
+use Rattle.ir_order.specs.Spelling.{item_text, with_item, SpellsTurns, Spells, IsListOf}
 use Rattle.ir_order.proofs.Items.{item_of_item_text, split_of_item_text_is_itself, item_text_is_not_empty}
 
 -- ---- a text that is cut at its last mark
@@ -34,13 +37,13 @@ split_at_mark_between p (b ∷ bs) mark cs is = elim (cases_Bool (p b)) [
 
 -- ---- items one after the other
 
-joined_associative : (a b c : Option (List ℕ)) → joined a (joined b c) ≡ joined (joined a b) c
+joined_associative : (a b c : Option (List Turn)) → joined a (joined b c) ≡ joined (joined a b) c
 joined_associative None b c = refl
 joined_associative (Some a) None c = refl
 joined_associative (Some a) (Some b) None = refl
-joined_associative (Some a) (Some b) (Some c) = ap (λ (z : List ℕ). Some z) (sym (append_assoc a b c))
+joined_associative (Some a) (Some b) (Some c) = ap (λ (z : List Turn). Some z) (sym (append_assoc a b c))
 
-joined_with_empty : (a : Option (List ℕ)) → joined (Some []) a ≡ a
+joined_with_empty : (a : Option (List Turn)) → joined (Some []) a ≡ a
 joined_with_empty None = refl
 joined_with_empty (Some a) = refl
 
@@ -62,68 +65,89 @@ element_of_all_replicated P (suc count) x some h = h.0
 -- ---- a list with one item more
 
 -- a list that is one item
-order_of_item_text : (n thread count : ℕ) → thread < n → thread < 2 ^ 8 → 1 ≤ count → count ≤ most_turns
-    → order_of n (item_text thread count) ≡ Some (replicate count thread)
-order_of_item_text n thread count l small some few =
-    ap (items_of n) (split_of_item_text_is_itself thread count small few)
-    ∙ ap (λ (z : Option (List ℕ)). joined z (Some [])) (item_of_item_text n thread count l small some few)
-    ∙ ap (λ (z : List ℕ). Some z) (append-nil (replicate count thread))
+order_of_item_text : (n thread : ℕ) (refused : Bool) (count : ℕ) → thread < n → thread < 2 ^ 8 → 1 ≤ count → count ≤ most_turns
+    → order_of n (item_text thread refused count) ≡ Some (replicate count (thread, refused))
+order_of_item_text n thread refused count l small some few =
+    ap (items_of n) (split_of_item_text_is_itself thread refused count small few)
+    ∙ ap (λ (z : Option (List Turn)). joined z (Some [])) (item_of_item_text n thread refused count l small some few)
+    ∙ ap (λ (z : List Turn). Some z) (append-nil (replicate count (thread, refused)))
 
 order_of_list_with_item : (n : ℕ) (list item : List ℕ) → order_of n (list ++ 44 ∷ item) ≡ joined (order_of n list) (order_of n item)
 order_of_list_with_item n list item = ap (items_of n) (split_at_mark_between (λ b. b == 44) list 44 item (eq-eqb 44 44 refl))
     ∙ items_of_append n (slice_split (λ b. b == 44) list) (slice_split (λ b. b == 44) item)
 
-order_with_turns_is_not_empty : (order : List ℕ) (thread count : ℕ) → 1 ≤ count → order ++ replicate count thread ≢ []
-order_with_turns_is_not_empty [] thread zero some h = absurd (omega (arith, some))
-order_with_turns_is_not_empty [] thread (suc count) some h = absurd (cc h)
-order_with_turns_is_not_empty (t ∷ order) thread count some h = absurd (cc h)
+order_with_turns_is_not_empty : (turns : List Turn) (one : Turn) (count : ℕ) → 1 ≤ count → turns ++ replicate count one ≢ []
+order_with_turns_is_not_empty [] one zero some h = absurd (omega (arith, some))
+order_with_turns_is_not_empty [] one (suc count) some h = absurd (cc h)
+order_with_turns_is_not_empty (t ∷ turns) one count some h = absurd (cc h)
 
-is_list_of_if_spelled : (list order : List ℕ) → 0 < length list → order ≢ [] → Spells list order → IsListOf list order
-is_list_of_if_spelled [] order some steps h = absurd (omega (arith, some))
-is_list_of_if_spelled (b ∷ list) order some steps h = (steps, h)
+is_list_of_if_spelled : (list : List ℕ) (turns : List Turn) → 0 < length list → turns ≢ [] → SpellsTurns list turns → IsListOf list turns
+is_list_of_if_spelled [] turns some steps h = absurd (omega (arith, some))
+is_list_of_if_spelled (b ∷ list) turns some steps h = (steps, h)
 
-pub is_list_of_after_item : (list order : List ℕ) (thread count : ℕ) → thread < 2 ^ 8 → 1 ≤ count → count ≤ most_turns → IsListOf list order
-    → IsListOf (with_item list (item_text thread count)) (order ++ replicate count thread)
-is_list_of_after_item [] order thread count small some few none =
-    is_list_of_if_spelled (item_text thread count) (order ++ replicate count thread) (item_text_is_not_empty thread count small) (order_with_turns_is_not_empty order thread count some)
-    (subst (λ (z : List ℕ). Spells (item_text thread count) (z ++ replicate count thread)) (sym none)
-    (λ n all. order_of_item_text n thread count (element_of_all_replicated (λ t. t < n) count thread some all) small some few))
-is_list_of_after_item (b ∷ list) order thread count small some few h = (
-  order_with_turns_is_not_empty order thread count some,
+pub is_list_of_after_item : (list : List ℕ) (turns : List Turn) (thread : ℕ) (refused : Bool) (count : ℕ) → thread < 2 ^ 8 → 1 ≤ count → count ≤ most_turns
+    → IsListOf list turns → IsListOf (with_item list (item_text thread refused count)) (turns ++ replicate count (thread, refused))
+is_list_of_after_item [] turns thread refused count small some few none =
+    is_list_of_if_spelled (item_text thread refused count) (turns ++ replicate count (thread, refused)) (item_text_is_not_empty thread refused count small)
+    (order_with_turns_is_not_empty turns (thread, refused) count some)
+    (subst (λ (z : List Turn). SpellsTurns (item_text thread refused count) (z ++ replicate count (thread, refused))) (sym none)
+    (λ n all. order_of_item_text n thread refused count (element_of_all_replicated (λ t. t.0 < n) count (thread, refused) some all) small some few))
+is_list_of_after_item (b ∷ list) turns thread refused count small some few h = (
+  order_with_turns_is_not_empty turns (thread, refused) count some,
   λ n all.
-      let parts = all_by_recursion_of_append_parts (λ t. t < n) order (replicate count thread) all in
-      order_of_list_with_item n (b ∷ list) (item_text thread count)
-      ∙ ap (λ (z : Option (List ℕ)). joined z (order_of n (item_text thread count))) (h.1 n parts.0)
-      ∙ ap (joined (Some order)) (order_of_item_text n thread count (element_of_all_replicated (λ t. t < n) count thread some parts.1) small some few),
+      let parts = all_by_recursion_of_append_parts (λ t. t.0 < n) turns (replicate count (thread, refused)) all in
+      order_of_list_with_item n (b ∷ list) (item_text thread refused count)
+      ∙ ap (λ (z : Option (List Turn)). joined z (order_of n (item_text thread refused count))) (h.1 n parts.0)
+      ∙ ap (joined (Some turns))
+      (order_of_item_text n thread refused count (element_of_all_replicated (λ t. t.0 < n) count (thread, refused) some parts.1) small some few),
 )
 
--- a list isn't empty where its order isn't
-pub list_spells_if_order_not_empty : (list order : List ℕ) → IsListOf list order → order ≢ [] → Spells list order
-list_spells_if_order_not_empty [] order none some = absurd (some none)
-list_spells_if_order_not_empty (b ∷ list) order h some = h.1
+-- a list isn't empty where there are turns
+pub list_spells_if_order_not_empty : (list : List ℕ) (turns : List Turn) → IsListOf list turns → turns ≢ [] → SpellsTurns list turns
+list_spells_if_order_not_empty [] turns none some = absurd (some none)
+list_spells_if_order_not_empty (b ∷ list) turns h some = h.1
 
--- and is empty where its order is
-pub list_empty_if_order_empty : (list order : List ℕ) → IsListOf list order → order ≡ [] → list ≡ []
-list_empty_if_order_empty [] order none e = refl
-list_empty_if_order_empty (b ∷ list) order h e = absurd (h.0 e)
+-- and is empty where there is none
+pub list_empty_if_order_empty : (list : List ℕ) (turns : List Turn) → IsListOf list turns → turns ≡ [] → list ≡ []
+list_empty_if_order_empty [] turns none e = refl
+list_empty_if_order_empty (b ∷ list) turns h e = absurd (h.0 e)
+
+-- the same of turns in which no try is refused that may enter
+plain_some : (order : List ℕ) → order ≢ [] → plain_turns order ≢ []
+plain_some [] some e = some refl
+plain_some (t ∷ order) some e = absurd (cc e)
+
+plain_below : (n : ℕ) (order : List ℕ) → AllByRecursion (λ t. t < n) order → AllByRecursion (λ (t : Turn). t.0 < n) (plain_turns order)
+plain_below n [] all = tt
+plain_below n (t ∷ order) all = (all.0, plain_below n order all.1)
+
+pub plain_spells : (list order : List ℕ) → IsListOf list (plain_turns order) → order ≢ [] → Spells list order
+plain_spells list order h some n all = list_spells_if_order_not_empty list (plain_turns order) h (plain_some order some) n (plain_below n order all)
+
+pub plain_empty : (list order : List ℕ) → IsListOf list (plain_turns order) → order ≡ [] → list ≡ []
+plain_empty list order h e = list_empty_if_order_empty list (plain_turns order) h (ap plain_turns e)
 
 -- count turns more
-pub is_list_of_turns_step : (old list new : List ℕ) (thread total left count : ℕ) → thread < 2 ^ 8 → left ≤ total → 1 ≤ count → count ≤ most_turns
-    → count ≤ left → new ≡ with_item list (item_text thread count)
-    → ((order : List ℕ) → IsListOf old order → IsListOf list (order ++ replicate (total - left) thread))
-    → (order : List ℕ) → IsListOf old order → IsListOf new (order ++ replicate (total - (left - count)) thread)
-is_list_of_turns_step old list new thread total left count small within some few most is before order h =
+pub is_list_of_turns_step : (old list new : List ℕ) (thread : ℕ) (refused : Bool) (total left count : ℕ) → thread < 2 ^ 8 → left ≤ total → 1 ≤ count
+    → count ≤ most_turns → count ≤ left → new ≡ with_item list (item_text thread refused count)
+    → ((turns : List Turn) → IsListOf old turns → IsListOf list (turns ++ replicate (total - left) (thread, refused)))
+    → (turns : List Turn) → IsListOf old turns → IsListOf new (turns ++ replicate (total - (left - count)) (thread, refused))
+is_list_of_turns_step old list new thread refused total left count small within some few most is before turns h =
+    let one : Turn = (thread, refused) in
     let longer : (total - left) + count ≡ total - (left - count) = omega (arith, within, most) in
-    let same : (order ++ replicate (total - left) thread) ++ replicate count thread ≡ order ++ replicate (total - (left - count)) thread =
-    append_assoc order (replicate (total - left) thread) (replicate count thread)
-    ∙ ap (λ (z : List ℕ). order ++ z) (replicate-append-replicate (total - left) count thread
-    ∙ ap (λ (k : ℕ). replicate k thread) longer) in
-    subst (λ (z : List ℕ). IsListOf z (order ++ replicate (total - (left - count)) thread)) (sym is)
-    (subst (IsListOf (with_item list (item_text thread count))) same
-    (is_list_of_after_item list (order ++ replicate (total - left) thread) thread count small some few (before order h)))
+    let same : (turns ++ replicate (total - left) one) ++ replicate count one ≡ turns ++ replicate (total - (left - count)) one =
+    append_assoc turns (replicate (total - left) one) (replicate count one)
+    ∙ ap (λ (z : List Turn). turns ++ z) (replicate-append-replicate (total - left) count one ∙ ap (λ (k : ℕ). replicate k one) longer) in
+    subst (λ (z : List ℕ). IsListOf z (turns ++ replicate (total - (left - count)) one)) (sym is)
+    (subst (IsListOf (with_item list (item_text thread refused count))) same
+    (is_list_of_after_item list (turns ++ replicate (total - left) one) thread refused count small some few (before turns h)))
+
+plain_turns-replicate : (n t : ℕ) → plain_turns (replicate n t) ≡ replicate n (t, false)
+plain_turns-replicate zero t = refl
+plain_turns-replicate (suc n) t = ap (λ z. (t, false) ∷ z) (plain_turns-replicate n t)
 
 -- the turns so far, and one more
-pub order_of_turns_step : (turns : List Turns) (k : ℕ) (t : Turns) → k < length turns → t ≡ get_or turns k t
+order_of_turns_step : (turns : List Turns) (k : ℕ) (t : Turns) → k < length turns → t ≡ get_or turns k t
     → order_of_turns (take (suc k) turns) ≡ order_of_turns (take k turns) ++ replicate t.count t.thread
 order_of_turns_step [] k t l e = absurd (omega (arith, l))
 order_of_turns_step (x ∷ xs) zero t l e =
@@ -131,3 +155,26 @@ order_of_turns_step (x ∷ xs) zero t l e =
 order_of_turns_step (x ∷ xs) (suc k) t l e = ap (λ (z : List ℕ). replicate x.count x.thread ++ z)
     (order_of_turns_step xs k t (omega (arith, l)) e)
     ∙ sym (append_assoc (replicate x.count x.thread) (order_of_turns (take k xs)) (replicate t.count t.thread))
+
+-- a list of the turns so far, and of one more
+pub list_of_more : (turns : List Turns) (k : ℕ) (none : Turns) (list : List ℕ) → k < length turns
+    → IsListOf list (plain_turns (order_of_turns (take k turns)) ++ replicate (get_or turns k none).count ((get_or turns k none).thread, false))
+    → IsListOf list (plain_turns (order_of_turns (take (k + 1) turns)))
+list_of_more turns k none list l h =
+    let t : Turns = get_or turns k none in
+    let next : k + 1 ≡ suc k = omega arith in
+    let same : plain_turns (order_of_turns (take (k + 1) turns)) ≡ plain_turns (order_of_turns (take k turns)) ++ replicate t.count (t.thread, false) =
+    ap (λ (z : ℕ). plain_turns (order_of_turns (take z turns))) next
+    ∙ ap plain_turns (order_of_turns_step turns k t l (get_or_default turns k none t l))
+    ∙ plain_turns-append (order_of_turns (take k turns)) (replicate t.count t.thread)
+    ∙ ap (λ (z : List Turn). plain_turns (order_of_turns (take k turns)) ++ z) (plain_turns-replicate t.count t.thread) in
+    subst (IsListOf list) (sym same) h
+
+pub turns_of_items-more : (items : List Item) (k : ℕ) (x : Item) → k < length items → x ≡ get_or items k x
+    → turns_of_items (take (suc k) items) ≡ turns_of_items (take k items) ++ replicate x.count (x.thread, x.refused)
+turns_of_items-more [] k x l e = absurd (omega (arith, l))
+turns_of_items-more (y ∷ ys) zero x l e =
+    append-nil (replicate y.count (y.thread, y.refused)) ∙ ap (λ (z : Item). replicate z.count (z.thread, z.refused)) (sym e)
+turns_of_items-more (y ∷ ys) (suc k) x l e = ap (λ (z : List Turn). replicate y.count (y.thread, y.refused) ++ z)
+    (turns_of_items-more ys k x (omega (arith, l)) e)
+    ∙ sym (append_assoc (replicate y.count (y.thread, y.refused)) (turns_of_items (take k ys)) (replicate x.count (x.thread, x.refused)))

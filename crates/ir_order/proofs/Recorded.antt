@@ -1,25 +1,26 @@
 -- What is recorded by an order is of the run by it.
-use Rattle.std.proofs.Common.{◌≡◌, ◌<◌, ℕ, true, List, [], ◌++◌, length, get_or, Option, Some, refl, sym, ap, ◌∙◌, subst}
+use Rattle.std.proofs.Common.{◌≡◌, ◌<◌, ℕ, true, List, [], ◌++◌, length, get_or, Option, Some, Ok, refl, sym, ap, ◌∙◌, subst}
 use Rattle.std.specs.Option.{is_some}
 use Rattle.std.proofs.lemmas.List.{get_or-replicate}
 use Rattle.std.proofs.lemmas.Option.{get_or_from_slice_get}
-use Rattle.ir_image.specs.Guest.{Guest}
+use Rattle.ir_image.specs.Guest.{Guest, guest_at}
 use Rattle.ir_runs.specs.Machine.{Machine, Trace}
 use Rattle.ir_runs.specs.Run.{State, Step, IsRun, IsDone, end, events, log}
 use Rattle.ir_runs.specs.Verdicts.{IsWhole}
-use Rattle.ir_runs.proofs.CallerLemmas.{turns_are_run}
 use Rattle.ir_thread.specs.declared.profile.Profile.{Profile}
 use Rattle.ir_flat.specs.Flat.{start_flat, tables, machine}
 use Rattle.ir_trace.specs.Recorded.{Recorded, trace_of}
-use Rattle.ir_record.specs.Recording.{AreAnswers, IsRecordingInOrder, IsRecordingOf}
+use Rattle.ir_record.specs.Recording.{AreAnswers, IsRecordingInOrder, IsRecordingByTurns, IsRecordingOf}
+use Rattle.ir_record.specs.Refusing.{Turn, plain_turns}
+use Rattle.ir_record.proofs.CallerLemmas.{in_turns-run, plain_of_order}
 use Rattle.ir_record.specs.Worlds.{Answered, answers_in}
 use Rattle.ir_record_run.specs.Order.{order_of}
 use Rattle.ir_record_run.specs.Plan.{Plan}
 use Rattle.ir_record_run.specs.Recording.{unasked, IsRecordedBy, IsRecordedOf}
 use Rattle.ir_sources.specs.Sources.{origin_of, IsAnswered}
-use Rattle.ir_order.specs.OneRun.{AreSame, IsAnsweredByOrder}
-use Rattle.ir_order.specs.Recording.{IsPlanned, IsOfRun, RecordingsAreOfTheRun, OneRecordingByAList}
-use Rattle.ir_order.proofs.OneRun.{one_run_by_order}
+use Rattle.ir_order.specs.OneRun.{AreSame, IsAnsweredByTurns}
+use Rattle.ir_order.specs.Recording.{IsPlanned, IsPlannedInTurns, IsOfRun, RecordingsAreOfTheRun, OneRecordingByAList}
+use Rattle.ir_order.proofs.OneRun.{one_run_by_turns, answered_by_turns}
 use Rattle.ir_order.proofs.Traces.{recording_of_run_is_unique}
 
 is_whole_of_same_run : {T : Type 0} (m : Machine T) (s : State T) (n : ℕ) (tr : Trace) (a b : List Step) → AreSame m s a b → IsRun m s a
@@ -33,11 +34,11 @@ is_whole_of_same_run m s n tr a b same runs done w = record {
 }
 
 -- what is recorded of a run is of each that is the same
-recording_is_of_same_run : (guest : Guest) (budget : ℕ) (profile : Profile) (order : List ℕ) (run b : List Step) (before : List (List Answered)) (trace : Recorded)
-    (outputs : List (List ℕ)) (answers : List (List Answered)) (made : _) → IsAnsweredByOrder guest budget profile order made run
+recording_is_of_same_run : (guest : Guest) (budget : ℕ) (profile : Profile) (turns : List Turn) (run b : List Step) (before : List (List Answered)) (trace : Recorded)
+    (outputs : List (List ℕ)) (answers : List (List Answered)) (made : _) → IsAnsweredByTurns guest budget profile turns made run
     → AreSame (machine (start_flat guest budget profile)) (tables (start_flat guest budget profile)) run b
     → IsRecordingOf guest budget profile b before trace outputs answers → IsOfRun guest budget profile run trace outputs
-recording_is_of_same_run guest budget profile order run b before trace outputs answers made x same h =
+recording_is_of_same_run guest budget profile turns run b before trace outputs answers made x same h =
     let f = start_flat guest budget profile in
     record {
       trace_of = record {
@@ -46,7 +47,7 @@ recording_is_of_same_run guest budget profile order run b before trace outputs a
         profile_is = h.emitted.profile_is;
         threads = h.emitted.threads;
         whole = is_whole_of_same_run (machine f) (tables f) (length guest.entries) (trace_of trace) run b same
-            (turns_are_run (machine f) (tables f) _ run x.by_order.turns) x.by_order.done h.emitted.whole;
+            (in_turns-run (machine f) (tables f) _ run x.by_turns.in_turns) x.by_turns.done h.emitted.whole;
       };
       printed = record {
         threads = h.printed.threads;
@@ -64,26 +65,31 @@ kept_answers_are_logged guest budget profile run answers t l h =
     (get_or-replicate (length guest.entries) t [] [] l)
 
 -- the run that was recorded was answered by the plan's sources
-recorded_run_is_planned : (guest : Guest) (plan : Plan) (list order : List ℕ) (trace : Recorded) (outputs : List (List ℕ)) (answers : List (List Answered))
-    → plan.order ≡ Some list → (r : IsRecordingInOrder guest plan.budget plan.profile order (unasked guest) trace outputs answers)
+recorded_run_is_planned : (guest : Guest) (plan : Plan) (list : List ℕ) (turns : List Turn) (trace : Recorded) (outputs : List (List ℕ)) (answers : List (List Answered))
+    → plan.order ≡ Some list → (r : IsRecordingByTurns guest plan.budget plan.profile turns (unasked guest) trace outputs answers)
     → ((t : ℕ) → t < length guest.entries → IsAnswered (origin_of (is_some plan.order) plan.random plan.input t) (get_or answers t []))
-    → IsPlanned guest plan order r.run
-recorded_run_is_planned guest plan list order trace outputs answers is r answered = record {
-  by_order = r.by_order;
+    → IsPlannedInTurns guest plan turns r.run
+recorded_run_is_planned guest plan list turns trace outputs answers is r answered = record {
+  by_turns = r.by_turns;
   answered = λ t l. subst (IsAnswered (origin_of true plan.random plan.input t))
       (kept_answers_are_logged guest plan.budget plan.profile r.run answers t l r.of.answered)
       (subst (λ c. IsAnswered (origin_of c plan.random plan.input t) (get_or answers t [])) (ap is_some is) (answered t l));
 }
 
-recording_is_of_planned_run : (guest : Guest) (plan : Plan) (list order : List ℕ) (run : List Step) (trace : Recorded) (outputs : List (List ℕ)) (answers : List (List Answered))
-    → plan.order ≡ Some list → IsPlanned guest plan order run
-    → IsRecordingInOrder guest plan.budget plan.profile order (unasked guest) trace outputs answers
+recording_is_of_planned_run : (guest : Guest) (plan : Plan) (list : List ℕ) (turns : List Turn) (run : List Step) (trace : Recorded) (outputs : List (List ℕ))
+    (answers : List (List Answered)) → plan.order ≡ Some list → IsPlannedInTurns guest plan turns run
+    → IsRecordingByTurns guest plan.budget plan.profile turns (unasked guest) trace outputs answers
     → ((t : ℕ) → t < length guest.entries → IsAnswered (origin_of (is_some plan.order) plan.random plan.input t) (get_or answers t []))
     → IsOfRun guest plan.budget plan.profile run trace outputs
-recording_is_of_planned_run guest plan list order run trace outputs answers is x r answered =
-    recording_is_of_same_run guest plan.budget plan.profile order run r.run (unasked guest) trace outputs answers (origin_of true plan.random plan.input) x
-    (one_run_by_order guest plan.budget plan.profile order (origin_of true plan.random plan.input) run r.run (λ t l. refl) x
-    (recorded_run_is_planned guest plan list order trace outputs answers is r answered)) r.of
+recording_is_of_planned_run guest plan list turns run trace outputs answers is x r answered =
+    recording_is_of_same_run guest plan.budget plan.profile turns run r.run (unasked guest) trace outputs answers (origin_of true plan.random plan.input) x
+    (one_run_by_turns guest plan.budget plan.profile turns (origin_of true plan.random plan.input) run r.run (λ t l. refl) x
+    (recorded_run_is_planned guest plan list turns trace outputs answers is r answered)) r.of
+
+-- a run by an order is one by its turns
+planned_in_turns : (guest : Guest) (plan : Plan) (order : List ℕ) (run : List Step) → IsPlanned guest plan order run
+    → IsPlannedInTurns guest plan (plain_turns order) run
+planned_in_turns guest plan order run x = answered_by_turns guest plan.budget plan.profile order (origin_of true plan.random plan.input) run x
 
 -- what is recorded in turns is of each run that the guest makes by their order with the same answers
 pub recording_in_turns_is_of_run : (guest : Guest) (plan : Plan) (order : List ℕ) (run : List Step) (trace : Recorded) (outputs : List (List ℕ)) (answers : List (List Answered))
@@ -91,59 +97,69 @@ pub recording_in_turns_is_of_run : (guest : Guest) (plan : Plan) (order : List �
     → ((t : ℕ) → t < length guest.entries → IsAnswered (origin_of true plan.random plan.input t) (get_or answers t []))
     → IsOfRun guest plan.budget plan.profile run trace outputs
 recording_in_turns_is_of_run guest plan order run trace outputs answers x r answered =
-    recording_is_of_planned_run guest (record plan { order = Some [] }) [] order run trace outputs answers refl x r answered
+    recording_is_of_planned_run guest (record plan { order = Some [] }) [] (plain_turns order) run trace outputs answers refl (planned_in_turns guest plan order run x)
+    (plain_of_order guest plan.budget plan.profile order (unasked guest) trace outputs answers r) answered
 
 -- the same of a recording by the list
-recording_by_list_is_of_run : (guest : Guest) (plan : Plan) (list order : List ℕ) (run : List Step) (trace : Recorded) (outputs : List (List ℕ)) (answers : List (List Answered))
-    → plan.order ≡ Some list → order_of (length guest.entries) list ≡ Some order → IsPlanned guest plan order run
+recording_by_list_is_of_run : (guest : Guest) (plan : Plan) (list : List ℕ) (turns : List Turn) (run : List Step) (trace : Recorded) (outputs : List (List ℕ))
+    (answers : List (List Answered)) → plan.order ≡ Some list → order_of (length guest.entries) list ≡ Some turns
+    → IsPlannedInTurns guest plan turns run
     → IsRecordedBy (Some list) guest plan.budget plan.profile trace outputs answers
     → ((t : ℕ) → t < length guest.entries → IsAnswered (origin_of (is_some plan.order) plan.random plan.input t) (get_or answers t []))
     → IsOfRun guest plan.budget plan.profile run trace outputs
-recording_by_list_is_of_run guest plan list order run trace outputs answers is spelled x (other, spelled', r) answered =
-    let same : other ≡ order = cc (spelled, spelled') in
-    recording_is_of_planned_run guest plan list order run trace outputs answers is x
-    (subst (λ (z : List ℕ). IsRecordingInOrder guest plan.budget plan.profile z (unasked guest) trace outputs answers) same r) answered
+recording_by_list_is_of_run guest plan list turns run trace outputs answers is spelled x (other, spelled', r) answered =
+    let same : other ≡ turns = cc (spelled, spelled') in
+    recording_is_of_planned_run guest plan list turns run trace outputs answers is x
+    (subst (λ (z : List Turn). IsRecordingByTurns guest plan.budget plan.profile z (unasked guest) trace outputs answers) same r) answered
 
 -- the same of the image's guest
-recording_of_image_is_of_run : (image : List ℕ) (guest : Guest) (plan : Plan) (list order : List ℕ) (run : List Step) (trace : Recorded) (outputs : List (List ℕ))
-    → plan.order ≡ Some list → (r : IsRecordedOf image plan trace outputs) → order_of (length r.guest.entries) list ≡ Some order
-    → IsPlanned r.guest plan order run → IsOfRun r.guest plan.budget plan.profile run trace outputs
-recording_of_image_is_of_run image guest plan list order run trace outputs is r spelled x =
-    recording_by_list_is_of_run r.guest plan list order run trace outputs r.answers is spelled x
+recording_of_image_is_of_run : (image : List ℕ) (guest : Guest) (plan : Plan) (list : List ℕ) (turns : List Turn) (run : List Step) (trace : Recorded) (outputs : List (List ℕ))
+    → plan.order ≡ Some list → (r : IsRecordedOf image plan trace outputs) → order_of (length r.guest.entries) list ≡ Some turns
+    → IsPlannedInTurns r.guest plan turns run → IsOfRun r.guest plan.budget plan.profile run trace outputs
+recording_of_image_is_of_run image guest plan list turns run trace outputs is r spelled x =
+    recording_by_list_is_of_run r.guest plan list turns run trace outputs r.answers is spelled x
     (subst (λ (o : Option (List ℕ)). IsRecordedBy o r.guest plan.budget plan.profile trace outputs r.answers) is r.recorded) r.answered
 
-pub recordings_are_of_the_run : RecordingsAreOfTheRun
-recordings_are_of_the_run image guest plan list order run trace outputs found is spelled x r =
+pub recordings_in_turns : RecordingsAreOfTheRun
+recordings_in_turns image guest plan list turns run trace outputs found is spelled x r =
     let same : guest ≡ r.guest = cc (found, r.is) in
     subst (λ (g : Guest). IsOfRun g plan.budget plan.profile run trace outputs) (sym same)
-    (recording_of_image_is_of_run image guest plan list order run trace outputs is r
-    (subst (λ (g : Guest). order_of (length g.entries) list ≡ Some order) same spelled)
-    (subst (λ (g : Guest). IsPlanned g plan order run) same x))
+    (recording_of_image_is_of_run image guest plan list turns run trace outputs is r
+    (subst (λ (g : Guest). order_of (length g.entries) list ≡ Some turns) same spelled)
+    (subst (λ (g : Guest). IsPlannedInTurns g plan turns run) same x))
+
+-- the same of a list that refuses no try
+pub recordings_are_of_the_run : (image : List ℕ) (guest : Guest) (plan : Plan) (list order : List ℕ) (run : List Step) (trace : Recorded) (outputs : List (List ℕ))
+    → guest_at image ≡ Ok guest → plan.order ≡ Some list → order_of (length guest.entries) list ≡ Some (plain_turns order)
+    → IsPlanned guest plan order run → IsRecordedOf image plan trace outputs
+    → IsOfRun guest plan.budget plan.profile run trace outputs
+recordings_are_of_the_run image guest plan list order run trace outputs found is spelled x r =
+    recordings_in_turns image guest plan list (plain_turns order) run trace outputs found is spelled (planned_in_turns guest plan order run x) r
 
 -- the run that was recorded with a list
 record RecordedRun (image : List ℕ) (plan : Plan) (list : List ℕ) (guest : Guest) (trace : Recorded) (outputs : List (List ℕ)) : Type 0 where
-  order : List ℕ
+  turns : List Turn
   run : List Step
-  spelled : order_of (length guest.entries) list ≡ Some order
-  planned : IsPlanned guest plan order run
+  spelled : order_of (length guest.entries) list ≡ Some turns
+  planned : IsPlannedInTurns guest plan turns run
   of : IsOfRun guest plan.budget plan.profile run trace outputs
 
 recording_by_list_has_run : (image : List ℕ) (plan : Plan) (list : List ℕ) (guest : Guest) (trace : Recorded) (outputs : List (List ℕ)) (answers : List (List Answered))
     → plan.order ≡ Some list → IsRecordedBy (Some list) guest plan.budget plan.profile trace outputs answers
     → ((t : ℕ) → t < length guest.entries → IsAnswered (origin_of (is_some plan.order) plan.random plan.input t) (get_or answers t []))
     → RecordedRun image plan list guest trace outputs
-recording_by_list_has_run image plan list guest trace outputs answers is (order, spelled, r) answered = record {
-  order = order;
+recording_by_list_has_run image plan list guest trace outputs answers is (turns, spelled, r) answered = record {
+  turns = turns;
   run = r.run;
   spelled = spelled;
-  planned = recorded_run_is_planned guest plan list order trace outputs answers is r answered;
+  planned = recorded_run_is_planned guest plan list turns trace outputs answers is r answered;
   of = record { trace_of = r.of.emitted; printed = r.of.printed };
 }
 
 recordings_by_list_equal_of_run : (image : List ℕ) (plan : Plan) (list : List ℕ) (a b : Recorded) (x y : List (List ℕ)) → plan.order ≡ Some list
     → (r : IsRecordedOf image plan a x) → RecordedRun image plan list r.guest a x → IsRecordedOf image plan b y → (a ≡ b) × (x ≡ y)
 recordings_by_list_equal_of_run image plan list a b x y is r h other = recording_of_run_is_unique r.guest plan.budget plan.profile h.run a b x y h.of
-    (recordings_are_of_the_run image r.guest plan list h.order h.run b y r.is is h.spelled h.planned other)
+    (recordings_in_turns image r.guest plan list h.turns h.run b y r.is is h.spelled h.planned other)
 
 pub one_recording_by_list : OneRecordingByAList
 one_recording_by_list image plan list a b x y is r other = recordings_by_list_equal_of_run image plan list a b x y is r

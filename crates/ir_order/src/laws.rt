@@ -1,7 +1,7 @@
 //! Laws of runs by an order, each the contract of a function without parameters.
 
 ghost use Rattle.ir_order.specs.Complete.{CompleteRunsHaveSteps};
-ghost use Rattle.ir_order.specs.OneRun.{OneRunByAnOrder};
+ghost use Rattle.ir_order.specs.OneRun.{OneRunByAnOrder, OneRunByTurns, PlainTurnsAreOrders};
 ghost use Rattle.ir_order.specs.Recording.{OneRecordingByAList, RecordingsAreOfTheRun};
 
 /// Of a guest, an order of its threads and what their worlds are made with, there is one run.
@@ -9,7 +9,17 @@ pub fn one_run_by_an_order()
     ensures { OneRunByAnOrder }
 {}
 
-/// What is recorded with a list is of each run that the guest makes by the list's order with the same answers.
+/// The same of turns, in which tries may be refused.
+pub fn one_run_by_turns()
+    ensures { OneRunByTurns }
+{}
+
+/// Turns in which no try is refused that may enter are the order of their threads.
+pub fn plain_turns_are_orders()
+    ensures { PlainTurnsAreOrders }
+{}
+
+/// What is recorded with a list is of each run that the guest makes by the list's turns with the same answers.
 pub fn recordings_are_of_the_run()
     ensures { RecordingsAreOfTheRun }
 {}

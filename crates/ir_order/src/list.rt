@@ -1,11 +1,12 @@
 //! The list that spells an order.
 
-ghost use Rattle.std.specs.Prelude.{◌≡◌, ◌≢◌, ℕ, List, [], ◌++◌, IfOk, OnOk, replicate};
+ghost use Rattle.std.specs.Prelude.{◌≡◌, ◌≢◌, List, [], ◌++◌, IfOk, OnOk, replicate};
 ghost use Rattle.std.specs.String.{string_bytes};
-ghost use Rattle.ir_record.specs.Recording.{order_of_turns};
-ghost use Rattle.ir_order.specs.Spelling.{item_text, with_item, Spells, IsListOf};
+ghost use Rattle.ir_record.specs.Recording.{order_of_turns, turns_of_items};
+ghost use Rattle.ir_record.specs.Refusing.{Turn};
+ghost use Rattle.ir_order.specs.Spelling.{item_text, with_item, Spells, SpellsTurns, IsListOf};
 
-use ir_record::Turns;
+use ir_record::{Item, Turns};
 use std::alloc::{AllocError, Global};
 
 #[cfg(test)]
@@ -14,13 +15,19 @@ mod tests;
 /// The most steps of an item.
 const MOST_TURNS: u64 = 1_000_000;
 
-// The steps of a thread that `turns` counts, as an item.
-fn item_text(alloc: Global, turns: Turns) -> Result<String, AllocError>
-    ensures { IfOk result (λ s. string_bytes s ≡ item_text turns.thread turns.count) }
+// The text of an item.
+fn item_text(alloc: Global, item: Item) -> Result<String, AllocError>
+    ensures { IfOk result (λ s. string_bytes s ≡ item_text item.thread item.refused item.count) }
 {
-    let thread = turns.thread;
-    let count = turns.count;
-    if count == 1 {
+    let thread = item.thread;
+    let count = item.count;
+    if item.refused {
+        if count == 1 {
+            format!(in alloc; "{thread}!")
+        } else {
+            format!(in alloc; "{thread}!x{count}")
+        }
+    } else if count == 1 {
         format!(in alloc; "{thread}")
     } else {
         format!(in alloc; "{thread}x{count}")
@@ -28,10 +35,10 @@ fn item_text(alloc: Global, turns: Turns) -> Result<String, AllocError>
 }
 
 // Puts an item at the end of a list.
-fn push_item(alloc: Global, list: &mut String, turns: Turns) -> Result<(), AllocError>
-    ensures { OnOk result (string_bytes list.new ≡ with_item (string_bytes list.old) (item_text turns.thread turns.count)) }
+fn push_item(alloc: Global, list: &mut String, item: Item) -> Result<(), AllocError>
+    ensures { OnOk result (string_bytes list.new ≡ with_item (string_bytes list.old) (item_text item.thread item.refused item.count)) }
 {
-    let item = item_text(alloc, turns)?;
+    let item = item_text(alloc, item)?;
     if !list.is_empty() {
         list.push(',')?;
     }
@@ -39,15 +46,14 @@ fn push_item(alloc: Global, list: &mut String, turns: Turns) -> Result<(), Alloc
     Ok(())
 }
 
-// Puts turns at the end of a list, in items of no more than `MOST_TURNS` steps.
-fn push_turns(alloc: Global, list: &mut String, turns: Turns) -> Result<(), AllocError>
-    ensures { OnOk result ((order : List ℕ) → IsListOf (string_bytes list.old) order → IsListOf (string_bytes list.new) (order ++ replicate turns.count turns.thread)) }
+// Puts an item's turns at the end of a list, in items of no more than `MOST_TURNS` turns.
+fn push_turns(alloc: Global, list: &mut String, item: Item) -> Result<(), AllocError>
+    ensures { OnOk result ((turns : List Turn) → IsListOf (string_bytes list.old) turns → IsListOf (string_bytes list.new) (turns ++ replicate item.count (item.thread, item.refused))) }
 {
-    let thread = turns.thread;
-    let mut left = turns.count;
+    let mut left = item.count;
     'items: while left > 0 {
         let count = left.min(MOST_TURNS);
-        push_item(alloc, list, Turns { thread, count })?;
+        push_item(alloc, list, Item { count, ..item })?;
         left -= count;
     }
     Ok(())
@@ -64,6 +70,26 @@ pub fn list_of(alloc: Global, turns: &[Turns]) -> Result<String, AllocError>
 {
     let mut list = String::new(alloc);
     'turns: for each in turns {
+        let item = Item {
+            thread: each.thread,
+            count: each.count,
+            refused: false,
+        };
+        push_turns(alloc, &mut list, item)?;
+    }
+    Ok(list)
+}
+
+/// The list that spells the turns of these items: as `list_of` writes it, with a mark `!` after a thread where tries are refused.
+///
+/// # Errors
+/// Out of memory.
+pub fn list_of_items(alloc: Global, items: &[Item]) -> Result<String, AllocError>
+    ensures spelled { IfOk result (λ list. turns_of_items items.now ≢ [] → SpellsTurns (string_bytes list) (turns_of_items items.now)) }
+    ensures empty { IfOk result (λ list. turns_of_items items.now ≡ [] → string_bytes list ≡ []) }
+{
+    let mut list = String::new(alloc);
+    'items: for each in items {
         push_turns(alloc, &mut list, *each)?;
     }
     Ok(list)

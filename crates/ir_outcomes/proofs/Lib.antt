@@ -1,4 +1,5 @@
 mod Again
 mod Showing
 mod Listed
+mod Steps
 mod Lost

@@ -1,15 +1,14 @@
 -- The outcomes of a guest, listed.
 use Rattle.std.proofs.Common.{◌≡◌, ℕ, zero, suc, ◌+◌, ◌<◌, ◌≤◌, List, [], ◌∷◌, ◌++◌, inl, inr, Some, length, length-append, refl, sym, ap, ◌∙◌, subst, arith}
-use Rattle.std.specs.Prelude.{slice_get, Result, Ok, Err, false, if◌then◌else◌}
-use Rattle.std.specs.Result.{is_err, is_ok}
+use Rattle.std.specs.Prelude.{slice_get}
 use Rattle.std.proofs.lemmas.Bool.{cases_lt}
 use Rattle.std.proofs.lemmas.Option.{same_Some}
 use Rattle.ir_image.specs.Guest.{Guest}
 use Rattle.ir_explore.specs.declared.origin.Origin.{Origin}
-use Rattle.ir_explore.proofs.CallerLemmas.{slice_get_after_push_cases, place_of_element_is_below_length}
+use Rattle.ir_explore.proofs.CallerLemmas.{slice_get_after_push_cases, slice_get_kept_by_append, place_of_element_is_below_length}
 use Rattle.ir_runs.specs.Run.{Step}
 use Rattle.ir_record.specs.Recording.{order_of_turns}
-use Rattle.ir_thread.specs.Calls.{most_budget}
+use Rattle.ir_thread.specs.State.{most_budget}
 use Rattle.ir_thread.specs.declared.profile.Profile.TheVariants.{One}
 use Rattle.ir_flat.specs.Flat.{Flat, tables}
 use Rattle.ir_seen.specs.Seen.{IsCounted}
@@ -18,6 +17,8 @@ use Rattle.ir_graph.specs.Nodes.{told}
 use Rattle.ir_graph.specs.Outcomes.{outcome_of, AllListed}
 use Rattle.ir_graph.specs.Searched.{AreSearched}
 use Rattle.ir_outcomes.specs.Again.{steps_of}
+use Rattle.ir_explore.specs.Following.{Stay}
+use Rattle.ir_outcomes.specs.Exploring.{HasShown}
 use Rattle.ir_outcomes.specs.Explored.{outcome_by, switches_by, IsAt, IsIn, AreExplored, AreAll, AreShown}
 use Rattle.ir_outcomes.specs.Shown.{IsShown}
 use Rattle.ir_outcomes.specs.declared.shown.Shown.{Shown}
@@ -48,158 +49,226 @@ are_shown_step guest flats origins listed many outcomes x s node level shown = r
   ];
 }
 
--- what is so where there is a value, if there is no error
-pub chosen_value_if_no_error : {A E X : Type 0} (r : Result A E) (new more old : X) → new ≡ (if is_ok r then more else old) → is_err r ≡ false → new ≡ more
-chosen_value_if_no_error (Ok x) new more old e none = e
-chosen_value_if_no_error (Err x) new more old e none = absurd cc
-
 -- an element at each place
 element_below_length_exists : {A : Type 0} (xs : List A) (i : ℕ) → i < length xs → (x : A) × (slice_get xs i ≡ Some x)
 element_below_length_exists [] i l = absurd (omega (arith, l))
 element_below_length_exists (x ∷ xs) zero l = (x, refl)
 element_below_length_exists (x ∷ xs) (suc i) l = element_below_length_exists xs i (omega (arith, l))
 
--- nodes of few switches come before these many of the listed
-abbrev FewSwitchesComeBefore : List Origin → List ℕ → ℕ → ℕ → Type 0
-FewSwitchesComeBefore origins listed until many = (i v : ℕ) (n : Origin) → slice_get listed i ≡ Some v → slice_get origins v ≡ Some n → n.level < until → i < many
-
--- these many of the listed need no more
-abbrev NeedNoMoreSwitches : List Origin → List ℕ → ℕ → ℕ → Type 0
-NeedNoMoreSwitches origins listed until many = (i v : ℕ) (n : Origin) → i < many → slice_get listed i ≡ Some v → slice_get origins v ≡ Some n → n.level ≤ until
-
-module _ (guest : Guest) (flats : List Flat) (origins : List Origin) (levels : ℕ) (listed : List ℕ) (outcomes : List Shown)
-    (searched : AreSearched guest flats origins levels) (different : AreOutcomes flats (length origins) listed)
-    (shown : AreShown guest flats origins listed (length outcomes) outcomes) where
+module _ (guest : Guest) (flats : List Flat) (origins : List Origin) (levels seen : ℕ) (listed : List ℕ) (outcomes : List Shown)
+    (searched : AreSearched guest flats origins levels) (within : seen ≤ length origins)
+    (has : HasShown guest flats origins seen listed outcomes) where
   -- a listed node is shown
-  in_list : (i v : ℕ) → i < length outcomes → slice_get listed i ≡ Some v → (x : Shown) × (slice_get outcomes i ≡ Some x) × (x.node ≡ v)
-  in_list i v less is =
+  in_list : (i v : ℕ) → slice_get listed i ≡ Some v → (x : Shown) × (slice_get outcomes i ≡ Some x) × (x.node ≡ v)
+  in_list i v is =
+      let less : i < length outcomes = (let a = place_of_element_is_below_length listed i v is in let b = has.shown.count in omega (arith, a, b)) in
       let x = element_below_length_exists outcomes i less in
-      (x.0, x.1, same_Some x.0.node v (sym (shown.node i x.0 x.1) ∙ is))
+      (x.0, x.1, same_Some x.0.node v (sym (has.shown.node i x.0 x.1) ∙ is))
 
   -- where a listed node has the outcome of a state, it is in the list
-  has_in : (f : Flat) (h : HasOutcome flats listed f) → h.place < length outcomes → IsIn flats outcomes (outcome_of (tables f))
-  has_in f h less =
-      let x = in_list h.place h.node less h.stands in
+  has_in : (f : Flat) → HasOutcome flats listed f → IsIn flats outcomes (outcome_of (tables f))
+  has_in f h =
+      let x = in_list h.place h.node h.stands in
       (h.place, x.0, h.state, (x.1, subst (λ z. slice_get flats z ≡ Some h.state) (sym x.2) h.at), h.same)
 
   origin_of : (i v : ℕ) → slice_get listed i ≡ Some v → (n : Origin) × (slice_get origins v ≡ Some n)
-  origin_of i v is = element_below_length_exists origins v (different.done i v is).0
+  origin_of i v is = element_below_length_exists origins v (let a = (has.different.done i v is).0 in omega (arith, a, within))
 
   origin_at : (i : ℕ) (x : Shown) → slice_get outcomes i ≡ Some x → (n : Origin) × (slice_get origins x.node ≡ Some n)
-  origin_at i x is = origin_of i x.node (shown.node i x is)
+  origin_at i x is = origin_of i x.node (has.shown.node i x is)
 
-  -- what a run of few switches comes to is in the list
-  in_covered : (until : ℕ) → until ≤ levels → FewSwitchesComeBefore origins listed until (length outcomes) → (c : ℕ) → c < until → (answers : ℕ → List ℕ) (budget : ℕ)
-      (steps : List Step) → IsCounted guest budget One told answers steps → switches_by guest budget steps ≤ c
-      → IsIn flats outcomes (outcome_by guest budget steps)
-  in_covered until within before c less answers budget steps counted few =
-      let r = searched.within c (omega (arith, less, within)) answers budget steps counted few in
-      let h = different.all r.0 r.1 (place_of_element_is_below_length origins r.0 r.2 r.4) r.3.0 r.3.1 in
-      let n = origin_of h.0.place h.0.node h.0.stands in
-      let rise = searched.rising h.0.node r.0 n.0 r.2 n.1 r.4 h.1 in
-      let late = r.5 in
-      let early : h.0.place < length outcomes = before h.0.place h.0.node n.0 h.0.stands n.1 (omega (arith, rise, late, less)) in
-      subst (IsIn flats outcomes) r.3.2 (has_in r.1 h.0 early)
+  -- no other node needs fewer switches than `until`
+  module _ (until : ℕ) (few : until ≤ levels) (late : (v : ℕ) (n : Origin) → seen ≤ v → slice_get origins v ≡ Some n → until ≤ n.level)
+      (early : (v : ℕ) (n : Origin) → v < seen → slice_get origins v ≡ Some n → n.level ≤ until) where
+    -- what a run of few switches comes to is in the list
+    in_covered : (c : ℕ) → c < until → (answers : ℕ → List ℕ) (budget : ℕ)
+        (steps : List Step) → IsCounted guest budget One told answers steps → switches_by guest budget steps ≤ c
+        → IsIn flats outcomes (outcome_by guest budget steps)
+    in_covered c less answers budget steps counted most =
+        let r = searched.within c (omega (arith, less, few)) answers budget steps counted most in
+        let near : r.0 < seen = elim (cases_lt r.0 seen) [
+          | inl low ↦ low
+          | inr high ↦ absurd (let a = late r.0 r.2 high r.4 in let b = r.5 in omega (arith, a, b, less))
+        ] in
+        let h = has.different.all r.0 r.1 near r.3.0 r.3.1 in
+        subst (IsIn flats outcomes) r.3.2 (has_in r.1 h.0)
 
-  level_least : (i : ℕ) (x : Shown) (f : Flat) → IsAt flats outcomes i x f → (answers : ℕ → List ℕ) (budget : ℕ) (steps : List Step)
-      → IsCounted guest budget One told answers steps → outcome_by guest budget steps ≡ outcome_of (tables f)
-      → x.level ≤ switches_by guest budget steps
-  level_least i x f at answers budget steps counted same = elim (cases_lt (switches_by guest budget steps) x.level) [
-    | inl less ↦
-        let n = origin_at i x at.0 in
-        let level : x.level ≡ n.0.level = shown.level i x n.0 at.0 n.1 in
-        let most = searched.most x.node n.0 n.1 in
-        let r = searched.within (switches_by guest budget steps) (omega (arith, less, level, most)) answers budget steps counted (omega arith) in
-        let h = different.all r.0 r.1 (place_of_element_is_below_length origins r.0 r.2 r.4) r.3.0 r.3.1 in
-        let one : h.0.place ≡ i =
-        different.different h.0.place i h.0.node x.node h.0.state f h.0.stands (shown.node i x at.0) h.0.at at.1 (h.0.same ∙ r.3.2 ∙ same) in
-        let node : h.0.node ≡ x.node =
-        same_Some h.0.node x.node (sym (subst (λ z. slice_get listed z ≡ Some h.0.node) one h.0.stands) ∙ shown.node i x at.0) in
-        let before : x.node ≤ r.0 = (let a = h.1 in omega (arith, a, node)) in
-        let rise = searched.rising x.node r.0 n.0 r.2 n.1 r.4 before in
-        let late = r.5 in
-        absurd (omega (arith, less, level, rise, late))
-    | inr most ↦ most
-  ]
+    level_least : (i : ℕ) (x : Shown) (f : Flat) → IsAt flats outcomes i x f → (answers : ℕ → List ℕ) (budget : ℕ) (steps : List Step)
+        → IsCounted guest budget One told answers steps → outcome_by guest budget steps ≡ outcome_of (tables f)
+        → x.level ≤ switches_by guest budget steps
+    level_least i x f at answers budget steps counted same = elim (cases_lt (switches_by guest budget steps) x.level) [
+      | inl less ↦
+          let n = origin_at i x at.0 in
+          let level : x.level ≡ n.0.level = has.shown.level i x n.0 at.0 n.1 in
+          let most = searched.most x.node n.0 n.1 in
+          let r = searched.within (switches_by guest budget steps) (omega (arith, less, level, most)) answers budget steps counted (omega arith) in
+          let low = r.5 in
+          let own = (has.different.done i x.node (has.shown.node i x at.0)).0 in
+          let near : r.0 < seen = elim (cases_lt r.0 seen) [
+            | inl low ↦ low
+            | inr high ↦ absurd (
+                let rise = searched.rising x.node r.0 n.0 r.2 n.1 r.4 (omega (arith, own, high)) in omega (arith, rise, low, less, level))
+          ] in
+          let h = has.different.all r.0 r.1 near r.3.0 r.3.1 in
+          let one : h.0.place ≡ i =
+          has.different.different h.0.place i h.0.node x.node h.0.state f h.0.stands (has.shown.node i x at.0) h.0.at at.1 (h.0.same ∙ r.3.2 ∙ same) in
+          let node : h.0.node ≡ x.node =
+          same_Some h.0.node x.node (sym (subst (λ z. slice_get listed z ≡ Some h.0.node) one h.0.stands) ∙ has.shown.node i x at.0) in
+          let before : x.node ≤ r.0 = (let a = h.1 in omega (arith, a, node)) in
+          let rise = searched.rising x.node r.0 n.0 r.2 n.1 r.4 before in
+          absurd (omega (arith, less, level, rise, low))
+      | inr most ↦ most
+    ]
 
-  explored_to : (until : ℕ) → until ≤ levels → FewSwitchesComeBefore origins listed until (length outcomes) → NeedNoMoreSwitches origins listed until (length outcomes)
-      → AreExplored guest flats until outcomes
-  explored_to until within before most = record {
-    shown = shown.shown;
-    fewest = level_least;
-    different = λ i j x y f g at there same.
-        different.different i j x.node y.node f g (shown.node i x at.0) (shown.node j y there.0) at.1 there.1 same;
-    rising = λ i j x y is there before.
-        let n = origin_at i x is in
-        let m = origin_at j y there in
-        let less = different.rising i j x.node y.node (shown.node i x is) (shown.node j y there) before in
-        let rise = searched.rising x.node y.node n.0 m.0 n.1 m.1 (omega (arith, less)) in
-        let a = shown.level i x n.0 is n.1 in
-        let b = shown.level j y m.0 there m.1 in
-        omega (arith, rise, a, b);
-    nodes = λ i x is.
-        let l = (different.done i x.node (shown.node i x is)).0 in
-        let few = searched.few in
-        omega (arith, l, few);
-    most = λ i x is.
-        let n = origin_at i x is in
-        let a = shown.level i x n.0 is n.1 in
-        let b = most i x.node n.0 (place_of_element_is_below_length outcomes i x is) (shown.node i x is) n.1 in
-        omega (arith, a, b);
-    covered = in_covered until within before;
-  }
+    pub explored_to : AreExplored guest flats until outcomes
+    explored_to = record {
+      shown = has.shown.shown;
+      fewest = level_least;
+      different = λ i j x y f g at there same.
+          has.different.different i j x.node y.node f g (has.shown.node i x at.0) (has.shown.node j y there.0) at.1 there.1 same;
+      rising = λ i j x y is there before.
+          let n = origin_at i x is in
+          let m = origin_at j y there in
+          let less = has.different.rising i j x.node y.node (has.shown.node i x is) (has.shown.node j y there) before in
+          let rise = searched.rising x.node y.node n.0 m.0 n.1 m.1 (omega (arith, less)) in
+          let a = has.shown.level i x n.0 is n.1 in
+          let b = has.shown.level j y m.0 there m.1 in
+          omega (arith, rise, a, b);
+      nodes = λ i x is.
+          let l = (has.different.done i x.node (has.shown.node i x is)).0 in
+          let few = searched.few in
+          omega (arith, l, few, within);
+      most = λ i x is.
+          let n = origin_at i x is in
+          let a = has.shown.level i x n.0 is n.1 in
+          let b = early x.node n.0 (has.different.done i x.node (has.shown.node i x is)).0 n.1 in
+          omega (arith, a, b);
+      covered = in_covered;
+    }
 
-  -- if each listed node is shown
-  explored_whole : length outcomes ≡ length listed → AreExplored guest flats levels outcomes
-  explored_whole whole = explored_to levels (omega arith)
-      (λ i v n is at less. let a = place_of_element_is_below_length listed i v is in omega (arith, a, whole))
-      (λ i v n less is at. searched.most v n at)
+  -- if all nodes were looked at
+  pub explored_whole : seen ≡ length origins → AreExplored guest flats levels outcomes
+  explored_whole all = explored_to levels (omega arith)
+      (λ v n high is. absurd (let a = place_of_element_is_below_length origins v n is in omega (arith, a, high, all)))
+      (λ v n low is. searched.most v n is)
 
-  -- if only those before some node are, up to the level of that
-  explored_cut : (v : ℕ) (n : Origin) → slice_get listed (length outcomes) ≡ Some v → slice_get origins v ≡ Some n → AreExplored guest flats n.level outcomes
-  explored_cut v n is at = explored_to n.level (searched.most v n at)
-      (λ i w m there here less. elim (cases_lt i (length outcomes)) [
-        | inl early ↦ early
-        | inr late ↦
-            let rise = searched.rising v w n m at here (early_node i w late there) in
-            absurd (omega (arith, rise, less))
-      ])
-      (λ i w m early there here.
-      let less = different.rising i (length outcomes) w v there is early in
-      searched.rising w v m n here at (omega (arith, less)))
-    where
-      early_node : (i w : ℕ) → length outcomes ≤ i → slice_get listed i ≡ Some w → v ≤ w
-      early_node i w late there = elim (cases_lt (length outcomes) i) [
-        | inl less ↦ let l = different.rising (length outcomes) i v w is there less in omega (arith, l)
-        | inr least ↦
-            let same : i ≡ length outcomes = omega (arith, late, least) in
-            let one : w ≡ v = same_Some w v (sym (subst (λ z. slice_get listed z ≡ Some w) same there) ∙ is) in
-            omega (arith, one)
-      ]
+  -- if only those before this one were
+  pub explored_cut : (n : Origin) → slice_get origins seen ≡ Some n → AreExplored guest flats n.level outcomes
+  explored_cut n at = explored_to n.level (searched.most seen n at)
+      (λ v m high is. searched.rising seen v n m at is high)
+      (λ v m low is. searched.rising v seen m n is at (omega (arith, low)))
 
   -- once the search is finished, the list is that of all outcomes
-  pub all_outcomes : length outcomes ≡ length listed → AllListed guest flats → length origins ≡ length flats → AreAll guest flats outcomes
+  pub all_outcomes : seen ≡ length origins → AllListed guest flats → length origins ≡ length flats → AreAll guest flats outcomes
   all_outcomes whole all nodes x = (
     λ h.
         let r = all h.0 h.1 h.2 h.3 in
-        let less : r.0 < length origins = (let a = place_of_element_is_below_length flats r.0 r.1 r.2.0 in omega (arith, a, nodes)) in
-        let k = different.all r.0 r.1 less r.2.0 r.2.1 in
-        let place = place_of_element_is_below_length listed k.0.place k.0.node k.0.stands in
-        subst (IsIn flats outcomes) (r.2.2 ∙ h.4) (has_in r.1 k.0 (omega (arith, place, whole))),
+        let less : r.0 < seen = (let a = place_of_element_is_below_length flats r.0 r.1 r.2.0 in omega (arith, a, nodes, whole)) in
+        let k = has.different.all r.0 r.1 less r.2.0 r.2.1 in
+        subst (IsIn flats outcomes) (r.2.2 ∙ h.4) (has_in r.1 k.0),
     λ h.
-        let s = shown.shown h.0 h.1 h.2 h.3 in
+        let s = has.shown.shown h.0 h.1 h.2 h.3 in
         let order = order_of_turns h.1.turns.items in
         ((λ t. []), most_budget, steps_of order, s.counted (λ t. []), s.same ∙ h.4),
   )
 
-  -- up to the level that is given
-  pub explored_shown : (until : ℕ) → length outcomes ≤ length listed → (length listed ≤ length outcomes → until ≡ levels)
-      → ((v : ℕ) (n : Origin) → slice_get listed (length outcomes) ≡ Some v → slice_get origins v ≡ Some n → until ≡ n.level)
-      → AreExplored guest flats until outcomes
-  explored_shown until few whole cut = elim (cases_lt (length outcomes) (length listed)) [
-    | inl less ↦
-        let v = element_below_length_exists listed (length outcomes) less in
-        let n = origin_of (length outcomes) v.0 v.1 in
-        subst (λ z. AreExplored guest flats z outcomes) (sym (cut v.0 n.0 v.1 n.1)) (explored_cut v.0 n.0 v.1 n.1)
-    | inr all ↦ subst (λ z. AreExplored guest flats z outcomes) (sym (whole all)) (explored_whole (omega (arith, few, all)))
-  ]
+-- what was so of some nodes is so of them among more
+module _ (guest : Guest) (flats more : List Flat) (origins new : List Origin) (seen : ℕ) (listed : List ℕ) (outcomes : List Shown)
+    (has : HasShown guest flats origins seen listed outcomes) (few : seen ≤ length flats) (within : seen ≤ length origins)
+    (stay : Stay flats more) (stays : Stay origins new) where
+  old_flat : (v : ℕ) (f : Flat) → v < seen → slice_get more v ≡ Some f → slice_get flats v ≡ Some f
+  old_flat v f low is =
+      let g = element_below_length_exists flats v (omega (arith, low, few)) in
+      g.1 ∙ sym (stay v g.0 g.1) ∙ is
+
+  old_origin : (v : ℕ) (n : Origin) → v < seen → slice_get new v ≡ Some n → slice_get origins v ≡ Some n
+  old_origin v n low is =
+      let m = element_below_length_exists origins v (omega (arith, low, within)) in
+      m.1 ∙ sym (stays v m.0 m.1) ∙ is
+
+  kept : (f : Flat) → HasOutcome flats listed f → HasOutcome more listed f
+  kept f h = record {
+    place = h.place;
+    node = h.node;
+    state = h.state;
+    stands = h.stands;
+    at = stay h.node h.state h.at;
+    same = h.same;
+  }
+
+  pub shown_among : HasShown guest more new seen listed outcomes
+  unfolding kept
+  shown_among = record {
+    different = record {
+      done = λ i v is. let d = has.different.done i v is in (d.0, λ f at. d.1 f (old_flat v f d.0 at));
+      all = λ v f low at done. let h = has.different.all v f low (old_flat v f low at) done in (kept f h.0, h.1);
+      different = λ i j v w f g is there at here same.
+          has.different.different i j v w f g is there (old_flat v f (has.different.done i v is).0 at) (old_flat w g (has.different.done j w there).0 here) same;
+      rising = has.different.rising;
+    };
+    shown = record {
+      count = has.shown.count;
+      node = has.shown.node;
+      level = λ i x n is at.
+          has.shown.level i x n is (old_origin x.node n (has.different.done i x.node (has.shown.node i x is)).0 at);
+      shown = λ i x f at.
+          has.shown.shown i x f (at.0, old_flat x.node f (has.different.done i x.node (has.shown.node i x at.0)).0 at.1);
+    };
+  }
+
+-- no node was looked at
+pub none_shown : (guest : Guest) (flats : List Flat) (origins : List Origin) → HasShown guest flats origins 0 [] []
+none_shown guest flats origins = record {
+  different = record {
+    done = λ i v is. absurd (cc is);
+    all = λ v f less at done. absurd (omega (arith, less));
+    different = λ i j v w f g is. absurd (cc is);
+    rising = λ i j v w is. absurd (cc is);
+  };
+  shown = record {
+    count = refl;
+    node = λ i x is. absurd (cc is);
+    level = λ i x n is. absurd (cc is);
+    shown = λ i x f at. absurd (cc at.0);
+  };
+}
+
+-- the last of a list
+last_at : (xs : List ℕ) (x : ℕ) → slice_get (xs ++ x ∷ []) (length xs) ≡ Some x
+last_at [] x = refl
+last_at (y ∷ xs) x = last_at xs x
+
+-- one more node is listed and shown
+pub shown_one : (guest : Guest) (flats : List Flat) (origins : List Origin) (seen : ℕ) (listed : List ℕ) (outcomes : List Shown) (x : Shown)
+    → HasShown guest flats origins seen listed outcomes → AreOutcomes flats (suc seen) (listed ++ seen ∷ []) → x.node ≡ seen
+    → ((n : Origin) → slice_get origins seen ≡ Some n → x.level ≡ n.level)
+    → ((f : Flat) → slice_get flats seen ≡ Some f → IsShown guest f x.level (order_of_turns x.turns.items))
+    → HasShown guest flats origins (suc seen) (listed ++ seen ∷ []) (outcomes ++ x ∷ [])
+shown_one guest flats origins seen listed outcomes x has different node level shown = record {
+  different = different;
+  shown = subst (λ n. AreShown guest flats origins (listed ++ seen ∷ []) n (outcomes ++ x ∷ []))
+      (let a = length-append listed (seen ∷ []) in omega (arith, a))
+      (are_shown_step guest flats origins (listed ++ seen ∷ []) (length listed) outcomes x wide (last_at listed seen ∙ ap Some (sym node))
+      (λ n is. level n (subst (λ z. slice_get origins z ≡ Some n) node is))
+      (λ f is. shown f (subst (λ z. slice_get flats z ≡ Some f) node is)));
+}
+  where
+    wide : AreShown guest flats origins (listed ++ seen ∷ []) (length listed) outcomes
+    wide = record {
+      count = has.shown.count;
+      node = λ i y is. slice_get_kept_by_append listed (seen ∷ []) i y.node (has.shown.node i y is);
+      level = has.shown.level;
+      shown = has.shown.shown;
+    }
+
+-- no outcomes, before the first level
+pub none_explored : (guest : Guest) (flats : List Flat) → AreExplored guest flats 0 []
+none_explored guest flats = record {
+  shown = λ i x f at. absurd (cc at.0);
+  fewest = λ i x f at. absurd (cc at.0);
+  different = λ i j x y f g at. absurd (cc at.0);
+  rising = λ i j x y is. absurd (cc is);
+  nodes = λ i x is. absurd (cc is);
+  most = λ i x is. absurd (cc is);
+  covered = λ c less. absurd (omega (arith, less));
+}

@@ -1,19 +1,26 @@
 -- The outcomes of a guest, listed.
-use Rattle.std.specs.Prelude.{◌≡◌, ◌↔◌, ℕ, ◌<◌, ◌≤◌, Bool, List, Option, Some, length, slice_get}
+use Rattle.std.specs.Prelude.{◌≡◌, ◌↔◌, ◌⊎◌, ℕ, suc, ◌<◌, ◌≤◌, Bool, List, Option, Some, None, length, slice_get}
 use Rattle.ir_image.specs.Guest.{Guest}
 use Rattle.ir_explore.specs.declared.origin.Origin.{Origin}
+use Rattle.ir_explore.specs.declared.search.Ended.TheVariants.{Finished, Covered, Stopped}
+use Rattle.ir_explore.specs.declared.stop.Stop.{Stop}
 use Rattle.ir_explore.specs.Ways.{shut}
 use Rattle.ir_record.specs.Recording.{order_of_turns}
 use Rattle.ir_runs.specs.Run.{Step, end}
 use Rattle.ir_states.specs.Counting.{entering}
 use Rattle.ir_states.specs.Outcomes.{switches}
-use Rattle.ir_thread.specs.Instance.{thread_machine}
+use Rattle.ir_thread.specs.State.{thread_machine}
 use Rattle.ir_thread.specs.declared.profile.Profile.TheVariants.{One}
 use Rattle.ir_flat.specs.Flat.{Flat, tables, start_flat}
 use Rattle.ir_seen.specs.Seen.{IsCounted}
 use Rattle.ir_graph.specs.Hangs.{IsHangOf, AreMarked}
 use Rattle.ir_graph.specs.Nodes.{told}
+use Rattle.ir_graph.specs.Reached.{AllReached}
+use Rattle.ir_graph.specs.Stops.{MayStop}
+use Rattle.ir_graph.specs.declared.nodes.Bounds.{Bounds}
 use Rattle.ir_graph.specs.Outcomes.{Outcome, outcome_of}
+use Rattle.ir_outcomes.specs.Hang.{IsOrder}
+use Rattle.ir_outcomes.specs.declared.explored.Explored.{Explored}
 use Rattle.ir_outcomes.specs.Shown.{IsShown, IsHangShown}
 use Rattle.ir_outcomes.specs.declared.shown.Shown.{Shown}
 
@@ -79,3 +86,22 @@ pub record AreHangs (guest : Guest) (flats : List Flat) (hangs : ℕ) (hang : Op
   pub shown : (x : Shown) → hang ≡ Some x → IsHangShown guest x.level (order_of_turns x.turns.items)
   pub fewest : (x : Shown) → hang ≡ Some x → (answers : ℕ → List ℕ) (budget : ℕ) (steps : List Step)
       → IsHangOf guest budget answers steps → x.level ≤ switches_by guest budget steps
+
+-- what was found out about a guest, explored within these bounds and up to so many switches
+pub record IsExplored (guest : Guest) (bounds : Bounds) (most : ℕ) (e : Explored) : Type 0 where
+  -- however it ended, what is listed is right, and complete up to a number of switches
+  pub explored : AreExplored guest e.states.graph.flats.items e.levels e.outcomes.items
+  pub reached : AllReached guest e.states.graph.flats.items
+  -- once it is finished, an outcome is listed exactly where some complete run of the guest has it
+  pub all : e.ended ≡ Finished → AreAll guest e.states.graph.flats.items e.outcomes.items
+  -- so are its hangs: one is shown exactly where some run of the guest can't be brought to an end
+  pub hangs : e.ended ≡ Finished → AreHangs guest e.states.graph.flats.items e.hangs e.hang
+  pub unknown : (e.ended ≡ Finished → ⊥) → e.hang ≡ None
+  -- it ended so only where all levels that are wanted are gone over, and some state was found in the last of them
+  pub covered : e.ended ≡ Covered → e.levels ≡ suc most
+  pub left : e.ended ≡ Covered
+      → (v : ℕ) × (n : Origin) × (slice_get e.states.search.nodes.items v ≡ Some n) × (n.level ≡ most)
+  -- It stopped only where the states are as many as may be, memory ends, a run leads to a thread that is not followed, or an order that was
+  -- found doesn't lead to its state once more.
+  pub stopped : (why : Stop) → e.ended ≡ Stopped why
+      → MayStop guest e.states.graph.flats.items bounds.nodes bounds.private why ⊎ IsOrder why

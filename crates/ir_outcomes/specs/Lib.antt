@@ -2,3 +2,4 @@ pub mod Again
 pub mod Shown
 pub mod Explored
 pub mod Hang
+pub mod Exploring

@@ -2,10 +2,14 @@
 #![tactic(auto)]
 
 mod explored;
+mod exploring;
 mod hang;
+mod listing;
 mod path;
 mod rerun;
 mod shown;
 
 pub use explored::{Explored, explore};
+pub use exploring::Exploring;
+pub use listing::Listing;
 pub use shown::Shown;

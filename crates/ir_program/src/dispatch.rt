@@ -18,6 +18,7 @@ use crate::commands::until::until_file;
 use crate::prompting::Prompting;
 use ir_arguments::{Asked, Make, Print, parsed};
 use ir_debug::{Sink, Source};
+use ir_explore::Observer;
 use ir_files::{ExitStatus, Folder};
 use ir_object::{Gate, Given, Hands};
 use ir_stream::write_all;
@@ -104,17 +105,23 @@ fn make<D: Folder, E: Sink>(
 }
 
 // Prints lines about files.
-fn print<D: Folder, O: Sink, E: Sink>(
-    alloc: Global,
-    folder: &D,
+fn print<R, D, G, O, E>(
+    around: &Surroundings<'_, R, D, G>,
     what: &mut Print,
     explains: bool,
     out: &mut O,
     faults: &mut E,
 ) -> ExitStatus
+where
+    R: AllocGlobal,
+    D: Folder,
+    G: Observer,
+    O: Sink,
+    E: Sink,
     requires writes { O.broken out.old ≡ false }
     requires reports { E.broken faults.old ≡ false }
 {
+    let (alloc, folder) = (around.rt.alloc(), around.folder);
     match what {
         Print::Code(arguments) => list_file(alloc, folder, arguments, out, faults),
         Print::Trace(arguments) => trace_file(alloc, folder, arguments, out, faults),
@@ -124,7 +131,7 @@ fn print<D: Folder, O: Sink, E: Sink>(
         Print::Why(arguments) => why_file(alloc, folder, arguments, explains, out, faults),
         Print::Diff(arguments) => diff_files(alloc, folder, arguments, out, faults),
         Print::View(arguments) => view_file(alloc, folder, arguments, explains, out, faults),
-        Print::Outcomes(arguments) => explore_file(alloc, folder, arguments, out, faults),
+        Print::Outcomes(arguments) => explore_file(around, arguments, out, faults),
     }
 }
 
@@ -135,7 +142,8 @@ pub struct Surroundings<'a, R, D, G> {
     pub rt: &'a R,
     /// The files that the arguments name.
     pub folder: &'a D,
-    /// What is told of what threads do while they record, or while a session opens a recording, moves and searches.
+    /// What is told of what threads do while they record, while a session opens a recording, moves and searches, and while all outcomes
+    /// are looked for.
     pub gate: &'a G,
 }
 
@@ -150,7 +158,7 @@ pub fn program<R, D, G, I, O, E>(
 where
     R: Threads + Wait + Sync + Clock + Eprint + AllocGlobal,
     D: Folder,
-    G: Gate + Sync,
+    G: Gate + Observer + Sync,
     I: Source + Drop,
     O: Sink,
     E: Sink,
@@ -168,9 +176,9 @@ where
         Asked::Record(arguments) => {
             record_file(&around, &arguments, terminals.faults, out, faults)
         }
-        Asked::Hunt(arguments) => hunt_file(rt, folder, &arguments, terminals.faults, out, faults),
+        Asked::Hunt(arguments) => hunt_file(&around, &arguments, terminals.faults, out, faults),
         Asked::Until(arguments) => {
-            until_file(rt, folder, &arguments, terminals.faults, out, faults)
+            until_file(&around, &arguments, terminals.faults, out, faults)
         }
         Asked::Debug(arguments) => {
             let mut input = Prompting::new(input, rt, terminals.input);
@@ -190,7 +198,7 @@ where
             };
             debug_files(&around, opening, &mut input, out, faults)
         }
-        Asked::Print(mut what) => print(alloc, folder, &mut what, terminals.faults, out, faults),
+        Asked::Print(mut what) => print(&around, &mut what, terminals.faults, out, faults),
         Asked::Help(text) => help(text.as_str(), out, faults),
         Asked::Nothing(why) => {
             say(faults, why.as_str(), "", "");

@@ -3,8 +3,10 @@
 
 use crate::device_tests::{Bytes, ENDLESS, Page, empty_page};
 use crate::shelf::Shelf;
-use ir_object::OpenGate;
+use ir_explore::Observer;
+use ir_object::Gate;
 use ir_program::{Invocation, Surroundings, Terminals, program};
+use ir_runs::Access;
 use std::alloc::{AllocError, AllocGlobal, Global};
 use std::sync::Wait;
 use std::test::Fail;
@@ -17,6 +19,21 @@ const DOUBLE: &[u8] =
 // Two threads; the first prints A, the second nothing.
 const TWO: &[u8] =
     b".thread prints\n.thread silent\nprints: addi a0, zero, 65\naddi a7, zero, 2\necall\nsilent: ebreak\n";
+
+// Is told and shows nothing.
+struct Quiet;
+
+impl Gate for Quiet {
+    fn entered(&self, _thread: u8, _object: u8, _access: Access) {}
+
+    fn leaving(&self, _thread: u8, _object: u8, _access: Access) {}
+}
+
+impl Observer for Quiet {
+    fn searched(&self, _states: usize, _switches: usize) {}
+
+    fn listed(&self, _outcomes: usize) {}
+}
 
 // The words of a line.
 fn words_of(alloc: Global, line: &str) -> Result<Vec<String>, AllocError> {
@@ -49,7 +66,7 @@ pub fn ran_at<R: Threads + Wait + Sync + Clock + Eprint + AllocGlobal>(
         Surroundings {
             rt,
             folder: &shelf,
-            gate: &OpenGate,
+            gate: &Quiet,
         },
         &Invocation {
             arguments: words.as_slice(),
@@ -132,7 +149,7 @@ pub fn prepared<R: Threads + Wait + Sync + Clock + Eprint + AllocGlobal>(
 const EXPLAINED: &str = "line 2 error 2\nbad.s:2: an unknown instruction or directive: x\n";
 
 // The words, the exit status, and what is reported.
-const ROWS: [(&str, u8, &str); 54] = [
+const ROWS: [(&str, u8, &str); 57] = [
     (
         "ir asm",
         2,
@@ -202,7 +219,7 @@ const ROWS: [(&str, u8, &str); 54] = [
     (
         "ir record d.img d.trc --order-file bad.list",
         3,
-        "ir: LIST: the item 'x' is neither T nor TxN\n",
+        "ir: LIST: the item 'x' is none of T, TxN, T! and T!xN\n",
     ),
     (
         "ir record d.img d.trc --order-file no.text",
@@ -365,12 +382,12 @@ const ROWS: [(&str, u8, &str); 54] = [
     (
         "ir record d.img d.trc --order -1",
         3,
-        "ir: LIST: the item '-1' is neither T nor TxN\n",
+        "ir: LIST: the item '-1' is none of T, TxN, T! and T!xN\n",
     ),
     (
         "ir record d.img d.trc --order 0\n1",
         3,
-        "ir: LIST: the item '0?1' is neither T nor TxN\n",
+        "ir: LIST: the item '0?1' is none of T, TxN, T! and T!xN\n",
     ),
     (
         "ir record d.img d.trc --order 0x0",
@@ -378,9 +395,24 @@ const ROWS: [(&str, u8, &str); 54] = [
         "ir: LIST: the item '0x0' has an N that is not from 1 to 1000000\n",
     ),
     (
+        "ir record d.img d.trc --order 0!!",
+        3,
+        "ir: LIST: the item '0!!' is none of T, TxN, T! and T!xN\n",
+    ),
+    (
+        "ir record d.img d.trc --order 0x2!",
+        3,
+        "ir: LIST: the item '0x2!' is none of T, TxN, T! and T!xN\n",
+    ),
+    (
+        "ir record d.img d.trc --order 1!x2",
+        3,
+        "ir: LIST: the item '1!x2' names no thread of the image\n",
+    ),
+    (
         "ir record d.img d.trc --order 0,",
         3,
-        "ir: LIST: the item '' is neither T nor TxN\n",
+        "ir: LIST: the item '' is none of T, TxN, T! and T!xN\n",
     ),
     (
         "ir record longer d.trc",

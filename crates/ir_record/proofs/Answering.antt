@@ -1,8 +1,7 @@
 -- Calls of the environment that are recorded.
 use Rattle.std.proofs.Common.{◌≡◌, ℕ, ◌<◌, true, List, [], ◌∷◌, ◌++◌, length, set, sym, ap, ◌∙◌, subst, arith, get_or-set_same, get_or-set_other}
-use Rattle.ir_thread.specs.Calls.{ask_of, most_events}
+use Rattle.ir_thread.specs.State.{ask_of, most_events, shared_ask, is_result}
 use Rattle.ir_thread.specs.Permitted.{Permits}
-use Rattle.ir_thread.specs.Instance.{shared_ask, is_result}
 use Rattle.ir_runs.specs.Machine.{act_of, target, emitted, Admits, Answer}
 use Rattle.ir_thread.specs.declared.ask.Ask.TheVariants.{Env}
 use Rattle.ir_runs.specs.declared.env_kind.EnvKind.{EnvKind}
@@ -16,7 +15,7 @@ use Rattle.ir_record.specs.Progress.{TookIf, IsTape, log_at, labels_at}
 use Rattle.ir_record.specs.Worlds.{answers_at, Answered}
 use Rattle.ir_record.proofs.Steps.{turn_taken_by_step, ask_not_try_enters_if_free}
 use Rattle.ir_record.proofs.Running.{hold_few_objects_if_flat}
-use Rattle.ir_record.proofs.Logs.{tape_after_event_pushed, labels_after_event_pushed, labels_of_other_thread_after_set, result_if_is_result_true}
+use Rattle.ir_record.proofs.Logs.{tape_after_event_pushed, labels_after_event_pushed, labels_of_other_thread_after_set}
 
 -- there is the step
 pub environment_call_can_step : (f : Flat) (t value : ℕ) (kind : EnvKind) → ask_of f.code (thread_of f t) ≡ Env kind → is_result kind value ≡ true
@@ -46,7 +45,7 @@ pub tape_after_answer : (f g : Flat) (logs more : List Logged) (t value : ℕ) (
     → IsTape g more
 tape_after_answer f g logs more t value kind a =
     subst (IsTape g) (sym a.logged) (tape_after_event_pushed f g logs t value (event.Answer kind value) a.new a.tape a.below a.taken a.threads a.objects
-    (ap events_added_by a.asked) (result_if_is_result_true kind value a.fits) a.pushed)
+    (ap events_added_by a.asked) a.fits a.pushed)
 
 pub turn_taken_by_answer : (f g : Flat) (logs more : List Logged) (t value : ℕ) (kind : EnvKind) → AnswerLogged f g logs more t value kind
     → (answers given : List (List Answered)) → t < length answers → given ≡ set answers t (answers_at answers t ++ (kind, value) ∷ [])
@@ -57,7 +56,6 @@ turn_taken_by_answer f g logs more t value kind a answers given l e =
       below = a.below;
       few = hold_few_objects_if_flat f a.flat;
       can = environment_call_can_step f t value kind a.asked a.fits;
-      enters = ask_not_try_enters_if_free f t value (Env kind) a.asked (λ o e. cc e);
       taken = a.taken;
       code = a.code;
       threads = a.threads;
@@ -68,4 +66,4 @@ turn_taken_by_answer f g logs more t value kind a answers given l e =
       own_answers = ap (λ z. answers_at z t) e ∙ get_or-set_same answers t (answers_at answers t ++ (kind, value) ∷ []) [] l;
       other_logs = λ u ne. subst (λ z. labels_at z u ≡ labels_at logs u) (sym a.logged) (labels_of_other_thread_after_set logs t u a.new ne);
       other_answers = λ u ne. ap (λ z. answers_at z u) e ∙ get_or-set_other answers t u (answers_at answers t ++ (kind, value) ∷ []) [] ne;
-    })
+    }) (ask_not_try_enters_if_free f t value (Env kind) a.asked (λ o e. cc e))

@@ -7,27 +7,26 @@ use Rattle.std.proofs.lemmas.Option.{slice_get-get_or, slice_get-map}
 use Rattle.std.specs.List.{slice_get, AllByRecursion}
 use Rattle.std.specs.Prelude.{option_map}
 use Rattle.ir_image.specs.Guest.{Guest, object_count}
-use Rattle.ir_thread.specs.Calls.{ask_of, most_events}
+use Rattle.ir_thread.specs.State.{ask_of, most_events, shared_ask, thread_machine}
 use Rattle.ir_thread.specs.Permitted.{Permits}
-use Rattle.ir_thread.specs.Instance.{shared_ask, thread_machine}
 use Rattle.ir_runs.specs.Machine as machine
 use Rattle.ir_thread.specs.State as thread
 use Rattle.ir_thread.proofs.CallerLemmas.{ask_of_permitted}
 use Rattle.ir_runs.specs.Machine.{Admits, target}
 use Rattle.ir_flat.specs.Flat.{Flat, thread_of, tables, machine, idle, start_flat, start_threads}
-use Rattle.ir_runs.specs.Run.{State, Step, asked, Can, IsRun, end, log, IsDone}
+use Rattle.ir_runs.specs.Run.{State, Step, asked, Can, IsRun, end, log, IsDone, rounds, HasNone}
 use Rattle.ir_flat.proofs.CallerLemmas.{start_thread_is_fresh, length_of_start_threads, length_of_start_cells, nothing_is_stuck, guest_start_is_idle, shared_done_is_done}
-use Rattle.ir_runs.proofs.CallerLemmas.{idle_after_run, turns_are_run}
+use Rattle.ir_runs.proofs.CallerLemmas.{idle_after_run}
 use Rattle.ir_log.specs.Logged.{Logged}
 use Rattle.ir_log.specs.Logging.{label_of}
-use Rattle.ir_trace.specs.Recorded.{Recorded}
-use Rattle.ir_trace.specs.Within.{IsEvent}
+use Rattle.ir_trace.specs.Recorded.{Recorded, IsEvent}
 use Rattle.ir_record.specs.Gathered.{AreThreadTraces}
-use Rattle.ir_runs.specs.InOrder.{HasNone, rounds}
-use Rattle.ir_record.specs.Progress.{Progress, Took, IsReady, log_at, no_log}
+use Rattle.ir_record.specs.Progress.{Progress, TookTurns, IsReady, log_at, no_log, Took}
+use Rattle.ir_record.specs.Refusing.{Turn, plain_turns}
 use Rattle.ir_record.specs.Worlds.{answers_at, Answered, NoneFailed}
-use Rattle.ir_record.specs.Recording.{IsRecordingInOrder}
+use Rattle.ir_record.specs.Recording.{IsRecordingByTurns}
 use Rattle.ir_record.proofs.Profiles.{profile_after_run, profile_of_start_thread}
+use Rattle.ir_record.proofs.Refusing.{in_turns-run}
 use Rattle.ir_record.proofs.Telling.{StandAtEnd, emitted_there, printed_there, answered_there}
 
 -- ---- the start
@@ -99,37 +98,37 @@ done_thread_has_ended code x e = (subst (Permits x) (shared_done_is_done (ask_of
 
 -- ---- the whole recording
 
--- a recording at its end: turns by the order, and rounds, until no thread has a step
-pub record RecordingOver (guest : Guest) (budget : ℕ) (profile : Profile) (order : List ℕ) (before : List (List Answered)) (b : Progress) : Type 0 where
+-- a recording at its end: these turns, and rounds, until no thread has a step
+pub record RecordingOver (guest : Guest) (budget : ℕ) (profile : Profile) (turns : List Turn) (before : List (List Answered)) (b : Progress) : Type 0 where
   pub count : ℕ
-  pub took : Took (order ++ rounds (length guest.entries) count) (start guest budget profile before) b
+  pub took : TookTurns (turns ++ plain_turns (rounds (length guest.entries) count)) (start guest budget profile before) b
   pub none : (t : ℕ) → t < length b.flat.threads → HasNone (machine b.flat) (tables b.flat) t
 
-module _ {guest : Guest} {budget : ℕ} {profile : Profile} {order : List ℕ} {before : List (List Answered)} {b : Progress}
-    (o : RecordingOver guest budget profile order before b) where
+module _ {guest : Guest} {budget : ℕ} {profile : Profile} {turns : List Turn} {before : List (List Answered)} {b : Progress}
+    (o : RecordingOver guest budget profile turns before b) where
   pub threads_there : length b.flat.threads ≡ length guest.entries
-  threads_there = o.took.threads ∙ length_of_start_threads guest budget profile 0 (length guest.entries)
+  threads_there = o.took.moved.threads ∙ length_of_start_threads guest budget profile 0 (length guest.entries)
 
   pub objects_there : length b.flat.objects ≡ object_count guest
-  objects_there = o.took.objects ∙ length_of_start_cells guest 0 (object_count guest)
+  objects_there = o.took.moved.objects ∙ length_of_start_cells guest 0 (object_count guest)
 
   pub profiles_there : (t : ℕ) → t < length b.flat.threads → (thread_of b.flat t).profile ≡ profile
   profiles_there t l =
-      ap (λ s. (s.now t).profile) o.took.ends ∙ profile_after_run guest.code (tables (start_flat guest budget profile)) o.took.run t
+      ap (λ s. (s.now t).profile) o.took.moved.ends ∙ profile_after_run guest.code (tables (start_flat guest budget profile)) o.took.run t
       ∙ profile_of_start_thread guest budget profile 0 (length guest.entries) t (let n = threads_there in omega (arith, l, n))
 
   run_of_it : IsRun (thread_machine guest.code) (tables (start_flat guest budget profile)) o.took.run
-  run_of_it = turns_are_run (thread_machine guest.code) (tables (start_flat guest budget profile))
-      (order ++ rounds (length guest.entries) o.count) o.took.run o.took.turns
+  run_of_it = in_turns-run (thread_machine guest.code) (tables (start_flat guest budget profile))
+      (turns ++ plain_turns (rounds (length guest.entries) o.count)) o.took.run o.took.in_turns
 
   done_there : IsDone (thread_machine guest.code) (end (thread_machine guest.code) (tables (start_flat guest budget profile)) o.took.run)
   done_there = done_if_no_thread_has_step guest budget profile o.took.run run_of_it
-      (λ t l. subst (λ s. HasNone (thread_machine guest.code) s t) o.took.ends
-      (subst (λ c. HasNone (thread_machine c) (tables b.flat) t) o.took.code
+      (λ t l. subst (λ s. HasNone (thread_machine guest.code) s t) o.took.moved.ends
+      (subst (λ c. HasNone (thread_machine c) (tables b.flat) t) o.took.moved.code
       (o.none t (let n = threads_there in omega (arith, l, n)))))
 
   pub ended_there : (t : ℕ) → (thread_of b.flat t).ended ≢ None
-  ended_there t = done_thread_has_ended guest.code (thread_of b.flat t) (ap (λ s. shared_ask (ask_of guest.code (s.now t))) o.took.ends ∙ done_there t)
+  ended_there t = done_thread_has_ended guest.code (thread_of b.flat t) (ap (λ s. shared_ask (ask_of guest.code (s.now t))) o.took.moved.ends ∙ done_there t)
 
   -- what is at hand at its end
   at_end : StandAtEnd guest budget profile o.took.run before (thread_of b.flat) (log_at b.logs) (answers_at b.answers)
@@ -139,25 +138,25 @@ module _ {guest : Guest} {budget : ℕ} {profile : Profile} {order : List ℕ} {
       let f0 : Flat = start_flat guest budget profile in
       record {
         runs = run_of_it;
-        threads = λ t l. ap (λ s. s.now t) o.took.ends;
-        logged = λ t l. o.took.logs t (omega (arith, l, n))
+        threads = λ t l. ap (λ s. s.now t) o.took.moved.ends;
+        logged = λ t l. o.took.moved.logs t (omega (arith, l, n))
             ∙ ap (λ z. map label_of z.events ++ log (machine f0) (tables f0) o.took.run t)
             (get_or-replicate (length guest.entries) t new_log no_log l);
-        answered = λ t l. o.took.answers t (omega (arith, l, n));
+        answered = λ t l. o.took.moved.answers t (omega (arith, l, n));
       }
 
   pub recorded_there : (failed : List Bool) → IsReady b failed
       → (trace : Recorded) → trace.objects ≡ length b.flat.objects → trace.budget ≡ budget → trace.profile ≡ profile
       → AreThreadTraces b.flat b.logs trace.threads
       → (outputs : List (List ℕ)) → outputs ≡ map (λ x. x.output) b.flat.threads
-      → (answers : List (List Answered)) → answers ≡ b.answers → IsRecordingInOrder guest budget profile order before trace outputs answers
+      → (answers : List (List Answered)) → answers ≡ b.answers → IsRecordingByTurns guest budget profile turns before trace outputs answers
   recorded_there failed ready trace objects limit same traces outputs printed answers given =
       let n : length b.flat.threads ≡ length guest.entries = threads_there in
       let logs : length b.logs ≡ length guest.entries = ready.tape.one_each ∙ n in
       let size : length answers ≡ length guest.entries = ap (λ z. length z) given ∙ ready.worlds ∙ n in
       record {
         run = o.took.run;
-        by_order = record { count = o.count; turns = o.took.turns; done = done_there };
+        by_turns = record { count = o.count; in_turns = o.took.in_turns; done = done_there };
         of = record {
           emitted = emitted_there at_end done_there trace (objects ∙ objects_there) limit same (traces.count ∙ logs) (λ t l. traces.each t (omega (arith, l, logs)));
           printed = printed_there at_end outputs
@@ -175,15 +174,15 @@ pub made_recording_is_start : (guest : Guest) (budget : ℕ) (profile : Profile)
     → ◌≡◌ {A = Progress} (record { flat = f; logs = logs; answers = answers }) (start guest budget profile answers)
 made_recording_is_start guest budget profile answers p q = λ i. record { flat = p i; logs = q i; answers = answers }
 
-pub recording_over_from_rounds : {guest : Guest} {budget : ℕ} {profile : Profile} {order : List ℕ} {before : List (List Answered)}
+pub recording_over_from_rounds : {guest : Guest} {budget : ℕ} {profile : Profile} {turns : List Turn} {before : List (List Answered)}
     {f : Flat} {logs : List Logged} {b : Progress} → f ≡ start_flat guest budget profile → logs ≡ replicate (length guest.entries) new_log
-    → ((count : ℕ) × Took (order ++ rounds (length f.threads) count) (record { flat = f; logs = logs; answers = before }) b)
-    → ((t : ℕ) → t < length b.flat.threads → HasNone (machine b.flat) (tables b.flat) t) → RecordingOver guest budget profile order before b
-recording_over_from_rounds {guest} {budget} {profile} {order} {before} {f} {logs} {b} p q k none = record {
+    → ((count : ℕ) × TookTurns (turns ++ plain_turns (rounds (length f.threads) count)) (record { flat = f; logs = logs; answers = before }) b)
+    → ((t : ℕ) → t < length b.flat.threads → HasNone (machine b.flat) (tables b.flat) t) → RecordingOver guest budget profile turns before b
+recording_over_from_rounds {guest} {budget} {profile} {turns} {before} {f} {logs} {b} p q k none = record {
   count = k.0;
-  took = subst (λ n. Took (order ++ rounds n k.0) (start guest budget profile before) b)
+  took = subst (λ n. TookTurns (turns ++ plain_turns (rounds n k.0)) (start guest budget profile before) b)
       (ap (λ z. length z.threads) p ∙ length_of_start_threads guest budget profile 0 (length guest.entries))
-      (subst (λ z. Took (order ++ rounds (length f.threads) k.0) z b) (made_recording_is_start guest budget profile before p q) k.1);
+      (subst (λ z. TookTurns (turns ++ plain_turns (rounds (length f.threads) k.0)) z b) (made_recording_is_start guest budget profile before p q) k.1);
   none = none;
 }
 

@@ -1,8 +1,7 @@
 -- Entries, and steps that nothing is logged of.
 use Rattle.std.proofs.Common.{◌≡◌, ◌≢◌, ℕ, ◌<◌, true, false, Bool, List, [], ◌∷◌, ◌++◌, length, set, Result, Ok, Err, OnOk, OnErr, is_ok, is_err, refl, sym, ap, ◌∙◌, subst, arith, append-nil}
-use Rattle.ir_thread.specs.Calls.{ask_of, most_events}
+use Rattle.ir_thread.specs.State.{ask_of, most_events, shared_ask}
 use Rattle.ir_thread.specs.Permitted.{Permits}
-use Rattle.ir_thread.specs.Instance.{shared_ask}
 use Rattle.ir_runs.specs.Machine as machine
 use Rattle.ir_runs.specs.Machine.{act_of, Object, target, emitted, Admits, Label, logged}
 use Rattle.ir_runs.specs.declared.access.Access.{Access}
@@ -11,16 +10,15 @@ use Rattle.ir_thread.specs.declared.ask.Ask.{Ask}
 use Rattle.ir_thread.specs.declared.ask.Ask.TheVariants.{Private, Env, Enter, Try, Leave, Get, Put, Print, End, Done}
 use Rattle.ir_thread.proofs.CallerLemmas.{ask_of_permitted}
 use Rattle.ir_flat.specs.Flat.{Flat, thread_of, tables, machine, IsFlat}
-use Rattle.ir_runs.specs.Run.{Can, after, label}
+use Rattle.ir_runs.specs.Run.{Can, after, label, EntersIfFree, HasNone}
 use Rattle.ir_flat.proofs.CallerLemmas.{events_added_by}
 use Rattle.ir_log.specs.Logged.{Logged}
 use Rattle.ir_log.specs.Logging.{label_of}
 use Rattle.ir_log.specs.declared.event.Event.{Event}
-use Rattle.ir_trace.specs.Within.{IsEvent}
-use Rattle.ir_runs.specs.InOrder.{HasNone, EntersIfFree}
+use Rattle.ir_trace.specs.Recorded.{IsEvent}
 use Rattle.ir_record.specs.Progress.{TookIf, IsTape, IsQuiet, log_at, labels_at}
 use Rattle.ir_record.specs.Worlds.{answers_at, Answered, answers_in}
-use Rattle.ir_record.proofs.Steps.{turn_taken_by_step, turn_without_step_changes_nothing, ask_not_try_enters_if_free}
+use Rattle.ir_record.proofs.Steps.{OneStep, turn_taken_by_step, turn_without_step_changes_nothing, ask_not_try_enters_if_free}
 use Rattle.ir_record.proofs.Logs.{tape_after_unlogged_step, tape_after_event_pushed, labels_after_event_pushed, labels_of_other_thread_after_set}
 use Rattle.ir_record.proofs.Running.{hold_few_objects_if_flat}
 
@@ -86,7 +84,6 @@ pub record OneEventLogged (f g : Flat) (logs more : List Logged) (t r : ℕ) (k 
   pub unanswered : answers_in (logged k []) ≡ []
   pub fits : IsEvent (thread_of f t).profile (length f.objects) e
   pub can : Can (machine f) (tables f) (t, r)
-  pub enters : EntersIfFree (machine f) (tables f) (t, r)
   pub taken : tables g ≡ after (machine f) (tables f) (t, r)
   pub code : g.code ≡ f.code
   pub threads : length g.threads ≡ length f.threads
@@ -99,27 +96,33 @@ pub tape_after_logged_event : (f g : Flat) (logs more : List Logged) (t r : ℕ)
 tape_after_logged_event f g logs more t r k e x =
     subst (IsTape g) (sym x.logs_are) (tape_after_event_pushed f g logs t r e x.new x.tape x.below x.taken x.threads x.objects x.one x.fits x.pushed)
 
-pub turn_taken_by_logged_event : (f g : Flat) (logs more : List Logged) (t r : ℕ) (k : Label) (e : Event) → OneEventLogged f g logs more t r k e
+-- the step that it is of
+pub event_step : (f g : Flat) (logs more : List Logged) (t r : ℕ) (k : Label) (e : Event) → OneEventLogged f g logs more t r k e
     → (answers : List (List Answered))
+    → OneStep t r k (record { flat = f; logs = logs; answers = answers }) (record { flat = g; logs = more; answers = answers })
+event_step f g logs more t r k e x answers = record {
+  below = x.below;
+  few = hold_few_objects_if_flat f x.flat;
+  can = x.can;
+  taken = x.taken;
+  code = x.code;
+  threads = x.threads;
+  objects = x.objects;
+  emits = x.emits;
+  own_log = subst (λ z. labels_at z t ≡ labels_at logs t ++ logged k []) (sym x.logs_are)
+      (labels_after_event_pushed logs t e x.new (omega (arith, x.below, x.tape.one_each)) x.pushed
+      ∙ ap (λ z. labels_at logs t ++ z) (ap (λ z. z ∷ []) x.event ∙ sym x.once));
+  own_answers = sym (append-nil (answers_at answers t)) ∙ ap (λ z. answers_at answers t ++ z) (sym x.unanswered);
+  other_logs = λ u ne. subst (λ z. labels_at z u ≡ labels_at logs u) (sym x.logs_are) (labels_of_other_thread_after_set logs t u x.new ne);
+  other_answers = λ u ne. refl;
+}
+
+pub turn_taken_by_logged_event : (f g : Flat) (logs more : List Logged) (t r : ℕ) (k : Label) (e : Event) → OneEventLogged f g logs more t r k e
+    → EntersIfFree (machine f) (tables f) (t, r) → (answers : List (List Answered))
     → TookIf true (t ∷ []) (record { flat = f; logs = logs; answers = answers }) (record { flat = g; logs = more; answers = answers })
-turn_taken_by_logged_event f g logs more t r k e x answers =
-    turn_taken_by_step t r k (record { flat = f; logs = logs; answers = answers }) (record { flat = g; logs = more; answers = answers }) (record {
-      below = x.below;
-      few = hold_few_objects_if_flat f x.flat;
-      can = x.can;
-      enters = x.enters;
-      taken = x.taken;
-      code = x.code;
-      threads = x.threads;
-      objects = x.objects;
-      emits = x.emits;
-      own_log = subst (λ z. labels_at z t ≡ labels_at logs t ++ logged k []) (sym x.logs_are)
-          (labels_after_event_pushed logs t e x.new (omega (arith, x.below, x.tape.one_each)) x.pushed
-          ∙ ap (λ z. labels_at logs t ++ z) (ap (λ z. z ∷ []) x.event ∙ sym x.once));
-      own_answers = sym (append-nil (answers_at answers t)) ∙ ap (λ z. answers_at answers t ++ z) (sym x.unanswered);
-      other_logs = λ u ne. subst (λ z. labels_at z u ≡ labels_at logs u) (sym x.logs_are) (labels_of_other_thread_after_set logs t u x.new ne);
-      other_answers = λ u ne. refl;
-    })
+turn_taken_by_logged_event f g logs more t r k e x enters answers =
+    turn_taken_by_step t r k (record { flat = f; logs = logs; answers = answers }) (record { flat = g; logs = more; answers = answers })
+    (event_step f g logs more t r k e x answers) enters
 
 -- what a step emits, by what is asked
 pub label_is_of_ask : (f : Flat) (t r : ℕ) (q : Ask) → ask_of f.code (thread_of f t) ≡ q
@@ -196,7 +199,6 @@ turn_taken_by_quiet_step f g logs t x answers =
       below = x.below;
       few = hold_few_objects_if_flat f x.flat;
       can = x.can;
-      enters = ask_not_try_enters_if_free f t 0 (ask_of f.code (thread_of f t)) refl (quiet_ask_is_no_try (ask_of f.code (thread_of f t)) x.quiet);
       taken = x.taken;
       code = x.code;
       threads = x.threads;
@@ -206,7 +208,7 @@ turn_taken_by_quiet_step f g logs t x answers =
       own_answers = sym (append-nil (answers_at answers t)) ∙ ap (λ z. answers_at answers t ++ answers_in z) (sym none);
       other_logs = λ u ne. refl;
       other_answers = λ u ne. refl;
-    })
+    }) (ask_not_try_enters_if_free f t 0 (ask_of f.code (thread_of f t)) refl (quiet_ask_is_no_try (ask_of f.code (thread_of f t)) x.quiet))
 
 -- where the thread waits, or is done, nothing changes
 pub turn_passed_by_waiting : (f g : Flat) (logs : List Logged) (t : ℕ) → HasNone (machine f) (tables f) t → g ≡ f → (answers : List (List Answered))

@@ -1,17 +1,22 @@
 -- Turns of one thread, and by an order.
-use Rattle.std.proofs.Common.{◌≡◌, ℕ, zero, suc, ◌+◌, ◌-◌, ◌<◌, ◌≤◌, false, Bool, List, [], ◌∷◌, ◌++◌, length, take, drop, replicate, get_or, refl, sym, ap, ◌∙◌, subst, arith, inl, inr, append-nil}
+use Rattle.std.proofs.Common.{◌≡◌, ℕ, zero, suc, ◌+◌, ◌-◌, ◌<◌, ◌≤◌, false, Bool, List, [], ◌∷◌, ◌++◌, length, take, drop, replicate, get_or, Result, Ok, Err, OnOk, IfErr, refl, sym, ap, ◌∙◌, subst, arith, inl, inr, append-nil}
 use Rattle.std.proofs.lemmas.List.{get_or_past, replicate-append-replicate, take-append-drop, take_all, take_more, length-drop}
 use Rattle.std.proofs.lemmas.List.Concat.{flat_map-append}
-use Rattle.ir_thread.specs.Calls.{ask_of}
-use Rattle.ir_thread.specs.Instance.{shared_ask}
+use Rattle.ir_thread.specs.State.{ask_of, shared_ask}
 use Rattle.ir_runs.specs.Machine.{act_of, target, Admits}
 use Rattle.ir_flat.specs.Flat.{Flat, tables, machine, idle}
-use Rattle.ir_runs.specs.Run.{end}
-use Rattle.ir_runs.specs.InOrder.{HasNone, InTurn}
-use Rattle.ir_record.specs.Progress.{Progress, Took, TookIf}
-use Rattle.ir_record.specs.Recording.{order_of_turns}
+use Rattle.ir_runs.specs.Run.{end, InTurn, HasNone}
+use Rattle.ir_record.specs.Failures.{StoppedAt, StoppedTurns}
+use Rattle.ir_record.specs.Progress.{Progress, Took, TookIf, TookTurns}
+use Rattle.ir_record.specs.Refusing.{Turn, plain_turns}
+use Rattle.ir_record.specs.Worlds.{Answered}
+use Rattle.ir_record.specs.Recording.{order_of_turns, turns_of_items}
+use Rattle.ir_record.specs.declared.item.Item.{Item}
+use Rattle.ir_record.specs.declared.turn.Failed.{Failed}
 use Rattle.ir_record.specs.declared.turns.Turns.{Turns}
-use Rattle.ir_record.proofs.Steps.{took_no_turns, took_both_orders, turn_without_step_changes_nothing}
+use Rattle.ir_record.proofs.Refusing.{plain_turns-append}
+use Rattle.ir_record.proofs.Steps.{took_no_turns, took_both_orders, turn_without_step_changes_nothing, plain_took, turns_both, no_turns, turns_none}
+use Rattle.ir_record.proofs.Stopped.{plain_stopped}
 
 -- what is no thread has no step
 pub missing_thread_has_no_step : (f : Flat) (t : ℕ) → length f.threads ≤ t → HasNone (machine f) (tables f) t
@@ -95,28 +100,103 @@ written_order_within_length order at more l h =
     ap (λ xs. length xs) (take_all (length order - (at + 1)) (drop (at + 1) order) (omega (arith, n))) in
     omega (arith, l, h, n, rest)
 
-pub followed_turns_with_item_added : (order : List Turns) (at : ℕ) (none : Turns) (a b c : Progress) → at < length order
-    → Took (order_of_turns (take at order)) a b → Took (replicate (get_or order at none).count (get_or order at none).thread) b c
-    → Took (order_of_turns (take (at + 1) order)) a c
-followed_turns_with_item_added order at none a b c l p q =
-    let x : Turns = get_or order at none in
-    subst (λ z. Took z a c) (sym (ap order_of_turns (take_more order at none l) ∙ order_of_turns_with_last (take at order) x))
-    (took_both_orders (order_of_turns (take at order)) (replicate x.count x.thread) a b c p q)
+-- the turns of items, and those of one more
+pub items_last : (items : List Item) (x : Item) → turns_of_items (items ++ x ∷ []) ≡ turns_of_items items ++ replicate x.count (x.thread, x.refused)
+items_last items x = flat_map-append (λ (i : Item). replicate i.count (i.thread, i.refused)) items (x ∷ [])
+    ∙ ap (λ (z : List Turn). turns_of_items items ++ z) (append-nil (replicate x.count (x.thread, x.refused)))
+
+pub followed_turns_with_item_added : (items : List Item) (at : ℕ) (none : Item) (a b c : Progress) → at < length items
+    → TookTurns (turns_of_items (take at items)) a b
+    → TookTurns (replicate (get_or items at none).count ((get_or items at none).thread, (get_or items at none).refused)) b c
+    → TookTurns (turns_of_items (take (at + 1) items)) a c
+followed_turns_with_item_added items at none a b c l p q =
+    let x : Item = get_or items at none in
+    subst (λ z. TookTurns z a c) (sym (ap turns_of_items (take_more items at none l) ∙ items_last (take at items) x))
+    (turns_both (turns_of_items (take at items)) (replicate x.count (x.thread, x.refused)) a b c p q)
 
 -- the turns of the items before one, its own, and those of the items after it
-pub order_of_turns_splits_at_item : (order : List Turns) (at : ℕ) (none : Turns) → at < length order
-    → (order_of_turns (take at order) ++ replicate (get_or order at none).count (get_or order at none).thread)
-    ++ order_of_turns (drop (at + 1) order) ≡ order_of_turns order
-order_of_turns_splits_at_item order at none l =
-    let x : Turns = get_or order at none in
-    ap (λ (z : List ℕ). z ++ order_of_turns (drop (at + 1) order))
-    (sym (ap order_of_turns (take_more order at none l) ∙ order_of_turns_with_last (take at order) x))
-    ∙ sym (flat_map-append (λ (t : Turns). replicate t.count t.thread) (take (at + 1) order) (drop (at + 1) order))
-    ∙ ap order_of_turns (take-append-drop (at + 1) order)
+pub order_of_turns_splits_at_item : (items : List Item) (at : ℕ) (none : Item) → at < length items
+    → (turns_of_items (take at items) ++ replicate (get_or items at none).count ((get_or items at none).thread, (get_or items at none).refused))
+    ++ turns_of_items (drop (at + 1) items) ≡ turns_of_items items
+order_of_turns_splits_at_item items at none l =
+    let x : Item = get_or items at none in
+    ap (λ (z : List Turn). z ++ turns_of_items (drop (at + 1) items))
+    (sym (ap turns_of_items (take_more items at none l) ∙ items_last (take at items) x))
+    ∙ sym (flat_map-append (λ (i : Item). replicate i.count (i.thread, i.refused)) (take (at + 1) items) (drop (at + 1) items))
+    ∙ ap turns_of_items (take-append-drop (at + 1) items)
 
-pub all_turns_followed_at_end : (order : List Turns) (at : ℕ) (a b : Progress) → length order ≤ at → Took (order_of_turns (take at order)) a b
-    → Took (order_of_turns order) a b
-all_turns_followed_at_end order at a b l = subst (λ z. Took (order_of_turns z) a b) (take_all at order l)
+pub all_turns_followed_at_end : (items : List Item) (at : ℕ) (a b : Progress) → length items ≤ at → TookTurns (turns_of_items (take at items)) a b
+    → TookTurns (turns_of_items items) a b
+all_turns_followed_at_end items at a b l = subst (λ z. TookTurns (turns_of_items z) a b) (take_all at items l)
+
+plain_turns-replicate : (n t : ℕ) → plain_turns (replicate n t) ≡ replicate n (t, false)
+plain_turns-replicate zero t = refl
+plain_turns-replicate (suc n) t = ap (λ z. (t, false) ∷ z) (plain_turns-replicate n t)
+
+-- the turns of an item in which no try is refused that may enter
+plain_item : (n t : ℕ) (refused : Bool) (a b : Progress) → refused ≡ false → Took (replicate n t) a b → TookTurns (replicate n (t, refused)) a b
+plain_item n t refused a b e k = subst (λ f. TookTurns (replicate n (t, f)) a b) (sym e)
+    (subst (λ z. TookTurns z a b) (plain_turns-replicate n t) (plain_took (replicate n t) a b k))
+
+plain_item_stopped : (n t : ℕ) (refused : Bool) (p : Progress) (named : ℕ) (answers : List (List Answered)) → refused ≡ false
+    → StoppedAt (replicate n t) (tables p.flat) p named answers → StoppedTurns (replicate n (t, refused)) p named answers
+plain_item_stopped n t refused p named answers e k = subst (λ f. StoppedTurns (replicate n (t, f)) p named answers) (sym e)
+    (subst (λ z. StoppedTurns z p named answers) (plain_turns-replicate n t) (plain_stopped (replicate n t) p named answers k))
+
+-- as many turns, and one more
+pub turn_more : (one : Turn) (count left : ℕ) (a b c : Progress) → left ≤ count → 0 < left → TookTurns (replicate (count - left) one) a b
+    → TookTurns (one ∷ []) b c → TookTurns (replicate (count - (left - 1)) one) a c
+turn_more one count left a b c l some p q = subst (λ z. TookTurns z a c)
+    (replicate-append-replicate (count - left) 1 one ∙ ap (λ k. replicate k one) (let e : count - left + 1 ≡ count - (left - 1) = omega (arith, l, some) in e))
+    (turns_both (replicate (count - left) one) (one ∷ []) a b c p q)
+
+-- many turns of a thread that has no step
+turns_without_step : (t k : ℕ) (refused : Bool) (a : Progress) → HasNone (machine a.flat) (tables a.flat) t
+    → TookTurns (replicate k (t, refused)) a a
+turns_without_step t zero refused a none = no_turns a
+turns_without_step t (suc k) refused a none = turns_both ((t, refused) ∷ []) (replicate k (t, refused)) a a a (turns_none t refused a none)
+    (turns_without_step t k refused a none)
+
+-- the turns so far, and those that are left, in which the thread has no step
+pub turns_left_none : (t count left : ℕ) (refused : Bool) (a b : Progress) → left ≤ count → TookTurns (replicate (count - left) (t, refused)) a b
+    → HasNone (machine b.flat) (tables b.flat) t → TookTurns (replicate count (t, refused)) a b
+turns_left_none t count left refused a b l p none = subst (λ z. TookTurns z a b)
+    (replicate-append-replicate (count - left) left (t, refused)
+    ∙ ap (λ k. replicate k (t, refused)) (let e : count - left + left ≡ count = omega (arith, l) in e))
+    (turns_both (replicate (count - left) (t, refused)) (replicate left (t, refused)) a b b p (turns_without_step t left refused b none))
+
+-- and those that are left
+pub turns_whole : (one : Turn) (count left : ℕ) → left ≤ count → 0 < left
+    → (replicate (count - left) one ++ one ∷ []) ++ replicate (left - 1) one ≡ replicate count one
+turns_whole one count left l some = ap (λ z. z ++ replicate (left - 1) one) (replicate-append-replicate (count - left) 1 one)
+    ∙ replicate-append-replicate (count - left + 1) (left - 1) one
+    ∙ ap (λ k. replicate k one) (let e : count - left + 1 + (left - 1) ≡ count = omega (arith, l, some) in e)
+
+-- the items of turns, and one more
+pub items_more : (order : List Turns) (at : ℕ) (none : Turns) (items new : List Item) → at < length order
+    → turns_of_items items ≡ plain_turns (order_of_turns (take at order))
+    → new ≡ items ++ record { thread = (get_or order at none).thread; count = (get_or order at none).count; refused = false } ∷ []
+    → turns_of_items new ≡ plain_turns (order_of_turns (take (at + 1) order))
+items_more order at none items new l before e =
+    let x : Turns = get_or order at none in
+    let item : Item = record { thread = x.thread; count = x.count; refused = false } in
+    ap turns_of_items e ∙ items_last items item
+    ∙ ap (λ (z : List Turn). z ++ replicate x.count (x.thread, false)) before
+    ∙ ap (λ (z : List Turn). plain_turns (order_of_turns (take at order)) ++ z) (sym (plain_turns-replicate x.count x.thread))
+    ∙ sym (plain_turns-append (order_of_turns (take at order)) (replicate x.count x.thread))
+    ∙ ap plain_turns (sym (ap order_of_turns (take_more order at none l) ∙ order_of_turns_with_last (take at order) x))
+
+-- the same of what a call hands back
+pub plain_result : {A E : Type 0} (r : Result A E) (n t : ℕ) (refused : Bool) (a b : Progress) → refused ≡ false
+    → OnOk r (Took (replicate n t) a b) → OnOk r (TookTurns (replicate n (t, refused)) a b)
+plain_result (Ok x) n t refused a b e h = plain_item n t refused a b e h
+plain_result (Err x) n t refused a b e h = tt
+
+pub plain_failure : {A : Type 0} (r : Result A Failed) (n t : ℕ) (refused : Bool) (p : Progress) (answers : List (List Answered)) → refused ≡ false
+    → IfErr r (λ f. StoppedAt (replicate n t) (tables p.flat) p f.thread answers)
+    → IfErr r (λ f. StoppedTurns (replicate n (t, refused)) p f.thread answers)
+plain_failure (Ok x) n t refused p answers e h = tt
+plain_failure (Err x) n t refused p answers e h = plain_item_stopped n t refused p x.thread answers e h
 
 -- one entry more that is the same
 pub repeats_with_entry_added : (order : List ℕ) (index entry x : ℕ) → index < length order → x ≡ get_or order index x → x ≡ entry

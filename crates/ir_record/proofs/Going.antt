@@ -3,15 +3,14 @@ use Rattle.std.proofs.Common.{◌≡◌, ℕ, zero, suc, ◌+◌, ◌<◌, ◌�
 use Rattle.std.proofs.lemmas.Bool.{cases_eq, cases_lt}
 use Rattle.std.proofs.lemmas.List.{get_or-replicate, get_or_past, length-replicate}
 use Rattle.std.specs.List.{range_with_len}
-use Rattle.ir_thread.specs.Instance.{shared_ask, thread_machine}
+use Rattle.ir_thread.specs.State.{shared_ask, thread_machine}
 use Rattle.ir_runs.specs.Machine.{Machine, Private, Quiet}
 use Rattle.ir_thread.specs.State as thread
 use Rattle.ir_flat.specs.Alone.{WentAlone}
 use Rattle.ir_flat.specs.Flat.{Flat, tables, machine, IsFlat}
-use Rattle.ir_runs.specs.Run.{State, Step, Can, after, label, end, join_if, events, log}
+use Rattle.ir_runs.specs.Run.{State, Step, Can, after, label, end, join_if, events, log, EntersIfFree, InTurn, rounds, HasNone}
 use Rattle.ir_runs.proofs.CallerLemmas.{log_append, end_append, turns_append}
 use Rattle.ir_record.specs.Ahead.{lead, IsAhead, all_ahead, NoneAhead, Went, WentIf}
-use Rattle.ir_runs.specs.InOrder.{HasNone, EntersIfFree, InTurn, rounds}
 use Rattle.ir_record.specs.Progress.{Progress, Took, TookIf, all_left, labels_at}
 use Rattle.ir_record.specs.Worlds.{answers_at, answers_in}
 use Rattle.ir_record.proofs.Joining.{range_with_last_number, rounds_with_round_added, append_non_empty_by_first, append_non_empty_by_second, no_step_in_empty_turns}

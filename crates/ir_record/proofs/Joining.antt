@@ -3,9 +3,9 @@ use Rattle.std.proofs.Common.{◌≡◌, ℕ, zero, suc, ◌+◌, ◌<◌, ◌�
 use Rattle.std.proofs.lemmas.Bool.{cases_eq}
 use Rattle.std.specs.List.{range_with_len}
 use Rattle.ir_runs.specs.Machine.{Machine}
-use Rattle.ir_runs.specs.Run.{State}
-use Rattle.ir_runs.specs.InOrder.{HasNone, InTurn, rounds}
-use Rattle.ir_record.specs.Progress.{Progress, Took, IsReady, IsTape}
+use Rattle.ir_runs.specs.Run.{State, InTurn, rounds, HasNone}
+use Rattle.ir_record.specs.Progress.{Progress, Took, TookTurns, IsReady, IsTape}
+use Rattle.ir_record.specs.Refusing.{Turn}
 
 pub append_non_empty_by_first : {X : Type 0} (xs ys : List X) → 0 < length xs → 0 < length (xs ++ ys)
 append_non_empty_by_first xs ys l = let n = length-append xs ys in omega (arith, n, l)
@@ -46,3 +46,9 @@ pub ready_after_turns : (order : List ℕ) (a b : Progress) (was : List Bool) �
     → b.answers ≡ a.answers → IsReady b was
 ready_after_turns order a b was ready took tape same =
     record { tape = tape; worlds = ap (λ xs. length xs) same ∙ ready.worlds ∙ sym took.threads; works = ready.works }
+
+-- the same of turns in which tries may be refused
+pub turns_ready : (turns : List Turn) (a b : Progress) (was : List Bool) → IsReady a was → TookTurns turns a b → IsTape b.flat b.logs
+    → b.answers ≡ a.answers → IsReady b was
+turns_ready turns a b was ready took tape same =
+    record { tape = tape; worlds = ap (λ xs. length xs) same ∙ ready.worlds ∙ sym took.moved.threads; works = ready.works }

@@ -1,14 +1,13 @@
 -- What is kept of what the threads ask.
 use Rattle.std.proofs.Common.{◌≡◌, ◌≢◌, ℕ, zero, suc, ◌+◌, ◌<◌, Bool, List, [], ◌∷◌, length, set, get_or, sym, ap, ◌∙◌, subst, arith, inl, inr, length-set, get_or-set_same, get_or-set_other}
 use Rattle.std.proofs.lemmas.Bool.{cases_eq}
-use Rattle.ir_thread.specs.Calls.{ask_of}
+use Rattle.ir_thread.specs.State.{ask_of}
 use Rattle.ir_thread.specs.declared.ask.Ask.{Ask}
 use Rattle.ir_thread.specs.declared.ask.Ask.TheVariants.{Done}
 use Rattle.ir_flat.specs.Alone.{WentAlone}
 use Rattle.ir_flat.specs.Flat.{Flat, IsFlat, thread_of, tables, machine}
-use Rattle.ir_runs.specs.InOrder.{InTurn}
 use Rattle.ir_runs.specs.Machine.{Machine}
-use Rattle.ir_runs.specs.Run.{State, Step, end}
+use Rattle.ir_runs.specs.Run.{State, Step, end, InTurn}
 use Rattle.ir_record.specs.Ahead.{AreAsks}
 use Rattle.ir_record.specs.Progress.{Progress, TookIf}
 use Rattle.ir_record.proofs.Leading.{thread_after_step_of_other, other_thread_after_repeated_steps}

@@ -1,5 +1,6 @@
 mod Left
 mod Profiles
+mod Refusing
 mod Steps
 mod Logs
 mod Answering

@@ -2,8 +2,7 @@
 use Rattle.std.proofs.Common.{◌≡◌, ℕ, zero, suc, ◌<◌, List, [], ◌∷◌, get_or, refl, sym, ap, ◌∙◌, subst, arith}
 use Rattle.std.specs.List.{AllByRecursion}
 use Rattle.ir_image.specs.Guest.{Guest}
-use Rattle.ir_thread.specs.Calls.{ask_of, after_ask}
-use Rattle.ir_thread.specs.Instance.{reply_of, thread_machine}
+use Rattle.ir_thread.specs.State.{ask_of, after_ask, reply_of, thread_machine}
 use Rattle.ir_thread.specs.State as thread
 use Rattle.ir_thread.specs.declared.ask.Ask.{Ask}
 use Rattle.ir_thread.specs.declared.ask.Ask.TheVariants.{Private, Env, Enter, Try, Leave, Get, Put, Print, End, Done}
@@ -15,7 +14,7 @@ use Rattle.ir_runs.specs.Run.{State, Step, act, after, end}
 use Rattle.ir_flat.specs.Flat.{Flat, thread_of, tables, machine, idle, start_threads}
 use Rattle.ir_flat.proofs.CallerLemmas.{moved_thread, threads_after_step}
 use Rattle.ir_log.specs.declared.event.Event.{Event}
-use Rattle.ir_trace.specs.Within.{IsEvent}
+use Rattle.ir_trace.specs.Recorded.{IsEvent}
 
 -- whatever a thread asks
 pub profile_after_ask : (code : List ℕ) (x : thread.ThreadState) (q : Ask) (r : Reply) → (after_ask code x q r).profile ≡ x.profile

@@ -1,17 +1,17 @@
 -- Steps that are recorded.
-use Rattle.std.proofs.Common.{◌≡◌, ◌≢◌, ℕ, zero, suc, ◌+◌, ◌<◌, ◌≤◌, true, false, List, [], ◌∷◌, ◌++◌, length, refl, sym, ap, ◌∙◌, subst, arith, inl, inr, eq-eqb, ne_eqb, append-nil, append_assoc, length-append}
+use Rattle.std.proofs.Common.{◌≡◌, ◌≢◌, ℕ, zero, suc, ◌+◌, ◌<◌, ◌≤◌, true, false, Bool, List, [], ◌∷◌, ◌++◌, length, refl, sym, ap, ◌∙◌, subst, arith, inl, inr, eq-eqb, ne_eqb, append-nil, append_assoc, length-append}
 use Rattle.std.proofs.lemmas.Bool.{cases_eq}
-use Rattle.ir_thread.specs.Calls.{ask_of}
-use Rattle.ir_thread.specs.Instance.{shared_ask, thread_machine}
+use Rattle.ir_thread.specs.State.{ask_of, shared_ask, thread_machine}
 use Rattle.ir_thread.specs.declared.ask.Ask.{Ask}
 use Rattle.ir_runs.specs.Machine as machine
 use Rattle.ir_runs.specs.Machine.{Label, Quiet, Answer, In, Out, Refused, logged}
 use Rattle.ir_flat.specs.Flat.{Flat, thread_of, tables, machine}
-use Rattle.ir_runs.specs.Run.{Step, Can, after, label, end, join_if, events, log}
+use Rattle.ir_runs.specs.Run.{Step, Can, asked, after, label, end, join_if, events, log, EntersIfFree, InTurn, HasNone}
 use Rattle.ir_runs.proofs.CallerLemmas.{log_append, end_append, turns_append}
-use Rattle.ir_runs.specs.InOrder.{HasNone, EntersIfFree, InTurn}
-use Rattle.ir_record.specs.Progress.{Progress, Took, TookIf, all_left, labels_at}
+use Rattle.ir_record.specs.Progress.{Progress, Moved, Took, TookIf, TookTurns, all_left, labels_at}
+use Rattle.ir_record.specs.Refusing.{Turn, plain_turns, InTurns}
 use Rattle.ir_record.specs.Worlds.{answers_at, answers_in}
+use Rattle.ir_record.proofs.Refusing.{in_turn-plain_turns, in_turns-append}
 use Rattle.ir_record.proofs.Tally.{HoldFewObjects, step_leaves_all_fewer}
 
 -- ---- what a step logs
@@ -52,7 +52,6 @@ pub record OneStep (t r : ℕ) (k : Label) (a b : Progress) : Type 0 where
   pub below : t < length a.flat.threads
   pub few : HoldFewObjects (tables a.flat)
   pub can : Can (machine a.flat) (tables a.flat) (t, r)
-  pub enters : EntersIfFree (machine a.flat) (tables a.flat) (t, r)
   pub taken : tables b.flat ≡ after (machine a.flat) (tables a.flat) (t, r)
   pub code : b.flat.code ≡ a.flat.code
   pub threads : length b.flat.threads ≡ length a.flat.threads
@@ -63,10 +62,8 @@ pub record OneStep (t r : ℕ) (k : Label) (a b : Progress) : Type 0 where
   pub other_logs : (u : ℕ) → u ≢ t → labels_at b.logs u ≡ labels_at a.logs u
   pub other_answers : (u : ℕ) → u ≢ t → answers_at b.answers u ≡ answers_at a.answers u
 
-unfoldable pub took_turn_by_step : (t r : ℕ) (k : Label) (a b : Progress) → OneStep t r k a b → Took (t ∷ []) a b
-took_turn_by_step t r k a b s = record {
-  run = (t, r) ∷ [];
-  turns = inr (r, [], refl, s.can, s.enters, refl);
+unfoldable pub moved_by : (t r : ℕ) (k : Label) (a b : Progress) → OneStep t r k a b → Moved ((t, r) ∷ []) a b
+moved_by t r k a b s = record {
   ends = s.taken;
   code = s.code;
   threads = s.threads;
@@ -88,13 +85,38 @@ took_turn_by_step t r k a b s = record {
       (step_leaves_all_fewer a.flat.code (length a.flat.threads) (tables a.flat) (t, r) s.few s.below s.can);
 }
 
-pub turn_taken_by_step : (t r : ℕ) (k : Label) (a b : Progress) → OneStep t r k a b → TookIf true (t ∷ []) a b
+unfoldable pub took_turn_by_step : (t r : ℕ) (k : Label) (a b : Progress) → OneStep t r k a b → EntersIfFree (machine a.flat) (tables a.flat) (t, r)
+    → Took (t ∷ []) a b
+took_turn_by_step t r k a b s enters =
+    let m : Moved ((t, r) ∷ []) a b = moved_by t r k a b s in
+    record {
+      run = (t, r) ∷ [];
+      turns = inr (r, [], refl, s.can, enters, refl);
+      ends = m.ends;
+      code = m.code;
+      threads = m.threads;
+      objects = m.objects;
+      logs = m.logs;
+      answers = m.answers;
+      fewer = m.fewer;
+    }
+
+pub turn_taken_by_step : (t r : ℕ) (k : Label) (a b : Progress) → OneStep t r k a b → EntersIfFree (machine a.flat) (tables a.flat) (t, r)
+    → TookIf true (t ∷ []) a b
 unfolding took_turn_by_step
-turn_taken_by_step t r k a b s = record {
-  took = took_turn_by_step t r k a b s;
+turn_taken_by_step t r k a b s enters = record {
+  took = took_turn_by_step t r k a b s enters;
   some = λ e. (let one : 0 < suc zero = omega arith in one);
   none =
       λ e. absurd cc;
+}
+
+-- in a turn in which a try is refused
+pub took_refused : (t : ℕ) (k : Label) (a b : Progress) → OneStep t 0 k a b → TookTurns ((t, true) ∷ []) a b
+took_refused t k a b s = record {
+  run = (t, 0) ∷ [];
+  in_turns = inr (0, [], refl, s.can, (λ o tries. refl), refl);
+  moved = moved_by t 0 k a b s;
 }
 
 answers_in_logged : (k : Label) (ys : List Label) → answers_in (logged k ys) ≡ answers_in (logged k []) ++ answers_in ys
@@ -134,35 +156,107 @@ pub log_same_on_first_machine : (a b : Progress) (first : List Step) (run : List
 log_same_on_first_machine a b first run t code ends = ap (λ c. log (thread_machine c) (tables b.flat) run t) code
     ∙ ap (λ s. log (machine a.flat) s run t) ends
 
+unfoldable pub moved_both : (first next : List Step) (a b c : Progress) → Moved first a b → Moved next b c → Moved (first ++ next) a c
+moved_both first next a b c p q =
+    let logs_of : (t : ℕ) → log (machine a.flat) (tables a.flat) (first ++ next) t ≡ log (machine a.flat) (tables a.flat) first t ++ log
+    (machine b.flat) (tables b.flat) next t =
+    λ t. log_append (machine a.flat) (tables a.flat) first next t
+    ∙ ap (λ z. log (machine a.flat) (tables a.flat) first t ++ z) (sym (log_same_on_first_machine a b first next t p.code p.ends)) in
+    record {
+      ends = q.ends ∙ ap (λ k. end (thread_machine k) (tables b.flat) next) p.code ∙ ap (λ s. end (machine a.flat) s next) p.ends
+          ∙ sym (end_append (machine a.flat) (tables a.flat) first next);
+      code = q.code ∙ p.code;
+      threads = q.threads ∙ p.threads;
+      objects = q.objects ∙ p.objects;
+      logs = λ t l. q.logs t (omega (arith, l, p.threads)) ∙ ap (λ z. z ++ log (machine b.flat) (tables b.flat) next t) (p.logs t l)
+          ∙ append_assoc (labels_at a.logs t) (log (machine a.flat) (tables a.flat) first t) (log (machine b.flat) (tables b.flat) next t)
+          ∙ ap (λ z. labels_at a.logs t ++ z) (sym (logs_of t));
+      answers = λ t l. q.answers t (omega (arith, l, p.threads))
+          ∙ ap (λ z. z ++ answers_in (log (machine b.flat) (tables b.flat) next t)) (p.answers t l)
+          ∙ append_assoc (answers_at a.answers t) (answers_in (log (machine a.flat) (tables a.flat) first t))
+          (answers_in (log (machine b.flat) (tables b.flat) next t))
+          ∙ ap (λ z. answers_at a.answers t ++ z)
+          (sym (answers_in_append (log (machine a.flat) (tables a.flat) first t) (log (machine b.flat) (tables b.flat) next t))
+          ∙ ap answers_in (sym (logs_of t)));
+      fewer = let more_left = subst (λ n. all_left n (tables c.flat).now + length next ≤ all_left n (tables b.flat).now) p.threads
+          q.fewer in
+          let first_left = p.fewer in
+          let both = length-append first next in
+          omega (arith, more_left, first_left, both);
+    }
+
+-- the steps of turns
+pub moved_of : {order : List ℕ} {a b : Progress} (k : Took order a b) → Moved k.run a b
+moved_of k = record {
+  ends = k.ends;
+  code = k.code;
+  threads = k.threads;
+  objects = k.objects;
+  logs = k.logs;
+  answers = k.answers;
+  fewer = k.fewer;
+}
+
 unfoldable pub took_both_orders : (order more : List ℕ) (a b c : Progress) → Took order a b → Took more b c → Took (order ++ more) a c
 took_both_orders order more a b c p q =
-    let logs_of : (t : ℕ) → log (machine a.flat) (tables a.flat) (p.run ++ q.run) t ≡ log (machine a.flat) (tables a.flat) p.run t ++ log
-    (machine b.flat) (tables b.flat) q.run t =
-    λ t. log_append (machine a.flat) (tables a.flat) p.run q.run t
-    ∙ ap (λ z. log (machine a.flat) (tables a.flat) p.run t ++ z) (sym (log_same_on_first_machine a b p.run q.run t p.code p.ends)) in
+    let m : Moved (p.run ++ q.run) a c = moved_both p.run q.run a b c (moved_of p) (moved_of q) in
     record {
       run = p.run ++ q.run;
       turns = turns_append (machine a.flat) (tables a.flat) order more p.run q.run p.turns
           (subst (λ s. InTurn (machine a.flat) s more q.run) p.ends
           (subst (λ k. InTurn (thread_machine k) (tables b.flat) more q.run) p.code q.turns));
-      ends = q.ends ∙ ap (λ k. end (thread_machine k) (tables b.flat) q.run) p.code ∙ ap (λ s. end (machine a.flat) s q.run) p.ends
-          ∙ sym (end_append (machine a.flat) (tables a.flat) p.run q.run);
-      code = q.code ∙ p.code;
-      threads = q.threads ∙ p.threads;
-      objects = q.objects ∙ p.objects;
-      logs = λ t l. q.logs t (omega (arith, l, p.threads)) ∙ ap (λ z. z ++ log (machine b.flat) (tables b.flat) q.run t) (p.logs t l)
-          ∙ append_assoc (labels_at a.logs t) (log (machine a.flat) (tables a.flat) p.run t) (log (machine b.flat) (tables b.flat) q.run t)
-          ∙ ap (λ z. labels_at a.logs t ++ z) (sym (logs_of t));
-      answers = λ t l. q.answers t (omega (arith, l, p.threads))
-          ∙ ap (λ z. z ++ answers_in (log (machine b.flat) (tables b.flat) q.run t)) (p.answers t l)
-          ∙ append_assoc (answers_at a.answers t) (answers_in (log (machine a.flat) (tables a.flat) p.run t))
-          (answers_in (log (machine b.flat) (tables b.flat) q.run t))
-          ∙ ap (λ z. answers_at a.answers t ++ z)
-          (sym (answers_in_append (log (machine a.flat) (tables a.flat) p.run t) (log (machine b.flat) (tables b.flat) q.run t))
-          ∙ ap answers_in (sym (logs_of t)));
-      fewer = let more_left = subst (λ n. all_left n (tables c.flat).now + length q.run ≤ all_left n (tables b.flat).now) p.threads
-          q.fewer in
-          let first_left = p.fewer in
-          let both = length-append p.run q.run in
-          omega (arith, more_left, first_left, both);
+      ends = m.ends;
+      code = m.code;
+      threads = m.threads;
+      objects = m.objects;
+      logs = m.logs;
+      answers = m.answers;
+      fewer = m.fewer;
     }
+
+-- ---- turns in which tries may be refused
+
+-- turns in which no try is refused that may enter
+pub plain_took : (order : List ℕ) (a b : Progress) → Took order a b → TookTurns (plain_turns order) a b
+plain_took order a b k = record {
+  run = k.run;
+  in_turns = in_turn-plain_turns (machine a.flat) (tables a.flat) order k.run k.turns;
+  moved = moved_of k;
+}
+
+-- where the thread asks no try, refusing its tries changes nothing
+pub refuses_nothing : (t : ℕ) (a b : Progress) → ((o : ℕ) → asked (machine a.flat) (tables a.flat) t ≢ machine.Try o) → Took (t ∷ []) a b
+    → TookTurns ((t, true) ∷ []) a b
+refuses_nothing t a b never k = record { run = k.run; in_turns = refusing k.run k.turns; moved = moved_of k }
+  where
+    refusing : (run : List Step) → InTurn (machine a.flat) (tables a.flat) (t ∷ []) run
+        → InTurns (machine a.flat) (tables a.flat) ((t, true) ∷ []) run
+    refusing run (inl none) = inl none
+    refusing run (inr some) = inr (some.0, some.1, some.2, some.3, (λ o tries. absurd (never o tries)), some.5)
+
+pub no_turns : (a : Progress) → TookTurns [] a a
+no_turns a = plain_took [] a a (took_no_turns a)
+
+-- a turn of what has no step
+pub turns_none : (t : ℕ) (refused : Bool) (a : Progress) → HasNone (machine a.flat) (tables a.flat) t → TookTurns ((t, refused) ∷ []) a a
+turns_none t refused a none = record { run = []; in_turns = inl (none, refl); moved = still }
+  where
+    still : Moved [] a a
+    still = record {
+      ends = refl;
+      code = refl;
+      threads = refl;
+      objects = refl;
+      logs = λ u l. sym (append-nil (labels_at a.logs u));
+      answers = λ u l. sym (append-nil (answers_at a.answers u));
+      fewer = omega arith;
+    }
+
+pub turns_both : (turns more : List Turn) (a b c : Progress) → TookTurns turns a b → TookTurns more b c → TookTurns (turns ++ more) a c
+turns_both turns more a b c p q = record {
+  run = p.run ++ q.run;
+  in_turns = in_turns-append (machine a.flat) (tables a.flat) turns more p.run q.run p.in_turns
+      (subst (λ s. InTurns (machine a.flat) s more q.run) p.moved.ends
+      (subst (λ k. InTurns (thread_machine k) (tables b.flat) more q.run) p.moved.code q.in_turns));
+  moved = moved_both p.run q.run a b c p.moved q.moved;
+}

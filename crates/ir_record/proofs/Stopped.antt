@@ -1,28 +1,28 @@
 -- Turns that end at a world that fails.
 use Rattle.ir_thread.specs.declared.profile.Profile.{Profile}
-use Rattle.std.proofs.Common.{◌≡◌, ℕ, zero, suc, ◌+◌, ◌-◌, ◌<◌, ◌≤◌, Bool, List, [], ◌∷◌, ◌++◌, length, replicate, Some, Result, Ok, Err, IfErr, IsErrAnd, refl, sym, ap, ◌∙◌, subst, arith, append-nil, append_assoc}
+use Rattle.std.proofs.Common.{◌≡◌, ℕ, zero, suc, ◌+◌, ◌-◌, ◌<◌, ◌≤◌, Bool, false, List, [], ◌∷◌, ◌++◌, length, replicate, Some, Result, Ok, Err, IfErr, IsErrAnd, refl, sym, ap, ◌∙◌, subst, arith, append-nil, append_assoc}
 use Rattle.std.proofs.lemmas.List.{replicate-append-replicate}
 use Rattle.std.proofs.lemmas.Option.{slice_get-get_or}
 use Rattle.std.specs.List.{range_with_len}
 use Rattle.ir_image.specs.Guest.{Guest}
-use Rattle.ir_thread.specs.Calls.{ask_of}
-use Rattle.ir_thread.specs.Instance.{shared_ask, thread_machine}
+use Rattle.ir_thread.specs.State.{ask_of, shared_ask, thread_machine}
 use Rattle.ir_thread.specs.State as thread
 use Rattle.ir_runs.specs.Machine as machine
 use Rattle.ir_flat.specs.Flat.{Flat, thread_of, tables, machine, start_flat}
 use Rattle.ir_flat.proofs.CallerLemmas.{length_of_start_threads}
-use Rattle.ir_runs.specs.Run.{State, Step, asked, end, log}
-use Rattle.ir_runs.specs.InOrder.{InTurn, rounds}
+use Rattle.ir_runs.specs.Run.{State, Step, asked, end, log, InTurn, rounds}
 use Rattle.ir_runs.proofs.CallerLemmas.{log_append, end_append, turns_append}
 use Rattle.ir_log.specs.Logged.{Logged}
 use Rattle.ir_record.specs.Ahead.{Went}
-use Rattle.ir_record.specs.Failures.{IsUnanswered, StoppedAt}
-use Rattle.ir_record.specs.Progress.{Progress, Took, IsReady}
+use Rattle.ir_record.specs.Failures.{IsUnanswered, StoppedAt, StoppedTurns}
+use Rattle.ir_record.specs.Progress.{Progress, Took, TookTurns, IsReady}
+use Rattle.ir_record.specs.Refusing.{Turn, plain_turns, InTurns}
 use Rattle.ir_record.specs.Worlds.{answers_at, Answered, answers_in}
-use Rattle.ir_record.specs.Recording.{StoppedInOrder}
+use Rattle.ir_record.specs.Recording.{StoppedInOrder, StoppedInTurns}
 use Rattle.ir_record.proofs.Ended.{start, made_recording_is_start, new_log}
 use Rattle.ir_record.proofs.Going.{reached, range_from_zero_with_last}
-use Rattle.ir_record.proofs.Steps.{answers_in_append}
+use Rattle.ir_record.proofs.Refusing.{plain_turns-append, in_turns-append, in_turn-plain_turns, plain_turns-in_turn, threads_of, plain_parts}
+use Rattle.ir_record.proofs.Steps.{log_same_on_first_machine, answers_in_append}
 
 -- the error that a `?` hands on
 pub if_err_holds_of_error : {A E : Type 0} (P : E → Type 0) (r : Result A E) (e : E) → IsErrAnd r (λ x. x ≡ e) → P e → IfErr r P
@@ -122,29 +122,131 @@ turns_split_at_last_taken t count left ran l some few = ap (λ z. z ++ replicate
     ∙ replicate-append-replicate (count - left + ran + 1) (left - (ran + 1)) t
     ∙ ap (λ k. replicate k t) (let e : count - left + ran + 1 + (left - (ran + 1)) ≡ count = omega (arith, l, some, few) in e)
 
+-- ---- turns in which tries may be refused
+
+-- turns in which no try is refused that may enter
+pub plain_stopped : (order : List ℕ) (p : Progress) (named : ℕ) (answers : List (List Answered)) → StoppedAt order (tables p.flat) p named answers
+    → StoppedTurns (plain_turns order) p named answers
+plain_stopped order p named answers h = record {
+  taken = plain_turns h.taken;
+  refused = false;
+  left = plain_turns h.left;
+  so_far = ap plain_turns h.so_far ∙ plain_turns-append h.taken (named ∷ h.left);
+  run = h.run;
+  in_turns = in_turn-plain_turns (machine p.flat) (tables p.flat) h.taken h.run h.turns;
+  kind = h.kind;
+  asks = h.asks;
+  worlds = h.worlds;
+  answered = h.answered;
+}
+
+-- a turn in which the thread asks its world
+pub turn_stopped : (t : ℕ) (refused : Bool) (p : Progress) (named : ℕ) (answers : List (List Answered)) (failed : List Bool) → IsReady p failed
+    → IsUnanswered t p named answers → StoppedTurns ((t, refused) ∷ []) p named answers
+turn_stopped t refused p named answers failed ready h =
+    let s : StoppedAt (t ∷ []) (tables p.flat) p named answers = stopped_at_own_turn t (tables p.flat) p named answers failed ready refl h in
+    record {
+      taken = [];
+      refused = refused;
+      left = [];
+      so_far = ap (λ z. (z, refused) ∷ []) (sym h.named_is);
+      run = [];
+      in_turns = refl;
+      kind = h.kind;
+      asks = ap (λ z. shared_ask (ask_of p.flat.code (thread_of p.flat z))) h.named_is ∙ ap shared_ask h.asks;
+      worlds = s.worlds;
+      answered = λ u l. ap (λ z. answers_at z u) h.no_more ∙ sym (append-nil (answers_at p.answers u));
+    }
+
+-- more turns
+pub turns_stopped_within : (turns more whole : List Turn) (p : Progress) (named : ℕ) (answers : List (List Answered)) → turns ++ more ≡ whole
+    → StoppedTurns turns p named answers → StoppedTurns whole p named answers
+turns_stopped_within turns more whole p named answers e h = record {
+  taken = h.taken;
+  refused = h.refused;
+  left = h.left ++ more;
+  so_far = sym e ∙ ap (λ z. z ++ more) h.so_far ∙ append_assoc h.taken ((named, h.refused) ∷ h.left) more;
+  run = h.run;
+  in_turns = h.in_turns;
+  kind = h.kind;
+  asks = h.asks;
+  worlds = h.worlds;
+  answered = h.answered;
+}
+
+-- turns, and then others
+pub turns_stopped_after : (turns more : List Turn) (a b : Progress) (named : ℕ) (answers : List (List Answered)) → TookTurns turns a b
+    → StoppedTurns more b named answers → StoppedTurns (turns ++ more) a named answers
+turns_stopped_after turns more a b named answers p h =
+    let both : (t : ℕ) → log (machine a.flat) (tables a.flat) (p.run ++ h.run) t ≡ log (machine a.flat) (tables a.flat) p.run t
+    ++ log (machine b.flat) (tables b.flat) h.run t =
+    λ t. log_append (machine a.flat) (tables a.flat) p.run h.run t
+    ∙ ap (λ z. log (machine a.flat) (tables a.flat) p.run t ++ z) (sym (log_same_on_first_machine a b p.run h.run t p.moved.code p.moved.ends)) in
+    record {
+      taken = turns ++ h.taken;
+      refused = h.refused;
+      left = h.left;
+      so_far = ap (λ z. turns ++ z) h.so_far ∙ sym (append_assoc turns h.taken ((named, h.refused) ∷ h.left));
+      run = p.run ++ h.run;
+      in_turns = in_turns-append (machine a.flat) (tables a.flat) turns h.taken p.run h.run p.in_turns
+          (subst (λ s. InTurns (machine a.flat) s h.taken h.run) p.moved.ends
+          (subst (λ k. InTurns (thread_machine k) (tables b.flat) h.taken h.run) p.moved.code h.in_turns));
+      kind = h.kind;
+      asks = ap (λ z. asked (machine a.flat) z named) (end_append (machine a.flat) (tables a.flat) p.run h.run)
+          ∙ ap (λ s. asked (machine a.flat) (end (machine a.flat) s h.run) named) (sym p.moved.ends)
+          ∙ subst (λ k. asked (thread_machine k) (end (thread_machine k) (tables b.flat) h.run) named ≡ machine.Env h.kind) p.moved.code h.asks;
+      worlds = h.worlds ∙ p.moved.threads;
+      answered = λ t l. h.answered t (omega (arith, l, p.moved.threads))
+          ∙ ap (λ z. z ++ answers_in (log (machine b.flat) (tables b.flat) h.run t)) (p.moved.answers t l)
+          ∙ append_assoc (answers_at a.answers t) (answers_in (log (machine a.flat) (tables a.flat) p.run t))
+          (answers_in (log (machine b.flat) (tables b.flat) h.run t))
+          ∙ ap (λ z. answers_at a.answers t ++ z)
+          (sym (answers_in_append (log (machine a.flat) (tables a.flat) p.run t) (log (machine b.flat) (tables b.flat) h.run t))
+          ∙ ap answers_in (sym (both t)));
+    }
+
 -- the turns from the guest's start
-pub stopped_in_order_from_start : {guest : Guest} {budget : ℕ} {profile : Profile} {order : List ℕ} {before answers : List (List Answered)}
+pub stopped_in_order_from_start : {guest : Guest} {budget : ℕ} {profile : Profile} {turns : List Turn} {before answers : List (List Answered)}
     {f : Flat} {logs : List Logged} {named : ℕ} → f ≡ start_flat guest budget profile → logs ≡ replicate (length guest.entries) new_log
-    → ((count : ℕ) × StoppedAt (order ++ rounds (length f.threads) count) (tables f) (record { flat = f; logs = logs; answers = before })
-    named answers) → StoppedInOrder guest budget profile order named before answers
-stopped_in_order_from_start {guest} {budget} {profile} {order} {before} {answers} {f} {logs} {named} p q k =
+    → ((count : ℕ) × StoppedTurns (turns ++ plain_turns (rounds (length f.threads) count)) (record { flat = f; logs = logs; answers = before })
+    named answers) → StoppedInTurns guest budget profile turns named before answers
+stopped_in_order_from_start {guest} {budget} {profile} {turns} {before} {answers} {f} {logs} {named} p q k =
     let size : length (start_flat guest budget profile).threads ≡ length guest.entries =
     length_of_start_threads guest budget profile 0 (length guest.entries) in
-    let h : StoppedAt (order ++ rounds (length f.threads) k.0) (tables (start_flat guest budget profile)) (start guest budget profile before)
-    named answers =
-    subst (λ z. StoppedAt (order ++ rounds (length f.threads) k.0) (tables z.flat) z named answers)
+    let h : StoppedTurns (turns ++ plain_turns (rounds (length f.threads) k.0)) (start guest budget profile before) named answers =
+    subst (λ z. StoppedTurns (turns ++ plain_turns (rounds (length f.threads) k.0)) z named answers)
     (made_recording_is_start guest budget profile before p q) k.1 in
     record {
       count = k.0;
       taken = h.taken;
+      refused = h.refused;
       left = h.left;
-      so_far = ap (λ n. order ++ rounds n k.0) (sym (ap (λ z. length z.threads) p ∙ size)) ∙ h.so_far;
+      so_far = ap (λ n. turns ++ plain_turns (rounds n k.0)) (sym (ap (λ z. length z.threads) p ∙ size)) ∙ h.so_far;
       run = h.run;
-      turns = h.turns;
+      in_turns = h.in_turns;
       kind = h.kind;
       asks = h.asks;
       answered = record {
         threads = h.worlds ∙ size;
         each = λ t l. slice_get-get_or answers t [] (omega (arith, l, h.worlds, size)) ∙ ap Some (h.answered t (omega (arith, l, size)));
       };
+    }
+
+-- where no try is refused that may enter, it stopped by the order
+pub stopped_by_order : (guest : Guest) (budget : ℕ) (profile : Profile) (order : List ℕ) (named : ℕ) (before answers : List (List Answered))
+    → StoppedInTurns guest budget profile (plain_turns order) named before answers → StoppedInOrder guest budget profile order named before answers
+stopped_by_order guest budget profile order named before answers h =
+    let rest = rounds (length guest.entries) h.count in
+    let parts = plain_parts (order ++ rest) h.taken named h.refused h.left (plain_turns-append order rest ∙ h.so_far) in
+    record {
+      count = h.count;
+      taken = threads_of h.taken;
+      left = threads_of h.left;
+      so_far = parts.0;
+      run = h.run;
+      turns = plain_turns-in_turn (machine (start_flat guest budget profile)) (tables (start_flat guest budget profile)) (threads_of h.taken) h.run
+          (subst (λ z. InTurns (machine (start_flat guest budget profile)) (tables (start_flat guest budget profile)) z h.run) parts.1 h.in_turns);
+      kind = h.kind;
+      asks = h.asks;
+      answered = h.answered;
     }

@@ -4,8 +4,7 @@ use Rattle.std.proofs.Common.{◌≡◌, ℕ, ◌+◌, ◌<◌, List, ◌++◌, 
 use Rattle.std.specs.List.{slice_get}
 use Rattle.std.specs.Prelude.{option_map}
 use Rattle.ir_image.specs.Guest.{Guest, object_count}
-use Rattle.ir_thread.specs.State.{end_number, end_code}
-use Rattle.ir_thread.specs.Instance.{thread_machine}
+use Rattle.ir_thread.specs.State.{end_number, end_code, thread_machine}
 use Rattle.ir_thread.specs.State as thread
 use Rattle.ir_thread.specs.declared.end.End as end
 use Rattle.ir_flat.specs.Flat.{start_flat, tables}
@@ -13,7 +12,8 @@ use Rattle.ir_runs.specs.Run.{Step, IsRun, IsDone, end, log, count}
 use Rattle.ir_flat.proofs.CallerLemmas.{tallies_along_run, start_thread_has_no_steps}
 use Rattle.ir_log.specs.Logged.{Logged}
 use Rattle.ir_log.specs.Logging.{label_of}
-use Rattle.ir_trace.specs.Recorded.{Recorded, RecordedThread, absent}
+use Rattle.ir_trace.specs.Recorded.{Recorded, RecordedThread}
+use Rattle.ir_trace.specs.Absent.{absent}
 use Rattle.ir_record.specs.Gathered.{IsThreadTrace}
 use Rattle.ir_record.specs.Worlds.{answers_at, Answered, answers_in}
 use Rattle.ir_record.specs.Recording.{IsTraceOf, AreOutputs, AreAnswers}

@@ -1,8 +1,7 @@
 -- Tries that are recorded.
 use Rattle.std.proofs.Common.{◌≡◌, ℕ, ◌<◌, List, [], ◌∷◌, ◌++◌, length, set, refl, sym, ap, subst}
-use Rattle.ir_thread.specs.Calls.{ask_of, most_events}
+use Rattle.ir_thread.specs.State.{ask_of, most_events, shared_ask}
 use Rattle.ir_thread.specs.Permitted.{Permits}
-use Rattle.ir_thread.specs.Instance.{shared_ask}
 use Rattle.ir_thread.specs.declared.ask.Ask.TheVariants.{Try}
 use Rattle.ir_thread.specs.declared.profile.Profile.{Profile}
 use Rattle.ir_thread.proofs.CallerLemmas.{ask_of_permitted}
@@ -16,7 +15,7 @@ use Rattle.ir_log.specs.Logged.{Logged}
 use Rattle.ir_log.specs.Logging.{label_of}
 use Rattle.ir_log.specs.declared.event.Event.{Event}
 use Rattle.ir_log.specs.declared.event.Event.TheVariants as event
-use Rattle.ir_trace.specs.Within.{IsEvent}
+use Rattle.ir_trace.specs.Recorded.{IsEvent}
 use Rattle.ir_record.specs.Progress.{IsTape, log_at}
 use Rattle.ir_record.proofs.Entering.{OneEventLogged, label_is_of_ask, entry_logs_itself, entry_logs_no_answer}
 
@@ -62,7 +61,6 @@ entering_try_logs_one_event f g logs more t o e x emits fits = record {
   unanswered = entry_logs_no_answer o Writing 0 ((tables f).objects o);
   fits = fits (thread_of f t).profile;
   can = x.can;
-  enters = λ i tries can. refl;
   taken = x.taken;
   code = x.code;
   threads = x.threads;
@@ -72,10 +70,10 @@ entering_try_logs_one_event f g logs more t o e x emits fits = record {
   logs_are = x.logs_are;
 }
 
--- it was refused, where it can't enter
+-- it was refused
 pub refused_try_logs_one_event : (f g : Flat) (logs more : List Logged) (t o : ℕ) → TryLogged f g logs more t o 0 (event.Try o)
-    → (Can (machine_of f) (tables f) (t, 1) → ⊥) → OneEventLogged f g logs more t 0 (Refused o) (event.Try o)
-refused_try_logs_one_event f g logs more t o x never = record {
+    → OneEventLogged f g logs more t 0 (Refused o) (event.Try o)
+refused_try_logs_one_event f g logs more t o x = record {
   tape = x.tape;
   flat = x.flat;
   below = x.below;
@@ -89,7 +87,6 @@ refused_try_logs_one_event f g logs more t o x never = record {
     tried_object_is_of_state f t o x.flat x.below x.asked,
   );
   can = x.can;
-  enters = λ i tries can. absurd (never can);
   taken = x.taken;
   code = x.code;
   threads = x.threads;

@@ -3,12 +3,11 @@ use Rattle.std.specs.Prelude.{◌≡◌, ◌<◌, ◌≤◌, ◌+◌, ℕ, zero,
 use Rattle.std.specs.List.{slice_index_or}
 use Rattle.ir_runs.specs.Machine.{Machine, Private}
 use Rattle.ir_thread.specs.State as thread
-use Rattle.ir_thread.specs.Calls.{ask_of}
+use Rattle.ir_thread.specs.State.{ask_of}
 use Rattle.ir_thread.specs.declared.ask.Ask as ask
 use Rattle.ir_thread.specs.declared.ask.Ask.TheVariants.{Done}
 use Rattle.ir_flat.specs.Flat.{Flat, IsFlat, thread_of, tables, machine}
-use Rattle.ir_runs.specs.Run.{State, Step, end, log}
-use Rattle.ir_runs.specs.InOrder.{HasNone, InTurn}
+use Rattle.ir_runs.specs.Run.{State, Step, end, log, InTurn, HasNone}
 use Rattle.ir_record.specs.Progress.{Progress, all_left, labels_at}
 use Rattle.ir_record.specs.Worlds.{answers_at, answers_in}
 

@@ -1,14 +1,14 @@
 -- Recordings in order that end because a world failed.
-use Rattle.std.specs.Prelude.{◌≡◌, ◌<◌, ℕ, List, ◌∷◌, ◌++◌, length}
-use Rattle.ir_thread.specs.Calls.{ask_of}
+use Rattle.std.specs.Prelude.{◌≡◌, ◌<◌, ℕ, List, ◌∷◌, ◌++◌, length, Bool}
+use Rattle.ir_thread.specs.State.{ask_of}
 use Rattle.ir_thread.specs.State as thread
 use Rattle.ir_thread.specs.declared.ask.Ask.TheVariants as ask
 use Rattle.ir_runs.specs.Machine as machine
 use Rattle.ir_runs.specs.declared.env_kind.EnvKind.{EnvKind}
-use Rattle.ir_flat.specs.Flat.{thread_of, machine}
-use Rattle.ir_runs.specs.Run.{State, Step, asked, end, log}
-use Rattle.ir_runs.specs.InOrder.{InTurn}
+use Rattle.ir_flat.specs.Flat.{thread_of, tables, machine}
+use Rattle.ir_runs.specs.Run.{State, Step, asked, end, log, InTurn}
 use Rattle.ir_record.specs.Progress.{Progress}
+use Rattle.ir_record.specs.Refusing.{Turn, InTurns}
 use Rattle.ir_record.specs.Worlds.{answers_at, Answered, answers_in}
 
 -- thread t asks its world, which fails: the thread that is named is t, and no world has answered more
@@ -31,3 +31,17 @@ pub record StoppedAt (order : List ℕ) (s : State thread.ThreadState) (p : Prog
   pub worlds : length answers ≡ length p.flat.threads
   pub answered : (t : ℕ) → t < length p.flat.threads
       → answers_at answers t ≡ answers_at p.answers t ++ answers_in (log (machine p.flat) s run t)
+
+-- the same of turns, in which tries may be refused, from p on
+pub record StoppedTurns (turns : List Turn) (p : Progress) (named : ℕ) (answers : List (List Answered)) : Type 0 where
+  pub taken : List Turn
+  pub refused : Bool
+  pub left : List Turn
+  pub so_far : turns ≡ taken ++ (named, refused) ∷ left
+  pub run : List Step
+  pub in_turns : InTurns (machine p.flat) (tables p.flat) taken run
+  pub kind : EnvKind
+  pub asks : asked (machine p.flat) (end (machine p.flat) (tables p.flat) run) named ≡ machine.Env kind
+  pub worlds : length answers ≡ length p.flat.threads
+  pub answered : (t : ℕ) → t < length p.flat.threads
+      → answers_at answers t ≡ answers_at p.answers t ++ answers_in (log (machine p.flat) (tables p.flat) run t)

@@ -1,4 +1,5 @@
 pub mod Worlds
+pub mod Refusing
 pub mod Recording
 pub mod Recorders
 pub mod Progress

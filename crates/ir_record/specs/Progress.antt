@@ -1,20 +1,19 @@
 -- A recording in progress.
 use Rattle.std.specs.Prelude.{◌≡◌, ◌<◌, ◌≤◌, ◌+◌, ◌-◌, ℕ, zero, suc, List, [], ◌++◌, length, map, Option, Some, None, Bool, true, false, ⊤}
 use Rattle.std.specs.List.{slice_index_or, AllByRecursion}
-use Rattle.ir_thread.specs.Calls.{most_events}
-use Rattle.ir_thread.specs.Permitted.{most_closing}
-use Rattle.ir_thread.specs.State.{held_count}
+use Rattle.ir_thread.specs.Permitted.{most_closing, held_count}
+use Rattle.ir_thread.specs.State.{most_events}
 use Rattle.ir_runs.specs.Machine.{Label}
 use Rattle.ir_thread.specs.State as thread
 use Rattle.ir_thread.specs.declared.end.End.{End}
 use Rattle.ir_thread.specs.declared.ask.Ask as ask
 use Rattle.ir_thread.specs.declared.ask.Ask.TheVariants as asks
 use Rattle.ir_flat.specs.Flat.{Flat, thread_of, tables, machine}
-use Rattle.ir_runs.specs.Run.{Step, end, log}
+use Rattle.ir_runs.specs.Run.{Step, end, log, InTurn}
 use Rattle.ir_log.specs.Logged.{Logged}
 use Rattle.ir_log.specs.Logging.{label_of}
-use Rattle.ir_trace.specs.Within.{IsEvent}
-use Rattle.ir_runs.specs.InOrder.{InTurn}
+use Rattle.ir_trace.specs.Recorded.{IsEvent}
+use Rattle.ir_record.specs.Refusing.{Turn, InTurns}
 use Rattle.ir_record.specs.Worlds.{Answered, answers_in, NoneFailed, answers_at}
 use Rattle.ir_record.specs.declared.tape.Tape.{Tape}
 
@@ -64,7 +63,25 @@ pub record Took (order : List ℕ) (a b : Progress) : Type 0 where
       → answers_at b.answers t ≡ answers_at a.answers t ++ answers_in (log (machine a.flat) (tables a.flat) run t)
   pub fewer : all_left (length a.flat.threads) (tables b.flat).now + length run ≤ all_left (length a.flat.threads) (tables a.flat).now
 
--- the same, and whether a step was taken
+-- b is a after the steps of a run
+pub record Moved (run : List Step) (a b : Progress) : Type 0 where
+  pub ends : tables b.flat ≡ end (machine a.flat) (tables a.flat) run
+  pub code : b.flat.code ≡ a.flat.code
+  pub threads : length b.flat.threads ≡ length a.flat.threads
+  pub objects : length b.flat.objects ≡ length a.flat.objects
+  -- what its steps log is added to each thread's log, and the answers among it to those of the thread's world
+  pub logs : (t : ℕ) → t < length a.flat.threads → labels_at b.logs t ≡ labels_at a.logs t ++ log (machine a.flat) (tables a.flat) run t
+  pub answers : (t : ℕ) → t < length a.flat.threads
+      → answers_at b.answers t ≡ answers_at a.answers t ++ answers_in (log (machine a.flat) (tables a.flat) run t)
+  pub fewer : all_left (length a.flat.threads) (tables b.flat).now + length run ≤ all_left (length a.flat.threads) (tables a.flat).now
+
+-- b is a after these turns, in which tries may be refused
+pub record TookTurns (turns : List Turn) (a b : Progress) : Type 0 where
+  pub run : List Step
+  pub in_turns : InTurns (machine a.flat) (tables a.flat) turns run
+  pub moved : Moved run a b
+
+-- b is a after a turn of each thread that the order names, and whether a step was taken
 pub record TookIf (moved : Bool) (order : List ℕ) (a b : Progress) : Type 0 where
   pub took : Took order a b
   pub some : moved ≡ true → 0 < length took.run

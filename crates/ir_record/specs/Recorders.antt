@@ -2,8 +2,9 @@
 use Rattle.std.specs.Prelude.{ℕ, List, map, Bool}
 use Rattle.ir_runs.specs.Run.{State}
 use Rattle.ir_thread.specs.State as thread
-use Rattle.ir_record.specs.Failures.{IsUnanswered, StoppedAt}
+use Rattle.ir_record.specs.Failures.{IsUnanswered, StoppedAt, StoppedTurns}
 use Rattle.ir_record.specs.Progress.{Progress, progress, IsReady}
+use Rattle.ir_record.specs.Refusing.{Turn}
 use Rattle.ir_record.specs.Worlds.{Answered, IsFirstFailed}
 use Rattle.ir_record.specs.declared.recorder.Recorder.{Recorder}
 use Rattle.ir_record.specs.declared.turn.Failed.{Failed}
@@ -27,3 +28,7 @@ StopsAtOnce answers t r worlds f = IsUnanswered t (progress_of answers r) f.thre
 -- from s on the turns of the order were taken until the one of the thread whose world failed
 abbrev pub StopsIn : {W : Type 0} → (W → List Answered) → List ℕ → State thread.ThreadState → Recorder W → List W → Failed → Type 0
 StopsIn answers order s r worlds f = StoppedAt order s (progress_of answers r) f.thread (map answers worlds)
+
+-- the turns, in which tries may be refused, were taken until the one of the thread whose world failed
+abbrev pub StopsInTurns : {W : Type 0} → (W → List Answered) → List Turn → Recorder W → List W → Failed → Type 0
+StopsInTurns answers turns r worlds f = StoppedTurns turns (progress_of answers r) f.thread (map answers worlds)

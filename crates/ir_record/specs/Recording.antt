@@ -2,22 +2,21 @@
 use Rattle.ir_thread.specs.declared.profile.Profile.{Profile}
 use Rattle.std.specs.Prelude.{◌≡◌, ℕ, ◌<◌, ◌++◌, List, [], ◌∷◌, length, map, slice_get, slice_index_or, Some, Bool, true, false, ⊤, flat_map, replicate}
 use Rattle.ir_image.specs.Guest.{Guest, object_count}
-use Rattle.ir_thread.specs.Calls.{ask_of}
-use Rattle.ir_thread.specs.Instance.{thread_machine}
-use Rattle.ir_thread.specs.State.{start_state}
+use Rattle.ir_thread.specs.State.{start_state, ask_of, thread_machine}
 use Rattle.ir_thread.specs.declared.ask.Ask.TheVariants as ask
 use Rattle.ir_flat.specs.Flat.{start_flat, tables, machine}
 use Rattle.ir_flat.specs.Lone.{MayRun, alone_after, alone_trail}
 use Rattle.ir_runs.specs.Machine.{Env}
-use Rattle.ir_runs.specs.Run.{Step, asked, events, log, end}
+use Rattle.ir_runs.specs.Run.{Step, asked, events, log, end, InTurn, IsByOrder, rounds}
 use Rattle.ir_runs.specs.declared.env_kind.EnvKind.{EnvKind}
 use Rattle.ir_runs.specs.Verdicts.{IsWhole}
 use Rattle.ir_trace.specs.Recorded.{Recorded, trace_of}
-use Rattle.ir_runs.specs.InOrder.{InTurn, IsByOrder, rounds}
 use Rattle.ir_record.specs.Worlds.{answers_at, Answered, answers_in, NoneFailed, IsFirstFailed, AreSameWorlds}
 use Rattle.ir_record.specs.declared.outputs.Outputs.{Outputs}
 use Rattle.ir_record.specs.declared.record_err.RecordErr.{RecordErr}
 use Rattle.ir_record.specs.declared.record_err.RecordErr.TheVariants.{NoMem, World}
+use Rattle.ir_record.specs.Refusing.{Turn, plain_turns, InTurns, IsByTurns}
+use Rattle.ir_record.specs.declared.item.Item.{Item}
 use Rattle.ir_record.specs.declared.turns.Turns.{Turns}
 
 -- the trace of a complete run of the guest: its header, and of each thread its steps, its log, its end and its code
@@ -61,6 +60,13 @@ pub record IsRecordingInOrder (guest : Guest) (budget : ℕ) (profile : Profile)
   pub by_order : IsByOrder (machine (start_flat guest budget profile)) (tables (start_flat guest budget profile)) (length guest.entries) order run
   pub of : IsRecordingOf guest budget profile run before trace outputs answers
 
+-- the same of the run of the guest by turns, in which tries may be refused
+pub record IsRecordingByTurns (guest : Guest) (budget : ℕ) (profile : Profile) (turns : List Turn) (before : List (List Answered)) (trace : Recorded)
+    (outputs : List (List ℕ)) (answers : List (List Answered)) : Type 0 where
+  pub run : List Step
+  pub by_turns : IsByTurns (machine (start_flat guest budget profile)) (tables (start_flat guest budget profile)) (length guest.entries) turns run
+  pub of : IsRecordingOf guest budget profile run before trace outputs answers
+
 -- ---- what a call that records hands back, of worlds by what they have answered, whether they have failed and what they were made with
 
 -- what f gives of each thread's world, as it is handed back
@@ -75,6 +81,11 @@ printed_by outputs = map (λ o. o.bytes.items) outputs.each.items
 abbrev pub IsRecordedInOrder : {W : Type 0} → (W → List Answered) → Guest → ℕ → Profile → List ℕ → List W → Recorded × Outputs W → Type 0
 IsRecordedInOrder answers guest budget profile order before r =
     IsRecordingInOrder guest budget profile order (map answers before) r.0 (printed_by r.1) (each_world answers r.1)
+
+-- the same of the run of the guest by turns, in which tries may be refused
+abbrev pub IsRecordedInTurns : {W : Type 0} → (W → List Answered) → Guest → ℕ → Profile → List Turn → List W → Recorded × Outputs W → Type 0
+IsRecordedInTurns answers guest budget profile turns before r =
+    IsRecordingByTurns guest budget profile turns (map answers before) r.0 (printed_by r.1) (each_world answers r.1)
 
 -- the same of one complete run of the guest
 abbrev pub IsRecordedByThreads : {W : Type 0} → (W → List Answered) → Guest → ℕ → Profile → List W → Recorded × Outputs W → Type 0
@@ -111,6 +122,29 @@ IsFailureInOrder answers broken origin guest budget profile order before NoMem =
 IsFailureInOrder answers broken origin guest budget profile order before (World thread worlds) = IsFirstFailed (map broken worlds.items) thread
     × AreSameWorlds origin before worlds.items × StoppedInOrder guest budget profile order thread (map answers before) (map answers worlds.items)
 
+-- the turns, in which tries may be refused, and rounds after them, were taken until the one of the thread whose world failed, which asks its world
+-- there. They are a run of the guest, and each world answered what it had answered, and then the answers that this run logged of it
+pub record StoppedInTurns (guest : Guest) (budget : ℕ) (profile : Profile) (turns : List Turn) (failed : ℕ) (before after : List (List Answered)) :
+    Type 0 where
+  pub count : ℕ
+  pub taken : List Turn
+  pub refused : Bool
+  pub left : List Turn
+  pub so_far : turns ++ plain_turns (rounds (length guest.entries) count) ≡ taken ++ (failed, refused) ∷ left
+  pub run : List Step
+  pub in_turns : InTurns (machine (start_flat guest budget profile)) (tables (start_flat guest budget profile)) taken run
+  pub kind : EnvKind
+  pub asks : asked (machine (start_flat guest budget profile))
+      (end (machine (start_flat guest budget profile)) (tables (start_flat guest budget profile)) run) failed ≡ Env kind
+  pub answered : AreAnswers guest budget profile run before after
+
+-- out of memory; or a world has failed, as in order
+abbrev pub IsFailureInTurns : {W O : Type 0} → (W → List Answered) → (W → Bool) → (W → O) → Guest → ℕ → Profile → List Turn → List W → RecordErr W
+    → Type 0
+IsFailureInTurns answers broken origin guest budget profile turns before NoMem = ⊤
+IsFailureInTurns answers broken origin guest budget profile turns before (World thread worlds) = IsFirstFailed (map broken worlds.items) thread
+    × AreSameWorlds origin before worlds.items × StoppedInTurns guest budget profile turns thread (map answers before) (map answers worlds.items)
+
 -- thread t of the guest, alone, is done after these replies, or where its world failed asks it; its world answered what it had answered, and
 -- then those of the replies that are answers of the environment
 pub record WentOn (guest : Guest) (budget : ℕ) (profile : Profile) (t : ℕ) (failed : Bool) (before after : List Answered) : Type 0 where
@@ -138,3 +172,7 @@ IsFailure answers broken origin guest budget profile before (World thread worlds
 -- the threads in the order of their turns
 abbrev pub order_of_turns : List Turns → List ℕ
 order_of_turns turns = flat_map (λ t. replicate t.count t.thread) turns
+
+-- the turns of items, one after the other
+abbrev pub turns_of_items : List Item → List Turn
+turns_of_items items = flat_map (λ i. replicate i.count (i.thread, i.refused)) items

@@ -1,15 +1,15 @@
 //! Turns by an order.
 
-ghost use Rattle.std.specs.Prelude.{replicate, OnOk, IfErr};
+ghost use Rattle.std.specs.Prelude.{replicate, true, OnOk, IfErr};
 ghost use Rattle.ir_flat.specs.Flat.{tables};
-ghost use Rattle.ir_record.specs.Progress.{Took};
-ghost use Rattle.ir_record.specs.Recorders.{progress_of, CanGoOn, NamesFirst, StopsIn};
-ghost use Rattle.ir_record.specs.Recording.{order_of_turns};
+ghost use Rattle.ir_record.specs.Progress.{Took, TookTurns};
+ghost use Rattle.ir_record.specs.Recorders.{progress_of, CanGoOn, NamesFirst, StopsIn, StopsInTurns};
+ghost use Rattle.ir_record.specs.Recording.{turns_of_items};
 ghost use Rattle.ir_record.specs.Worlds.{AreSameWorlds};
 
+use crate::item::Item;
 use crate::recorder::Recorder;
 use crate::turn::Failed;
-use crate::turns::Turns;
 use crate::world::World;
 
 impl<W: World> Recorder<'_, W> {
@@ -36,17 +36,52 @@ impl<W: World> Recorder<'_, W> {
         Ok(())
     }
 
-    // The turns of an order, one after the other. Those of a thread that has no step take no time.
-    pub fn follow(&mut self, order: &[Turns]) -> Result<(), Failed>
+    // `count` turns of thread t, in which its tries are refused; none of them is a step if there is no such thread.
+    fn turns_refused(&mut self, t: usize, count: u64) -> Result<(), Failed>
         requires { CanGoOn W.answers W.broken self.old }
-        ensures took { OnOk result (Took (order_of_turns order.now) (progress_of W.answers self.old) (progress_of W.answers self.new)) }
+        ensures took { OnOk result (TookTurns (replicate count (t, true)) (progress_of W.answers self.old) (progress_of W.answers self.new)) }
         ensures ready { OnOk result (CanGoOn W.answers W.broken self.new) }
         ensures failed { IfErr result (NamesFirst W.broken self.new.worlds.items) }
-        ensures stopped { IfErr result (StopsIn W.answers (order_of_turns order.now) (tables self.old.tape.flat) self.old self.new.worlds.items) }
+        ensures stopped { IfErr result (StopsInTurns W.answers (replicate count (t, true)) self.old self.new.worlds.items) }
+        ensures kept { AreSameWorlds W.origin self.old.worlds.items self.new.worlds.items }
+    {
+        let mut left = count;
+        'turns: while left > 0 {
+            if !self.turn_refused(t)? {
+                return Ok(());
+            }
+            left -= 1;
+        }
+        Ok(())
+    }
+
+    // The turns of an item.
+    fn follow_item(&mut self, item: Item) -> Result<(), Failed>
+        requires { CanGoOn W.answers W.broken self.old }
+        ensures took { OnOk result (TookTurns (replicate item.count (item.thread, item.refused)) (progress_of W.answers self.old) (progress_of W.answers self.new)) }
+        ensures ready { OnOk result (CanGoOn W.answers W.broken self.new) }
+        ensures failed { IfErr result (NamesFirst W.broken self.new.worlds.items) }
+        ensures stopped { IfErr result (StopsInTurns W.answers (replicate item.count (item.thread, item.refused)) self.old self.new.worlds.items) }
+        ensures kept { AreSameWorlds W.origin self.old.worlds.items self.new.worlds.items }
+    {
+        if item.refused {
+            self.turns_refused(item.thread as usize, item.count)
+        } else {
+            self.turns(item.thread as usize, item.count)
+        }
+    }
+
+    // The turns of an order, one after the other. Those of a thread that has no step take no time.
+    pub fn follow(&mut self, order: &[Item]) -> Result<(), Failed>
+        requires { CanGoOn W.answers W.broken self.old }
+        ensures took { OnOk result (TookTurns (turns_of_items order.now) (progress_of W.answers self.old) (progress_of W.answers self.new)) }
+        ensures ready { OnOk result (CanGoOn W.answers W.broken self.new) }
+        ensures failed { IfErr result (NamesFirst W.broken self.new.worlds.items) }
+        ensures stopped { IfErr result (StopsInTurns W.answers (turns_of_items order.now) self.old self.new.worlds.items) }
         ensures kept { AreSameWorlds W.origin self.old.worlds.items self.new.worlds.items }
     {
         'order: for item in order {
-            self.turns(item.thread as usize, item.count)?;
+            self.follow_item(*item)?;
         }
         Ok(())
     }

@@ -1,16 +1,17 @@
 //! Recording on one thread, in a given order.
 
 ghost use Rattle.std.specs.Prelude.{◌≡◌, ◌<◌, ◌≤◌, ◌++◌, ℕ, length, map, replicate, vec_len, IfOk, OnOk, IfErr};
-ghost use Rattle.ir_thread.specs.State.{IsAllowed};
-ghost use Rattle.ir_thread.specs.Calls.{most_budget};
+ghost use Rattle.ir_thread.specs.State.{IsAllowed, most_budget};
 ghost use Rattle.ir_flat.specs.Flat.{tables, machine};
-ghost use Rattle.ir_runs.specs.InOrder.{HasNone, rounds};
-ghost use Rattle.ir_record.specs.Progress.{Took};
-ghost use Rattle.ir_record.specs.Recorders.{progress_of, CanGoOn, NamesFirst, StopsIn};
-ghost use Rattle.ir_record.specs.Recording.{IsRecordedInOrder, AllWork, AreHandedBack, IsFailureInOrder, order_of_turns};
+ghost use Rattle.ir_runs.specs.Run.{HasNone, rounds};
+ghost use Rattle.ir_record.specs.Progress.{TookTurns, Took};
+ghost use Rattle.ir_record.specs.Recorders.{progress_of, CanGoOn, NamesFirst, StopsInTurns, StopsIn};
+ghost use Rattle.ir_record.specs.Recording.{IsRecordedInOrder, IsRecordedInTurns, AllWork, AreHandedBack, IsFailureInOrder, IsFailureInTurns, order_of_turns, turns_of_items};
+ghost use Rattle.ir_record.specs.Refusing.{plain_turns};
 ghost use Rattle.ir_record.specs.Worlds.{NoneFailed, AreSameWorlds};
 
 use crate::gather::outputs;
+use crate::item::{Item, items_of};
 use crate::outputs::Outputs;
 use crate::record_err::RecordErr;
 use crate::recorder::Recorder;
@@ -28,24 +29,66 @@ impl<W: World> Recorder<'_, W> {
     // `ahead` has a place for each thread, of which none is ahead, and so has `asks`.
     fn record(
         &mut self,
-        order: &[Turns],
+        order: &[Item],
         ahead: &mut Vec<u64>,
         asks: &mut Vec<Ask>,
     ) -> Result<(), Failed>
         requires ready { CanGoOn W.answers W.broken self.old }
         requires level { ahead.old.items ≡ replicate (length self.old.tape.flat.threads) 0 }
         requires asks { length asks.old.items ≡ length self.old.tape.flat.threads }
-        ensures took { OnOk result ((count : ℕ) × Took (order_of_turns order.now ++ rounds (length self.old.tape.flat.threads) count) (progress_of W.answers self.old) (progress_of W.answers self.new)) }
+        ensures took { OnOk result ((count : ℕ) × TookTurns (turns_of_items order.now ++ plain_turns (rounds (length self.old.tape.flat.threads) count)) (progress_of W.answers self.old) (progress_of W.answers self.new)) }
         ensures over { OnOk result ((t : ℕ) → t < length self.new.tape.flat.threads → HasNone (machine self.new.tape.flat) (tables self.new.tape.flat) t) }
         ensures ready { OnOk result (CanGoOn W.answers W.broken self.new) }
         ensures failed { IfErr result (NamesFirst W.broken self.new.worlds.items) }
-        ensures stopped { IfErr result (λ f. (count : ℕ) × StopsIn W.answers (order_of_turns order.now ++ rounds (length self.old.tape.flat.threads) count) (tables self.old.tape.flat) self.old self.new.worlds.items f) }
+        ensures stopped { IfErr result (λ f. (count : ℕ) × StopsInTurns W.answers (turns_of_items order.now ++ plain_turns (rounds (length self.old.tape.flat.threads) count)) self.old self.new.worlds.items f) }
         ensures kept { AreSameWorlds W.origin self.old.worlds.items self.new.worlds.items }
     {
         self.follow(order)?;
         self.rounds(ahead, asks)?;
         Ok(())
     }
+}
+
+/// `record_in_order` by the turns of these items, of which some may refuse tries. It takes time for each step and each item of
+/// the order, and none for the turns of a thread that has no step.
+///
+/// # Errors
+/// As `record_in_order`.
+pub fn record_with_refusals<W: World + Drop>(
+    alloc: Global,
+    image: &Image,
+    order: &[Item],
+    worlds: Vec<W>,
+    budget: u64,
+    profile: Profile,
+) -> Result<(Trace, Outputs<W>), RecordErr<W>>
+    requires budget { budget ≤ most_budget }
+    requires allowed { IsAllowed profile image.now }
+    requires each { vec_len worlds ≡ length image.now.entries }
+    requires works { NoneFailed (map W.broken worlds.items) }
+    // The run by the turns, which is complete: its trace, what its threads printed, and what their worlds answered.
+    ensures recorded { IfOk result (IsRecordedInTurns W.answers image.now budget profile (turns_of_items order.now) worlds.items) }
+    ensures works { IfOk result (AllWork W.broken) }
+    // The worlds are those that were handed in.
+    ensures origins { IfOk result (AreHandedBack W.origin worlds.items) }
+    ensures failed { IfErr result (IsFailureInTurns W.answers W.broken W.origin image.now budget profile (turns_of_items order.now) worlds.items) }
+{
+    let mut recorder = Recorder {
+        tape: Tape::start(alloc, image, budget, profile)?,
+        worlds,
+    };
+    let mut ahead = vec![in alloc; 0; recorder.tape.flat.threads().len()]?;
+    let mut asks = vec![in alloc; Ask::Done; recorder.tape.flat.threads().len()]?;
+    if let Err(Failed { thread }) = recorder.record(order, &mut ahead, &mut asks) {
+        return Err(RecordErr::World {
+            thread,
+            worlds: recorder.worlds,
+        });
+    }
+    let Recorder { tape, worlds } = recorder;
+    let outputs = outputs(alloc, tape.flat.threads(), worlds)?;
+    let trace = tape.into_trace(alloc, budget, profile)?;
+    Ok((trace, outputs))
 }
 
 /// `record_in_order` by the order that these turns write out. It takes time for each step and each item of the order, and
@@ -72,22 +115,8 @@ pub fn record_in_turns<W: World + Drop>(
     ensures origins { IfOk result (AreHandedBack W.origin worlds.items) }
     ensures failed { IfErr result (IsFailureInOrder W.answers W.broken W.origin image.now budget profile (order_of_turns order.now) worlds.items) }
 {
-    let mut recorder = Recorder {
-        tape: Tape::start(alloc, image, budget, profile)?,
-        worlds,
-    };
-    let mut ahead = vec![in alloc; 0; recorder.tape.flat.threads().len()]?;
-    let mut asks = vec![in alloc; Ask::Done; recorder.tape.flat.threads().len()]?;
-    if let Err(Failed { thread }) = recorder.record(order, &mut ahead, &mut asks) {
-        return Err(RecordErr::World {
-            thread,
-            worlds: recorder.worlds,
-        });
-    }
-    let Recorder { tape, worlds } = recorder;
-    let outputs = outputs(alloc, tape.flat.threads(), worlds)?;
-    let trace = tape.into_trace(alloc, budget, profile)?;
-    Ok((trace, outputs))
+    let items = items_of(alloc, order)?;
+    record_with_refusals(alloc, image, items.as_slice(), worlds, budget, profile)
 }
 
 /// Records the guest on one thread. Each entry of the order takes one step of that thread, or none where it has none;

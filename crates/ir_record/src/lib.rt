@@ -6,6 +6,7 @@ mod follow;
 mod gather;
 mod handing_back;
 mod in_order;
+mod item;
 mod outputs;
 mod pass;
 mod record_err;
@@ -23,7 +24,8 @@ mod workers;
 mod world;
 
 pub use by_threads::record;
-pub use in_order::{record_in_order, record_in_turns};
+pub use in_order::{record_in_order, record_in_turns, record_with_refusals};
+pub use item::Item;
 pub use outputs::{Output, Outputs};
 pub use record_err::RecordErr;
 pub use turns::Turns;

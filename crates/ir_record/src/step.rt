@@ -3,16 +3,15 @@
 ghost use Rattle.std.specs.Prelude.{◌≡◌, ◌≢◌, ◌<◌, [], ◌∷◌, ◌++◌, ◌≤◌, true, false, List, length, slice_set, replicate};
 ghost use Rattle.ir_flat.specs.Alone.{WentAlone};
 ghost use Rattle.ir_flat.specs.Flat.{thread_of, IsFlat, tables};
-ghost use Rattle.ir_thread.specs.Calls.{ask_of};
+ghost use Rattle.ir_thread.specs.State.{ask_of, is_result};
 ghost use Rattle.ir_thread.specs.Permitted.{Permits};
-ghost use Rattle.ir_thread.specs.Instance.{is_result};
 ghost use Rattle.ir_thread.specs.declared.ask.Ask.TheVariants.{Env, Enter, Try};
 ghost use Rattle.ir_thread.specs.declared.profile.Profile.{Profile};
 ghost use Rattle.ir_log.specs.Logging.{label_of};
 ghost use Rattle.ir_runs.specs.Machine.{emitted};
 ghost use Rattle.ir_runs.specs.Machine as act;
-ghost use Rattle.ir_trace.specs.Within.{IsEvent};
-ghost use Rattle.ir_record.specs.Progress.{progress, Took, TookIf, IsTape, IsQuiet};
+ghost use Rattle.ir_trace.specs.Recorded.{IsEvent};
+ghost use Rattle.ir_record.specs.Progress.{progress, Took, TookIf, TookTurns, IsTape, IsQuiet};
 ghost use Rattle.ir_record.specs.Worlds.{answers_at, Answered};
 
 use crate::tape::Tape;
@@ -102,6 +101,20 @@ impl Tape<'_> {
                 self.logs[t].push(Event::Try { object });
             }
         }
+    }
+
+    // Thread t tries to enter the object that it asks for, and is refused.
+    pub fn refuse(&mut self, t: usize, object: u8)
+        requires tape { IsTape self.old.flat self.old.logs.items }
+        requires flat { IsFlat self.old.flat }
+        requires thread { t < length self.old.flat.threads }
+        requires asked { ask_of self.old.flat.code (thread_of self.old.flat t) ≡ Try object }
+        ensures took { (answers : List (List Answered)) → TookTurns ((t, true) ∷ []) (progress self.old answers) (progress self.new answers) }
+        ensures tape { IsTape self.new.flat self.new.logs.items }
+    {
+        let asked = Ask::Try(object);
+        let _ = self.flat.take(t, asked, 0);
+        self.logs[t].push(Event::Try { object });
     }
 
     // Thread t takes the step that it asks, which nothing is logged of; one that is done has none.

@@ -1,12 +1,12 @@
 //! A turn of one thread.
 
 ghost use Rattle.std.specs.Prelude.{◌≡◌, ◌<◌, [], ◌∷◌, ◌++◌, true, false, length, map, slice_set, IfOk, OnOk, IfErr, OnErr};
-ghost use Rattle.ir_flat.specs.Flat.{IsFlat, thread_of};
-ghost use Rattle.ir_thread.specs.Calls.{ask_of};
-ghost use Rattle.ir_thread.specs.Instance.{is_result};
-ghost use Rattle.ir_record.specs.Progress.{TookIf};
+ghost use Rattle.ir_flat.specs.Flat.{IsFlat, thread_of, tables, machine};
+ghost use Rattle.ir_runs.specs.Run.{HasNone};
+ghost use Rattle.ir_thread.specs.State.{ask_of, is_result};
+ghost use Rattle.ir_record.specs.Progress.{TookIf, TookTurns};
 ghost use Rattle.ir_record.specs.Worlds.{answers_at, NoneFailed, AreSameWorlds};
-ghost use Rattle.ir_record.specs.Recorders.{progress_of, CanGoOn, NamesFirst, StopsAtOnce};
+ghost use Rattle.ir_record.specs.Recorders.{progress_of, CanGoOn, NamesFirst, StopsAtOnce, StopsInTurns};
 
 use crate::recorder::Recorder;
 use crate::world::World;
@@ -66,5 +66,28 @@ impl<W: World> Recorder<'_, W> {
             }
             _ => Ok(self.tape.go(t, asked)),
         }
+    }
+
+    // A turn of thread t in which a try is refused, and whether a step was taken. If it asks no try, it takes its next step, if it
+    // has one.
+    pub fn turn_refused(&mut self, t: usize) -> Result<bool, Failed>
+        requires ready { CanGoOn W.answers W.broken self.old }
+        ensures took { OnOk result (TookTurns ((t, true) ∷ []) (progress_of W.answers self.old) (progress_of W.answers self.new)) }
+        ensures none { IfOk result (λ moved. moved ≡ false → HasNone (machine self.new.tape.flat) (tables self.new.tape.flat) t) }
+        ensures ready { OnOk result (CanGoOn W.answers W.broken self.new) }
+        ensures failed { IfErr result (NamesFirst W.broken self.new.worlds.items) }
+        ensures stopped { IfErr result (StopsInTurns W.answers ((t, true) ∷ []) self.old self.new.worlds.items) }
+        ensures kept { AreSameWorlds W.origin self.old.worlds.items self.new.worlds.items }
+    {
+        if t >= self.tape.flat.threads().len() {
+            return Ok(false);
+        }
+        let asked = self.tape.ask(t);
+        if let Ask::Try(object) = asked {
+            self.tape.refuse(t, object);
+            return Ok(true);
+        }
+        let moved = self.turn_asked(t, asked)?;
+        Ok(moved)
     }
 }

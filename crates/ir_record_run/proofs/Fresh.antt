@@ -2,10 +2,10 @@
 use Rattle.std.proofs.Common.{true, false, ◌≡◌, ◌<◌, ℕ, List, [], length, get_or, sym, ap, ◌∙◌, subst, arith}
 use Rattle.std.specs.Prelude.{Option, Some, None, Ok, replicate}
 use Rattle.std.specs.Option.{is_some}
-use Rattle.ir_image.specs.Guest.{Guest}
-use Rattle.ir_image.specs.Reading.{guest_at}
+use Rattle.ir_image.specs.Guest.{Guest, guest_at}
 use Rattle.ir_trace.specs.Recorded.{Recorded}
-use Rattle.ir_record.specs.Recording.{IsRecordingInOrder, IsRecordingOfSome}
+use Rattle.ir_record.specs.Recording.{IsRecordingByTurns, IsRecordingOfSome}
+use Rattle.ir_record.specs.Refusing.{Turn}
 use Rattle.ir_record.specs.Worlds.{Answered}
 use Rattle.ir_record_run.specs.Order.{order_of}
 use Rattle.ir_record_run.specs.Plan.{Plan}
@@ -13,11 +13,11 @@ use Rattle.ir_record_run.specs.Recording.{IsRecordedBy, IsRecordedOf}
 use Rattle.ir_sources.specs.Sources.{origin_of, IsAnswered}
 
 -- what was recorded in an order, with fresh worlds
-pub fresh_recording_by_order_is_recorded : (image list : List ℕ) (plan : Plan) (guest : Guest) (entries order given : List ℕ)
+pub fresh_recording_by_order_is_recorded : (image list : List ℕ) (plan : Plan) (guest : Guest) (entries : List ℕ) (order given : List Turn)
     (before : List (List Answered)) (trace : Recorded) (outputs : List (List ℕ)) (answers : List (List Answered))
     → plan.order ≡ Some list
     → guest_at image ≡ Ok guest → entries ≡ guest.entries → order_of (length entries) list ≡ Some order → given ≡ order
-    → before ≡ replicate (length entries) [] → IsRecordingInOrder guest plan.budget plan.profile given before trace outputs answers
+    → before ≡ replicate (length entries) [] → IsRecordingByTurns guest plan.budget plan.profile given before trace outputs answers
     → ((t : ℕ) → t < length entries → IsAnswered (origin_of true plan.random plan.input t) (get_or answers t []))
     → IsRecordedOf image plan trace outputs
 fresh_recording_by_order_is_recorded image list plan guest entries order given before trace outputs answers listed is same spelled e silent h answered =
@@ -29,9 +29,9 @@ fresh_recording_by_order_is_recorded image list plan guest entries order given b
       recorded = subst (λ (o : Option (List ℕ)). IsRecordedBy o guest plan.budget plan.profile trace outputs answers) (sym listed) (
         order,
         ap (λ (n : ℕ). order_of n list) (sym long) ∙ spelled,
-        subst (λ (z : List (List Answered)). IsRecordingInOrder guest plan.budget plan.profile order z trace outputs answers)
+        subst (λ (z : List (List Answered)). IsRecordingByTurns guest plan.budget plan.profile order z trace outputs answers)
             (silent ∙ ap (λ (n : ℕ). replicate n []) long)
-            (subst (λ (z : List ℕ). IsRecordingInOrder guest plan.budget plan.profile z before trace outputs answers) e h),
+            (subst (λ (z : List Turn). IsRecordingByTurns guest plan.budget plan.profile z before trace outputs answers) e h),
       );
       answered = λ t l. subst (λ (o : Option (List ℕ)). IsAnswered (origin_of (is_some o) plan.random plan.input t) (get_or answers t []))
           (sym listed) (answered t (omega (arith, l, long)));

@@ -1,18 +1,19 @@
 -- The items of an order.
 use Rattle.std.proofs.Common.{◌≡◌, ◌≤◌, ℕ, ◌-◌, List, [], ◌∷◌, length, refl, sym, ap, ◌∙◌, arith, inl, inr, Bor, ◌+◌}
-use Rattle.std.specs.Prelude.{◌==◌, Option, Some, None, replicate}
+use Rattle.std.specs.Prelude.{◌≢◌, ◌==◌, true, Option, Some, None, replicate}
 use Rattle.std.specs.List.{slice_split, join_with_byte}
 use Rattle.std.specs.Str.{all_ascii_digits}
 use Rattle.std.proofs.lemmas.Bool.{cases_Bool}
 use Rattle.std.proofs.lemmas.List.Splits.{join_with_byte-slice_split, length-slice_split}
 use Rattle.std.proofs.lemmas.Str.Parse.{not_in_digits}
 use Rattle.ir_record_run.specs.Numerals.{number_within}
-use Rattle.ir_record_run.specs.Order.{most_turns, turns, item_by, item_of}
+use Rattle.ir_record.specs.Refusing.{Turn}
+use Rattle.ir_record_run.specs.Order.{most_turns, turn, turn_by, turn_of, turns, item_by, item_of}
 use Rattle.ir_record_run.proofs.Numerals.{decimal_numeral_model, number_within_none_unless_digits}
 use Rattle.ir_record_run.proofs.Parts.{split_without_mark_is_one_part}
 
-turns_without_count_are_none : (thread : Option ℕ) → turns thread None ≡ None
-turns_without_count_are_none (Some thread) = refl
+turns_without_count_are_none : (one : Option Turn) → turns one None ≡ None
+turns_without_count_are_none (Some one) = refl
 turns_without_count_are_none None = refl
 
 turns_without_thread_are_none : (count : Option ℕ) → turns None count ≡ None
@@ -24,13 +25,13 @@ item_of_unspelled_parts_is_none : (threads : ℕ) (thread bs : List ℕ) (parts 
     → 1 ≤ length parts → item_by threads (thread ∷ parts) ≡ None
 item_of_unspelled_parts_is_none threads thread bs [] none e some = absurd (omega (arith, some))
 item_of_unspelled_parts_is_none threads thread bs (a ∷ []) none e some =
-    ap (λ (z : List ℕ). turns (number_within 0 (threads - 1) thread) (number_within 1 most_turns z)) e
-    ∙ ap (turns (number_within 0 (threads - 1) thread)) none ∙ turns_without_count_are_none (number_within 0 (threads - 1) thread)
+    ap (λ (z : List ℕ). turns (turn_of threads thread) (number_within 1 most_turns z)) e
+    ∙ ap (turns (turn_of threads thread)) none ∙ turns_without_count_are_none (turn_of threads thread)
 item_of_unspelled_parts_is_none threads thread bs (a ∷ b ∷ parts) none e some = refl
 
 -- an item with a mark
 pub item_of_marked_parts : (threads : ℕ) (item thread count : List ℕ) → slice_split (λ b. b == 120) item ≡ thread ∷ slice_split (λ b. b == 120) count
-    → item_of threads item ≡ turns (number_within 0 (threads - 1) thread) (number_within 1 most_turns count)
+    → item_of threads item ≡ turns (turn_of threads thread) (number_within 1 most_turns count)
 item_of_marked_parts threads item thread count e = ap (item_by threads) e ∙ elim (cases_Bool (all_ascii_digits count)) [
   | inl all ↦ ap (λ (z : List (List ℕ)). item_by threads (thread ∷ z))
       (split_without_mark_is_one_part 120 count (not_in_digits decimal_numeral_model count 120 all (λ r. omega (arith, r))))
@@ -38,24 +39,46 @@ item_of_marked_parts threads item thread count e = ap (item_by threads) e ∙ el
       let none = number_within_none_unless_digits 1 most_turns count other in
       item_of_unspelled_parts_is_none threads thread count (slice_split (λ b. b == 120) count) none (join_with_byte-slice_split 120 count)
       (omega (arith, length-slice_split (λ b. b == 120) count))
-      ∙ sym (ap (turns (number_within 0 (threads - 1) thread)) none ∙ turns_without_count_are_none (number_within 0 (threads - 1) thread))
+      ∙ sym (ap (turns (turn_of threads thread)) none ∙ turns_without_count_are_none (turn_of threads thread))
 ]
 
 -- an item without
 pub item_of_unmarked_part : (threads : ℕ) (item thread : List ℕ) → slice_split (λ b. b == 120) item ≡ thread ∷ []
-    → item_of threads item ≡ turns (number_within 0 (threads - 1) thread) (Some 1)
+    → item_of threads item ≡ turns (turn_of threads thread) (Some 1)
 item_of_unmarked_part threads item thread e = ap (item_by threads) e
 
-pub spelled_item_is_turns : (threads : ℕ) (item thread count : List ℕ) (t n : ℕ) → slice_split (λ b. b == 120) item ≡ thread
-    ∷ slice_split (λ b. b == 120) count → number_within 0 (threads - 1) thread ≡ Some t → number_within 1 most_turns count ≡ Some n
+pub spelled_item_is_turns : (threads : ℕ) (item thread count : List ℕ) (t : Turn) (n : ℕ) → slice_split (λ b. b == 120) item ≡ thread
+    ∷ slice_split (λ b. b == 120) count → turn_of threads thread ≡ Some t → number_within 1 most_turns count ≡ Some n
     → Some (replicate n t) ≡ item_of threads item
 spelled_item_is_turns threads item thread count t n e a b = sym (item_of_marked_parts threads item thread count e
-    ∙ ap (λ (z : Option ℕ). turns z (number_within 1 most_turns count)) a ∙ ap (turns (Some t)) b)
+    ∙ ap (λ (z : Option Turn). turns z (number_within 1 most_turns count)) a ∙ ap (turns (Some t)) b)
 
 pub unspelled_item_is_none : (threads : ℕ) (item thread count : List ℕ) → slice_split (λ b. b == 120) item ≡ thread ∷ slice_split (λ b. b == 120) count
     → number_within 1 most_turns count ≡ None → None ≡ item_of threads item
-unspelled_item_is_none threads item thread count e b = sym (item_of_marked_parts threads item thread count e ∙ ap (turns (number_within 0 (threads - 1) thread)) b
-    ∙ turns_without_count_are_none (number_within 0 (threads - 1) thread))
+unspelled_item_is_none threads item thread count e b = sym (item_of_marked_parts threads item thread count e ∙ ap (turns (turn_of threads thread)) b
+    ∙ turns_without_count_are_none (turn_of threads thread))
+
+-- ---- a turn and its mark
+
+-- a text with the mark at its end
+pub with_mark : (threads : ℕ) (text thread rest : List ℕ) → slice_split (λ b. b == 33) text ≡ thread ∷ slice_split (λ b. b == 33) rest → rest ≡ []
+    → turn_of threads text ≡ turn (number_within 0 (threads - 1) thread) true
+with_mark threads text thread rest e none = ap (turn_by threads) (e ∙ ap (λ z. thread ∷ slice_split (λ b. b == 33) z) none)
+
+-- a text with the mark before something else
+by_more : (threads : ℕ) (thread bs : List ℕ) (parts : List (List ℕ)) → bs ≢ [] → join_with_byte 33 parts ≡ bs → 1 ≤ length parts
+    → turn_by threads (thread ∷ parts) ≡ None
+by_more threads thread bs [] some e long = absurd (omega (arith, long))
+by_more threads thread bs ([] ∷ []) some e long = absurd (some (sym e))
+by_more threads thread bs ((b ∷ part) ∷ []) some e long = refl
+by_more threads thread bs ([] ∷ next ∷ parts) some e long = refl
+by_more threads thread bs ((b ∷ part) ∷ next ∷ parts) some e long = refl
+
+pub mark_within : (threads : ℕ) (text thread rest : List ℕ) → slice_split (λ b. b == 33) text ≡ thread ∷ slice_split (λ b. b == 33) rest
+    → rest ≢ [] → turn_of threads text ≡ None
+mark_within threads text thread rest e some = ap (turn_by threads) e
+    ∙ by_more threads thread rest (slice_split (λ b. b == 33) rest) some (join_with_byte-slice_split 33 rest)
+    (omega (arith, length-slice_split (λ b. b == 33) rest))
 
 -- ---- items in turn
 

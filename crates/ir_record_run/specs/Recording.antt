@@ -2,12 +2,12 @@
 use Rattle.std.specs.Prelude.{◌≡◌, ◌<◌, ℕ, ◌+◌, List, [], ◌∷◌, ◌++◌, length, replicate, codes, decimal, Option, Some, None, Ok}
 use Rattle.std.specs.List.{slice_index_or}
 use Rattle.std.specs.Option.{is_some}
-use Rattle.ir_image.specs.Guest.{Guest}
-use Rattle.ir_image.specs.Reading.{guest_at}
+use Rattle.ir_image.specs.Guest.{Guest, guest_at}
 use Rattle.ir_thread.specs.State.{end_number, end_code}
 use Rattle.ir_thread.specs.declared.profile.Profile.{Profile}
 use Rattle.ir_trace.specs.Recorded.{RecordedThread, Recorded}
-use Rattle.ir_record.specs.Recording.{IsRecordingInOrder, IsRecordingOfSome}
+use Rattle.ir_record.specs.Recording.{IsRecordingByTurns, IsRecordingOfSome}
+use Rattle.ir_record.specs.Refusing.{Turn}
 use Rattle.ir_record.specs.Worlds.{Answered}
 use Rattle.ir_record_run.specs.Order.{order_of}
 use Rattle.ir_record_run.specs.Plan.{Plan}
@@ -20,8 +20,8 @@ unasked guest = replicate (length guest.entries) []
 -- the trace, the outputs and the worlds' answers of one complete run of the guest: the one by the order that the list
 -- spells, or without a list some run
 abbrev pub IsRecordedBy : Option (List ℕ) → Guest → ℕ → Profile → Recorded → List (List ℕ) → List (List Answered) → Type 0
-IsRecordedBy (Some list) guest budget profile trace outputs answers = (order : List ℕ)
-    × (order_of (length guest.entries) list ≡ Some order) × IsRecordingInOrder guest budget profile order (unasked guest) trace outputs answers
+IsRecordedBy (Some list) guest budget profile trace outputs answers = (order : List Turn)
+    × (order_of (length guest.entries) list ≡ Some order) × IsRecordingByTurns guest budget profile order (unasked guest) trace outputs answers
 IsRecordedBy None guest budget profile trace outputs answers = IsRecordingOfSome guest budget profile (unasked guest) trace outputs answers
 
 -- the trace and the outputs are of one such run of the image's guest, whose threads were answered by random words, the

@@ -4,13 +4,13 @@ ghost use Rattle.std.specs.Prelude.{◌≡◌, ◌<◌, ◌-◌, ◌≤◌, [], 
 ghost use Rattle.std.specs.List.{slice_split};
 ghost use Rattle.std.specs.Option.{is_some};
 ghost use Rattle.ir_image.specs.Guest.{most_threads};
-ghost use Rattle.ir_record.specs.Recording.{order_of_turns};
-ghost use Rattle.ir_record_run.specs.Order.{item_of, order_of, first_bad, IsItemFault};
+ghost use Rattle.ir_record.specs.Recording.{turns_of_items};
+ghost use Rattle.ir_record_run.specs.Order.{turn_of, item_of, order_of, first_bad, IsItemFault};
 ghost use Rattle.ir_record_run.specs.Numerals.{number_within};
 ghost use Rattle.ir_record_run.specs.declared.order.OrderErr.TheVariants.{Bad, NoMem};
 
 use crate::numeral::number_within;
-use ir_record::Turns;
+use ir_record::Item;
 use std::alloc::{AllocError, AllocFailed, Global};
 
 /// The most steps of an item.
@@ -65,21 +65,37 @@ fn thread_of(number: &str, threads: usize) -> Option<u8>
     }
 }
 
-// The steps that an item spells.
-fn turns_of(item: &str, threads: usize) -> Option<Turns>
+// The thread of a turn, and whether a try in it is refused.
+fn turn_of(text: &str, threads: usize) -> Option<(u8, bool)>
     requires some { 1 ≤ threads }
     requires few { threads ≤ most_threads }
-    ensures { option_map (λ t. replicate t.count t.thread) result ≡ item_of threads item.now }
+    ensures { result ≡ turn_of threads text.now }
 {
-    let (thread, count) = first_part(item, 'x');
-    let thread = thread_of(thread, threads)?;
-    match count {
-        Some(count) => {
-            let count = number_within(1, MOST_TURNS, count)?;
-            Some(Turns { thread, count })
-        }
-        None => Some(Turns { thread, count: 1 }),
+    let (number, mark) = first_part(text, '!');
+    match mark {
+        None => Some((thread_of(number, threads)?, false)),
+        Some(rest) if rest.is_empty() => Some((thread_of(number, threads)?, true)),
+        Some(_) => None,
     }
+}
+
+// The turns that an item spells.
+fn turns_of(item: &str, threads: usize) -> Option<Item>
+    requires some { 1 ≤ threads }
+    requires few { threads ≤ most_threads }
+    ensures { option_map (λ i. replicate i.count (i.thread, i.refused)) result ≡ item_of threads item.now }
+{
+    let (turn, count) = first_part(item, 'x');
+    let (thread, refused) = turn_of(turn, threads)?;
+    let count = match count {
+        Some(count) => number_within(1, MOST_TURNS, count)?,
+        None => 1,
+    };
+    Some(Item {
+        thread,
+        count,
+        refused,
+    })
 }
 
 // Whether a text is decimal digits.
@@ -96,9 +112,10 @@ fn item_fault(item: &str, threads: usize) -> Option<&'static str>
     if turns_of(item, threads).is_some() {
         return None;
     }
-    let (thread, count) = first_part(item, 'x');
-    if !is_digits(thread) || !is_digits(count.unwrap_or("1")) {
-        Some("is neither T nor TxN")
+    let (turn, count) = first_part(item, 'x');
+    let (thread, mark) = first_part(turn, '!');
+    if !is_digits(thread) || !mark.unwrap_or("").is_empty() || !is_digits(count.unwrap_or("1")) {
+        Some("is none of T, TxN, T! and T!xN")
     } else if thread_of(thread, threads).is_none() {
         Some("names no thread of the image")
     } else {
@@ -127,10 +144,10 @@ pub fn bad_item(list: &str, threads: usize) -> Option<(&str, &'static str)>
 ///
 /// # Errors
 /// `Bad` where the list spells none; out of memory.
-pub fn read_order(alloc: Global, list: &str, threads: usize) -> Result<Vec<Turns>, OrderErr>
+pub fn read_order(alloc: Global, list: &str, threads: usize) -> Result<Vec<Item>, OrderErr>
     requires some { 1 ≤ threads }
     requires few { threads ≤ most_threads }
-    ensures spelled { IfOk result (λ order. order_of threads list.now ≡ Some (order_of_turns order.items)) }
+    ensures spelled { IfOk result (λ order. order_of threads list.now ≡ Some (turns_of_items order.items)) }
     ensures bad { result ≡ Err Bad → order_of threads list.now ≡ None }
 {
     let mut order = Vec::new(alloc);

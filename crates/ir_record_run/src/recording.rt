@@ -20,7 +20,7 @@ use crate::plan::RecordPlan;
 use crate::record_fault::RecordFault;
 use ir_files::{ExitStatus, OutputSink, WholeSink, tell, tell_of};
 use ir_object::Gate;
-use ir_record::{Outputs, RecordErr, record, record_in_turns};
+use ir_record::{Outputs, RecordErr, record, record_with_refusals};
 use ir_sources::{ProgramWorld, Time, worlds};
 use ir_stream::{DeviceErr, Sink, write_all};
 use ir_trace::{ThreadTrace, Trace, write_trace};
@@ -79,7 +79,7 @@ fn recorded_in_order<C: Clock>(
         plan.random,
         plan.input,
     )?;
-    match record_in_turns(
+    match record_with_refusals(
         alloc,
         guest,
         order.as_slice(),

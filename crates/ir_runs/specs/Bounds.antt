@@ -1,8 +1,9 @@
 -- Where runs begin and end, and of how many threads they are.
-use Rattle.std.specs.Prelude.{◌≡◌, ℕ, ◌<◌, ◌≤◌, List, None}
+use Rattle.std.specs.Prelude.{◌≡◌, ℕ, ◌<◌, ◌≤◌, List, None, eqb, pred, cond}
 use Rattle.ir_runs.specs.Machine.{Done, Enter, Machine, Trace}
 use Rattle.ir_runs.specs.declared.access.Access.{Access}
-use Rattle.ir_runs.specs.Run.{State, Step, asked, IsRun, end, log, count, IsDone}
+use Rattle.ir_runs.specs.Run.{State, Step, asked, IsRun, end, log, count, IsDone, Cut, Can}
+use Rattle.ir_runs.specs.Verdicts.{closing, Follows}
 
 -- the trace of the run
 abbrev pub trace : {T : Type 0} → Machine T → State T → List Step → Trace
@@ -26,3 +27,11 @@ IsIdle m s n = (t : ℕ) → n ≤ t → asked m s t ≡ Done
 -- the threads enter objects below the count
 abbrev pub IsBounded : {T : Type 0} → Machine T → State T → ℕ → Type 0
 IsBounded m s count = (t o : ℕ) (a : Access) → asked m s t ≡ Enter o a → o < count
+
+-- the positions that are left after a step of thread t
+abbrev pub lower : Cut → ℕ → Cut
+lower p t u = cond (eqb u t) (pred (p u)) (p u)
+
+-- no run that follows the trace takes thread t further than k steps
+abbrev pub NoneTakes : {T : Type 0} → Machine T → State T → Trace → ℕ → ℕ → Type 0
+NoneTakes m s tr t k = (run : List Step) → Follows (closing m tr) m s tr run → count m s run t ≤ k

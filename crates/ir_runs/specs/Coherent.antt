@@ -1,28 +1,10 @@
 -- Coherent traces.
-use Rattle.std.specs.Prelude.{◌≡◌, ℕ, suc, zero, ◌+◌, cond, eqb, List, [], ◌∷◌}
-use Rattle.ir_runs.specs.Machine.{Label, Quiet, Answer, In, Refused, Out, Trace}
+use Rattle.std.specs.Prelude.{◌≡◌, ℕ, suc}
+use Rattle.ir_runs.specs.Machine.{In, Trace}
+use Rattle.ir_runs.specs.declared.access.Access.TheVariants.{Writing}
+use Rattle.ir_runs.specs.Run.{At}
 use Rattle.ir_runs.specs.declared.access.Access.{Access}
-use Rattle.ir_runs.specs.declared.access.Access.TheVariants.{Reading, Writing}
-use Rattle.ir_runs.specs.Cuts.{At}
-
--- 1 for a read entry of object o at version v, else 0
-abbrev pub reads_one : ℕ → ℕ → Label → ℕ
-reads_one o v Quiet = 0
-reads_one o v (Answer k x) = 0
-reads_one o v (In p Reading w l) = cond (eqb p o) (cond (eqb w v) 1 0) 0
-reads_one o v (In p Writing w l) = 0
-reads_one o v (Refused p) = 0
-reads_one o v (Out p a w) = 0
-
--- how many of these are read entries of object o at version v
-abbrev pub reads : ℕ → ℕ → List Label → ℕ
-reads o v [] = 0
-reads o v (k ∷ ks) = reads_one o v k + reads o v ks
-
--- the sum of f over the numbers below
-abbrev pub sum_below : ℕ → (ℕ → ℕ) → ℕ
-sum_below zero f = 0
-sum_below (suc n) f = f n + sum_below n f
+use Rattle.ir_runs.specs.Verdicts.{reads, sum_below}
 
 -- no event of the n threads' logs breaks coherence
 pub record IsCoherent (n : ℕ) (tr : Trace) : Type 0 where

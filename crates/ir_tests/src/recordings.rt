@@ -1,8 +1,7 @@
 //! Guests recorded in an order or on real threads, and their traces fitted.
 
 ghost use Rattle.std.specs.Prelude.{◌≤◌};
-ghost use Rattle.ir_thread.specs.State.{IsAllowed};
-ghost use Rattle.ir_thread.specs.Calls.{most_budget};
+ghost use Rattle.ir_thread.specs.State.{IsAllowed, most_budget};
 ghost use Rattle.ir_thread.specs.declared.profile.Profile.TheVariants.{One};
 
 use crate::sources::{image_for, image_of};
@@ -10,7 +9,7 @@ use crate::worlds::{COUNTS, FAILS, Script, worlds};
 use ir_fit::{Fitted, fit};
 use ir_image::Image;
 use ir_object::{Gate, OpenGate};
-use ir_record::{Outputs, RecordErr, record, record_in_order};
+use ir_record::{Item, Outputs, RecordErr, record, record_in_order, record_with_refusals};
 use ir_thread::Profile;
 use ir_trace::Trace;
 use std::alloc::Global;
@@ -151,5 +150,28 @@ pub fn tried_in_order(
 {
     let image = image_for(alloc, Profile::Two, source)?;
     let (trace, _outputs) = counting_in_order(alloc, &image, order, budget, Profile::Two)?;
+    Ok(fit(alloc, image, trace, &OpenGate)?)
+}
+
+/// The same by items, of which some refuse tries.
+pub fn tried_with_refusals(
+    alloc: Global,
+    source: &[&str],
+    items: &[Item],
+    budget: u64,
+) -> Result<Fitted, Fail>
+    requires { budget ≤ most_budget }
+{
+    let image = image_for(alloc, Profile::Two, source)?;
+    let worlds = worlds(alloc, image.entries().len(), &[], COUNTS)?;
+    let recorded: Recorded = record_with_refusals(
+        alloc,
+        &image,
+        items,
+        worlds,
+        budget,
+        Profile::Two,
+    );
+    let (trace, _outputs) = recorded?;
     Ok(fit(alloc, image, trace, &OpenGate)?)
 }

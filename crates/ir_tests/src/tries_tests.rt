@@ -2,12 +2,13 @@
 
 use crate::meeting::Refusing;
 use crate::record_tests::{Run, first};
-use crate::recordings::{fitted_in_order, tried_by_threads, tried_in_order};
+use crate::recordings::{fitted_in_order, tried_by_threads, tried_in_order, tried_with_refusals};
 use crate::replays::{is_same, last};
 use crate::trying_guests::{TRYING, TRYING_BESIDE};
 use ir_fit::Fitted;
 use ir_log::Event;
 use ir_object::OpenGate;
+use ir_record::Item;
 use ir_thread::End;
 use ir_trace::{Trace, write_trace};
 use std::alloc::Global;
@@ -35,6 +36,30 @@ fn tried(alloc: Global) -> Result<(Option<Run>, bool), Fail> {
 #[test]
 fn a_try_alone_enters(rt: HostRuntime) -> Result<(), Fail> {
     assert_eq!(rt; tried(rt.alloc())?, (Some((1, 1, 6, 1)), true));
+    Ok(())
+}
+
+// The same where its try was refused.
+const REFUSED_ALONE: &[u8] =
+    b"IRT2\x01\x01\0\0\xe8\x03\0\0\0\0\0\0\x05\0\0\0\0\0\0\0\x01\0\0\0\0\x01\0\0\0\x06\0";
+
+// Turns of thread 0 in which tries are refused: its two steps before a try, the try, and one that is none.
+const FOUR_REFUSED: [Item; 1] = [Item {
+    thread: 0,
+    count: 4,
+    refused: true,
+}];
+
+fn refused_alone(alloc: Global, items: &[Item]) -> Result<(Option<Run>, bool), Fail> {
+    let fitted = tried_with_refusals(alloc, TRYING, items, 1000)?;
+    seen(alloc, fitted.trace(), REFUSED_ALONE)
+}
+
+#[test]
+fn a_turn_refuses_a_try_that_may_enter(rt: HostRuntime) -> Result<(), Fail> {
+    let (run, is_so) = refused_alone(rt.alloc(), &FOUR_REFUSED)?;
+    assert_eq!(rt; run, Some((1, 0, 5, 1)));
+    assert!(rt; is_so);
     Ok(())
 }
 

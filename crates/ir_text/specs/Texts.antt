@@ -1,12 +1,10 @@
 -- The texts of answers, by what is at the cut.
-use Rattle.std.specs.Prelude.{◌==◌, ℕ, zero, suc, ◌+◌, ◌/◌, List, [], ◌∷◌, ◌++◌, take, drop, length, flat_map, codes, decimal, Option, Some, None, if◌then◌else◌, ◌%◌}
+use Rattle.std.specs.Prelude.{◌==◌, ℕ, zero, suc, ◌+◌, ◌/◌, List, [], ◌∷◌, ◌++◌, take, drop, length, flat_map, codes, decimal, Option, Some, None, if◌then◌else◌, ◌%◌, unwrap_or}
 use Rattle.hex.specs.Hex.{encode_lower}
 use Rattle.ir_image.specs.Guest.{word_at_pc}
-use Rattle.ir_mach.specs.Memory.{byte_at}
-use Rattle.ir_thread.specs.State.{highest}
-use Rattle.ir_runs.specs.Machine.{Label, Quiet, Answer, In, Out, Object}
-use Rattle.ir_runs.specs.Machine as machine
-use Rattle.ir_thread.specs.State as thread
+use Rattle.ir_mach.specs.Execution.{byte_at}
+use Rattle.ir_thread.specs.State.{highest, ThreadState}
+use Rattle.ir_runs.specs.Machine.{Label, Answer, In, Refused, Object}
 use Rattle.ir_runs.specs.declared.access.Access.{Access}
 use Rattle.ir_runs.specs.declared.access.Access.TheVariants.{Reading, Writing}
 use Rattle.ir_runs.specs.declared.env_kind.EnvKind.{EnvKind}
@@ -15,9 +13,7 @@ use Rattle.ir_thread.specs.declared.end.End.{End}
 use Rattle.ir_disasm.specs.Printed.{text_of}
 use Rattle.ir_command.specs.declared.hit.Hit.{Hit}
 use Rattle.ir_coherence.specs.Breaking.{cause_number}
-use Rattle.ir_coherence.specs.declared.cause.Cause.{Cause}
 use Rattle.ir_fit.specs.Fit.{header_cause_number}
-use Rattle.ir_fit.specs.declared.header_cause.HeaderCause.{HeaderCause}
 use Rattle.ir_runs.specs.declared.thread_verdict.ThreadVerdict.{ThreadVerdict}
 use Rattle.ir_runs.specs.declared.thread_verdict.ThreadVerdict.TheVariants.{Same, Disagrees, Starves}
 use Rattle.ir_fit.specs.declared.verdict.Verdict.{Verdict}
@@ -50,11 +46,6 @@ stop_text last at = if at == last then codes " end" else if at == 0 then codes "
 
 -- ---- bytes
 
--- how many lines of width bytes hold count bytes
-abbrev pub lines_for : ℕ → ℕ → ℕ
-lines_for zero count = 0
-lines_for (suc width) count = (count + width) / suc width
-
 -- a word in eight lower-case hexadecimal digits, the highest first
 abbrev pub hex_word : ℕ → List ℕ
 hex_word n = encode_lower (bytes_high_first 4 n)
@@ -67,7 +58,7 @@ memory_lines (suc n) address bytes = hex_word address ++ codes ": " ++ encode_lo
 
 -- the bytes from an address on
 abbrev pub memory_text : ℕ → List ℕ → List ℕ
-memory_text address bytes = memory_lines (lines_for 16 (length bytes)) address bytes
+memory_text address bytes = memory_lines ((length bytes + 15) / 16) address bytes
 
 -- n lines of 32 bytes
 unfoldable pub output_lines : ℕ → List ℕ → List ℕ
@@ -76,17 +67,12 @@ output_lines (suc n) bytes = encode_lower (take 32 bytes) ++ codes "\n" ++ outpu
 
 -- what was printed
 abbrev pub output_text : List ℕ → List ℕ
-output_text bytes = number_line (codes "out ") (length bytes) ++ output_lines (lines_for 32 (length bytes)) bytes
-
--- a byte that is looked at
-abbrev pub byte_or_zero : Option ℕ → ℕ
-byte_or_zero (Some b) = b
-byte_or_zero None = 0
+output_text bytes = number_line (codes "out ") (length bytes) ++ output_lines ((length bytes + 31) / 32) bytes
 
 -- n bytes from an address on, of code or private memory
 unfoldable pub bytes_from : List ℕ → List ℕ → ℕ → ℕ → List ℕ
 bytes_from code memory zero address = []
-bytes_from code memory (suc n) address = byte_or_zero (byte_at code memory address) ∷ bytes_from code memory n (address + 1)
+bytes_from code memory (suc n) address = unwrap_or (byte_at code memory address) 0 ∷ bytes_from code memory n (address + 1)
 
 -- ---- objects
 
@@ -130,9 +116,8 @@ event_text (Answer kind value) = kind_text kind ++ codes " " ++ decimal value
 event_text (In object Reading version left) = codes "read " ++ decimal object ++ codes " version " ++ decimal version
 event_text (In object Writing version left) = codes "write " ++ decimal object ++ codes " version " ++ decimal version ++ codes " readers "
     ++ decimal left
-event_text Quiet = []
-event_text (machine.Refused object) = codes "try " ++ decimal object
-event_text (Out object access version) = []
+event_text (Refused object) = codes "try " ++ decimal object
+event_text other = []
 
 -- the events from a number on
 unfoldable pub event_lines : ℕ → List Label → List ℕ
@@ -153,12 +138,12 @@ abbrev pub released : Option (ℕ × Access) → List ℕ
 released (Some top) = number_line (codes "next give back ") top.0
 released None = codes "next done\n"
 
-abbrev pub next_by : Option End → List ℕ → thread.ThreadState → List ℕ
+abbrev pub next_by : Option End → List ℕ → ThreadState → List ℕ
 next_by None code s = codes "next " ++ hex_word s.core.pc ++ codes " " ++ disassembled s.core.pc (word_at_pc code s.core.pc) ++ codes "\n"
 next_by (Some e) code s = released (highest s.held)
 
 -- the word at a thread's pc, which its next step carries out unless its budget is spent; or what it releases after its end
-abbrev pub next_text : List ℕ → thread.ThreadState → List ℕ
+abbrev pub next_text : List ℕ → ThreadState → List ℕ
 next_text code s = next_by s.ended code s
 
 abbrev pub thread_verdict_text : ThreadVerdict → List ℕ
@@ -166,31 +151,17 @@ thread_verdict_text Same = codes " same"
 thread_verdict_text (Disagrees event step) = codes " disagrees event " ++ decimal event ++ codes " step " ++ decimal step
 thread_verdict_text (Starves event) = codes " starves event " ++ decimal event
 
-abbrev pub thread_line : ℕ → ThreadVerdict → List ℕ
-thread_line t v = codes "thread " ++ decimal t ++ thread_verdict_text v ++ codes "\n"
-
 -- a line for each thread, from this one on
 unfoldable pub threads_text : ℕ → List ThreadVerdict → List ℕ
 threads_text t [] = []
-threads_text t (v ∷ vs) = thread_line t v ++ threads_text (t + 1) vs
-
-abbrev pub header_text : HeaderCause → List ℕ
-header_text cause = codes "header differs " ++ decimal (header_cause_number cause)
-
-abbrev pub incoherent_text : ℕ → ℕ → Cause → List ℕ
-incoherent_text thread event cause = codes "incoherent thread " ++ decimal thread ++ codes " event " ++ decimal event ++ codes " cause " ++
-    decimal (cause_number cause)
+threads_text t (v ∷ vs) = (codes "thread " ++ decimal t ++ thread_verdict_text v ++ codes "\n") ++ threads_text (t + 1) vs
 
 -- the lines of a verdict
 abbrev pub verdict_text : Verdict → List ℕ
-verdict_text (Header cause) = header_text cause ++ codes "\n"
-verdict_text (Incoherent thread event cause) = incoherent_text thread event cause ++ codes "\n"
+verdict_text (Header cause) = (codes "header differs " ++ decimal (header_cause_number cause)) ++ codes "\n"
+verdict_text (Incoherent thread event cause) = (codes "incoherent thread " ++ decimal thread ++ codes " event " ++ decimal event ++ codes " cause "
+    ++ decimal (cause_number cause)) ++ codes "\n"
 verdict_text (Threads vs) = threads_text 0 vs.items
-
--- the number of a fault of the bytes; there is none for running out of memory
-abbrev pub number_or_zero : Option ℕ → ℕ
-number_or_zero (Some n) = n
-number_or_zero None = 0
 
 abbrev pub reason_text : Refusal → List ℕ
 reason_text UnknownCommand = codes "unknown command"
@@ -206,17 +177,11 @@ reason_text Full = codes "full"
 abbrev pub refusal_text : Refusal → List ℕ
 refusal_text r = codes "refused " ++ decimal (refusal_number r) ++ codes " " ++ reason_text r ++ codes "\n"
 
--- a line has four registers
-abbrev pub after_register : ℕ → List ℕ
-after_register n = if n % 4 == 3 then codes "\n" else codes " "
-
-abbrev pub register_text : Core → ℕ → List ℕ
-register_text m n = register_name n ++ codes "=" ++ hex_word (register m n) ++ after_register n
-
--- the first n registers
+-- the first n registers, four in a line
 unfoldable pub registers_text : Core → ℕ → List ℕ
 registers_text m zero = []
-registers_text m (suc n) = registers_text m n ++ register_text m n
+registers_text m (suc n) = registers_text m n
+    ++ (register_name n ++ codes "=" ++ hex_word (register m n) ++ (if n % 4 == 3 then codes "\n" else codes " "))
 
 -- pc and all registers
 abbrev pub machine_text : Core → List ℕ

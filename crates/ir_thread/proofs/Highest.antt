@@ -1,8 +1,11 @@
 -- The greatest object that is held.
-use Rattle.std.proofs.Common.{◌≡◌, ◌≢◌, ℕ, zero, suc, ◌+◌, ◌<◌, ◌≤◌, List, [], ◌∷◌, length, get_or, set, take, Option, Some, None, refl, ap, ◌∙◌, subst, arith, true}
+use Rattle.std.proofs.Common.{◌≡◌, ◌≢◌, ℕ, zero, suc, ◌+◌, ◌<◌, ◌≤◌, List, [], ◌∷◌, length, get_or, set, take, Option, Some, None, Bool, refl, ap, ◌∙◌, subst, arith, true, false, inl, inr}
+use Rattle.std.specs.Option.{is_some}
+use Rattle.std.proofs.lemmas.Bool.{cases_lt, lt-ltb}
 use Rattle.std.proofs.lemmas.Bool.Decides.{nat_tests}
 use Rattle.std.proofs.lemmas.List.Sums.{sum_by-set, sum_by-cons}
-use Rattle.ir_thread.specs.State.{held_at, higher_of, highest, is_above, one_if_held, held_count}
+use Rattle.ir_thread.specs.State.{held_at, higher_of, highest, is_above, one_if_held}
+use Rattle.ir_thread.specs.Permitted.{held_count}
 use Rattle.ir_runs.specs.declared.access.Access.{Access}
 
 -- the greatest once one more place is looked at
@@ -86,6 +89,40 @@ nothing_held_above_highest xs object e i l = by (highest xs) refl e
     by : (h : Option (ℕ × Access)) → highest xs ≡ h → is_above h object ≡ true → held_at xs i ≡ None
     by None g e = nothing_held_if_no_highest xs g i
     by (Some top) g e = let less : top.0 < object = grind (arith, nat_tests) in (highest_is_highest_held xs top g).others i (omega arith)
+
+-- where neither an object nor a greater one is held, it is above the greatest
+pub object_above_highest_if_none_held : (xs : List (Option Access)) (object : ℕ) → ((i : ℕ) → object ≤ i → i < length xs → held_at xs i ≡ None)
+    → is_above (highest xs) object ≡ true
+object_above_highest_if_none_held xs object none = by (highest xs) refl
+  where
+    by : (h : Option (ℕ × Access)) → highest xs ≡ h → is_above h object ≡ true
+    by None g = refl
+    by (Some top) g = let is : IsHighestHeld xs top = highest_is_highest_held xs top g in
+        elim (cases_lt top.0 object) [
+          | inl below ↦ lt-ltb top.0 object below
+          | inr above ↦ let there : held_at xs top.0 ≡ None = none top.0 above is.below in absurd (let held = is.held in cc (there, held))
+        ]
+
+-- where an object or a greater one is held, it isn't
+pub object_not_above_highest_if_held : (xs : List (Option Access)) (object i : ℕ) → object ≤ i → is_some (held_at xs i) ≡ true
+    → is_above (highest xs) object ≡ false
+object_not_above_highest_if_held xs object i l held = by (is_above (highest xs) object) refl
+  where
+    by : (b : Bool) → is_above (highest xs) object ≡ b → is_above (highest xs) object ≡ false
+    by false e = e
+    by true e = let none : held_at xs i ≡ None = nothing_held_above_highest xs object e i l in absurd (cc (none, held))
+
+-- one more place that isn't held
+pub none_held_with_next : (xs : List (Option Access)) (object next : ℕ) → is_some (get_or xs next None) ≡ false
+    → ((i : ℕ) → object ≤ i → i < next → held_at xs i ≡ None) → (i : ℕ) → object ≤ i → i < next + 1 → held_at xs i ≡ None
+none_held_with_next xs object next free none i from below = elim (cases_lt i next) [
+  | inl before ↦ none i from before
+  | inr after ↦ let same : next ≡ i = omega (arith, after, below) in subst (λ k. held_at xs k ≡ None) same (place_is_free (get_or xs next None) free)
+]
+  where
+    place_is_free : (x : Option Access) → is_some x ≡ false → x ≡ None
+    place_is_free None e = refl
+    place_is_free (Some a) e = absurd (cc e)
 
 held_place_counts_one : (x : Option Access) → x ≢ None → one_if_held x ≡ 1
 held_place_counts_one None e = absurd (e refl)

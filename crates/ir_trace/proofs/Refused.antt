@@ -2,8 +2,8 @@
 use Rattle.std.proofs.Common.{◌≡◌, ℕ, zero, suc, ◌<◌, false, eqb, List, length, Option, Some, None, Result, Ok, Err, refl, ◌∙◌, arith}
 use Rattle.std.specs.Prelude.{◌==◌, if◌then◌else◌, is_some, nat_le}
 use Rattle.std.proofs.lemmas.Bool.{le-leb, lt-leb, ne_eqb}
-use Rattle.ir_bytes.specs.Reading.{◌>>=◌, Reader, plain, judged, number_at, field_at, fields_at}
-use Rattle.ir_bytes.specs.Format.{Format, finished, next, before, repeated, first_refused, fault_of}
+use Rattle.ir_bytes.specs.Reading.{◌>>=◌, Reader, judged, number_at, field_at, fields_at}
+use Rattle.ir_bytes.specs.Format.{Format, finished, next, before, repeated, first_refused, fault_of, plain}
 use Rattle.ir_bytes.proofs.CallerLemmas.{after_reading, Follows, Begins, Refuses, field_at_follows_field, field_at_begins_with_field, number_at_begins_with_plain_field, sequence_follows_fields, sequence_begins_with_fields, independent_sequence_begins_with_fields, sequence_refuses_format, independent_sequence_refuses_format, fault_of_trailing_test, fields_at_begins_with_repeated}
 use Rattle.ir_runs.specs.declared.env_kind.EnvKind.{EnvKind}
 use Rattle.ir_runs.specs.declared.env_kind.EnvKind.TheVariants.{Clock, Random, Input}
@@ -16,10 +16,9 @@ use Rattle.ir_log.specs.declared.event.Event.TheVariants.{Answer, Read, Write, T
 use Rattle.ir_trace.specs.declared.header.Header.{Header}
 use Rattle.ir_trace.specs.declared.trace_err.TraceErr.{TraceErr}
 use Rattle.ir_trace.specs.declared.trace_err.TraceErr.TheVariants.{Short, Range, Trailing}
-use Rattle.ir_trace.specs.Recorded.{RecordedThread, Recorded}
-use Rattle.ir_trace.specs.Reading.{trace_magic_field, profile_of, trace_threads_field, trace_objects_field, reserved_field, budget_field, end_field, events_field, input_field, object_field, profile_at, header_at, end_by, end_at, answer_at, input_at, read_at, write_at, try_at, try_by, event_by, event_at, thread_part_at, recorded_at}
+use Rattle.ir_trace.specs.Recorded.{RecordedThread, Recorded, profile_at, header_at, end_by, end_at, answer_at, input_at, read_at, write_at, try_at, try_by, event_by, event_at, thread_part_at, recorded_at}
 use Rattle.ir_trace.specs.Results.{code_field, tag_field, last_tag}
-use Rattle.ir_trace.specs.Fields.{tagged_fields, event_fields, thread_fields, trace_fault}
+use Rattle.ir_trace.specs.Fields.{tagged_fields, event_fields, thread_fields, trace_fault, trace_magic_field, trace_threads_field, trace_objects_field, reserved_field, budget_field, end_field, events_field, input_field, profile_of, object_field}
 
 -- ---- what comes before the threads
 

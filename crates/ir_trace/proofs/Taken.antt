@@ -5,16 +5,17 @@ use Rattle.std.proofs.lemmas.Bool.{eqb-true, eq-eqb, and_parts}
 use Rattle.byteorder.specs.Endian.{little_bytes}
 use Rattle.ir_bytes.specs.Reading.{number_at, field_at}
 use Rattle.ir_bytes.proofs.CallerLemmas.{two_steps_succeed, three_steps_succeed, ok_is_injective, test_true_if_no_fault, no_fault_if_test_true, number_equal_if_no_fault, no_fault_of_fixed_number, IsBytes, Takes, takes_after_takes, number_at_takes_number, number_at_of_little_bytes, field_at_takes_field, field_at_of_little_bytes, number_of_one_byte_takes_byte, field_at_of_byte}
-use Rattle.ir_thread.specs.State.{end_number, end_code, end_of, ends_with}
+use Rattle.ir_thread.specs.State.{end_number, end_code, end_of}
+use Rattle.ir_thread.specs.Permitted.{ends_with}
 use Rattle.ir_thread.specs.declared.end.End.{End}
 use Rattle.ir_thread.specs.declared.end.End.TheVariants as end
 use Rattle.ir_thread.specs.declared.profile.Profile.{Profile}
 use Rattle.ir_thread.specs.declared.profile.Profile.TheVariants.{One, Two}
 use Rattle.ir_trace.specs.declared.trace_err.TraceErr.{TraceErr}
 use Rattle.ir_trace.specs.declared.trace_err.TraceErr.TheVariants.{Short, Magic, Reserved}
-use Rattle.ir_trace.specs.Recorded.{IsWord}
+use Rattle.ir_trace.specs.Recorded.{IsWord, trace_magic, profile_at, end_by, end_at}
+use Rattle.ir_trace.specs.Fields.{trace_magic_field, reserved_field, end_field, is_magic, profile_of}
 use Rattle.ir_trace.specs.Encoding.{end_encoding}
-use Rattle.ir_trace.specs.Reading.{trace_magic, is_magic, trace_magic_field, profile_of, profile_at, reserved_field, end_field, end_by, end_at}
 
 magic_bytes_by_profile_tests : (n : ℕ) (one two : Bool) → eqb n 0x31545249 ≡ one → eqb n 0x32545249 ≡ two → (one || two) ≡ true
     → little_bytes 4 n ≡ trace_magic (cond one One Two)

@@ -7,18 +7,16 @@ use Rattle.byteorder.specs.Endian.{little_bytes}
 use Rattle.ir_bytes.specs.Reading.{number_at, field_at, fields_at}
 use Rattle.ir_bytes.proofs.CallerLemmas.{three_steps_succeed, five_steps_succeed, six_steps_succeed, test_passed_if_ok, ok_is_injective, number_within_if_no_fault, no_fault_if_number_within, IsBytes, bytes_if_each_fits, Takes, takes_after_takes, number_at_takes_number, number_at_of_little_bytes, TakesField, field_at_takes_field, field_at_of_little_bytes, number_of_one_byte_takes_byte, field_at_of_byte, TakesFields, fields_at_takes_fields, fields_at_of_encodings}
 use Rattle.ir_image.specs.Guest.{limits_of}
-use Rattle.ir_thread.specs.State.{largest}
-use Rattle.ir_thread.specs.Calls.{most_budget, most_events}
+use Rattle.ir_thread.specs.State.{largest, most_budget, most_events}
 use Rattle.ir_thread.specs.declared.end.End.{End}
 use Rattle.ir_thread.specs.declared.profile.Profile.{Profile}
 use Rattle.ir_log.specs.declared.event.Event.{Event}
 use Rattle.ir_trace.specs.declared.header.Header.{Header}
 use Rattle.ir_trace.specs.declared.trace_err.TraceErr.{TraceErr}
 use Rattle.ir_trace.specs.declared.trace_err.TraceErr.TheVariants.{Short, Count, Trailing}
-use Rattle.ir_trace.specs.Recorded.{RecordedThread, Recorded}
-use Rattle.ir_trace.specs.Within.{IsEvent, IsRecordedThread, IsRecorded}
+use Rattle.ir_trace.specs.Recorded.{RecordedThread, Recorded, IsEvent, IsRecordedThread, IsRecorded, trace_magic, profile_at, header_at, end_at, event_at, thread_part_at, recorded_at}
+use Rattle.ir_trace.specs.Fields.{trace_threads_field, trace_objects_field, reserved_field, budget_field, events_field}
 use Rattle.ir_trace.specs.Encoding.{event_encoding, end_encoding, thread_encoding, header_of, header_encoding, encoding}
-use Rattle.ir_trace.specs.Reading.{trace_magic, profile_at, trace_threads_field, trace_objects_field, reserved_field, budget_field, events_field, header_at, end_at, event_at, thread_part_at, recorded_at}
 use Rattle.ir_trace.proofs.EventLaws.{event_at_takes_event, event_at_of_encoding}
 use Rattle.ir_trace.proofs.Taken.{profile_at_takes_magic, profile_at_of_magic, reserved_field_takes_zero, reserved_field_of_zero, end_at_takes_end, end_at_of_encoding}
 

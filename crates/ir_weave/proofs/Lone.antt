@@ -3,8 +3,7 @@ use Rattle.std.proofs.Common.{◌≡◌, ℕ, suc, zero, ◌+◌, ◌<◌, ◌�
 use Rattle.std.proofs.lemmas.Bool.{cases_lt}
 use Rattle.std.proofs.Math.Seq.{drop-append_seam}
 use Rattle.std.specs.Prelude.{slice_get}
-use Rattle.ir_thread.specs.Calls.{ask_of, after_ask, after_reply}
-use Rattle.ir_thread.specs.Instance.{shared_ask, reply_of, thread_machine}
+use Rattle.ir_thread.specs.State.{ask_of, after_ask, after_reply, shared_ask, reply_of, thread_machine}
 use Rattle.ir_runs.specs.Machine.{act_of, Object, reply, emitted, Admits, Label, Answer, logged}
 use Rattle.ir_runs.specs.Machine as machine
 use Rattle.ir_thread.specs.State as thread
@@ -14,7 +13,7 @@ use Rattle.ir_thread.specs.declared.ask.Ask.TheVariants.{Private, Env, Enter, Tr
 use Rattle.ir_runs.specs.declared.env_kind.EnvKind.{EnvKind}
 use Rattle.ir_thread.specs.declared.ask.Reply.{Reply}
 use Rattle.ir_thread.specs.declared.ask.Reply.TheVariants.{Go, Value}
-use Rattle.ir_runs.specs.Run.{Step, trail, events, count}
+use Rattle.ir_runs.specs.Run.{Step, trail, events, count, At, Emits}
 use Rattle.ir_runs.proofs.CallerLemmas.{events_append}
 use Rattle.ir_flat.specs.Flat.{Flat, start_flat, machine as machine_in}
 use Rattle.ir_flat.proofs.CallerLemmas.{start_thread_is_fresh, events_added_by, events_after_ask, length_of_held_after_ask}
@@ -22,7 +21,6 @@ use Rattle.ir_log.specs.Logging.{label_of}
 use Rattle.ir_log.specs.declared.event.Event.{Event}
 use Rattle.ir_log.specs.declared.event.Event.TheVariants.{Answer as Answered, Read, Write, Try as Refused}
 use Rattle.ir_trace.specs.Recorded.{recorded_thread}
-use Rattle.ir_runs.specs.Cuts.{At, Emits}
 use Rattle.ir_fit.specs.Fit.{FittedTrace, IsRunOf}
 use Rattle.ir_cut.specs.Positions.{machine_of, start_of, EachRun}
 use Rattle.ir_weave.specs.Ahead.{IsAlone, GoesAlone, HasStep, IsThreadAt, IsAhead, ask_at, event_of, thread_at}

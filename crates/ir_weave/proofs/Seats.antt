@@ -5,7 +5,7 @@ use Rattle.std.specs.Prelude.{slice_get, IsTrue, ◌↔◌}
 use mathlib.Core.Option.{none}
 use Rattle.atomic_table.specs.Table.{Step as TableStep, step, Allows}
 use Rattle.ir_image.specs.Guest.{object_count, most_object_words}
-use Rattle.ir_thread.specs.Calls.{ask_of}
+use Rattle.ir_thread.specs.State.{ask_of}
 use Rattle.ir_thread.specs.Permitted.{Permits}
 use Rattle.ir_runs.specs.Machine.{Out}
 use Rattle.ir_thread.specs.State as thread
@@ -17,7 +17,7 @@ use Rattle.ir_thread.proofs.CallerLemmas.{ask_of_permitted}
 use Rattle.ir_log.proofs.CallerLemmas.{entry_event_suits_enter_or_try}
 use Rattle.ir_log.specs.declared.event.Event.{Event}
 use Rattle.ir_trace.specs.Recorded.{recorded_thread}
-use Rattle.ir_runs.specs.Cuts.{Emits}
+use Rattle.ir_runs.specs.Run.{Emits}
 use Rattle.ir_fit.specs.Fit.{FittedTrace, HasRun}
 use Rattle.ir_cut.specs.Positions.{machine_of, start_of, EachRun}
 use Rattle.ir_weave.specs.Ahead.{IsAlone, event_of, HasStep, IsAhead, IsAsking, IsEntering, IsNextObject, ask_at, thread_at}

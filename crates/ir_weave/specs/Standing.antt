@@ -3,11 +3,10 @@ use Rattle.std.specs.Prelude.{List, ◌≡◌, ℕ, ◌<◌, ◌≤◌, length}
 use Rattle.ir_thread.specs.State as thread
 use Rattle.ir_object.specs.Cell.{Cell}
 use Rattle.ir_flat.specs.Flat.{Flat, IsFlat, thread_of, tables}
-use Rattle.ir_runs.specs.Cuts.{Cut, IsCut, Consistent, object_at}
 use Rattle.ir_fit.specs.Fit.{FittedTrace}
 use Rattle.ir_cut.specs.Positions.{cut_of, machine_of, start_of, EachRun}
 use Rattle.ir_image.specs.Guest.{object_count}
-use Rattle.ir_runs.specs.Run.{Step, th}
+use Rattle.ir_runs.specs.Run.{Step, th, Cut, IsCut, Consistent, object_at}
 
 -- the threads and objects of a guest at one moment
 pub record Standing : Type 0 where
@@ -51,7 +50,3 @@ pub record IsBetween (f : FittedTrace) (target : List ℕ) (old new : Standing) 
 -- at these positions at most one thread is below its target
 abbrev pub OneIsBelow : List ℕ → Cut → Type 0
 OneIsBelow target p = (t u : ℕ) → p t < cut_of target t → p u < cut_of target u → t ≡ u
-
--- the guest at some cut
-abbrev pub IsState : FittedTrace → Flat → Type 0
-IsState f s = (p : Cut) × IsStateAt f p s

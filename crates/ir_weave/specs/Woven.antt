@@ -6,7 +6,7 @@ use lib.ListN.{get_elem?}
 use Rattle.atomic_table.specs.Table.{State, Me, Step}
 use Rattle.atomic_table.specs.Seated.{TableId}
 use Rattle.atomic_table.specs.declared.shared.Seat.{Seat}
-use Rattle.ir_thread.specs.Calls.{ask_of, after_ask}
+use Rattle.ir_thread.specs.State.{ask_of, after_ask}
 use Rattle.ir_runs.specs.Machine.{Out}
 use Rattle.ir_thread.specs.State as thread
 use Rattle.ir_runs.specs.declared.access.Access.TheVariants.{Writing}
@@ -19,8 +19,7 @@ use Rattle.ir_flat.specs.Flat.{Flat, IsFlat, idle}
 use Rattle.ir_log.specs.declared.event.Event.{Event}
 use Rattle.ir_trace.specs.Recorded.{recorded_thread}
 use Rattle.ir_fit.specs.Ahead.{IsOpen}
-use Rattle.ir_runs.specs.Run.{count}
-use Rattle.ir_runs.specs.Cuts.{Cut, IsCut, Consistent, Emits}
+use Rattle.ir_runs.specs.Run.{count, Cut, IsCut, Consistent, Emits}
 use Rattle.ir_runs.specs.Admitted.{Admitted}
 use Rattle.ir_fit.specs.Fit.{FittedTrace, HasRun}
 use Rattle.ir_cut.specs.Positions.{machine_of, start_of, EachRun}

@@ -3,25 +3,35 @@
 ghost use Rattle.std.specs.Prelude.{◌≡◌, false};
 
 use crate::commands::bytes_of;
+use crate::dispatch::Surroundings;
 use ir_arguments::ExploreArguments;
+use ir_explore::Observer;
 use ir_explore_run::explore_run;
 use ir_files::{ExitStatus, Folder, MOST_BYTES};
 use ir_stream::Sink;
-use std::alloc::Global;
 
 // Prints the outcomes of the guest in a file.
-pub fn explore_file<D: Folder, O: Sink, E: Sink>(
-    alloc: Global,
-    folder: &D,
+pub fn explore_file<R, D, G, O, E>(
+    around: &Surroundings<'_, R, D, G>,
     arguments: &ExploreArguments,
     out: &mut O,
     faults: &mut E,
 ) -> ExitStatus
+where
+    R: AllocGlobal,
+    D: Folder,
+    G: Observer,
+    O: Sink,
+    E: Sink,
     requires writes { O.broken out.old ≡ false }
     requires reports { E.broken faults.old ≡ false }
 {
+    let (alloc, folder) = (around.rt.alloc(), around.folder);
     match bytes_of(alloc, folder, faults, arguments.image.as_str(), MOST_BYTES) {
-        Some(image) => explore_run(alloc, image.as_slice(), arguments.plan, out, faults),
+        Some(image) => {
+            let (bytes, observer) = (image.as_slice(), around.gate);
+            explore_run(alloc, bytes, arguments.plan, observer, out, faults)
+        }
         None => ExitStatus::Failed,
     }
 }

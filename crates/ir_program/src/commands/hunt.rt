@@ -5,8 +5,9 @@ ghost use Rattle.std.specs.Prelude.{◌≡◌, false};
 use crate::commands::bytes_of;
 use crate::commands::conditions::conditions_of;
 use crate::commands::recording::{
-    RecordingPaths, input_of, loses_input, output_places, record_files,
+    Places, RecordingPaths, input_of, loses_input, output_places, record_files,
 };
+use crate::dispatch::Surroundings;
 use crate::ends::tell_ends;
 use ir_arguments::HuntArguments;
 use ir_files::{ExitStatus, Folder, MOST_BYTES};
@@ -30,11 +31,9 @@ fn paths(arguments: &HuntArguments) -> RecordingPaths<'_> {
 }
 
 // Hunts for a run of a guest, whose trace and outputs go into files at these paths.
-fn hunted_into<'a, R, D, O, E>(
-    rt: &R,
-    folder: &'a D,
-    place: &'a str,
-    places: Option<&'a [String]>,
+fn hunted_into<R, D, G, O, E>(
+    around: &Surroundings<'_, R, D, G>,
+    places: Places<'_, '_>,
     image: &ParsedImage<'_>,
     plan: &HuntPlan<'_>,
     out: &mut O,
@@ -48,14 +47,14 @@ where
     requires writes { O.broken out.old ≡ false }
     requires reports { E.broken faults.old ≡ false }
 {
-    let mut files = record_files(rt.alloc(), folder, place, places);
+    let Surroundings { rt, folder, .. } = *around;
+    let mut files = record_files(rt.alloc(), folder, places.trace, places.outputs);
     hunt_run(rt, image, plan, &mut files, out, faults)
 }
 
 // Hunts for a run of a guest, and records it into a file, and what its threads print into others where they are asked for.
-pub fn hunt_file<R, D, O, E>(
-    rt: &R,
-    folder: &D,
+pub fn hunt_file<R, D, G, O, E>(
+    around: &Surroundings<'_, R, D, G>,
     arguments: &HuntArguments,
     explains: bool,
     out: &mut O,
@@ -69,7 +68,8 @@ where
     requires writes { O.broken out.old ≡ false }
     requires reports { E.broken faults.old ≡ false }
 {
-    let alloc = rt.alloc();
+    let folder = around.folder;
+    let alloc = around.rt.alloc();
     if loses_input(folder, faults, &paths(arguments)) {
         return ExitStatus::BadArguments;
     }
@@ -97,9 +97,11 @@ where
         stale: arguments.stale,
         is_shown: explains,
     };
-    let places = outputs.as_ref().map(|each| each.as_slice());
-    let place = arguments.trace.as_str();
-    match hunted_into(rt, folder, place, places, &image, &plan, out, faults) {
+    let places = Places {
+        trace: arguments.trace.as_str(),
+        outputs: outputs.as_ref().map(|each| each.as_slice()),
+    };
+    match hunted_into(around, places, &image, &plan, out, faults) {
         Ok(Some(recorded)) => {
             if explains {
                 tell_ends(alloc, &recorded, faults);

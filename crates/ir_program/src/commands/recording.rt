@@ -23,6 +23,15 @@ pub struct RecordingPaths<'a> {
     pub output: Option<&'a String>,
 }
 
+/// Where a recording goes.
+#[derive(Clone, Copy)]
+pub struct Places<'a, 'b> {
+    /// The trace.
+    pub trace: &'a str,
+    /// What each thread prints, if it is asked for.
+    pub outputs: Option<&'b [String]>,
+}
+
 /// Where a recording goes: its trace to one path, and what each thread prints to these, if it is asked for.
 pub fn record_files<'a, D: Folder>(
     alloc: Global,

@@ -4,13 +4,18 @@ ghost use Rattle.std.specs.Prelude.{◌≡◌, false};
 
 use crate::commands::bytes_of;
 use crate::commands::conditions::conditions_of;
-use crate::commands::recording::{RecordingPaths, loses_input, output_places, record_files};
+use crate::commands::recording::{
+    Places, RecordingPaths, loses_input, output_places, record_files,
+};
+use crate::dispatch::Surroundings;
 use crate::ends::tell_ends;
 use ir_arguments::UntilArguments;
+use ir_explore::Observer;
 use ir_explore_run::{UntilPlan, explore_until};
 use ir_files::{ExitStatus, Folder, MOST_BYTES};
 use ir_record_run::ParsedImage;
 use ir_stream::Sink;
+use ir_trace::Trace;
 use std::sync::Wait;
 use std::thread::Threads;
 use std::time::Clock;
@@ -26,10 +31,31 @@ fn paths(arguments: &UntilArguments) -> RecordingPaths<'_> {
     }
 }
 
+// Looks for an outcome of a guest, whose trace and outputs go into files at these paths.
+fn found_into<R, D, G, O, E>(
+    around: &Surroundings<'_, R, D, G>,
+    places: Places<'_, '_>,
+    plan: &UntilPlan<'_, '_, '_, G>,
+    out: &mut O,
+    faults: &mut E,
+) -> Result<Trace, ExitStatus>
+where
+    R: Threads + Wait + Sync + Clock + AllocGlobal,
+    D: Folder,
+    G: Observer,
+    O: Sink,
+    E: Sink,
+    requires writes { O.broken out.old ≡ false }
+    requires reports { E.broken faults.old ≡ false }
+{
+    let Surroundings { rt, folder, .. } = *around;
+    let mut files = record_files(rt.alloc(), folder, places.trace, places.outputs);
+    explore_until(rt, plan, &mut files, out, faults)
+}
+
 // Looks for an outcome of a guest, and records a run that has it into a file, and what its threads print into others where they are asked for.
-pub fn until_file<R, D, O, E>(
-    rt: &R,
-    folder: &D,
+pub fn until_file<R, D, G, O, E>(
+    around: &Surroundings<'_, R, D, G>,
     arguments: &UntilArguments,
     explains: bool,
     out: &mut O,
@@ -38,12 +64,14 @@ pub fn until_file<R, D, O, E>(
 where
     R: Threads + Wait + Sync + Clock + AllocGlobal,
     D: Folder,
+    G: Observer,
     O: Sink,
     E: Sink,
     requires writes { O.broken out.old ≡ false }
     requires reports { E.broken faults.old ≡ false }
 {
-    let alloc = rt.alloc();
+    let folder = around.folder;
+    let alloc = around.rt.alloc();
     let paths = paths(arguments);
     if loses_input(folder, faults, &paths) {
         return ExitStatus::BadArguments;
@@ -61,12 +89,16 @@ where
         Err(status) => return status,
     };
     let plan = UntilPlan {
+        image: &image,
         explore: arguments.explore.plan,
         conditions: conditions.as_slice(),
+        observer: around.gate,
     };
-    let places = outputs.as_ref().map(|each| each.as_slice());
-    let mut files = record_files(alloc, folder, arguments.trace.as_str(), places);
-    match explore_until(rt, &image, &plan, &mut files, out, faults) {
+    let places = Places {
+        trace: paths.trace,
+        outputs: outputs.as_ref().map(|each| each.as_slice()),
+    };
+    match found_into(around, places, &plan, out, faults) {
         Ok(recorded) => {
             if explains {
                 tell_ends(alloc, &recorded, faults);

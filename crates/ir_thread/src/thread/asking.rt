@@ -7,7 +7,7 @@ ghost use Rattle.ir_thread.specs.declared.ask.Ask.TheVariants as ask;
 use crate::ask::Ask;
 use crate::call::Call;
 use crate::end::End;
-use crate::holding::highest;
+use crate::holding::{highest, is_free_from};
 use crate::limits::{MOST_EVENTS, MOST_OUTPUT};
 use crate::thread::Thread;
 use ir_image::Code;
@@ -24,9 +24,8 @@ const A2: u8 = 12;
 const A7: u8 = 17;
 
 impl Thread {
-    ghost use Rattle.ir_thread.specs.Calls.{a0, a1, call_at, number_text, print_ask, logged_ask, is_object, has_word, entry_ask, leave_ask, get_ask, put_ask, call_ask, running_ask, ask_of, release_ask};
-    ghost use Rattle.ir_thread.specs.Permitted.{Permits};
-    ghost use Rattle.ir_thread.specs.State.{held_at, highest};
+    ghost use Rattle.ir_thread.specs.Permitted.{Permits, running_ask, leave_ask, get_ask, put_ask};
+    ghost use Rattle.ir_thread.specs.State.{held_at, highest, a0, a1, call_at, number_text, print_ask, logged_ask, is_object, has_word, entry_ask, call_ask, ask_of, release_ask};
     ghost use Rattle.ir_mach.specs.Execution.{outcome_of};
     ghost use Rattle.ir_mach.specs.Steps.{ran_of};
 
@@ -107,10 +106,10 @@ impl Thread {
         ensures object { IfOk result (λ object. (object ≡ a0 self.now) × ((q : Ask) → entry_ask self.now q ≡ logged_ask self.now q)) }
         ensures end { IfErr result (λ end. (q : Ask) → entry_ask self.now q ≡ ask.End end) }
     {
-        match (self.object(), highest(self.held.as_slice())) {
-            (None, _) => Err(End::NoSuchObject),
-            (Some(object), Some((top, _))) if object <= top => Err(End::EntryOutOfOrder),
-            (Some(object), _) => Ok(object),
+        match self.object() {
+            None => Err(End::NoSuchObject),
+            Some(object) if is_free_from(self.held.as_slice(), object) => Ok(object),
+            Some(_) => Err(End::EntryOutOfOrder),
         }
     }
 

@@ -26,6 +26,7 @@ alone-init g c = record {
   node = let a = c.requires.node in let b = c.requires.row in omega (arith, a, b);
   nodes = c.requires.nodes;
   kept = λ t v next e. e;
+  stay = λ v x is. is;
   counted = omega arith;
   sound = c.requires.sound;
   origin = refl;
@@ -145,6 +146,7 @@ alone-preserved g c =
             omega (arith, n, p, nodes)
       ];
       kept = λ t v to e. c.next.ensures.kept t v to (c.alone.invariant.kept t v to e);
+      stay = λ v x is. c.next.ensures.stay v x (c.alone.invariant.stay v x is);
       counted = let a = going.counted in omega (arith, a);
       sound = c.next.ensures.sound;
       origin = c.next.ensures.origin ∙ c.alone.invariant.origin;

@@ -1,5 +1,5 @@
 use Rattle.std.proofs.Common.{◌≡◌, ℕ, ◌+◌, ◌-◌, ◌<◌, ◌≤◌, length}
-use Rattle.ir_explore.specs.Following.{Keeps}
+use Rattle.ir_explore.specs.Following.{Keeps, Stay}
 use Rattle.ir_explore.specs.Ways.{shut}
 use Rattle.ir_explore.proofs.Going.{Going}
 use Rattle.ir_explore.proofs.alone.go_alone.Given as goal
@@ -10,6 +10,7 @@ invariant-alone g l = record {
   node : l.node < length l.opened.items;
   nodes : length l.nodes.items ≡ g.S.Successors.size l.graph;
   kept : (t : ℕ) → Keeps (g.S.Successors.noted l.fn.graph t) (g.S.Successors.noted l.graph t);
+  stay : Stay (g.S.Successors.nodes l.fn.graph) (g.S.Successors.nodes l.graph);
   counted : l.entries ≤ length l.opened.items;
   sound : g.S.Successors.is_sound l.graph;
   origin : g.S.Successors.origin l.graph ≡ g.S.Successors.origin l.fn.graph;

@@ -60,6 +60,7 @@ loop-thread-preserved g c =
           adds_transitive c.args.level.number c.args.nodes.now.items c.loop-thread.nodes.items c.take_turn.new.nodes.items
           c.loop-thread.invariant.adds c.take_turn.ensures.adds;
       kept = λ t v to e. c.take_turn.ensures.kept t v to (c.loop-thread.invariant.kept t v to e);
+      stay = λ v x is. c.take_turn.ensures.stay v x (c.loop-thread.invariant.stay v x is);
       sound = c.take_turn.ensures.sound;
       origin = c.take_turn.ensures.origin ∙ c.loop-thread.invariant.origin;
       room = c.take_turn.ensures.room;

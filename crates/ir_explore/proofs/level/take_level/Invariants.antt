@@ -1,5 +1,5 @@
 use Rattle.std.proofs.Common.{◌≡◌, ℕ, ◌≤◌, length}
-use Rattle.ir_explore.specs.Following.{Keeps}
+use Rattle.ir_explore.specs.Following.{Keeps, Stay}
 use Rattle.ir_explore.specs.Levels.{rows, AllFollowed, AllOpen, AreWithin}
 use Rattle.ir_explore.specs.Origins.{AreReached, IsLevel, Adds}
 use Rattle.ir_explore.proofs.level.take_level.Given as goal
@@ -17,6 +17,7 @@ invariant-loop-thread g l = record {
   reached : AreReached (g.S.Successors.noted l.graph) l.nodes.items;
   adds : Adds l.level.number l.fn.nodes.items l.nodes.items;
   kept : (t : ℕ) → Keeps (g.S.Successors.noted l.fn.graph t) (g.S.Successors.noted l.graph t);
+  stay : Stay (g.S.Successors.nodes l.fn.graph) (g.S.Successors.nodes l.graph);
   sound : g.S.Successors.is_sound l.graph;
   origin : g.S.Successors.origin l.graph ≡ g.S.Successors.origin l.fn.graph;
   room : g.S.Successors.size l.graph ≤ g.S.Successors.most l.graph;

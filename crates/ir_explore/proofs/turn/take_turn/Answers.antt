@@ -30,6 +30,7 @@ loop-from-preserved g c = record {
       adds_transitive c.args.level.number c.args.nodes.now.items c.loop-from.nodes.items c.go_alone.new.nodes.items c.loop-from.invariant.adds
       c.go_alone.ensures.adds;
   kept = λ t v to e. c.go_alone.ensures.kept t v to (c.loop-from.invariant.kept t v to e);
+  stay = λ v x is. c.go_alone.ensures.stay v x (c.loop-from.invariant.stay v x is);
   sound = c.go_alone.ensures.sound;
   origin = c.go_alone.ensures.origin ∙ c.loop-from.invariant.origin;
   room = c.go_alone.ensures.room;

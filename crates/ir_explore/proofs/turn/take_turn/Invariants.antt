@@ -1,5 +1,5 @@
 use Rattle.std.proofs.Common.{◌≡◌, ℕ, ◌≤◌, length}
-use Rattle.ir_explore.specs.Following.{Keeps, AreOpen, StaysOpen, IsFollowed}
+use Rattle.ir_explore.specs.Following.{Keeps, Stay, AreOpen, StaysOpen, IsFollowed}
 use Rattle.ir_explore.specs.Origins.{AreReached, IsLevel, Adds}
 use Rattle.ir_explore.proofs.turn.take_turn.Given as goal
 
@@ -15,6 +15,7 @@ invariant-loop-from g l = record {
   reached : AreReached (g.S.Successors.noted l.graph) l.nodes.items;
   adds : Adds l.level.number l.fn.nodes.items l.nodes.items;
   kept : (t : ℕ) → Keeps (g.S.Successors.noted l.fn.graph t) (g.S.Successors.noted l.graph t);
+  stay : Stay (g.S.Successors.nodes l.fn.graph) (g.S.Successors.nodes l.graph);
   sound : g.S.Successors.is_sound l.graph;
   origin : g.S.Successors.origin l.graph ≡ g.S.Successors.origin l.fn.graph;
   room : g.S.Successors.size l.graph ≤ g.S.Successors.most l.graph;

@@ -5,12 +5,25 @@ use Rattle.ir_explore_run.specs.Conditions.{IsFirst}
 use Rattle.ir_explore_run.proofs.seek.search.Goals as goal
 
 pub first_fulfilling-requires : goal.first_fulfilling-requires
-first_fulfilling-requires c = λ i x is.
+first_fulfilling-requires g c = λ i x is.
     c.in_ok-explored.ensures.known.explored.nodes i x (subst (λ z. slice_get z i ≡ Some x) c.as_slice.ensures.value is)
 
 pub returns-clause-first : goal.returns-clause-first
-returns-clause-first c =
+returns-clause-first g c =
     let guest = c.args.image.now in
     let cs = map as_condition c.args.plan.now.conditions.now in
     subst (λ z. IsFirst guest cs c.in_ok-explored.explored.states.graph.flats.items z c.in_ok-first.first) c.as_slice.ensures.value
     (c.in_ok-first.ensures guest c.in_ok-explored.ensures.known.reached)
+
+pub returns-clause-known : goal.returns-clause-known
+returns-clause-known g c =
+    let known = c.in_ok-explored.ensures.known in
+    record {
+      explored = known.explored;
+      all = known.all;
+      reached = known.reached;
+      hanging = known.hanging;
+      unknown = known.unknown;
+      covered = known.covered;
+      stopped = known.stopped;
+    }

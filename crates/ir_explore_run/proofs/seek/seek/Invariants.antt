@@ -2,7 +2,7 @@ use Rattle.std.proofs.Common.{◌-◌, ◌≤◌}
 use Rattle.ir_explore_run.proofs.seek.seek.Given as goal
 
 abbrev pub invariant-wider : goal.invariant-wider
-invariant-wider l = l.switches ≤ l.most
+invariant-wider g l = l.switches ≤ l.most
 
 abbrev pub decreases-wider : goal.decreases-wider
-decreases-wider l = l.most - l.switches
+decreases-wider g l = l.most - l.switches

@@ -13,7 +13,7 @@ pub returns-in_err-recorded-clause-stopped : goal.returns-in_err-recorded-clause
 returns-in_err-recorded-clause-stopped g c =
     let p = err_from_is_err_and c.from_residual.result c.from_residual.ensures.1 in
     let told = c.in-Ok-Some.ensures.told in
-    let says = subst (λ z. IsUntil c.args.image.now c.args.plan.now.explore (map as_condition c.args.plan.now.conditions.now) (option_map (λ s. string_bytes s) z) told.0)
+    let says = subst (λ z. IsUntil c.args.plan.now.image.now c.args.plan.now.explore (map as_condition c.args.plan.now.conditions.now) (option_map (λ s. string_bytes s) z) told.0)
     c.in-Ok-Some.field-0-is told.1 in
     let stopped = rw c.as_str.ensures.value at (rw c.recording-how.ensures at c.in_err-recorded.ensures.stopped) in
     if_err_for_handed_on_error _ c.from_residual.result c.in_err-recorded.field-0.0 p.0 p.1 p.2 (inr (inr (
@@ -32,13 +32,13 @@ pub returns-clause-found : goal.returns-clause-found
 returns-clause-found g c =
     let list = string_bytes c.in-Ok-Some.list in
     let told = c.in-Ok-Some.ensures.told in
-    let says = subst (λ z. IsUntil c.args.image.now c.args.plan.now.explore (map as_condition c.args.plan.now.conditions.now) (option_map (λ s. string_bytes s) z) told.0)
+    let says = subst (λ z. IsUntil c.args.plan.now.image.now c.args.plan.now.explore (map as_condition c.args.plan.now.conditions.now) (option_map (λ s. string_bytes s) z) told.0)
     c.in-Ok-Some.field-0-is told.1 in
     let done = rw c.as_str.ensures.value at (rw c.recording-how.ensures at c.in_ok-recorded.ensures.done) in (
       told.0,
       list,
       done.0,
-      recording_of_hit_is_finding c.args.image.now (map as_condition c.args.plan.now.conditions.now) list told.0 c.in_ok-recorded.recorded done.0 says.guest says.is
+      recording_of_hit_is_finding c.args.plan.now.image.now (map as_condition c.args.plan.now.conditions.now) list told.0 c.in_ok-recorded.recorded done.0 says.guest says.is
           says.says done.1,
       done.2,
       done.3,

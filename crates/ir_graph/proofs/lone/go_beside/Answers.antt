@@ -1,5 +1,5 @@
-use Rattle.std.proofs.Common.{◌≡◌, ◌+◌, ◌-◌, ◌≤◌, ℕ, true, refl, sym, ap, ◌∙◌, subst, arith}
-use Rattle.ir_graph.specs.Lone.{GoesLone, AreBeside}
+use Rattle.std.proofs.Common.{◌+◌, refl, sym, subst, arith}
+use Rattle.ir_graph.specs.Lone.{GoesLone}
 use Rattle.ir_graph.specs.Plain.{Rests}
 use Rattle.ir_graph.proofs.LoneSteps.{goes_lone_by_private_steps, goes_lone_by_next_ask, goes_lone_append, are_beside_after_lone_run, may_take_fair_ask}
 use Rattle.ir_graph.proofs.lone.go_beside.Goals as goal

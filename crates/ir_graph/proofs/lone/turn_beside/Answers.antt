@@ -1,4 +1,4 @@
-use Rattle.std.proofs.Common.{◌≡◌, true, refl, sym}
+use Rattle.std.proofs.Common.{sym}
 use Rattle.ir_graph.proofs.LoneSteps.{may_take_admitted_entry, are_beside_after_entry, takes_turn_by_entry_and_run}
 use Rattle.ir_graph.proofs.lone.turn_beside.Goals as goal
 

@@ -1,10 +1,7 @@
-use Rattle.std.proofs.Common.{◌≡◌, ◌↔◌, ℕ, Some, length, sym, ap, ◌∙◌, subst}
-use Rattle.std.specs.Prelude.{slice_get}
+use Rattle.std.proofs.Common.{◌≡◌, ◌↔◌, ℕ, length, sym, ap, ◌∙◌, subst}
 use Rattle.std.proofs.lemmas.List.{with_items_is}
 use Rattle.ir_explore.specs.Following.{IsOpen}
 use Rattle.ir_explore.specs.Ways.{HasMarked}
-use Rattle.ir_flat.specs.Flat.{Flat, machine, tables}
-use Rattle.ir_runs.specs.Run.{IsDone}
 use Rattle.ir_graph.specs.Hangs.{AreWays}
 use Rattle.ir_graph.specs.Notes.{noted_in}
 use Rattle.ir_graph.proofs.marks.mark_states.Goals as goal

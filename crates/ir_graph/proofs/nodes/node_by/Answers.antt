@@ -1,6 +1,6 @@
 use Rattle.std.proofs.Common.{◌≡◌, Some, sym, subst}
 use Rattle.std.specs.Prelude.{slice_get}
-use Rattle.ir_store.specs.Nodes.{IsNode, flat_in}
+use Rattle.ir_store.specs.Nodes.{flat_in}
 use Rattle.ir_flat.specs.Flat.{Flat, IsFlat}
 use Rattle.ir_graph.specs.Nodes.{LookAlike, AllRest, LeadsFrom}
 use Rattle.ir_graph.specs.Plain.{IsLike}

@@ -9,7 +9,7 @@ returns-then-node-len c =
     let row = c.index-rows-thread.result in
     let l : c.args.node < length row.items =
     (let a = c.if-node-len.true in let b = c.len.ensures in let d = row.ok.0 in omega (arith, a, b, d)) in
-    c.index.ensures ∙ index_within_ignores_default row.items c.args.node c.index.result.now None l
+    c.known.ensures ∙ c.index.ensures ∙ index_within_ignores_default row.items c.args.node c.index.result.now None l
     ∙ ap (λ z. slice_index_or z.items c.args.node None) c.index-rows-thread.is
     ∙ sym (noted_in_is_row_entry c.args.rows.now c.args.thread c.args.node row c.requires)
 

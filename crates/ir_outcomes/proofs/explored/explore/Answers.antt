@@ -1,20 +1,39 @@
-use Rattle.std.proofs.Common.{inl, sym, ap, ◌∙◌, subst}
-use Rattle.ir_explore.specs.Ways.{shut}
-use Rattle.ir_outcomes.specs.Explored.{AreHangs}
+use Rattle.std.proofs.Common.{◌-◌, ◌<◌, None, suc, sym, ◌∙◌, subst}
+use Rattle.ir_outcomes.specs.Explored.{IsExplored}
+use Rattle.ir_outcomes.specs.Exploring.{levels_left}
+use Rattle.ir_thread.specs.State.{IsAllowed}
+use Rattle.ir_thread.specs.declared.profile.Profile.TheVariants.{One}
+use Rattle.ir_outcomes.proofs.Steps.{left_less}
 use Rattle.ir_outcomes.proofs.explored.explore.Goals as goal
 
-pub returns-in-Ok-clause-all : goal.returns-in-Ok-clause-all
-returns-in-Ok-clause-all c = λ done.
-    c.in_ok-outcomes.ensures.all c.in-Ok.ensures.shown (c.in_ok-states.ensures.all done) (c.in_ok-states.ensures.nodes done)
+pub go_over-requires-clause-allowed : goal.go_over-requires-clause-allowed
+go_over-requires-clause-allowed g c = subst (IsAllowed One) (sym c.levels.invariant.image) c.requires.allowed
 
-pub returns-in-Ok-clause-hangs : goal.returns-in-Ok-clause-hangs
-returns-in-Ok-clause-hangs c = λ done.
-    subst (λ z. AreHangs c.args.image.now c.in_ok-states.states.graph.flats.items z c.in-Ok.hang)
-    (sym (c.count_lost-hangs.ensures ∙ ap shut c.as_slice.ensures.value))
-    (c.in-Ok.ensures.hangs (c.in_ok-states.ensures.marked done) (c.in_ok-states.ensures.stand done) (c.in_ok-states.ensures.nodes done))
+pub levels-preserved : goal.levels-preserved
+levels-preserved g c = record {
+  is = c.go_over.ensures.is;
+  image = c.go_over.ensures.image ∙ c.levels.invariant.image;
+  bounds = c.go_over.ensures.bounds ∙ c.levels.invariant.bounds;
+  most = c.go_over.ensures.most ∙ c.levels.invariant.most;
+}
 
-pub returns-in-Ok-clause-unknown : goal.returns-in-Ok-clause-unknown
-returns-in-Ok-clause-unknown c = λ other. c.in-Ok.ensures.unknown (c.in_ok-states.ensures.unknown other)
+pub levels-smaller : goal.levels-smaller
+levels-smaller g c =
+    let old = c.levels.exploring in
+    let new = c.go_over.new.self in
+    let none = c.goes_on.ensures.stop c.levels-test.true in
+    subst (λ z. levels_left new.stop (suc new.most - new.states.search.level.number) < levels_left z (suc old.most - old.states.search.level.number)) (sym none)
+    (subst (λ m. levels_left new.stop (suc m - new.states.search.level.number) < levels_left None (suc old.most - old.states.search.level.number)) (sym c.go_over.ensures.most)
+    (left_less new.stop old.states.search.level.number new.states.search.level.number old.most (c.goes_on.ensures.wanted c.levels-test.true)
+    c.go_over.ensures.next))
 
-pub returns-in-Ok-clause-stopped : goal.returns-in-Ok-clause-stopped
-returns-in-Ok-clause-stopped c = λ stop is. inl (c.in_ok-states.ensures.stopped stop is)
+pub end-requires-clause-allowed : goal.end-requires-clause-allowed
+end-requires-clause-allowed g c = subst (IsAllowed One) (sym c.levels.invariant.image) c.requires.allowed
+
+pub returns-clause-explored : goal.returns-clause-explored
+returns-clause-explored g c =
+    let e = c.levels.exploring in
+    let r = c.end.result in
+    subst (λ z. IsExplored z c.args.bounds c.args.most r) c.levels.invariant.image
+    (subst (λ z. IsExplored e.states.graph.image.now z c.args.most r) c.levels.invariant.bounds
+    (subst (λ z. IsExplored e.states.graph.image.now e.states.graph.bounds z r) c.levels.invariant.most c.end.ensures.explored))

@@ -4,9 +4,9 @@ use Rattle.ir_record_run.proofs.order.turns_of.Goals as goal
 
 pub returns-in_ok-count-in-Some : goal.returns-in_ok-count-in-Some
 returns-in_ok-count-in-Some c =
-    spelled_item_is_turns c.args.threads c.args.item.now c.first_part.result.0.now c.in-Some.count.now c.in_ok-thread.thread c.in_ok-count-in-Some.count
+    spelled_item_is_turns c.args.threads c.args.item.now c.first_part.result.0.now c.in-Some.count.now (c.in_ok-thread.thread, c.in_ok-thread.refused) c.in_ok-count-in-Some.count
     (rw c.in-Some.is at c.first_part.ensures.parts)
-    (sym c.thread_of.ensures ∙ c.in_ok-thread.was) (sym c.number_within.ensures.value ∙ c.in_ok-count-in-Some.was)
+    (sym c.turn_of.ensures ∙ c.in_ok-thread.was) (sym c.number_within.ensures.value ∙ c.in_ok-count-in-Some.was)
 
 pub returns-in_err-count-in-Some : goal.returns-in_err-count-in-Some
 returns-in_err-count-in-Some c =

@@ -1,12 +1,13 @@
 use Rattle.std.proofs.Common.{[], ◌++◌, length, map, replicate, refl, sym, ap, ◌∙◌, subst}
 use Rattle.ir_flat.specs.Flat.{tables}
-use Rattle.ir_runs.specs.InOrder.{rounds}
+use Rattle.ir_runs.specs.Run.{rounds}
 use Rattle.ir_record.specs.Failures.{StoppedAt}
 use Rattle.ir_record.specs.Progress.{Progress, Took}
 use Rattle.ir_record.specs.Recorders.{progress_of}
-use Rattle.ir_record.specs.Recording.{order_of_turns}
-use Rattle.ir_record.proofs.Steps.{took_both_orders}
-use Rattle.ir_record.proofs.Stopped.{if_err_holds_of_error, stopped_in_longer_order, stopped_after_turns}
+use Rattle.ir_record.specs.Recording.{turns_of_items}
+use Rattle.ir_record.specs.Refusing.{plain_turns}
+use Rattle.ir_record.proofs.Steps.{turns_both, plain_took}
+use Rattle.ir_record.proofs.Stopped.{if_err_holds_of_error, plain_stopped, turns_stopped_within, turns_stopped_after}
 use Rattle.ir_record.proofs.recorder.Recorder.record.Goals as goal
 
 pub returns-clause-took : goal.returns-clause-took
@@ -14,11 +15,12 @@ returns-clause-took g c =
     let entry = progress_of g.W.World.answers c.args.self.now in
     let mid = progress_of g.W.World.answers c.follow.new.self in
     let new = progress_of g.W.World.answers c.rounds.new.self in
-    let n = length c.args.self.now.tape.flat.threads in (
-      c.in_ok-rounds.ensures.took.0,
-      took_both_orders (order_of_turns c.args.order.now) (rounds n c.in_ok-rounds.ensures.took.0) entry mid new c.in_ok-follow.ensures.took
-          (subst (λ k. Took (rounds k c.in_ok-rounds.ensures.took.0) mid new) c.in_ok-follow.ensures.took.threads
-          c.in_ok-rounds.ensures.took.1),
+    let n = length c.args.self.now.tape.flat.threads in
+    let count = c.in_ok-rounds.ensures.took.0 in (
+      count,
+      turns_both (turns_of_items c.args.order.now) (plain_turns (rounds n count)) entry mid new c.in_ok-follow.ensures.took
+          (plain_took (rounds n count) mid new
+          (subst (λ k. Took (rounds k count) mid new) c.in_ok-follow.ensures.took.moved.threads c.in_ok-rounds.ensures.took.1)),
     )
 
 pub returns-clause-kept : goal.returns-clause-kept
@@ -28,18 +30,17 @@ pub returns-in_err-rounds-clause-kept : goal.returns-in_err-rounds-clause-kept
 returns-in_err-rounds-clause-kept g c = c.rounds.ensures.kept ∙ c.follow.ensures.kept
 
 pub rounds-requires-clause-level : goal.rounds-requires-clause-level
-rounds-requires-clause-level g c = c.requires.level ∙ ap (λ n. replicate n 0) (sym c.in_ok-follow.ensures.took.threads)
+rounds-requires-clause-level g c = c.requires.level ∙ ap (λ n. replicate n 0) (sym c.in_ok-follow.ensures.took.moved.threads)
 
 pub rounds-requires-clause-asks : goal.rounds-requires-clause-asks
-rounds-requires-clause-asks g c = c.requires.asks ∙ sym c.in_ok-follow.ensures.took.threads
+rounds-requires-clause-asks g c = c.requires.asks ∙ sym c.in_ok-follow.ensures.took.moved.threads
 
 pub returns-in_err-follow-clause-stopped : goal.returns-in_err-follow-clause-stopped
 returns-in_err-follow-clause-stopped g c = if_err_holds_of_error _ c.from_residual.result c.in_err-follow.field-0.0 c.from_residual.ensures.1 (
-    let entry : Progress = progress_of g.W.World.answers c.args.self.now in
-    let order = order_of_turns c.args.order.now in (
+    let turns = turns_of_items c.args.order.now in (
       0,
-      stopped_in_longer_order order [] (order ++ rounds (length c.args.self.now.tape.flat.threads) 0) (tables entry.flat) entry _ _ refl
-          c.in_err-follow.ensures.stopped,
+      turns_stopped_within turns [] (turns ++ plain_turns (rounds (length c.args.self.now.tape.flat.threads) 0))
+          (progress_of g.W.World.answers c.args.self.now) _ _ refl c.in_err-follow.ensures.stopped,
     )
     )
 
@@ -52,7 +53,8 @@ returns-in_err-rounds-clause-stopped g c = if_err_holds_of_error _ c.from_residu
     let answers = map g.W.World.answers c.rounds.new.self.worlds.items in
     let k = c.in_err-rounds.ensures.stopped in (
       k.0,
-      stopped_after_turns (order_of_turns c.args.order.now) (rounds n k.0) entry mid failed answers c.in_ok-follow.ensures.took
-          (subst (λ i. StoppedAt (rounds i k.0) (tables mid.flat) mid failed answers) c.in_ok-follow.ensures.took.threads k.1),
+      turns_stopped_after (turns_of_items c.args.order.now) (plain_turns (rounds n k.0)) entry mid failed answers c.in_ok-follow.ensures.took
+          (plain_stopped (rounds n k.0) mid failed answers
+          (subst (λ i. StoppedAt (rounds i k.0) (tables mid.flat) mid failed answers) c.in_ok-follow.ensures.took.moved.threads k.1)),
     )
     )

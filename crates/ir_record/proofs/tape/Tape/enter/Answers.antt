@@ -49,7 +49,6 @@ entering c = record {
   once = entry_logs_itself c.args.object c.args.access 0 ((tables c.args.self.now.flat).objects c.args.object);
   unanswered = entry_logs_no_answer c.args.object c.args.access 0 ((tables c.args.self.now.flat).objects c.args.object);
   fits = c.entry-event.ensures.fits (thread_of c.args.self.now.flat c.args.t).profile;
-  enters = ask_not_try_enters_if_free c.args.self.now.flat c.args.t 0 (Enter c.args.object c.args.access) c.requires.asked (λ o e. cc e);
   can = on_ok_holds_if_not_error c.take.result c.is_err.result _ c.is_err.ensures.value c.if-is_err.false c.take.ensures.admitted;
   taken = on_ok_holds_if_not_error c.take.result c.is_err.result _ c.is_err.ensures.value c.if-is_err.false c.take.ensures.taken;
   code = c.take.ensures.code;
@@ -65,6 +64,7 @@ entering c = record {
 pub returns-clause-took : goal.returns-clause-took
 returns-clause-took c = turn_taken_by_logged_event c.args.self.now.flat c.take.new.self c.args.self.now.logs.items
     (set c.args.self.now.logs.items c.args.t c.push.new.self) c.args.t 0 (told c) c.entry-event.result (entering c)
+    (ask_not_try_enters_if_free c.args.self.now.flat c.args.t 0 (Enter c.args.object c.args.access) c.requires.asked (λ o e. cc e))
 
 pub returns-clause-tape : goal.returns-clause-tape
 returns-clause-tape c = tape_after_logged_event c.args.self.now.flat c.take.new.self c.args.self.now.logs.items

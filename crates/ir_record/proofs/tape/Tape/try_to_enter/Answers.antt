@@ -1,5 +1,5 @@
 use Rattle.std.proofs.Common.{◌≡◌, ap, ◌∙◌, refl, sym, subst, [], ◌∷◌, ◌++◌, set}
-use Rattle.ir_thread.specs.Calls.{ask_of}
+use Rattle.ir_thread.specs.State.{ask_of}
 use Rattle.ir_thread.specs.declared.ask.Ask.TheVariants.{Try}
 use Rattle.ir_runs.specs.Machine.{Refused}
 use Rattle.ir_runs.specs.Run.{Can, after}
@@ -45,6 +45,7 @@ returns-in-Ok-clause-took c = turn_taken_by_logged_event c.args.self.now.flat c.
     c.entry-event.result
     (entering_try_logs_one_event c.args.self.now.flat c.take.new.self c.args.self.now.logs.items (set c.args.self.now.logs.items c.args.t c.push.new.self)
     c.args.t c.args.object c.entry-event.result (entered c) c.entry-event.ensures.emitted c.entry-event.ensures.fits)
+    (λ o tries can. refl)
 
 pub returns-in-Ok-clause-tape : goal.returns-in-Ok-clause-tape
 returns-in-Ok-clause-tape c = tape_after_logged_event c.args.self.now.flat c.take.new.self c.args.self.now.logs.items
@@ -89,10 +90,11 @@ pub returns-in-Err-clause-took : goal.returns-in-Err-clause-took
 returns-in-Err-clause-took c = turn_taken_by_logged_event c.args.self.now.flat c.take-in-Err.new.self c.args.self.now.logs.items
     (set c.args.self.now.logs.items c.args.t c.push-in-Err.new.self) c.args.t 0 (Refused c.args.object) (event.Try c.args.object)
     (refused_try_logs_one_event c.args.self.now.flat c.take-in-Err.new.self c.args.self.now.logs.items
-    (set c.args.self.now.logs.items c.args.t c.push-in-Err.new.self) c.args.t c.args.object (left_out c) c.in-Err.ensures.refused)
+    (set c.args.self.now.logs.items c.args.t c.push-in-Err.new.self) c.args.t c.args.object (left_out c))
+    (λ o tries can. absurd (c.in-Err.ensures.refused can))
 
 pub returns-in-Err-clause-tape : goal.returns-in-Err-clause-tape
 returns-in-Err-clause-tape c = tape_after_logged_event c.args.self.now.flat c.take-in-Err.new.self c.args.self.now.logs.items
     (set c.args.self.now.logs.items c.args.t c.push-in-Err.new.self) c.args.t 0 (Refused c.args.object) (event.Try c.args.object)
     (refused_try_logs_one_event c.args.self.now.flat c.take-in-Err.new.self c.args.self.now.logs.items
-    (set c.args.self.now.logs.items c.args.t c.push-in-Err.new.self) c.args.t c.args.object (left_out c) c.in-Err.ensures.refused)
+    (set c.args.self.now.logs.items c.args.t c.push-in-Err.new.self) c.args.t c.args.object (left_out c))

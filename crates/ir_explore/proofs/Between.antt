@@ -1,0 +1,73 @@
+-- A search between two levels.
+use Rattle.std.proofs.Common.{◌≡◌, ℕ, suc, ◌+◌, ◌-◌, ◌<◌, ◌≤◌, Bool, Some, List, length, sym, ◌∙◌, subst, arith}
+use Rattle.std.specs.Prelude.{slice_get}
+use Rattle.ir_explore.specs.declared.origin.Level.{Level}
+use Rattle.ir_explore.specs.declared.origin.Origin.{Origin}
+use Rattle.ir_explore.specs.Following.{Leading, Keeps}
+use Rattle.ir_explore.specs.Levels.{AllFollowed, AllOpen, AreWithin, AreAsked, AreGoneOver, LevelEnds}
+use Rattle.ir_explore.specs.Origins.{BeginsAt, Adds, AreReached, first_origin}
+use Rattle.ir_explore.specs.Searching.{HasGone, IsBetween}
+use Rattle.ir_explore.proofs.Gone.{asked_all, gone_over_if_notes_kept, gone_over_after_level, node_levels_after_adds, added_nodes_begin_next_level}
+use Rattle.ir_explore.proofs.Reached.{place_of_element_is_below_length, rising_after_level_added}
+
+module _ (noted more : ℕ → Leading) (size : ℕ) (nodes new : List Origin) (opened : List (List Bool)) (level : Level)
+    (between : IsBetween noted size nodes opened level) (kept : (t : ℕ) → Keeps (noted t) (more t)) (adds : Adds level.number nodes new)
+    (reached : AreReached more new) where
+  levels_now : (v : ℕ) (n : Origin) → slice_get nodes v ≡ Some n → n.level ≤ level.number
+  levels_now v n is = let a = between.ends.levels v n is in omega (arith, a)
+
+  -- part of a level more
+  pub has_part : (threads bigger : ℕ) → threads ≡ length opened → length new ≤ bigger → HasGone more threads bigger new level.number
+  has_part threads bigger same few = record {
+    gone = subst (λ z. AreGoneOver more z new level.number) (sym same) (gone_over_if_notes_kept noted more (length opened) nodes new level.number kept adds.stays between.has.gone);
+    reached = reached;
+    rising = rising_after_level_added level.number nodes new between.has.rising levels_now adds;
+    most = node_levels_after_adds level.number nodes new levels_now adds;
+    first = adds.stays 0 first_origin between.has.first;
+    few = few;
+  }
+
+  -- a level more
+  pub between_more : (bigger : ℕ) (rows : List (List Bool)) (next : Level) → AllFollowed more rows → AllOpen rows 0 level.until (length opened)
+      → AreWithin rows (length new) → length rows ≡ length opened → length new ≡ bigger → next.number ≡ level.number + 1
+      → next.first ≡ level.until → next.until ≡ length new → level.first < level.until → IsBetween more bigger new rows next
+  between_more bigger rows next followed opens within same all number first until some =
+      let ends : LevelEnds more (length opened) new rows (length nodes) level.number = record {
+        threads_are = same;
+        followed = followed;
+        opens = λ t row few is w low less. opens t row few is w low (let u = between.until in omega (arith, less, u));
+        within = within;
+        levels = node_levels_after_adds level.number nodes new levels_now adds;
+      } in
+      let gone : AreGoneOver more (length opened) new (suc level.number) =
+      gone_over_after_level noted more (length opened) nodes new rows level.number kept adds between.has.gone
+      (place_of_element_is_below_length nodes 0 first_origin between.has.first) ends in
+      let one : suc level.number ≡ next.number = (let a = number in omega (arith, a)) in
+      let less_one : level.number ≡ next.number - 1 = (let a = number in omega (arith, a)) in
+      let at : length nodes ≡ next.first = sym between.until ∙ sym first in
+      record {
+        has = record {
+          gone = subst (λ z. AreGoneOver more z new next.number) (sym same) (subst (AreGoneOver more (length opened) new) one gone);
+          reached = reached;
+          rising = rising_after_level_added level.number nodes new between.has.rising levels_now adds;
+          most = λ v n is. let a = node_levels_after_adds level.number nodes new levels_now adds v n is in omega (arith, a, one);
+          first = adds.stays 0 first_origin between.has.first;
+          few = omega (arith, all);
+        };
+        ends = subst (λ z. LevelEnds more z new rows next.first (next.number - 1)) (sym same)
+            (subst (λ z. LevelEnds more (length opened) new rows z (next.number - 1)) at
+            (subst (LevelEnds more (length opened) new rows (length nodes)) less_one ends));
+        stands = λ w low less. subst (λ z. BeginsAt new z w) one
+            (added_nodes_begin_next_level level.number nodes new adds w (omega (arith, low, at)) (omega (arith, less, until)));
+        all = all;
+        until = until;
+        order = let a = adds.longer in omega (arith, a, at, until);
+        number = let a = between.number in omega (arith, a, number, first, some);
+      }
+
+-- what is between two levels of which the next has no node is finished
+pub finished_asked : (noted : ℕ → Leading) (size : ℕ) (nodes : List Origin) (opened : List (List Bool)) (level : Level)
+    → IsBetween noted size nodes opened level → level.until ≤ level.first → AreAsked noted (length opened) size
+finished_asked noted size nodes opened level between over =
+    asked_all noted (length opened) nodes opened level.first (level.number - 1) between.ends
+    (let a = between.until in let b = between.order in omega (arith, a, b, over)) size between.all

@@ -1,0 +1,74 @@
+use Rattle.std.proofs.Common.{◌≡◌, ◌≤◌, ◌⊎◌, suc, inl, inr, sym, subst, arith}
+use Rattle.ir_explore.specs.declared.origin.Level.{Level}
+use Rattle.ir_explore.specs.declared.stop.Stop.TheVariants.{Memory}
+use Rattle.ir_graph.specs.Searched.{AreSearched}
+use Rattle.ir_graph.specs.Stops.{MayStop}
+use Rattle.ir_thread.specs.State.{IsAllowed}
+use Rattle.ir_thread.specs.declared.profile.Profile.TheVariants.{One}
+use Rattle.ir_outcomes.specs.Exploring.{HasShown}
+use Rattle.ir_outcomes.specs.Hang.{IsOrder}
+use Rattle.ir_outcomes.proofs.Listed.{shown_among}
+use Rattle.ir_outcomes.proofs.Steps.{really_ok, really_err, either_way, on_ok}
+use Rattle.ir_outcomes.proofs.exploring.Exploring.go_over.Goals as goal
+
+pub show_new-shown-requires-clause-allowed : goal.show_new-shown-requires-clause-allowed
+show_new-shown-requires-clause-allowed g c = subst (IsAllowed One) (sym c.go_over-searched.ensures.image) c.requires.allowed
+
+pub show_new-shown-requires-clause-searched : goal.show_new-shown-requires-clause-searched
+show_new-shown-requires-clause-searched g c =
+    let s = c.go_over-searched.new.self in
+    either_way (λ (l : Level). AreSearched s.graph.image.now s.graph.flats.items s.search.nodes.items l.number) c.go_over-searched.result s.search.level
+    c.args.self.now.states.search.level c.go_over-searched.ensures.searched c.go_over-searched.ensures.level c.go_over-searched.ensures.part
+
+pub show_new-shown-requires-clause-few : goal.show_new-shown-requires-clause-few
+show_new-shown-requires-clause-few g c =
+    let going = c.requires.is.going c.requires.stop in
+    let a = going.few in let b = c.go_over-searched.ensures.adds.longer in omega (arith, a, b)
+
+pub show_new-shown-requires-clause-has : goal.show_new-shown-requires-clause-has
+show_new-shown-requires-clause-has g c =
+    let old = c.args.self.now in
+    let s = c.go_over-searched.new.self in
+    let going = c.requires.is.going c.requires.stop in
+    subst (λ z. HasShown z s.graph.flats.items s.search.nodes.items old.list.seen old.list.listed.items old.list.outcomes.items)
+    (sym c.go_over-searched.ensures.image)
+    (shown_among old.states.graph.image.now old.states.graph.flats.items s.graph.flats.items old.states.search.nodes.items s.search.nodes.items
+    old.list.seen old.list.listed.items old.list.outcomes.items going.has
+    (let a = going.few in let b = going.between.all in omega (arith, a, b)) going.few c.go_over-searched.ensures.stay
+    c.go_over-searched.ensures.adds.stays)
+
+pub returns-clause-is : goal.returns-clause-is
+returns-clause-is g c =
+    let s = c.go_over-searched.new.self in
+    let searched = c.go_over-searched in
+    let shown = c.show_new-shown in
+    let may = MayStop s.graph.image.now s.graph.flats.items s.graph.bounds.nodes s.graph.bounds.private in
+    let most = c.args.self.now.most in
+    record {
+      search = searched.ensures.is;
+      explored = shown.ensures.explored;
+      wanted = either_way (λ (l : Level). l.number ≤ suc most) searched.result s.search.level c.args.self.now.states.search.level
+          (on_ok searched.result (λ next. let a = c.requires.wanted in omega (arith, a, next)) searched.ensures.next) searched.ensures.level
+          (let a = c.requires.wanted in omega (arith, a));
+      going = λ none.
+          let n = c.first_stop-self.ensures.none none in
+          let seen = really_ok shown.result n.0 shown.ensures.seen in record {
+            between = really_ok searched.result n.1 searched.ensures.between;
+            searched = λ some. really_ok searched.result n.1 searched.ensures.searched;
+            has = really_ok shown.result n.0 shown.ensures.has;
+            few = omega (arith, seen);
+            seen = λ some. seen;
+            levels = really_ok shown.result n.0 shown.ensures.levels;
+          };
+      stopped = λ why is. elim (c.first_stop-self.ensures.some why is) [
+        | inl e ↦ elim (really_err (λ w. (w ≡ Memory) ⊎ IsOrder w) shown.result why e shown.ensures.refused) [
+          | inl m ↦ inl (subst may (sym m) tt)
+          | inr o ↦ inr o
+        ]
+        | inr e ↦ inl (really_err may searched.result why e searched.ensures.stopped)
+      ];
+    }
+
+pub returns-clause-next : goal.returns-clause-next
+returns-clause-next g c = λ none.
+    really_ok c.go_over-searched.result (c.first_stop-self.ensures.none none).1 c.go_over-searched.ensures.next

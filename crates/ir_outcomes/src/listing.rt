@@ -1,0 +1,82 @@
+//! The outcomes among the states that were found.
+
+ghost use Rattle.std.specs.Prelude.{◌≡◌, ◌⊎◌, ℕ, suc, ◌<◌, ◌≤◌, length, IfErr, OnErr, OnOk};
+ghost use Rattle.ir_explore.specs.declared.stop.Stop.TheVariants.{Memory};
+ghost use Rattle.ir_explore.specs.Following.{Stay};
+ghost use Rattle.ir_graph.specs.Searched.{AreSearched};
+ghost use Rattle.ir_outcomes.specs.Explored.{AreExplored};
+ghost use Rattle.ir_outcomes.specs.Exploring.{HasShown};
+ghost use Rattle.ir_outcomes.specs.Hang.{IsOrder};
+ghost use Rattle.ir_thread.specs.State.{IsAllowed};
+ghost use Rattle.ir_thread.specs.declared.profile.Profile.TheVariants.{One};
+
+use crate::shown::{Shown, show};
+use ir_explore::Stop;
+use ir_graph::{States, has_new_outcome};
+use std::alloc::Global;
+
+/// The different outcomes that were found.
+#[derive(Debug, Drop)]
+pub struct Listing {
+    /// The outcomes, each of which is shown.
+    pub outcomes: Vec<Shown>,
+    /// Each outcome of a run with fewer switches is among them.
+    pub levels: usize,
+    // Their nodes.
+    pub(crate) listed: Vec<usize>,
+    // Among how many nodes they were looked for.
+    pub(crate) seen: usize,
+}
+
+// A node's outcome is shown, if all threads are done there and it is new.
+fn add_node(alloc: Global, states: &States<'_>, list: &mut Listing, node: usize) -> Result<(), Stop>
+    requires allowed { IsAllowed One states.now.graph.image.now }
+    requires searched { AreSearched states.now.graph.image.now states.now.graph.flats.items states.now.search.nodes.items states.now.search.level.number }
+    requires node { node < length states.now.search.nodes.items }
+    requires has { HasShown states.now.graph.image.now states.now.graph.flats.items states.now.search.nodes.items node list.old.listed.items list.old.outcomes.items }
+    ensures has { OnOk result (HasShown states.now.graph.image.now states.now.graph.flats.items states.now.search.nodes.items (suc node) list.new.listed.items list.new.outcomes.items) }
+    ensures same { OnErr result (list.new.outcomes.items ≡ list.old.outcomes.items) }
+    ensures stay { Stay list.old.outcomes.items list.new.outcomes.items }
+    ensures refused { IfErr result (λ why. (why ≡ Memory) ⊎ IsOrder why) }
+{
+    let flats = &states.graph.flats;
+    let new = has_new_outcome(flats, list.listed.as_slice(), node)?;
+    if !new {
+        return Ok(());
+    }
+    let origins = states.search.nodes.as_slice();
+    let limit = states.graph.bounds.private;
+    let shown = show(alloc, states.graph.image, flats, origins, node, limit)?;
+    list.listed.push(node)?;
+    list.outcomes.push(shown)?;
+    Ok(())
+}
+
+/// The new outcomes among the states that were found since the last call are shown.
+///
+/// # Errors
+/// Out of memory, or some order leads to its state no second time. Then only the outcomes before are shown.
+pub fn show_new(alloc: Global, states: &States<'_>, list: &mut Listing) -> Result<(), Stop>
+    requires allowed { IsAllowed One states.now.graph.image.now }
+    requires searched { AreSearched states.now.graph.image.now states.now.graph.flats.items states.now.search.nodes.items states.now.search.level.number }
+    requires few { list.old.seen ≤ length states.now.search.nodes.items }
+    requires has { HasShown states.now.graph.image.now states.now.graph.flats.items states.now.search.nodes.items list.old.seen list.old.listed.items list.old.outcomes.items }
+    // What is listed is right, and complete up to a number of switches.
+    ensures explored { AreExplored states.now.graph.image.now states.now.graph.flats.items list.new.levels list.new.outcomes.items }
+    ensures stay { Stay list.old.outcomes.items list.new.outcomes.items }
+    // Once all are shown
+    ensures has { OnOk result (HasShown states.now.graph.image.now states.now.graph.flats.items states.now.search.nodes.items list.new.seen list.new.listed.items list.new.outcomes.items) }
+    ensures seen { OnOk result (list.new.seen ≡ length states.now.search.nodes.items) }
+    ensures levels { OnOk result (list.new.levels ≡ states.now.search.level.number) }
+    ensures refused { IfErr result (λ why. (why ≡ Memory) ⊎ IsOrder why) }
+{
+    for node in list.seen..states.search.nodes.len() {
+        if let Err(why) = add_node(alloc, states, list, node) {
+            list.levels = states.search.nodes[node].level;
+            return Err(why);
+        }
+    }
+    list.seen = states.search.nodes.len();
+    list.levels = states.search.level.number;
+    Ok(())
+}
