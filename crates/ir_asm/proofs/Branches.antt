@@ -4,7 +4,8 @@ use Rattle.std.specs.Prelude.{◌&&◌, not, ◌==◌, decimal, codes, ℤ, pos,
 use Rattle.std.specs.List.{list_all}
 use Rattle.std.proofs.lemmas.Bool.{and_parts, le-leb}
 use Rattle.std.proofs.lemmas.Grind.{common_steps}
-use Rattle.ir_isa.specs.Fields.{IsEven, low_bits, register_name}
+use Rattle.ir_isa.specs.Fields.{low_bits, register_name}
+use Rattle.ir_isa.specs.Even.{IsEven}
 use Rattle.ir_isa.specs.Words.{word_of}
 use Rattle.ir_isa.specs.declared.inst.Inst.TheVariants.{Branch, Shift}
 use Rattle.ir_isa.specs.declared.inst.BranchOp.{BranchOp}

@@ -2,7 +2,8 @@
 use Rattle.std.proofs.Common.{◌≡◌, ◌/◌, ◌%◌, ◌^◌, ◌*◌, ℕ, ap, sym, ◌∙◌, arith}
 use Rattle.std.specs.Prelude.{ℤ, pos, negsuc, ◌≤ℤ◌}
 use Rattle.std.proofs.lemmas.Int.{ints}
-use Rattle.ir_isa.specs.Fields.{sign_extended, IsEven, low_bits}
+use Rattle.ir_isa.specs.Fields.{sign_extended, low_bits}
+use Rattle.ir_isa.specs.Even.{IsEven}
 use Rattle.ir_isa.specs.declared.inst.Register.{Register}
 use Rattle.ir_isa.specs.contracts.inst.Register as RegisterType
 use Rattle.ir_isa.specs.declared.inst.Immediate.{Immediate}

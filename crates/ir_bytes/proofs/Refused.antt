@@ -1,8 +1,8 @@
 -- The first fault of a format is the fault that its reading meets.
 use Rattle.std.proofs.Common.{◌≡◌, ℕ, zero, suc, Bool, true, false, cond, ltb, List, ◌∷◌, length, take, drop, Option, Some, None, Result, Ok, Err, refl, sym, ◌∙◌}
 use Rattle.byteorder.specs.Endian.{little_number}
-use Rattle.ir_bytes.specs.Reading.{◌>>=◌, Reader, Field, plain, judged, number_at, field_at, bytes_at, fields_at}
-use Rattle.ir_bytes.specs.Format.{Format, next, before, repeated, or_later, first_refused, fault_of}
+use Rattle.ir_bytes.specs.Reading.{◌>>=◌, Reader, Field, judged, number_at, field_at, bytes_at, fields_at}
+use Rattle.ir_bytes.specs.Format.{Format, next, before, repeated, or_later, first_refused, fault_of, plain}
 
 -- the fault of a reading, or else of what comes after it
 abbrev pub after_reading : {A E : Type 0} → Result A E → (A → Option E) → Option E

@@ -1,5 +1,5 @@
 -- A format as its fields in their order, and the first fault of bytes that aren't of it.
-use Rattle.std.specs.Prelude.{ℕ, zero, suc, List, length, drop, Option, Some, None, Result, Ok, Err, nat_lt, ◌==◌, if◌then◌else◌}
+use Rattle.std.specs.Prelude.{ℕ, zero, suc, List, length, drop, Option, Some, None, Result, Ok, Err, nat_lt, ◌==◌, if◌then◌else◌, ◌≡◌}
 use Rattle.byteorder.specs.Endian.{little_number}
 use Rattle.ir_bytes.specs.Reading.{Field}
 
@@ -34,3 +34,12 @@ first_refused short trailing (next f after) bytes =
 abbrev pub fault_of : {X E : Type 0} → Result X E → Option E
 fault_of (Ok x) = None
 fault_of (Err e) = Some e
+
+-- an answer, seen by a view, is what reading gives
+abbrev pub IsRead : {X Y E : Type 0} → (X → Y) → Result X E → Result Y E → Type 0
+IsRead view (Ok x) read = read ≡ Ok (view x)
+IsRead view (Err e) read = read ≡ Err e
+
+-- a field that may hold any number
+abbrev pub plain : {E : Type 0} → ℕ → Field E
+plain size = record { size = size; fault = λ _. None }

@@ -1,11 +1,6 @@
 -- Reading fields from the left: each is read whole and then tested, and the first fault is named. Faults are of any type.
-use Rattle.std.specs.Prelude.{◌≡◌, ℕ, zero, suc, Bool, List, [], ◌∷◌, length, take, drop, Option, Some, None, Result, Ok, Err, nat_lt, nat_le, ◌==◌, ◌&&◌, if◌then◌else◌}
+use Rattle.std.specs.Prelude.{ℕ, zero, suc, Bool, List, [], ◌∷◌, length, take, drop, Option, Some, None, Result, Ok, Err, nat_lt, nat_le, ◌==◌, ◌&&◌, if◌then◌else◌}
 use Rattle.byteorder.specs.Endian.{little_number}
-
--- an answer, seen by a view, is what reading gives
-abbrev pub IsRead : {X Y E : Type 0} → (X → Y) → Result X E → Result Y E → Type 0
-IsRead view (Ok x) read = read ≡ Ok (view x)
-IsRead view (Err e) read = read ≡ Err e
 
 -- what takes something from the prefix: it gives that and the bytes after it, or a fault
 abbrev pub Reader : Type 0 → Type 0 → Type 0
@@ -23,10 +18,6 @@ abbrev pub ◌>>=◌ : {A B E : Type 0} → Result A E → (A → Result B E) �
 pub record Field (E : Type 0) : Type 0 where
   pub size : ℕ
   pub fault : ℕ → Option E
-
--- a field that may hold any number
-abbrev pub plain : {E : Type 0} → ℕ → Field E
-plain size = record { size = size; fault = λ _. None }
 
 -- the fault of a number that doesn't pass
 abbrev pub unless : {E : Type 0} → (ℕ → Bool) → E → ℕ → Option E

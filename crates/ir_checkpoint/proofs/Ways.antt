@@ -8,7 +8,8 @@ use Rattle.ir_thread.specs.State as thread
 use Rattle.ir_flat.specs.Flat.{idle}
 use Rattle.ir_runs.specs.Cuts.{Cut, IsCut, Consistent}
 use Rattle.ir_fit.specs.Fit.{FittedTrace, HasRun}
-use Rattle.ir_cut.specs.Positions.{machine_of, start_of, cut_of, IsConsistentCut, IsLeastCut}
+use Rattle.ir_cut.specs.Positions.{machine_of, start_of, cut_of, IsConsistentCut}
+use Rattle.ir_cut.specs.Searching.{IsLeastCut}
 use Rattle.ir_weave.specs.Standing.{Standing, StandsAt, flat_in, IsBetween, positions}
 use Rattle.ir_checkpoint.specs.Checkpoints.{Stands}
 use Rattle.ir_checkpoint.specs.Parts.{IsOnWay}

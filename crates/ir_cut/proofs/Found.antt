@@ -7,8 +7,8 @@ use Rattle.ir_fit.specs.Within.{IsFitted}
 use Rattle.ir_thread.proofs.CallerLemmas.{thread_machine_is_lawful}
 use Rattle.ir_runs.proofs.CallerLemmas.{state_invariant_at_start, least_cut_exact_at_thread, greatest_cut_exact_at_thread}
 use Rattle.ir_fit.proofs.CallerLemmas.{guest_start_is_start}
-use Rattle.ir_cut.specs.Positions.{machine_of, start_of, cut_of, EachRun, IsConsistentCut, IsLeastCut, IsGreatestCut}
-use Rattle.ir_cut.specs.Searching.{Rising, Falling, NoneBelow, NoneAbove, AreFirst, AreRest}
+use Rattle.ir_cut.specs.Positions.{machine_of, start_of, cut_of, EachRun, IsConsistentCut}
+use Rattle.ir_cut.specs.Searching.{Rising, Falling, NoneBelow, NoneAbove, AreFirst, AreRest, IsLeastCut, IsGreatestCut}
 use Rattle.ir_cut.proofs.Listing.{run_of_trace_is_listed, thread_of_leave_exists}
 use Rattle.ir_cut.proofs.Searched.{rising_at_start, rising_end_is_least, falling_at_start, falling_end_is_greatest}
 use Rattle.ir_cut.proofs.Stepping.{cut_position_is_read_number, cut_position_after_set, other_cut_position_after_set}

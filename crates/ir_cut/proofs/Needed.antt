@@ -13,7 +13,7 @@ use Rattle.ir_fit.specs.declared.leave.Leave.{Leave}
 use Rattle.ir_cut.specs.Moving.{EachPlace, IsRaised, IsLowered}
 use Rattle.ir_cut.specs.Positions.{machine_of, start_of, cut_of, EachRun}
 use Rattle.ir_cut.specs.Searching.{AreInside, RaisedFor, LoweredFor, NeededBy, Needing, IsEntryAt}
-use Rattle.ir_fit.specs.Visits.{OnlyLeaves, AllLeaves, OnlyEntries, AllEntries}
+use Rattle.ir_fit.specs.Listed.{OnlyLeaves, AllLeaves, OnlyEntries, AllEntries}
 use Rattle.ir_fit.specs.declared.place.Place.{Place}
 use Rattle.ir_cut.proofs.Sought.{leaves_inside_by_places, raised_for_leaves, lowered_for_entries, raised_for_either_label, raised_for_equivalent_labels, raised_for_no_steps, lowered_for_either_label, lowered_for_equivalent_labels, lowered_for_no_steps}
 use Rattle.ir_cut.proofs.Again.{entered_version_is_word}

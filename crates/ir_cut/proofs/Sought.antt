@@ -14,7 +14,7 @@ use Rattle.ir_coherence.proofs.CallerLemmas.{recorded_thread_at_number_is_record
 use Rattle.ir_cut.specs.Moving.{ArePlaced, EachPlace, IsRaised, IsLowered}
 use Rattle.ir_cut.specs.Positions.{machine_of, start_of, cut_of, EachRun}
 use Rattle.ir_cut.specs.Searching.{AreInside, RaisedFor, LoweredFor}
-use Rattle.ir_fit.specs.Visits.{OnlyLeaves, AllLeaves, OnlyEntries, AllEntries}
+use Rattle.ir_fit.specs.Listed.{OnlyLeaves, AllLeaves, OnlyEntries, AllEntries}
 use Rattle.ir_fit.specs.declared.place.Place.{Place}
 use Rattle.ir_cut.proofs.Again.{has_run_from_any_run, emitting_thread_exists, emitting_step_below_count}
 

@@ -1,11 +1,11 @@
 -- Positions of the threads of a guest with the trace of one of its runs.
-use Rattle.std.specs.Prelude.{◌≡◌, ℕ, List, length}
+use Rattle.std.specs.Prelude.{ℕ, List}
 use Rattle.std.specs.List.{slice_index_or}
 use Rattle.ir_runs.specs.Machine.{Machine}
 use Rattle.ir_thread.specs.State as thread
 use Rattle.ir_flat.specs.Flat.{start_flat, tables, machine}
 use Rattle.ir_runs.specs.Run.{State, Step}
-use Rattle.ir_runs.specs.Cuts.{Cut, IsCut, Consistent, IsLeast, IsGreatest}
+use Rattle.ir_runs.specs.Cuts.{Cut, IsCut, Consistent}
 use Rattle.ir_fit.specs.Fit.{FittedTrace, IsRunOf}
 
 -- what the guest's threads do
@@ -28,13 +28,3 @@ cut_of ps t = slice_index_or ps t 0
 abbrev pub IsConsistentCut : FittedTrace → List ℕ → Type 0
 IsConsistentCut f ps = EachRun f (λ run. IsCut (machine_of f) (start_of f) run (cut_of ps)
     × Consistent (machine_of f) (start_of f) run (cut_of ps))
-
--- the consistent cut at or above ps with thread t at k or more that lies below every other such
-abbrev pub IsLeastCut : FittedTrace → List ℕ → ℕ → ℕ → List ℕ → Type 0
-IsLeastCut f ps t k qs = (length qs ≡ length f.guest.entries)
-    × EachRun f (λ run. IsLeast (machine_of f) (start_of f) run (cut_of ps) t k (cut_of qs))
-
--- the consistent cut at or below ps with thread t at k or less that lies above every other such
-abbrev pub IsGreatestCut : FittedTrace → List ℕ → ℕ → ℕ → List ℕ → Type 0
-IsGreatestCut f ps t k qs = (length qs ≡ length f.guest.entries)
-    × EachRun f (λ run. IsGreatest (machine_of f) (start_of f) run (cut_of ps) t k (cut_of qs))

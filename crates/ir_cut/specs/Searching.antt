@@ -7,11 +7,11 @@ use Rattle.ir_log.specs.Logging.{label_of}
 use Rattle.ir_log.specs.declared.event.Event.{Event}
 use Rattle.ir_trace.specs.Recorded.{recorded_thread}
 use Rattle.ir_runs.specs.Coherent.{sum_below}
-use Rattle.ir_runs.specs.Cuts.{Emits, IsNeededBy, Cut, IsCut, Consistent}
+use Rattle.ir_runs.specs.Cuts.{Emits, IsNeededBy, Cut, IsCut, Consistent, IsLeast, IsGreatest}
 use Rattle.ir_fit.specs.Fit.{FittedTrace}
 use Rattle.ir_fit.specs.Places.{placed_at}
 use Rattle.ir_fit.specs.declared.leave.Leave.{Leave}
-use Rattle.ir_cut.specs.Positions.{machine_of, start_of, cut_of}
+use Rattle.ir_cut.specs.Positions.{machine_of, start_of, cut_of, EachRun}
 
 -- the steps that tell so are inside the cut
 abbrev pub AreInside : FittedTrace → List Step → (Label → Type 0) → Cut → Type 0
@@ -111,3 +111,13 @@ events_left f next = sum_below (length f.guest.entries) (λ t. length (placed_at
 -- how many leaves these are together
 abbrev pub leaves_left : List ℕ → ℕ
 leaves_left next = sum_below (length next) (cut_of next)
+
+-- the consistent cut at or above ps with thread t at k or more that lies below every other such
+abbrev pub IsLeastCut : FittedTrace → List ℕ → ℕ → ℕ → List ℕ → Type 0
+IsLeastCut f ps t k qs = (length qs ≡ length f.guest.entries)
+    × EachRun f (λ run. IsLeast (machine_of f) (start_of f) run (cut_of ps) t k (cut_of qs))
+
+-- the consistent cut at or below ps with thread t at k or less that lies above every other such
+abbrev pub IsGreatestCut : FittedTrace → List ℕ → ℕ → ℕ → List ℕ → Type 0
+IsGreatestCut f ps t k qs = (length qs ≡ length f.guest.entries)
+    × EachRun f (λ run. IsGreatest (machine_of f) (start_of f) run (cut_of ps) t k (cut_of qs))

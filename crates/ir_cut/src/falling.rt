@@ -3,9 +3,9 @@
 ghost use Rattle.std.specs.Prelude.{◌≡◌, ◌<◌, ◌≤◌, true, false, ℕ, List, length, slice_get, Some, IfOk, IfSome, IfNone};
 ghost use Rattle.std.specs.List.Sorted.{IsNonDecreasingBy};
 ghost use Rattle.ir_fit.specs.declared.leave.Leave.{Leave};
-ghost use Rattle.ir_cut.specs.Positions.{EachRun, IsConsistentCut, IsGreatestCut, cut_of};
+ghost use Rattle.ir_cut.specs.Positions.{EachRun, IsConsistentCut, cut_of};
 ghost use Rattle.ir_fit.specs.Within.{IsFitted};
-ghost use Rattle.ir_cut.specs.Searching.{AreLeaves, AreRest, Falling, HasAbove, NoneAbove, leaves_left};
+ghost use Rattle.ir_cut.specs.Searching.{AreLeaves, AreRest, Falling, HasAbove, NoneAbove, leaves_left, IsGreatestCut};
 
 use crate::cut::Cut;
 use crate::needs::lower_for;

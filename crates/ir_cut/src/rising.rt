@@ -3,9 +3,9 @@
 ghost use Rattle.std.specs.Prelude.{◌≡◌, ◌<◌, ◌≤◌, ℕ, List, length, slice_get, Some, IfOk, IfSome, IfNone};
 ghost use Rattle.std.specs.List.Sorted.{IsNonDecreasingBy};
 ghost use Rattle.ir_trace.specs.Recorded.{recorded_thread};
-ghost use Rattle.ir_cut.specs.Positions.{EachRun, IsConsistentCut, IsLeastCut, cut_of};
+ghost use Rattle.ir_cut.specs.Positions.{EachRun, IsConsistentCut, cut_of};
 ghost use Rattle.ir_fit.specs.Within.{IsFitted};
-ghost use Rattle.ir_cut.specs.Searching.{AreFirst, HasBelow, NoneBelow, Rising, events_left};
+ghost use Rattle.ir_cut.specs.Searching.{AreFirst, HasBelow, NoneBelow, Rising, events_left, IsLeastCut};
 
 use crate::cut::Cut;
 use crate::logs::log_of;

@@ -2,8 +2,9 @@
 use Rattle.std.proofs.Common.{◌≡◌, ◌≤◌, ◌+◌, true, false, length, sym, subst, ◌∙◌}
 use Rattle.ir_fit.specs.Fit.{FittedTrace, HasRun}
 use Rattle.ir_cut.specs.Positions.{IsConsistentCut}
-use Rattle.ir_hits.specs.Hits.{AreWatchable}
-use Rattle.ir_timeline.specs.Positions.{threads_of, IsCutOf}
+use Rattle.ir_hits.specs.Watchable.{AreWatchable}
+use Rattle.ir_timeline.specs.Positions.{threads_of}
+use Rattle.ir_timeline.specs.Hand.{IsCutOf}
 use Rattle.ir_debug.specs.Machine.Desk.{Desk, most_kept}
 use Rattle.ir_weave.specs.Standing.{Standing}
 use Rattle.ir_debug.specs.Debugging.{IsDebugging, IsDesk, AllKept}

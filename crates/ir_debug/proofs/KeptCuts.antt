@@ -3,7 +3,7 @@ use Rattle.std.proofs.Common.{◌≡◌, ◌<◌, ◌≤◌, ◌+◌, ◌==◌, 
 use Rattle.std.specs.Prelude.{find, cond, option_map, is_some, MatchOption, IsSome, IfSome}
 use Rattle.std.proofs.lemmas.List.{at_drop_more, at_drop_all}
 use Rattle.ir_fit.specs.Fit.{FittedTrace}
-use Rattle.ir_timeline.specs.Positions.{IsCutOf}
+use Rattle.ir_timeline.specs.Hand.{IsCutOf}
 use Rattle.ir_debug.specs.Machine.Desk.{Kept, kept_cut}
 use Rattle.ir_debug.specs.Debugging.{AllKept}
 use Rattle.ir_debug.specs.Machine.Answers.{kept_line, kept_text}

@@ -4,7 +4,8 @@ use Rattle.std.specs.Prelude.{if◌then◌else◌}
 use Rattle.std.proofs.lemmas.Bool.{le-leb, lt-leb}
 use Rattle.ir_runs.specs.Cuts.{IsLeast, IsGreatest}
 use Rattle.ir_fit.specs.Fit.{FittedTrace}
-use Rattle.ir_cut.specs.Positions.{machine_of, start_of, cut_of, EachRun, IsLeastCut, IsGreatestCut}
+use Rattle.ir_cut.specs.Positions.{machine_of, start_of, cut_of, EachRun}
+use Rattle.ir_cut.specs.Searching.{IsLeastCut, IsGreatestCut}
 use Rattle.ir_command.specs.declared.command.Direction.{Direction}
 use Rattle.ir_command.specs.declared.command.Direction.TheVariants.{Forwards, Backwards}
 use Rattle.ir_command.specs.declared.command.Move.{Move}

@@ -4,7 +4,7 @@ use Rattle.std.proofs.Common.{ap, ◌∙◌, sym, subst, arith, inl, inr}
 use Rattle.std.proofs.lemmas.Bool.{cases_lt, lt-ltb}
 use Rattle.std.proofs.lemmas.List.{take_all, length-take}
 use Rattle.ir_cut.specs.Positions.{EachRun}
-use Rattle.ir_stream.specs.Answers.{most_kept_bytes}
+use Rattle.ir_stream.specs.Written.{most_kept_bytes}
 use Rattle.ir_command.specs.Commands.{most_line, command_of}
 use Rattle.ir_command.specs.declared.command.Command.{Command}
 use Rattle.ir_command.specs.declared.refusal.Refusal.{Refusal}

@@ -3,7 +3,8 @@ use Rattle.std.proofs.Common.{◌≡◌, ℕ, List, [], ◌∷◌, ◌++◌, Opt
 use Rattle.std.specs.Prelude.{IfSome}
 use Rattle.std.specs.Io.KnownBytes.{Appends, Consumes}
 use Rattle.std.proofs.KnownBytes.{Appends-trans}
-use Rattle.ir_stream.specs.Answers.{split_lines, lines_of, heard, LinesAnswered, Wrote, WroteInPart, through, AppendsPrefix, ReadsUpTo}
+use Rattle.ir_stream.specs.Answers.{split_lines, lines_of, heard, LinesAnswered, through, AppendsPrefix, ReadsUpTo}
+use Rattle.ir_stream.specs.Written.{Wrote, WroteInPart}
 use Rattle.ir_stream.specs.Endings.{IfEnded, LeadsTo}
 use Rattle.ir_stream.specs.declared.serving.Served.{Served}
 use Rattle.ir_stream.specs.declared.serving.Served.TheVariants as served

@@ -5,14 +5,15 @@ use Rattle.std.proofs.lemmas.Bool.{ltb-true, leb-true}
 use Rattle.std.proofs.lemmas.Bool.Decides.{nat_tests}
 use Rattle.ir_image.specs.Guest.{Guest, code_start, memory_start, object_count}
 use Rattle.ir_mach.specs.Core.{memory_size}
-use Rattle.ir_mach.specs.Memory.{lies_in_memory, IsMemoryWord}
+use Rattle.ir_mach.specs.Memory.{lies_in_memory}
+use Rattle.ir_mach.specs.Within.{IsMemoryWord}
 use Rattle.ir_command.specs.declared.command.Command.{Command}
 use Rattle.ir_command.specs.declared.refusal.Refusal.TheVariants.{NoSuchThread, NoSuchObject, NoSuchNumber, BadAddress, Full}
 use Rattle.ir_command.specs.declared.command.Command.TheVariants as command
 use Rattle.ir_command.specs.declared.command.Keeping.TheVariants.{Keep, Load}
 use Rattle.ir_command.specs.declared.command.Point.{Point}
 use Rattle.ir_command.specs.declared.command.Point.TheVariants.{Break, Watch, WatchObject}
-use Rattle.ir_hits.specs.Hits.{IsWatchable}
+use Rattle.ir_hits.specs.Watchable.{IsWatchable}
 use Rattle.ir_timeline.specs.Positions.{threads_of}
 use Rattle.ir_debug.specs.Machine.Desk.{Desk, kept_cut, most_kept, most_points, most_number}
 use Rattle.ir_debug.specs.Machine.Refusals.{if_some, thread_named, object_named, lies_in_code, has_number, has_address, has_place, refusal_of}

@@ -6,7 +6,8 @@ use Rattle.ir_fit.specs.Fit.{FittedTrace, IsRunOf}
 use Rattle.ir_command.specs.Commands.{command_of}
 use Rattle.ir_command.specs.declared.command.Command.{Command}
 use Rattle.ir_command.specs.declared.refusal.Refusal.{Refusal}
-use Rattle.ir_stream.specs.Answers.{Replied, RepliedPrefix, AppendsPrefix}
+use Rattle.ir_stream.specs.Answers.{RepliedPrefix, AppendsPrefix}
+use Rattle.ir_stream.specs.Written.{Replied}
 use Rattle.ir_debug.specs.declared.answer.Answer.{Answer}
 use Rattle.ir_debug.specs.Machine.Answers.{RepliesBy, Replies}
 use Rattle.ir_debug.specs.Debugging.{Debugging, IsAnswer, IsText}

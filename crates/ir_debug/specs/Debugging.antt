@@ -4,9 +4,10 @@ use Rattle.std.specs.List.{AllByRecursion}
 use Rattle.ir_runs.specs.Run.{Step}
 use Rattle.ir_fit.specs.Fit.{FittedTrace, HasRun}
 use Rattle.ir_cut.specs.Positions.{EachRun, IsConsistentCut, cut_of}
-use Rattle.ir_hits.specs.Hits.{AreWatchable}
+use Rattle.ir_hits.specs.Watchable.{AreWatchable}
 use Rattle.ir_weave.specs.Standing.{Standing, StandsAt}
-use Rattle.ir_timeline.specs.Positions.{threads_of, IsCutOf}
+use Rattle.ir_timeline.specs.Positions.{threads_of}
+use Rattle.ir_timeline.specs.Hand.{IsCutOf}
 use Rattle.ir_command.specs.declared.command.Command.{Command}
 use Rattle.ir_command.specs.declared.command.Command.TheVariants as command
 use Rattle.ir_command.specs.declared.command.Show.{Show}

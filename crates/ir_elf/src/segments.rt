@@ -1,7 +1,8 @@
 //! Reading the segments of a file.
 
 ghost use Rattle.std.specs.Prelude.{◌≡◌, ◌≤◌, ◌+◌, map, length, option_map, IfOk};
-ghost use Rattle.ir_bytes.specs.Reading.{IsRead, fields_at};
+ghost use Rattle.ir_bytes.specs.Reading.{fields_at};
+ghost use Rattle.ir_bytes.specs.Format.{IsRead};
 ghost use Rattle.ir_elf.specs.Layout.{start_of, size_of};
 ghost use Rattle.ir_elf.specs.Refusal.{Gives};
 ghost use Rattle.ir_elf.specs.Header.{header_at};

@@ -1,7 +1,8 @@
 //! Reading the table.
 
 ghost use Rattle.std.specs.Prelude.{◌≡◌, ◌≤◌, length, IfOk};
-ghost use Rattle.ir_bytes.specs.Reading.{IsRead, field_at, fields_at};
+ghost use Rattle.ir_bytes.specs.Reading.{field_at, fields_at};
+ghost use Rattle.ir_bytes.specs.Format.{IsRead};
 ghost use Rattle.ir_image.specs.Guest.{limits_of, most_code_words};
 ghost use Rattle.ir_elf.specs.declared.refusal.Refusal.TheVariants.{Table};
 ghost use Rattle.ir_elf.specs.Refusal.{Gives};

@@ -16,7 +16,8 @@ use Rattle.ir_fit.proofs.Listed.{at_place_of_get_or, get_or_of_at, emitting_thre
 use Rattle.ir_runs.specs.Cuts.{At}
 use Rattle.ir_fit.specs.Fit.{FittedTrace}
 use Rattle.ir_fit.specs.Places.{placed_at}
-use Rattle.ir_fit.specs.Visits.{EmitsIn, OnlyLeaves, AllLeaves, OnlyEntries, AllEntries, Visit, left_by, entered_by, of_threads, all_left, all_entered, same_access, picked, Listing, listed, IsListing}
+use Rattle.ir_fit.specs.Visits.{Visit, left_by, entered_by, of_threads, all_left, all_entered, same_access, picked, Listing, listed, IsListing}
+use Rattle.ir_fit.specs.Listed.{EmitsIn, OnlyLeaves, AllLeaves, OnlyEntries, AllEntries}
 use Rattle.ir_fit.specs.declared.leave.Leave.{Leave}
 use Rattle.ir_fit.specs.declared.place.Place.{Place}
 

@@ -20,7 +20,7 @@ use Rattle.ir_runs.proofs.CallerLemmas.{trail_of_cons_other_thread, step_below_i
 use Rattle.ir_runs.specs.Cuts.{At}
 use Rattle.ir_fit.specs.Fit.{FittedTrace, HasRun}
 use Rattle.ir_fit.specs.Places.{placed_at, place_if, places_from, leave_if, leaves_from}
-use Rattle.ir_fit.specs.Visits.{EmitsIn}
+use Rattle.ir_fit.specs.Listed.{EmitsIn}
 use Rattle.ir_fit.specs.declared.leave.Leave.{Leave}
 
 -- ---- one step

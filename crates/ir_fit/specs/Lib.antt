@@ -7,3 +7,4 @@ pub mod Follower
 pub mod Visits
 pub mod Passed
 pub mod Within
+pub mod Listed

@@ -86,10 +86,6 @@ start_flat guest budget profile = record {
   objects = start_cells guest 0 (object_count guest);
 }
 
--- each of these threads has a place for each of this many objects
-abbrev pub HaveRoom : List ThreadState → ℕ → Type 0
-HaveRoom threads objects = (t : ℕ) → t < length threads → length (slice_index_or threads t idle).held ≡ objects
-
 -- an object of a guest's: its word counts who holds it
 pub record IsShared (f : Flat) (o : ℕ) : Type 0 where
   pub counts : Counts (length f.threads) (cell_of f o).fields (inside_of f o)

@@ -6,3 +6,4 @@ pub mod Laws
 pub mod Splice
 pub mod Replies
 pub mod Lone
+pub mod Room

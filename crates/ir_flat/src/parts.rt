@@ -1,6 +1,7 @@
 //! The threads and objects of a guest, each for itself.
 
-ghost use Rattle.ir_flat.specs.Flat.{Flat, IsFlat, thread_of, cell_of, start_flat, HaveRoom};
+ghost use Rattle.ir_flat.specs.Flat.{Flat, IsFlat, thread_of, cell_of, start_flat};
+ghost use Rattle.ir_flat.specs.Room.{HaveRoom};
 ghost use Rattle.ir_flat.specs.Next.{with_thread, with_object, answered, next, next_try, MayStep, MayTry};
 ghost use Rattle.ir_image.specs.Guest.{most_object_words, object_count};
 ghost use Rattle.ir_object.specs.Standing.{Admitted, CanLeave};

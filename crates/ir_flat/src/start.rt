@@ -2,7 +2,8 @@
 
 ghost use Rattle.ir_image.specs.Guest.{most_object_words, object_count, padded, first_words};
 ghost use Rattle.ir_thread.specs.Calls.{most_budget};
-ghost use Rattle.ir_flat.specs.Flat.{start_threads, start_cells, HaveRoom};
+ghost use Rattle.ir_flat.specs.Flat.{start_threads, start_cells};
+ghost use Rattle.ir_flat.specs.Room.{HaveRoom};
 ghost use Rattle.std.specs.Prelude.{◌≡◌, ◌<◌, ◌≤◌, length, IfOk};
 
 use ir_image::{Image, MOST_OBJECT_WORDS};

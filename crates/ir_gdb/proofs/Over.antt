@@ -7,7 +7,8 @@ use Rattle.ir_command.specs.declared.command.Direction.TheVariants.{Forwards}
 use Rattle.ir_command.specs.declared.hit.Hit.{Hit}
 use Rattle.ir_hits.specs.Hits.{Numbered, thread_at}
 use Rattle.ir_hits.specs.Searching.{IsNextHit}
-use Rattle.ir_timeline.specs.Positions.{IsCutOf, threads_of, last_of}
+use Rattle.ir_timeline.specs.Positions.{threads_of, last_of}
+use Rattle.ir_timeline.specs.Hand.{IsCutOf}
 use Rattle.ir_packet.specs.declared.request.Motion.{Motion}
 use Rattle.ir_packet.specs.declared.request.Motion.TheVariants as motion
 use Rattle.ir_gdb.specs.declared.point.Breakpoint.{Breakpoint}

@@ -3,7 +3,8 @@ use Rattle.std.proofs.Common.{◌≡◌, ◌≤◌, ◌+◌, ◌-◌, ◌*◌, �
 use Rattle.std.specs.List.{AllByRecursion}
 use Rattle.ir_mach.specs.Core.{memory_start, memory_size}
 use Rattle.ir_command.specs.declared.command.Point.TheVariants.{Watch}
-use Rattle.ir_hits.specs.Hits.{Numbered, AreWatchable}
+use Rattle.ir_hits.specs.Hits.{Numbered}
+use Rattle.ir_hits.specs.Watchable.{AreWatchable}
 use Rattle.ir_gdb.specs.declared.point.Breakpoint.{Breakpoint}
 use Rattle.ir_gdb.specs.declared.point.Watched.{Watched}
 use Rattle.ir_gdb.specs.Stub.{IsWatched}

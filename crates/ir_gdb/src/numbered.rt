@@ -3,7 +3,7 @@
 ghost use Rattle.std.specs.Prelude.{◌≡◌, ◌≤◌, ◌+◌, ◌*◌, ◌^◌, ◌<◌, ◌++◌, OnOk, IfOk, length};
 ghost use Rattle.std.specs.List.{AllByRecursion};
 ghost use Rattle.ir_gdb.specs.Stub.{IsWatched};
-ghost use Rattle.ir_hits.specs.Hits.{AreWatchable};
+ghost use Rattle.ir_hits.specs.Watchable.{AreWatchable};
 ghost use Rattle.ir_gdb.specs.Points.{word_points, watch_points, break_points, own_points, words_in, points_upwards, points_downwards, with_point};
 
 use crate::point::{Breakpoint, Watched};

@@ -1,7 +1,6 @@
 -- Where points hit the threads of a run.
-use Rattle.std.specs.Prelude.{◌≡◌, ◌≢◌, ℕ, suc, ◌<◌, ◌≤◌, ⊤, List, slice_get, Option, Some, None}
-use Rattle.std.specs.List.{AllByRecursion}
-use Rattle.ir_mach.specs.Memory.{IsMemoryWord, memory_word}
+use Rattle.std.specs.Prelude.{◌≡◌, ◌≢◌, ℕ, suc, ◌<◌, ◌≤◌, List, slice_get, Option, Some, None}
+use Rattle.ir_mach.specs.Memory.{memory_word}
 use Rattle.ir_thread.specs.State as thread
 use Rattle.ir_runs.specs.declared.access.Access.TheVariants.{Writing}
 use Rattle.ir_runs.specs.Machine.{Out}
@@ -17,15 +16,6 @@ use Rattle.ir_command.specs.declared.hit.Hit.{Hit}
 pub record Numbered : Type 0 where
   pub number : ℕ
   pub point : Point
-
--- a watched word is one of private memory
-abbrev pub IsWatchable : Point → Type 0
-IsWatchable (Break t address) = ⊤
-IsWatchable (Watch t address) = IsMemoryWord address
-IsWatchable (WatchObject object) = ⊤
-
-abbrev pub AreWatchable : List Numbered → Type 0
-AreWatchable points = AllByRecursion (λ p. IsWatchable p.point) points
 
 -- thread t of the run just after its k-th own step
 abbrev pub thread_at : FittedTrace → List Step → ℕ → ℕ → thread.ThreadState

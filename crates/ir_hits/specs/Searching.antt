@@ -8,7 +8,8 @@ use Rattle.ir_thread.specs.State.{ThreadState}
 use Rattle.ir_hits.specs.declared.before.Before.{Before}
 use Rattle.ir_hits.specs.Seeing.{IsLowestOf}
 use Rattle.ir_mach.specs.Marks.{Marked}
-use Rattle.ir_hits.specs.Hits.{Numbered, AreWatchable, HitByNumber, NoneWithin, IsLowest}
+use Rattle.ir_hits.specs.Hits.{Numbered, HitByNumber, NoneWithin, IsLowest}
+use Rattle.ir_hits.specs.Watchable.{AreWatchable}
 use Rattle.ir_hits.specs.Passing.{AreCovered}
 use Rattle.ir_command.specs.declared.hit.Hit.{Hit}
 

@@ -6,7 +6,7 @@ ghost use Rattle.ir_fit.specs.Fit.{FittedTrace};
 ghost use Rattle.ir_trace.specs.Recorded.{recorded_thread};
 ghost use Rattle.ir_cut.specs.Positions.{EachRun};
 ghost use Rattle.ir_weave.specs.Standing.{StandsAt, flat_in, positions};
-ghost use Rattle.ir_hits.specs.Hits.{AreWatchable};
+ghost use Rattle.ir_hits.specs.Watchable.{AreWatchable};
 ghost use Rattle.ir_hits.specs.Searching.{IsLastFrom, IsNextHit, IsSearch, IsStartHit, NeverHits, reached, window_start};
 
 use crate::before::Before;

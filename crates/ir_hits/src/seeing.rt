@@ -3,7 +3,7 @@
 ghost use Rattle.std.specs.Prelude.{◌≡◌, ◌<◌, ◌↔◌, true, false, Some, length, IsTrue};
 ghost use Rattle.ir_runs.specs.declared.access.Access.TheVariants.{Writing};
 ghost use Rattle.ir_thread.specs.State.{held_at};
-ghost use Rattle.ir_hits.specs.Hits.{AreWatchable, IsWatchable};
+ghost use Rattle.ir_hits.specs.Watchable.{AreWatchable, IsWatchable};
 ghost use Rattle.ir_hits.specs.Seeing.{SomeConcerns, Concerns, IsNoted, AllNoted, SeesHit, IsLowestOf, lower_of};
 
 use crate::before::Before;

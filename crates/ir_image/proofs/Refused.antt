@@ -1,8 +1,8 @@
 -- The fault of an image is the first of its fields'.
 use Rattle.std.proofs.Common.{◌≡◌, ℕ, ◌*◌, eqb, List, length, Ok, Err, refl}
 use Rattle.std.specs.Prelude.{◌==◌, if◌then◌else◌}
-use Rattle.ir_bytes.specs.Reading.{◌>>=◌, plain, field_at, bytes_at, fields_at}
-use Rattle.ir_bytes.specs.Format.{Format, finished, next, before, repeated, fault_of}
+use Rattle.ir_bytes.specs.Reading.{◌>>=◌, field_at, bytes_at, fields_at}
+use Rattle.ir_bytes.specs.Format.{Format, finished, next, before, repeated, fault_of, plain}
 use Rattle.ir_bytes.proofs.CallerLemmas.{Follows, Begins, Refuses, field_at_follows_field, bytes_at_begins_with_plain_field, field_at_begins_with_field, number_at_begins_with_plain_field, sequence_follows_fields, sequence_refuses_format, independent_sequence_refuses_format, fault_of_trailing_test, fields_at_begins_with_repeated}
 use Rattle.ir_image.specs.declared.counts.Counts.{Counts}
 use Rattle.ir_image.specs.declared.image_err.ImageErr.{ImageErr}

@@ -1,7 +1,6 @@
 -- The fields of an image in their order.
 use Rattle.std.specs.Prelude.{ℕ, ◌*◌, List, Option}
-use Rattle.ir_bytes.specs.Reading.{plain}
-use Rattle.ir_bytes.specs.Format.{Format, finished, next, before, repeated, first_refused}
+use Rattle.ir_bytes.specs.Format.{Format, finished, next, before, repeated, first_refused, plain}
 use Rattle.ir_image.specs.declared.image_err.ImageErr.{ImageErr}
 use Rattle.ir_image.specs.declared.image_err.ImageErr.TheVariants.{Short, Trailing}
 use Rattle.ir_image.specs.Guest.{limits_of, form_of}

@@ -3,3 +3,4 @@ pub mod Code
 pub mod Rows
 pub mod Decoded
 pub mod Words
+pub mod Even

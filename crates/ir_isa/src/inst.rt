@@ -1,7 +1,7 @@
 //! Instructions, whose types keep each field in its range.
 
 ghost use Rattle.std.specs.Prelude.{◌≡◌, ◌<◌, ◌%◌, ◌^◌, ◌≤ℤ◌, pos, negsuc};
-ghost use Rattle.ir_isa.specs.Fields.{IsEven};
+ghost use Rattle.ir_isa.specs.Even.{IsEven};
 
 /// A register, x0 to x31.
 #[derive(Clone, Copy, Debug, PartialEq, Eq)]

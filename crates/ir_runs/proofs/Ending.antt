@@ -2,13 +2,13 @@
 use Rattle.std.proofs.Common.{◌≡◌, ◌≢◌, ℕ, suc, List, [], ◌∷◌, ◌++◌, length, Option, Some, None, refl, sym, ap, ◌∙◌, subst, inl, inr, eq-eqb, ne_eqb}
 use Rattle.std.proofs.lemmas.Bool.{cases_eq}
 use Rattle.ir_runs.specs.Machine.{Private, Done, act_of, Machine, target, Admits, reply, emitted, Quiet, Out, logged}
-use Rattle.ir_runs.specs.Lawful.{IsClosing}
+use Rattle.ir_runs.specs.Lawful.{IsClosing, Ends}
 use Rattle.ir_runs.proofs.Tables.{upd_at_own_place}
 use Rattle.ir_runs.specs.Run.{act, State, Step, asked, Can, after, label, IsRun, end, join_if, trail, IsDone, events}
 use Rattle.ir_runs.specs.Bounds.{trace}
 use Rattle.ir_runs.proofs.Follow.{trail_fits_own_log}
 use Rattle.ir_runs.proofs.Same.{thread_after_step_of_other}
-use Rattle.ir_runs.specs.Following.{Ends, Follows, IsMaximal, ends_at, ends_now, Meets, closing}
+use Rattle.ir_runs.specs.Following.{Follows, IsMaximal, ends_at, ends_now, Meets, closing}
 
 pub thread_after_own_step : {T : Type 0} (m : Machine T) (s : State T) (e : Step)
     → (after m s e).now e.0 ≡ m.take (s.now e.0) (reply (act m s e) (s.objects (target (act m s e))))

@@ -1,14 +1,14 @@
 -- A maximal run that follows a run's own trace goes all the way.
 use Rattle.std.proofs.Common.{◌≡◌, ℕ, pred, ◌≤◌, eqb, List, [], ◌∷◌, ◌++◌, length, refl, sym, ap, ◌∙◌, subst, arith, append-nil, append_assoc}
 use Rattle.ir_runs.specs.Machine.{Machine, Label, logged}
-use Rattle.ir_runs.specs.Lawful.{IsLawful}
+use Rattle.ir_runs.specs.Lawful.{IsLawful, Ends}
 use Rattle.ir_runs.specs.Run.{State, Step, after, IsRun, end, trail, events, log, count, label}
 use Rattle.ir_runs.specs.Bounds.{trace}
 use Rattle.ir_runs.proofs.Good.{StateInvariant}
 use Rattle.ir_runs.proofs.Append.{join_if_of_append, trail_append, append_of_runs_is_run}
 use Rattle.ir_runs.proofs.Same.{BeginsRun, run_with_beginning_logs_begins_run}
 use Rattle.ir_runs.specs.Alike.{Reaches}
-use Rattle.ir_runs.specs.Following.{left_log, Ending, Check, Ends, unlogged, Fits, Follows, IsMaximal}
+use Rattle.ir_runs.specs.Following.{left_log, Ending, Check, unlogged, Fits, Follows, IsMaximal}
 
 logged_keeps_prefix : (k : Label) (xs ys zs : List Label) → xs ++ ys ≡ zs → logged k xs ++ ys ≡ logged k zs
 logged_keeps_prefix Label.Quiet xs ys zs h = h

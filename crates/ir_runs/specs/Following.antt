@@ -1,7 +1,7 @@
 -- Runs that follow a trace.
-use Rattle.std.specs.Prelude.{Option, Some, None, length, suc, ◌≡◌, ℕ, pred, ◌<◌, List, [], ◌∷◌, ◌++◌}
+use Rattle.std.specs.Prelude.{Option, Some, None, suc, ◌≡◌, ℕ, pred, ◌<◌, List, [], ◌∷◌, ◌++◌}
 use Rattle.ir_runs.specs.Machine.{Machine, Label, Quiet, Answer, In, Refused, Out, logged, Trace}
-use Rattle.ir_runs.specs.Run.{State, Step, IsRun, trail, events}
+use Rattle.ir_runs.specs.Run.{State, Step, IsRun, trail}
 
 -- what a step of one thread needs of the trace beside its event, as where it ends: by the thread before it and by the steps and the log
 -- that are left
@@ -45,11 +45,6 @@ Follows E m s tr run = IsRun m s run × ((t : ℕ) → Fits (E t) (tr.steps t) (
 -- no thread has a further step that follows
 abbrev pub IsMaximal : {T : Type 0} → Ending T → Machine T → State T → Trace → List Step → Type 0
 IsMaximal E m s tr run = (e : Step) → Follows E m s tr (run ++ e ∷ []) → ⊥
-
--- each step of the thread meets what the trace says of its end
-abbrev pub Ends : {T : Type 0} → Check T → List (T × Label) → Type 0
-Ends E [] = Unit {0}
-Ends E (x ∷ xs) = E x.0 (suc (length xs)) (logged x.1 (events xs)) × Ends E xs
 
 -- the end and code of a thread after a step, if it had none before
 abbrev pub ends_at : Option (ℕ × ℕ) → Option (ℕ × ℕ) → Option (ℕ × ℕ)

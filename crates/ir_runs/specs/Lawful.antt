@@ -1,8 +1,10 @@
 -- Machines that enter and leave as they should.
-use Rattle.std.specs.Prelude.{◌≡◌, ◌≢◌, ℕ, suc, ◌≤◌, Option, Some, None}
+use Rattle.std.specs.Prelude.{◌≡◌, ◌≢◌, ℕ, suc, ◌≤◌, Option, Some, None, length, List, [], ◌∷◌}
 use Rattle.ir_runs.specs.declared.access.Access.{Access}
 use Rattle.ir_runs.specs.declared.access.Access.TheVariants.{Writing}
-use Rattle.ir_runs.specs.Machine.{Ask, Private, Env, Enter, Try, Leave, Get, Put, Done, Act, Silent, Result, Entry, Refusal, Exit, Load, Store, Never, act_of, Machine, upd}
+use Rattle.ir_runs.specs.Machine.{Ask, Private, Env, Enter, Try, Leave, Get, Put, Done, Act, Silent, Result, Entry, Refusal, Exit, Load, Store, Never, act_of, Machine, upd, Label, logged}
+use Rattle.ir_runs.specs.Run.{events}
+use Rattle.ir_runs.specs.Following.{Check}
 
 -- what is held after an act
 abbrev pub held_after : Act → (ℕ → Option Access) → ℕ → Option Access
@@ -39,3 +41,8 @@ pub record IsClosing {T : Type 0} (m : Machine T) : Type 0 where
   pub leaves : (x : T) (r : ℕ) (e : ℕ × ℕ) → m.ended x ≡ Some e → m.ask x ≢ Done → (o : ℕ) × (a : Access) × (m.ask x ≡ Leave o a)
       × (m.size x ≡ suc (m.size (m.take x r)))
   pub done : (x : T) → m.ask x ≡ Done → (e : ℕ × ℕ) × (m.ended x ≡ Some e) × (m.size x ≡ 0)
+
+-- each step of the thread meets what the trace says of its end
+abbrev pub Ends : {T : Type 0} → Check T → List (T × Label) → Type 0
+Ends E [] = Unit {0}
+Ends E (x ∷ xs) = E x.0 (suc (length xs)) (logged x.1 (events xs)) × Ends E xs

@@ -8,7 +8,8 @@ use Rattle.ir_stream.specs.declared.serving.Served.{Served}
 use Rattle.ir_stream.specs.declared.serving.Served.TheVariants.{Quit}
 use Rattle.ir_stream.specs.declared.serving.Fault.{Fault}
 use Rattle.ir_stream.specs.declared.serving.Fault.TheVariants.{Read, Write, TooLong}
-use Rattle.ir_stream.specs.Answers.{most_kept_bytes, SplitBytes, split_lines, last_line, lines_of, Replying, LinesAnswered, Wrote, WroteInPart, Replied, RepliedPrefix, through, some_quits, ReadsUpTo}
+use Rattle.ir_stream.specs.Answers.{SplitBytes, split_lines, last_line, lines_of, Replying, LinesAnswered, RepliedPrefix, through, some_quits, ReadsUpTo}
+use Rattle.ir_stream.specs.Written.{most_kept_bytes, Wrote, WroteInPart, Replied}
 use Rattle.ir_stream.specs.Endings.{served_after, IfEnded, LeadsTo}
 use Rattle.ir_stream.proofs.Cuts.{split_lines_of_line_feed, split_lines_of_other_byte, take_of_append_to_take}
 use Rattle.ir_stream.proofs.Replies.{last_line_of_nonempty, answered_append, answered_no_lines, answered_one_line, answered_last_line_if_prefix_answered, some_quits_of_append, some_quits_of_one_line, some_quits_of_no_lines, through_of_append, through_of_last_line, through_of_one_line, some_quits_by_line_prefix}

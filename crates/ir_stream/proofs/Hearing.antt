@@ -8,7 +8,8 @@ use Rattle.ir_stream.specs.declared.serving.Served.{Served}
 use Rattle.ir_stream.specs.declared.serving.Served.TheVariants.{Quit, InputEnd}
 use Rattle.ir_stream.specs.declared.serving.Fault.{Fault}
 use Rattle.ir_stream.specs.declared.serving.Fault.TheVariants.{TooLong}
-use Rattle.ir_stream.specs.Answers.{SplitBytes, split_lines, last_line, lines_of, heard, Replying, Wrote, through, some_quits}
+use Rattle.ir_stream.specs.Answers.{SplitBytes, split_lines, last_line, lines_of, heard, Replying, through, some_quits}
+use Rattle.ir_stream.specs.Written.{Wrote}
 use Rattle.ir_stream.specs.Endings.{served_after, LeadsTo}
 use Rattle.ir_stream.proofs.Cuts.{split_lines_of_line_feed}
 use Rattle.ir_stream.proofs.Replies.{some_quits_of_append, some_quits_if_first_quits, through_of_append, through_if_first_quits, through_of_last_line, through_if_none_quits}

@@ -4,7 +4,8 @@ use Rattle.std.specs.Prelude.{Option}
 use Rattle.std.proofs.lemmas.List.{append-nil}
 use Rattle.std.proofs.KnownBytes.{Appends-nil, Appends-trans}
 use Rattle.std.specs.Io.KnownBytes.{Appends}
-use Rattle.ir_stream.specs.Answers.{most_kept_bytes, last_line, AppendsPrefix, Replying, LinesAnswered, Wrote, Replied, through, some_quits}
+use Rattle.ir_stream.specs.Answers.{last_line, AppendsPrefix, Replying, LinesAnswered, through, some_quits}
+use Rattle.ir_stream.specs.Written.{most_kept_bytes, Wrote, Replied}
 
 -- a prefix of a text is one of a longer text
 pub prefix_of_longer_text : (a b : Option (List ℕ)) (text more : List ℕ) → AppendsPrefix a b text → AppendsPrefix a b (text ++ more)

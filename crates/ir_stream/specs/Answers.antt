@@ -18,19 +18,6 @@ LinesAnswered R s [] text last = (text ≡ []) × (last ≡ s)
 LinesAnswered {S} R s (l ∷ ls) text last = (first : List ℕ) × (next : S) × (rest : List ℕ) × R s l first next × LinesAnswered R next ls rest last
     × (text ≡ first ++ rest)
 
--- the machine answered the lines, and the writer took the answers
-pub record Wrote {S : Type 0} (R : Replying S) (s : S) (lines : List (List ℕ)) (old new : Option (List ℕ)) : Type 0 where
-  pub text : List ℕ
-  pub last : S
-  pub answered : LinesAnswered R s lines text last
-  pub grown : Appends old new text
-
--- the machine answered a line and is then the second, and the writer took the answer
-pub record Replied {S : Type 0} (R : Replying S) (s : S) (line : List ℕ) (next : S) (old new : Option (List ℕ)) : Type 0 where
-  pub text : List ℕ
-  pub is : R s line text next
-  pub grown : Appends old new text
-
 -- known bytes grow by a prefix of the text
 pub record AppendsPrefix (old new : Option (List ℕ)) (text : List ℕ) : Type 0 where
   pub part : List ℕ
@@ -44,15 +31,6 @@ pub record RepliedPrefix {S : Type 0} (R : Replying S) (s : S) (line : List ℕ)
   pub next : S
   pub is : R s line text next
   pub grown : AppendsPrefix old new text
-
--- the writer took the answers to all lines but the last, and a prefix of what the machine may answer to that one
-pub record WroteInPart {S : Type 0} (R : Replying S) (s : S) (lines : List (List ℕ)) (old new : Option (List ℕ)) : Type 0 where
-  pub before : List (List ℕ)
-  pub line : List ℕ
-  pub are : lines ≡ before ++ line ∷ []
-  pub between : Option (List ℕ)
-  pub all : Wrote R s before old between
-  pub part : RepliedPrefix R all.last line between new
 
 -- the lines up to and with the first that quits
 unfoldable pub through : (List ℕ → Bool) → List (List ℕ) → List (List ℕ)
@@ -106,7 +84,3 @@ pub record ReadsUpTo (limit : ℕ) (old new : Option (List ℕ)) (P : List ℕ �
   pub taken : Consumes old new consumed
   pub within : length consumed ≤ limit
   pub holds : P consumed
-
--- how many bytes of a line are kept: one more than the longest line that is answered as one
-abbrev pub most_kept_bytes : ℕ
-most_kept_bytes = 1025

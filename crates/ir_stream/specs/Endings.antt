@@ -8,7 +8,8 @@ use Rattle.ir_stream.specs.declared.serving.Fault.{Fault}
 use Rattle.ir_stream.specs.declared.serving.Fault.TheVariants.{Read, Write, TooLong}
 use Rattle.ir_stream.specs.declared.serving.Flow.{Flow}
 use Rattle.ir_stream.specs.declared.serving.Flow.TheVariants.{Goes, Quits}
-use Rattle.ir_stream.specs.Answers.{heard, Replying, Wrote, through, ends}
+use Rattle.ir_stream.specs.Answers.{heard, Replying, through, ends}
+use Rattle.ir_stream.specs.Written.{Wrote}
 
 -- whether a line that quits was answered
 abbrev pub flow_after : Bool → Flow

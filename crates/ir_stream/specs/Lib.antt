@@ -2,3 +2,4 @@ pub mod Answers
 pub mod Nexts
 pub mod Endings
 pub mod Wrapped
+pub mod Written

@@ -1,7 +1,7 @@
 //! A line as it comes in, of which no more than its first `KEPT` bytes are kept.
 
 ghost use Rattle.std.specs.Prelude.{◌≡◌, ◌++◌, [], ◌∷◌, take};
-ghost use Rattle.ir_stream.specs.Answers.{most_kept_bytes};
+ghost use Rattle.ir_stream.specs.Written.{most_kept_bytes};
 
 use arrayvec::ArrayVec;
 

@@ -3,7 +3,6 @@ use Rattle.std.specs.Prelude.{ℕ, ◌^◌, ◌==◌, Bool, ◌||◌, List, nat_
 use Rattle.ir_thread.specs.Calls.{ask_of, after_reply}
 use Rattle.ir_thread.specs.State.{end_number, end_code, ThreadState, held_at, held_count}
 use Rattle.ir_runs.specs.Machine.{Machine}
-use Rattle.ir_runs.specs.Lawful.{IsLawful, IsClosing}
 use Rattle.ir_runs.specs.Machine as machine
 use Rattle.ir_thread.specs.declared.ask.Ask.{Ask}
 use Rattle.ir_thread.specs.declared.ask.Ask.TheVariants as ask
@@ -48,7 +47,3 @@ thread_machine code = record {
   ended = λ s. option_map (λ e. (end_number e, end_code e)) s.ended;
   size = λ s. held_count s.held;
 }
-
--- whatever the code, a thread enters in order, uses what it holds, and releases it after its end
-abbrev pub ThreadsClose : Type 0
-ThreadsClose = (code : List ℕ) → IsLawful (thread_machine code) × IsClosing (thread_machine code)

@@ -6,3 +6,4 @@ pub mod Alone
 pub mod Private
 pub mod Conditions
 pub mod Permitted
+pub mod Closing

@@ -6,7 +6,7 @@ ghost use Rattle.ir_mach.specs.Pages.{ArePages, pages_of};
 ghost use Rattle.ir_thread.specs.Alone.{RunsAlone};
 ghost use Rattle.ir_thread.specs.Conditions.{EndsByTheFirst};
 ghost use Rattle.ir_thread.specs.Frames.{frame_of, thread_of};
-ghost use Rattle.ir_thread.specs.Instance.{ThreadsClose};
+ghost use Rattle.ir_thread.specs.Closing.{ThreadsClose};
 ghost use Rattle.ir_thread.specs.State.{ThreadState};
 
 /// A thread enters objects in rising order, uses only what it holds, releases all that it holds

@@ -1,9 +1,8 @@
 -- The first and the last cut of a guest with a trace, and what a thread finds.
-use Rattle.std.specs.Prelude.{◌≡◌, ℕ, zero, suc, ◌+◌, List, [], ◌∷◌, length, replicate, Option}
+use Rattle.std.specs.Prelude.{ℕ, zero, suc, ◌+◌, List, [], ◌∷◌, length, replicate, Option}
 use Rattle.ir_runs.specs.Run.{Step}
 use Rattle.ir_trace.specs.Recorded.{recorded_thread}
 use Rattle.ir_fit.specs.Fit.{FittedTrace}
-use Rattle.ir_cut.specs.Positions.{IsConsistentCut}
 use Rattle.ir_command.specs.declared.command.Direction.{Direction}
 use Rattle.ir_command.specs.declared.command.Direction.TheVariants.{Forwards, Backwards}
 use Rattle.ir_command.specs.declared.hit.Hit.{Hit}
@@ -29,10 +28,6 @@ last_positions f from (suc n) = last_of f from ∷ last_positions f (from + 1) n
 -- all threads at their last positions
 abbrev pub last_cut : FittedTrace → List ℕ
 last_cut f = last_positions f 0 (threads_of f)
-
--- a consistent cut of the guest's threads
-abbrev pub IsCutOf : FittedTrace → List ℕ → Type 0
-IsCutOf f c = (length c ≡ threads_of f) × IsConsistentCut f c
 
 -- the hit that thread t finds from a position in this direction
 abbrev pub Finds : List Step → FittedTrace → List Numbered → ℕ → ℕ → Direction → Option Hit → Type 0

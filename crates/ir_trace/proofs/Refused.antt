@@ -2,8 +2,8 @@
 use Rattle.std.proofs.Common.{◌≡◌, ℕ, zero, suc, ◌<◌, false, eqb, List, length, Option, Some, None, Result, Ok, Err, refl, ◌∙◌, arith}
 use Rattle.std.specs.Prelude.{◌==◌, if◌then◌else◌, is_some, nat_le}
 use Rattle.std.proofs.lemmas.Bool.{le-leb, lt-leb, ne_eqb}
-use Rattle.ir_bytes.specs.Reading.{◌>>=◌, Reader, plain, judged, number_at, field_at, fields_at}
-use Rattle.ir_bytes.specs.Format.{Format, finished, next, before, repeated, first_refused, fault_of}
+use Rattle.ir_bytes.specs.Reading.{◌>>=◌, Reader, judged, number_at, field_at, fields_at}
+use Rattle.ir_bytes.specs.Format.{Format, finished, next, before, repeated, first_refused, fault_of, plain}
 use Rattle.ir_bytes.proofs.CallerLemmas.{after_reading, Follows, Begins, Refuses, field_at_follows_field, field_at_begins_with_field, number_at_begins_with_plain_field, sequence_follows_fields, sequence_begins_with_fields, independent_sequence_begins_with_fields, sequence_refuses_format, independent_sequence_refuses_format, fault_of_trailing_test, fields_at_begins_with_repeated}
 use Rattle.ir_runs.specs.declared.env_kind.EnvKind.{EnvKind}
 use Rattle.ir_runs.specs.declared.env_kind.EnvKind.TheVariants.{Clock, Random, Input}

@@ -1,7 +1,6 @@
 -- The fields of a trace in their order.
 use Rattle.std.specs.Prelude.{ℕ, List, Option, ◌==◌, if◌then◌else◌}
-use Rattle.ir_bytes.specs.Reading.{plain}
-use Rattle.ir_bytes.specs.Format.{Format, finished, next, before, repeated, first_refused}
+use Rattle.ir_bytes.specs.Format.{Format, finished, next, before, repeated, first_refused, plain}
 use Rattle.ir_thread.specs.declared.profile.Profile.{Profile}
 use Rattle.ir_trace.specs.declared.trace_err.TraceErr.{TraceErr}
 use Rattle.ir_trace.specs.declared.trace_err.TraceErr.TheVariants.{Short, Trailing}

@@ -51,7 +51,3 @@ pub record IsBetween (f : FittedTrace) (target : List ℕ) (old new : Standing) 
 -- at these positions at most one thread is below its target
 abbrev pub OneIsBelow : List ℕ → Cut → Type 0
 OneIsBelow target p = (t u : ℕ) → p t < cut_of target t → p u < cut_of target u → t ≡ u
-
--- the guest at some cut
-abbrev pub IsState : FittedTrace → Flat → Type 0
-IsState f s = (p : Cut) × IsStateAt f p s

@@ -3,9 +3,10 @@
 ghost use Rattle.std.specs.Prelude.{◌≡◌, ◌<◌, ◌≤◌, length, None, Some, IfOk, IfSome, MatchOption, OnOk};
 ghost use Rattle.ir_cut.specs.Positions.{EachRun, IsConsistentCut, cut_of};
 ghost use Rattle.ir_weave.specs.Standing.{StandsAt};
-ghost use Rattle.ir_hits.specs.Hits.{AreWatchable};
+ghost use Rattle.ir_hits.specs.Watchable.{AreWatchable};
 ghost use Rattle.ir_hits.specs.Searching.{IsNextHit};
-ghost use Rattle.ir_timeline.specs.Positions.{IsCutOf, Finds, last_of, threads_of};
+ghost use Rattle.ir_timeline.specs.Positions.{Finds, last_of, threads_of};
+ghost use Rattle.ir_timeline.specs.Hand.{IsCutOf};
 ghost use Rattle.ir_debug.specs.Machine.Desk.{kept_cut, spoken};
 ghost use Rattle.ir_debug.specs.Machine.Moves.{StopsAt};
 

@@ -2,7 +2,8 @@
 
 ghost use Rattle.std.specs.Prelude.{◌≡◌, ◌<◌, true, OnOk, OnErr, IfOk, IfSome};
 ghost use Rattle.ir_cut.specs.Positions.{EachRun};
-ghost use Rattle.ir_timeline.specs.Positions.{IsCutOf, threads_of};
+ghost use Rattle.ir_timeline.specs.Positions.{threads_of};
+ghost use Rattle.ir_timeline.specs.Hand.{IsCutOf};
 ghost use Rattle.ir_gdb.specs.Stub.{spoken};
 ghost use Rattle.ir_gdb.specs.Stops.{end_of};
 ghost use Rattle.ir_gdb.specs.Together.{Halt, halt, AreWithin, MetBy, StopsAmong, FirstStop, first_met, furthest, StepsAmong, ContinuesAmong, MovesAmong};

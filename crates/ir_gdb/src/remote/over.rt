@@ -2,7 +2,8 @@
 
 ghost use Rattle.std.specs.Prelude.{◌≡◌, ◌<◌, ◌≤◌, OnOk, OnErr, IfOk, length};
 ghost use Rattle.ir_cut.specs.Positions.{EachRun, cut_of};
-ghost use Rattle.ir_timeline.specs.Positions.{IsCutOf, threads_of, last_of};
+ghost use Rattle.ir_timeline.specs.Positions.{threads_of, last_of};
+ghost use Rattle.ir_timeline.specs.Hand.{IsCutOf};
 ghost use Rattle.ir_gdb.specs.Stub.{spoken};
 ghost use Rattle.ir_gdb.specs.Stops.{position_of};
 ghost use Rattle.ir_gdb.specs.Together.{Halt};

@@ -2,7 +2,7 @@
 
 ghost use Rattle.std.specs.Prelude.{◌≡◌, ◌≤◌, ◌+◌, ◌++◌, List, ℕ, true, OnOk, OnErr, IfOk, IfSome, MatchOption, Some, None, vec_len, vec_capacity};
 ghost use Rattle.ir_cut.specs.Positions.{EachRun};
-ghost use Rattle.ir_timeline.specs.Positions.{IsCutOf};
+ghost use Rattle.ir_timeline.specs.Hand.{IsCutOf};
 ghost use Rattle.ir_gdb.specs.Stub.{spoken};
 ghost use Rattle.ir_gdb.specs.Restarts.{with_extension, end_reply, restart_cut, RepliesToRestart};
 

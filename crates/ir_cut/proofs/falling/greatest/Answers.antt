@@ -1,6 +1,6 @@
 use Rattle.std.proofs.Common.{◌∙◌, ◌<◌, ℕ, List, length, sym, subst}
-use Rattle.ir_cut.specs.Positions.{IsGreatestCut, cut_of}
-use Rattle.ir_cut.specs.Searching.{AreRest}
+use Rattle.ir_cut.specs.Positions.{cut_of}
+use Rattle.ir_cut.specs.Searching.{AreRest, IsGreatestCut}
 use Rattle.ir_cut.proofs.Found.{greatest_cut_found_by_falling, greatest_cut_has_thread_at_position}
 use Rattle.ir_cut.proofs.falling.greatest.Goals as goal
 

@@ -1,6 +1,6 @@
 use Rattle.std.proofs.Common.{◌∙◌, ◌<◌, ℕ, List, length, sym, subst}
-use Rattle.ir_cut.specs.Positions.{IsLeastCut, cut_of}
-use Rattle.ir_cut.specs.Searching.{AreFirst}
+use Rattle.ir_cut.specs.Positions.{cut_of}
+use Rattle.ir_cut.specs.Searching.{AreFirst, IsLeastCut}
 use Rattle.ir_cut.proofs.Found.{least_cut_found_by_rising, least_cut_has_thread_at_position}
 use Rattle.ir_cut.proofs.rising.least.Goals as goal
 

@@ -1,5 +1,5 @@
 use Rattle.std.proofs.lemmas.Result.{IfOk-weaker}
-use Rattle.ir_cut.specs.Positions.{IsLeastCut, IsGreatestCut}
+use Rattle.ir_cut.specs.Searching.{IsLeastCut, IsGreatestCut}
 use Rattle.ir_debug.proofs.Leading.{LeadsInEachRun, step_leads_to_least_cut, back_leads_to_greatest_cut}
 use Rattle.ir_debug.proofs.destinations.destination.Goals as goal
 

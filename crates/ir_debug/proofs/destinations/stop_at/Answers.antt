@@ -1,5 +1,5 @@
 use Rattle.std.proofs.lemmas.Result.{IfOk-weaker}
-use Rattle.ir_cut.specs.Positions.{IsLeastCut, IsGreatestCut}
+use Rattle.ir_cut.specs.Searching.{IsLeastCut, IsGreatestCut}
 use Rattle.ir_debug.proofs.Leading.{StopsInEachRun, forward_stop_at_least_cut, backward_stop_at_greatest_cut}
 use Rattle.ir_debug.proofs.destinations.stop_at.Goals as goal
 

@@ -1,5 +1,6 @@
 use Rattle.std.proofs.Common.{take}
-use Rattle.ir_fit.specs.Visits.{AddsAll, entered_by}
+use Rattle.ir_fit.specs.Visits.{entered_by}
+use Rattle.ir_fit.specs.Listed.{AddsAll}
 use Rattle.ir_fit.proofs.visiting.add_entries.Given as goal
 
 abbrev pub invariant-loop-place : goal.invariant-loop-place

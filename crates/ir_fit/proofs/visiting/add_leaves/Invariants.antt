@@ -1,5 +1,6 @@
 use Rattle.std.proofs.Common.{take}
-use Rattle.ir_fit.specs.Visits.{AddsAll, left_by}
+use Rattle.ir_fit.specs.Visits.{left_by}
+use Rattle.ir_fit.specs.Listed.{AddsAll}
 use Rattle.ir_fit.proofs.visiting.add_leaves.Given as goal
 
 abbrev pub invariant-loop-leave : goal.invariant-loop-leave

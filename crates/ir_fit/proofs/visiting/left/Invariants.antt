@@ -1,5 +1,6 @@
 use Rattle.ir_fit.specs.Places.{placed_at}
-use Rattle.ir_fit.specs.Visits.{AddsAll, none_listed, of_threads, left_by}
+use Rattle.ir_fit.specs.Visits.{of_threads, left_by}
+use Rattle.ir_fit.specs.Listed.{AddsAll, none_listed}
 use Rattle.ir_fit.proofs.visiting.left.Given as goal
 
 abbrev pub invariant-loop-t : goal.invariant-loop-t

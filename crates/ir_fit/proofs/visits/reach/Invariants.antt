@@ -1,5 +1,5 @@
 use Rattle.std.proofs.Common.{◌≡◌, length}
-use Rattle.ir_fit.specs.Visits.{AreSame}
+use Rattle.ir_fit.specs.Listed.{AreSame}
 use Rattle.ir_fit.proofs.visits.reach.Given as goal
 
 abbrev pub invariant-loop-next : goal.invariant-loop-next

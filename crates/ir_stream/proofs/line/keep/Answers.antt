@@ -1,7 +1,7 @@
 use Rattle.std.proofs.Common.{◌≡◌, ◌≤◌, ◌<◌, ◌++◌, ◌∷◌, [], length, take, List, ℕ, true, false, eqb, arith, sym, ◌∙◌, length-append}
 use Rattle.std.proofs.lemmas.Bool.{eqb-true, eqb-false}
 use Rattle.std.proofs.lemmas.List.{take-append-le, take_all}
-use Rattle.ir_stream.specs.Answers.{most_kept_bytes}
+use Rattle.ir_stream.specs.Written.{most_kept_bytes}
 use Rattle.ir_stream.proofs.line.keep.Goals as goal
 
 put : (n : ℕ) (xs : List ℕ) (b : ℕ) → length xs ≤ n → eqb (length xs) n ≡ false → xs ++ b ∷ [] ≡ take n (xs ++ b ∷ [])

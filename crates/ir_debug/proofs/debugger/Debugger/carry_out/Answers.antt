@@ -2,7 +2,8 @@ use Rattle.std.proofs.Common.{◌≡◌, true, sym, ap, subst, ◌∙◌}
 use Rattle.std.specs.Prelude.{nat_lt}
 use Rattle.ir_fit.specs.Fit.{FittedTrace}
 use Rattle.ir_cut.specs.Positions.{IsConsistentCut}
-use Rattle.ir_timeline.specs.Positions.{threads_of, IsCutOf}
+use Rattle.ir_timeline.specs.Positions.{threads_of}
+use Rattle.ir_timeline.specs.Hand.{IsCutOf}
 use Rattle.ir_debug.specs.Machine.Refusals.{if_some, thread_named}
 use Rattle.ir_command.specs.declared.command.Command.TheVariants as command
 use Rattle.ir_debug.specs.Debugging.{Debugging}

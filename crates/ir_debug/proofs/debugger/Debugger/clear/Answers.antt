@@ -1,5 +1,5 @@
 use Rattle.std.proofs.Common.{sym, subst}
-use Rattle.ir_hits.specs.Hits.{AreWatchable}
+use Rattle.ir_hits.specs.Watchable.{AreWatchable}
 use Rattle.ir_debug.proofs.Chosen.{all_without}
 use Rattle.ir_debug.proofs.debugger.Debugger.clear.Goals as goal
 

@@ -1,5 +1,5 @@
 use Rattle.std.proofs.Common.{◌≡◌, ◌<◌, ◌≤◌, ◌+◌, ◌++◌, [], ◌∷◌, List, length, length-append, refl, sym, ap, ◌∙◌, subst, arith}
-use Rattle.ir_timeline.specs.Positions.{IsCutOf}
+use Rattle.ir_timeline.specs.Hand.{IsCutOf}
 use Rattle.ir_timeline.specs.Replaying.{Replaying}
 use Rattle.ir_debug.specs.Debugging.{Debugging, AllKept}
 use Rattle.ir_debug.specs.Machine.Desk.{Kept, most_kept, most_number}

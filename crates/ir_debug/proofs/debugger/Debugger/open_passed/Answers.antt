@@ -2,8 +2,8 @@ use Rattle.std.proofs.Common.{◌≡◌, ◌++◌, [], ◌∷◌, true, List, le
 use Rattle.ir_fit.specs.Fit.{FittedTrace}
 use Rattle.ir_cut.specs.Positions.{cut_of}
 use Rattle.ir_weave.specs.Standing.{StandsAt}
-use Rattle.ir_hits.specs.Hits.{AreWatchable}
-use Rattle.ir_timeline.specs.Positions.{IsCutOf}
+use Rattle.ir_hits.specs.Watchable.{AreWatchable}
+use Rattle.ir_timeline.specs.Hand.{IsCutOf}
 use Rattle.ir_debug.specs.Machine.Desk.{Kept}
 use Rattle.ir_debug.specs.Debugging.{AllKept, IsDesk}
 use Rattle.ir_debug.proofs.debugger.Debugger.open_passed.Goals as goal

@@ -1,5 +1,6 @@
 use Rattle.std.proofs.Common.{◌<◌, List, length, sym, ap, subst, arith}
-use Rattle.ir_hits.specs.Hits.{Numbered, AreWatchable, IsWatchable}
+use Rattle.ir_hits.specs.Hits.{Numbered}
+use Rattle.ir_hits.specs.Watchable.{AreWatchable, IsWatchable}
 use Rattle.ir_debug.specs.Debugging.{Debugging}
 use Rattle.ir_debug.specs.Machine.Desk.{most_points, most_number}
 use Rattle.ir_debug.proofs.Chosen.{all_more}

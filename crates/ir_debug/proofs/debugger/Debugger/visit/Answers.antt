@@ -1,6 +1,6 @@
 use Rattle.std.proofs.Common.{sym, ap, subst, refl}
 use Rattle.ir_fit.specs.Fit.{FittedTrace}
-use Rattle.ir_timeline.specs.Positions.{IsCutOf}
+use Rattle.ir_timeline.specs.Hand.{IsCutOf}
 use Rattle.ir_debug.specs.Debugging.{Debugging}
 use Rattle.ir_debug.proofs.Desks.{spoke}
 use Rattle.ir_debug.proofs.debugger.Debugger.visit.Goals as goal

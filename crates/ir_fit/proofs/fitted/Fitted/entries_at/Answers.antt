@@ -1,6 +1,6 @@
 use Rattle.std.proofs.Common.{subst}
 use Rattle.ir_fit.specs.Fit.{FittedTrace}
-use Rattle.ir_fit.specs.Visits.{OnlyEntries, AllEntries}
+use Rattle.ir_fit.specs.Listed.{OnlyEntries, AllEntries}
 use Rattle.ir_fit.proofs.Found.{listed_entries_are_only_entries, listed_entries_are_all_entries}
 use Rattle.ir_fit.proofs.fitted.Fitted.entries_at.Goals as goal
 

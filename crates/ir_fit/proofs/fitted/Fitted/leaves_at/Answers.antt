@@ -1,6 +1,6 @@
 use Rattle.std.proofs.Common.{subst}
 use Rattle.ir_fit.specs.Fit.{FittedTrace}
-use Rattle.ir_fit.specs.Visits.{OnlyLeaves, AllLeaves}
+use Rattle.ir_fit.specs.Listed.{OnlyLeaves, AllLeaves}
 use Rattle.ir_fit.proofs.Found.{listed_leaves_are_only_leaves, listed_leaves_are_all_leaves}
 use Rattle.ir_fit.proofs.fitted.Fitted.leaves_at.Goals as goal
 

@@ -1,7 +1,7 @@
 use Rattle.std.proofs.Common.{◌∙◌, length, sym, ap, subst}
 use Rattle.std.proofs.lemmas.List.{with_items_is}
 use Rattle.std.proofs.lemmas.Result.{on_ok_weaker}
-use Rattle.ir_fit.specs.Visits.{AreSorted}
+use Rattle.ir_fit.specs.Listed.{AreSorted}
 use Rattle.ir_fit.proofs.visits.Visits.sort.Goals as goal
 
 pub returns : goal.returns

@@ -1,7 +1,7 @@
 use Rattle.std.proofs.Common.{◌∙◌, List, ℕ, Option, sym, ap, subst, slice_index_or}
 use Rattle.std.proofs.lemmas.Result.{on_ok_weaker}
 use Rattle.ir_cut.specs.Positions.{EachRun}
-use Rattle.ir_timeline.specs.Positions.{IsCutOf}
+use Rattle.ir_timeline.specs.Hand.{IsCutOf}
 use Rattle.ir_packet.specs.declared.reply.Reason.TheVariants as reason
 use Rattle.ir_gdb.specs.declared.stopped.Stopped.{Stopped}
 use Rattle.ir_gdb.specs.Stub.{Stub}

@@ -1,7 +1,7 @@
 use Rattle.std.proofs.Common.{◌≡◌, ◌+◌, ◌∙◌, ℕ, List, sym, ap, subst}
 use Rattle.ir_fit.specs.Fit.{FittedTrace}
 use Rattle.ir_cut.specs.Positions.{cut_of}
-use Rattle.ir_timeline.specs.Positions.{IsCutOf}
+use Rattle.ir_timeline.specs.Hand.{IsCutOf}
 use Rattle.ir_gdb.specs.declared.point.Watched.{Watched}
 use Rattle.ir_gdb.specs.Points.{watch_points}
 use Rattle.ir_gdb.specs.Serving.{Serving}

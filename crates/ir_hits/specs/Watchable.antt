@@ -1,0 +1,16 @@
+-- Points that may be set.
+use Rattle.std.specs.Prelude.{⊤, List}
+use Rattle.std.specs.List.{AllByRecursion}
+use Rattle.ir_mach.specs.Within.{IsMemoryWord}
+use Rattle.ir_command.specs.declared.command.Point.{Point}
+use Rattle.ir_command.specs.declared.command.Point.TheVariants.{Break, Watch, WatchObject}
+use Rattle.ir_hits.specs.Hits.{Numbered}
+
+-- a watched word is one of private memory
+abbrev pub IsWatchable : Point → Type 0
+IsWatchable (Break t address) = ⊤
+IsWatchable (Watch t address) = IsMemoryWord address
+IsWatchable (WatchObject object) = ⊤
+
+abbrev pub AreWatchable : List Numbered → Type 0
+AreWatchable points = AllByRecursion (λ p. IsWatchable p.point) points
