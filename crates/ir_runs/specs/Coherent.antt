@@ -7,12 +7,8 @@ use Rattle.ir_runs.specs.Cuts.{At}
 
 -- 1 for a read entry of object o at version v, else 0
 abbrev pub reads_one : ℕ → ℕ → Label → ℕ
-reads_one o v Quiet = 0
-reads_one o v (Answer k x) = 0
 reads_one o v (In p Reading w l) = cond (eqb p o) (cond (eqb w v) 1 0) 0
-reads_one o v (In p Writing w l) = 0
-reads_one o v (Refused p) = 0
-reads_one o v (Out p a w) = 0
+reads_one o v event = 0
 
 -- how many of these are read entries of object o at version v
 abbrev pub reads : ℕ → ℕ → List Label → ℕ

@@ -15,13 +15,9 @@ Ending T = ℕ → Check T
 -- the log that is left after the label
 abbrev pub unlogged : Label → List Label → List Label
 unlogged Quiet es = es
-unlogged (Answer k v) [] = []
-unlogged (Answer k v) (e ∷ es) = es
-unlogged (In o a v l) [] = []
-unlogged (In o a v l) (e ∷ es) = es
-unlogged (Refused o) [] = []
-unlogged (Refused o) (e ∷ es) = es
 unlogged (Out o a v) es = es
+unlogged event [] = []
+unlogged event (e ∷ es) = es
 
 -- what is left of a log after these steps
 abbrev pub left_log : {T : Type 0} → List (T × Label) → List Label → List Label

@@ -33,11 +33,10 @@ act_of (Env k) r = Result k r
 act_of (Enter o a) r = Entry o a 0
 act_of (Try o) zero = Refusal o
 act_of (Try o) (suc zero) = Entry o Writing 1
-act_of (Try o) (suc (suc r)) = Never
 act_of (Leave o a) r = Exit o a
 act_of (Get o i) r = Load o i
 act_of (Put o i w) r = Store o i w
-act_of Done r = Never
+act_of q r = Never
 
 -- what a thread does, T being the thread's state
 pub record Machine (T : Type 0) : Type 0 where
@@ -70,49 +69,34 @@ pub record Object : Type 0 where
 
 -- which object an act is about; an act about none leaves object 0 as it is
 abbrev pub target : Act → ℕ
-target Silent = 0
-target (Result k v) = 0
 target (Entry o a v) = o
-target (Refusal o) = 0
 target (Exit o a) = o
 target (Load o i) = o
 target (Store o i w) = o
-target Never = 0
+target q = 0
 
 -- whether the act can be taken now: a reader waits while a writer is inside, a writer while anyone is, and a result suits its call
 abbrev pub Admits : {T : Type 0} → Machine T → Act → Object → Type 0
-Admits m Silent b = Unit {0}
 Admits m (Result k v) b = m.fits k v ≡ true
 Admits m (Entry o Reading v) b = (u : ℕ) → b.inside u ≢ Some Writing
 Admits m (Entry o Writing v) b = (u : ℕ) → b.inside u ≡ None
-Admits m (Refusal o) b = Unit {0}
-Admits m (Exit o a) b = Unit {0}
-Admits m (Load o i) b = Unit {0}
-Admits m (Store o i w) b = Unit {0}
 Admits m Never b = ⊥
+Admits m q b = Unit {0}
 
 -- the object after the act of thread t: a reader's leave adds 1 to left, a writer's leave makes a new version that no reader has left
 abbrev pub acted : Act → ℕ → Object → Object
-acted Silent t b = b
-acted (Result k v) t b = b
 acted (Entry o a v) t b = record b { inside = upd b.inside t (Some a) }
-acted (Refusal o) t b = b
 acted (Exit o Reading) t b = record b { left = suc b.left; inside = upd b.inside t None }
 acted (Exit o Writing) t b = record b { version = suc b.version; left = 0; inside = upd b.inside t None }
-acted (Load o i) t b = b
 acted (Store o i w) t b = record b { words = upd b.words i w }
-acted Never t b = b
+acted q t b = b
 
 -- what the thread is answered
 abbrev pub reply : Act → Object → ℕ
-reply Silent b = 0
 reply (Result k v) b = v
 reply (Entry o a v) b = v
-reply (Refusal o) b = 0
-reply (Exit o a) b = 0
 reply (Load o i) b = b.words i
-reply (Store o i w) b = 0
-reply Never b = 0
+reply q b = 0
 
 -- what a step emits: nothing, the result of a call of the environment, an entry, a refused try, or a leave
 pub data Label : Type 0 where
@@ -124,34 +108,26 @@ pub data Label : Type 0 where
 
 -- what the act emits: an entry emits the version that it finds and, for writing, how many readers have left it
 abbrev pub emitted : Act → Object → Label
-emitted Silent b = Quiet
 emitted (Result k v) b = Answer k v
 emitted (Entry o Reading v) b = In o Reading b.version 0
 emitted (Entry o Writing v) b = In o Writing b.version b.left
 emitted (Refusal o) b = Refused o
 emitted (Exit o a) b = Out o a b.version
-emitted (Load o i) b = Quiet
-emitted (Store o i w) b = Quiet
-emitted Never b = Quiet
+emitted q b = Quiet
 
 -- whether the act is about an object
 abbrev pub is_shared : Act → Bool
-is_shared Silent = false
-is_shared (Result k v) = false
 is_shared (Entry o a v) = true
-is_shared (Refusal o) = false
 is_shared (Exit o a) = true
 is_shared (Load o i) = true
 is_shared (Store o i w) = true
-is_shared Never = false
+is_shared q = false
 
 -- es, with what is logged of the label before it: results, entries and refused tries
 abbrev pub logged : Label → List Label → List Label
 logged Quiet es = es
-logged (Answer k v) es = Answer k v ∷ es
-logged (In o a v l) es = In o a v l ∷ es
-logged (Refused o) es = Refused o ∷ es
 logged (Out o a v) es = es
+logged event es = event ∷ es
 
 -- the trace of a run: of each thread how many steps it takes, its log, and its end and code
 pub record Trace : Type 0 where

@@ -9,7 +9,6 @@ use Rattle.ir_runs.specs.Following.{Follows, left_log, left_steps, ends_now, Mee
 
 -- where an event is asked for, the next one is of that kind and object
 abbrev pub Suits : Ask → List Label → Type 0
-Suits Private es = Unit {0}
 Suits (Env k) (Answer j v ∷ es) = j ≡ k
 Suits (Env k) _ = ⊥
 Suits (Enter o a) (In p c v l ∷ es) = (p ≡ o) × (c ≡ a)
@@ -17,10 +16,7 @@ Suits (Enter o a) _ = ⊥
 Suits (Try o) (In p c v l ∷ es) = (p ≡ o) × (c ≡ Writing)
 Suits (Try o) (Refused p ∷ es) = p ≡ o
 Suits (Try o) _ = ⊥
-Suits (Leave o a) es = Unit {0}
-Suits (Get o i) es = Unit {0}
-Suits (Put o i w) es = Unit {0}
-Suits Done es = Unit {0}
+Suits q es = Unit {0}
 
 -- the next step of a thread that isn't done doesn't disagree, where n steps and the log es are left: its position is below the trace's
 -- steps, its event suits, and if it ends, then as the trace says
