@@ -76,9 +76,8 @@ argument Bytes word = option_and_then byte_count (number_of word)
 -- the numbers that the words write, if there is a word of each kind and no other
 abbrev pub arguments : List Kind → List (List ℕ) → Option (List ℕ)
 arguments [] [] = Some []
-arguments [] (word ∷ words) = None
-arguments (kind ∷ kinds) [] = None
 arguments (kind ∷ kinds) (word ∷ words) = option_and_then (λ n. option_map (λ ns. n ∷ ns) (arguments kinds words)) (argument kind word)
+arguments kinds words = None
 
 -- a command's name, the kinds of its arguments, and the command that they make
 pub record Row : Type 0 where

@@ -7,10 +7,8 @@ use Rattle.ir_fit.specs.declared.leave.Leave.{Leave}
 -- the position of a step that is logged, and those after it
 abbrev pub place_if : Label → ℕ → List ℕ → List ℕ
 place_if Quiet k ps = ps
-place_if (Answer kind value) k ps = k ∷ ps
-place_if (In o a v l) k ps = k ∷ ps
-place_if (Refused o) k ps = k ∷ ps
 place_if (Out o a v) k ps = ps
+place_if event k ps = k ∷ ps
 
 -- the positions of the steps that are logged, where the first step is at k
 abbrev pub places_from : {T : Type 0} → ℕ → List (T × Label) → List ℕ
@@ -23,11 +21,8 @@ places_of steps = places_from 0 steps
 
 -- a step that is a leave, and those after it
 abbrev pub leave_if : Label → ℕ → List Leave → List Leave
-leave_if Quiet k ls = ls
-leave_if (Answer kind value) k ls = ls
-leave_if (In o a v l) k ls = ls
-leave_if (Refused o) k ls = ls
 leave_if (Out o a v) k ls = record { position = k; object = o; access = a; version = v } ∷ ls
+leave_if other k ls = ls
 
 -- the leaves among the steps, where the first step is at k
 abbrev pub leaves_from : {T : Type 0} → ℕ → List (T × Label) → List Leave

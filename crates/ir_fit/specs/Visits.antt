@@ -22,10 +22,9 @@ left_by t ls = map (λ l. (l.object, l.access, record { position = l.position; v
 
 -- an event of thread t that is logged at position k, and the entries after it
 abbrev pub enter_if : ℕ → Event → ℕ → List Visit → List Visit
-enter_if t (Answer kind value) k vs = vs
-enter_if t (Try object) k vs = vs
 enter_if t (Read object version) k vs = (object, Reading, record { position = k; version = version; thread = t }) ∷ vs
 enter_if t (Write object version readers) k vs = (object, Writing, record { position = k; version = version; thread = t }) ∷ vs
+enter_if t event k vs = vs
 
 -- the entries of thread t, by its log and the positions of its events
 abbrev pub entered_by : ℕ → List Event → List ℕ → List Visit
@@ -49,9 +48,8 @@ all_entered r ps = of_threads (length ps) (λ t. entered_by t (recorded_thread r
 -- whether two accesses are the same
 abbrev pub same_access : Access → Access → Bool
 same_access Reading Reading = true
-same_access Reading Writing = false
-same_access Writing Reading = false
 same_access Writing Writing = true
+same_access a b = false
 
 -- the steps among these of object o and access a
 abbrev pub picked : ℕ → Access → List Visit → List Place

@@ -4,14 +4,11 @@ use Rattle.ir_runs.specs.Machine.{Act, act_of, Silent, Result, Entry, Refusal, E
 
 -- what may be answered to a thread that runs alone
 abbrev pub MayReply : {T : Type 0} → Machine T → Act → ℕ → Type 0
-MayReply m Silent v = v ≡ 0
 MayReply m (Result k w) v = m.fits k v ≡ true
 MayReply m (Entry o a w) v = v ≡ w
-MayReply m (Refusal o) v = v ≡ 0
-MayReply m (Exit o a) v = v ≡ 0
 MayReply m (Load o i) v = Unit {0}
-MayReply m (Store o i w) v = v ≡ 0
 MayReply m Never v = ⊥
+MayReply m q v = v ≡ 0
 
 -- a thread that starts as x, alone, may be given these replies
 abbrev pub MayRun : {T : Type 0} → Machine T → T → List ℕ → Type 0

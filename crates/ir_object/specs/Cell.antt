@@ -12,15 +12,13 @@ pub record Cell : Type 0 where
 
 -- 1 for a reader
 abbrev pub one_if_reading : Option Access → ℕ
-one_if_reading None = 0
 one_if_reading (Some Reading) = 1
-one_if_reading (Some Writing) = 0
+one_if_reading inside = 0
 
 -- whether it is a writer
 abbrev pub is_writing : Option Access → Bool
-is_writing None = false
-is_writing (Some Reading) = false
 is_writing (Some Writing) = true
+is_writing inside = false
 
 -- how many of the first n threads are inside for reading
 abbrev pub readers : ℕ → (ℕ → Option Access) → ℕ

@@ -130,9 +130,8 @@ event_text (Answer kind value) = kind_text kind ++ codes " " ++ decimal value
 event_text (In object Reading version left) = codes "read " ++ decimal object ++ codes " version " ++ decimal version
 event_text (In object Writing version left) = codes "write " ++ decimal object ++ codes " version " ++ decimal version ++ codes " readers "
     ++ decimal left
-event_text Quiet = []
 event_text (machine.Refused object) = codes "try " ++ decimal object
-event_text (Out object access version) = []
+event_text other = []
 
 -- the events from a number on
 unfoldable pub event_lines : ℕ → List Label → List ℕ

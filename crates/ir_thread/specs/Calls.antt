@@ -135,9 +135,8 @@ get_ask s = if has_word s then get_held (a0 s) (a1 s) (held_at s.held (a0 s)) el
 
 -- writing, by how the object is held
 abbrev pub put_held : ℕ → ℕ → ℕ → Option Access → Ask
-put_held object index value None = ask.End end.NotHeld
-put_held object index value (Some Reading) = ask.End end.NotHeld
 put_held object index value (Some Writing) = ask.Put object index value
+put_held object index value held = ask.End end.NotHeld
 
 -- writing a word of an object that is held for writing
 abbrev pub put_ask : ThreadState → Ask

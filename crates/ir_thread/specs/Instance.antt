@@ -13,16 +13,14 @@ use Rattle.ir_thread.specs.declared.ask.Reply.TheVariants.{Go, Value}
 
 -- what is asked of others: printing and ending concern no other thread
 abbrev pub shared_ask : Ask → machine.Ask
-shared_ask ask.Private = machine.Private
 shared_ask (ask.Env kind) = machine.Env kind
 shared_ask (ask.Enter object access) = machine.Enter object access
 shared_ask (ask.Try object) = machine.Try object
 shared_ask (ask.Leave object access) = machine.Leave object access
 shared_ask (ask.Get object index) = machine.Get object index
 shared_ask (ask.Put object index value) = machine.Put object index value
-shared_ask ask.Print = machine.Private
-shared_ask (ask.End e) = machine.Private
 shared_ask ask.Done = machine.Done
+shared_ask _ = machine.Private
 
 -- the reply that brings a value, where one is wanted
 abbrev pub reply_of : Ask → ℕ → Reply

@@ -26,8 +26,7 @@ pub data Opening : Type 0 where
 abbrev pub OpensFit : Guest → Recorded → Opening → Type 0
 OpensFit guest r (Ready d) = (f : FittedTrace) × (f.guest ≡ guest) × (f.recorded ≡ r) × HasRun f × (d ≡ desk_of f)
 OpensFit guest r (Unfit v) = IsRefused guest r (Refused v)
-OpensFit guest r (ImageRefused e) = ⊥
-OpensFit guest r (TraceRefused e) = ⊥
+OpensFit guest r opening = ⊥
 
 abbrev pub OpensTrace : Guest → Result Recorded TraceErr → Opening → Type 0
 OpensTrace guest (Ok r) opening = OpensFit guest r opening
