@@ -9,10 +9,9 @@ use Rattle.ir_record.specs.Worlds.{answers_at, Answered, answers_in, NoneFailed}
 use Rattle.ir_record.specs.Recording.{order_of_turns}
 use Rattle.ir_record.specs.declared.turns.Turns.{Turns}
 use Rattle.ir_runs.proofs.CallerLemmas.{end_append, log_append, upd_at_other_place}
-use Rattle.ir_runs.specs.InOrder.{EntersIfFree}
 use Rattle.ir_runs.specs.Machine.{Label, Quiet, Answer, In, Out, Refused, logged, Machine, Private, Try, act_of, Object, Admits, emitted, target}
 use Rattle.ir_runs.specs.Machine as machine
-use Rattle.ir_runs.specs.Run.{State, Step, asked, Can, after, label, IsRun, end, join_if, events, log}
+use Rattle.ir_runs.specs.Run.{State, Step, asked, Can, after, label, IsRun, end, join_if, events, log, EntersIfFree}
 use Rattle.ir_runs.specs.declared.access.Access.TheVariants.{Reading, Writing}
 use Rattle.ir_runs.specs.declared.env_kind.EnvKind.{EnvKind}
 use Rattle.ir_runs.specs.declared.env_kind.EnvKind.TheVariants.{Clock, Random, Input}

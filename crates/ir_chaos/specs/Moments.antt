@@ -6,8 +6,7 @@ use Rattle.ir_record.specs.Progress.{all_left}
 use Rattle.ir_record.specs.Worlds.{answers_at, Answered, answers_in, NoneFailed, IsFirstFailed}
 use Rattle.ir_record.specs.Recording.{order_of_turns}
 use Rattle.ir_record.specs.declared.turns.Turns.{Turns}
-use Rattle.ir_runs.specs.InOrder.{EntersIfFree}
-use Rattle.ir_runs.specs.Run.{Step, Can, after, end, log}
+use Rattle.ir_runs.specs.Run.{Step, Can, after, end, log, EntersIfFree}
 use Rattle.ir_thread.specs.declared.ask.Ask as ask
 use Rattle.ir_thread.specs.declared.ask.Ask.TheVariants as asks
 use Rattle.ir_thread.specs.declared.profile.Profile.{Profile}

@@ -1,8 +1,7 @@
 -- Runs in which threads change at rest alone.
 use Rattle.std.specs.Prelude.{◌≡◌, ◌<◌, ℕ, zero, suc, Bool, true, false, List, [], ◌∷◌, ◌++◌, ◌⊎◌, map}
 use Rattle.ir_runs.specs.Machine.{Ask, Private, Env, Enter, Try, Leave, Get, Put, Done, Machine}
-use Rattle.ir_runs.specs.Run.{State, Step, asked, Can, after, end, IsDone}
-use Rattle.ir_runs.specs.InOrder.{EntersIfFree}
+use Rattle.ir_runs.specs.Run.{State, Step, asked, Can, after, end, IsDone, EntersIfFree}
 use Rattle.ir_chaos.specs.Choices.{chosen}
 use Rattle.ir_chaos.specs.declared.chooser.Chooser.{Chooser}
 

@@ -5,7 +5,7 @@ use Rattle.std.proofs.lemmas.Bool.{cases_lt}
 use Rattle.std.proofs.lemmas.List.{get_or_past}
 use Rattle.std.specs.List.{slice_index_or}
 use Rattle.ir_flat.specs.Flat.{idle}
-use Rattle.ir_runs.specs.Cuts.{Cut}
+use Rattle.ir_runs.specs.Run.{Cut}
 use Rattle.ir_fit.specs.Fit.{FittedTrace}
 use Rattle.ir_cut.specs.Positions.{cut_of}
 use Rattle.ir_weave.specs.Standing.{Standing, StandsAt, flat_in, positions}

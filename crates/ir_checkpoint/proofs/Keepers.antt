@@ -7,7 +7,7 @@ use Rattle.ir_thread.specs.State as thread
 use Rattle.ir_flat.specs.Flat.{idle}
 use Rattle.ir_fit.specs.Fit.{FittedTrace}
 use Rattle.ir_cut.specs.Positions.{cut_of}
-use Rattle.ir_runs.specs.Cuts.{Cut}
+use Rattle.ir_runs.specs.Run.{Cut}
 use Rattle.ir_weave.specs.Standing.{Standing, StandsAt, flat_in, positions}
 use Rattle.ir_keep.specs.Keeping.{Kept, Keeping, IsNearest, IsNew, without, kept_as, is_below}
 use Rattle.ir_checkpoint.specs.Checkpoints.{Stands, AllStand}

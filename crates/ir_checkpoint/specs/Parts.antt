@@ -1,6 +1,6 @@
 -- Cuts on the way of a move.
 use Rattle.std.specs.Prelude.{◌≡◌, ◌≤◌, ℕ, List, length}
-use Rattle.ir_runs.specs.Cuts.{Cut}
+use Rattle.ir_runs.specs.Run.{Cut}
 use Rattle.ir_fit.specs.Fit.{FittedTrace}
 use Rattle.ir_cut.specs.Positions.{IsConsistentCut, cut_of}
 

@@ -10,12 +10,11 @@ use Rattle.ir_runs.specs.Machine.{Label, In, Trace}
 use Rattle.ir_runs.specs.declared.access.Access.TheVariants.{Writing}
 use Rattle.ir_log.specs.Logging.{label_of}
 use Rattle.ir_log.specs.declared.event.Event.{Event}
-use Rattle.ir_trace.specs.Recorded.{Recorded, RecordedThread, absent, recorded_thread, trace_of}
-use Rattle.ir_trace.specs.Within.{IsRecorded, IsEvent, IsRecordedThread}
+use Rattle.ir_trace.specs.Recorded.{Recorded, RecordedThread, absent, recorded_thread, trace_of, IsRecorded, IsEvent, IsRecordedThread}
 use Rattle.ir_trace.proofs.CallerLemmas.{recorded_threads_at_most_limit}
-use Rattle.ir_runs.specs.Coherent.{reads, IsCoherent}
+use Rattle.ir_runs.specs.Verdicts.{reads, IsCoherent}
 use Rattle.ir_coherence.specs.Counting.{MayStand, writes, reads_in, writes_in, reads_of, writes_of, cause_by, CountsMore, CountsAll, HasRoom, FirstCause, NoCause}
-use Rattle.ir_runs.specs.Cuts.{At}
+use Rattle.ir_runs.specs.Run.{At}
 use Rattle.ir_coherence.specs.Breaking.{HasCause, IsBefore, IsFirstBreak}
 use Rattle.ir_coherence.specs.declared.cause.Cause.{Cause}
 use Rattle.ir_coherence.specs.declared.cause.Cause.TheVariants.{Unmade, Twice, Readers}

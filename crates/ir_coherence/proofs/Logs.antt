@@ -6,7 +6,7 @@ use Rattle.ir_runs.specs.Machine.{Label, Quiet, Answer, In, Refused, Out}
 use Rattle.ir_runs.specs.declared.access.Access.TheVariants.{Reading, Writing}
 use Rattle.ir_log.specs.Logging.{label_of}
 use Rattle.ir_log.specs.declared.event.Event.{Event}
-use Rattle.ir_runs.specs.Coherent.{reads_one, reads, sum_below}
+use Rattle.ir_runs.specs.Verdicts.{reads_one, reads, sum_below}
 use Rattle.ir_coherence.specs.Counting.{writes_one, writes, CountsMore, HasRoom}
 use Rattle.ir_coherence.specs.declared.entry_counts.EntryCounts.{EntryCounts}
 

@@ -3,9 +3,9 @@ use Rattle.std.proofs.Common.{◌≡◌, ℕ, suc, zero, ◌+◌, ◌<◌, ◌�
 use Rattle.std.proofs.lemmas.Bool.{cases_eq, cases_lt}
 use Rattle.ir_runs.specs.Machine.{Label, Quiet, Answer, In, Refused, Out, Trace}
 use Rattle.ir_runs.specs.declared.access.Access.TheVariants.{Reading, Writing}
-use Rattle.ir_runs.specs.Coherent.{sum_below}
+use Rattle.ir_runs.specs.Verdicts.{sum_below}
 use Rattle.ir_coherence.specs.Counting.{writes_one, writes, writes_in}
-use Rattle.ir_runs.specs.Cuts.{At}
+use Rattle.ir_runs.specs.Run.{At}
 
 -- one thing is at a place
 pub at_place_is_unique : {A : Type 0} (xs : List A) (i : ℕ) (x y : A) → At xs i x → At xs i y → x ≡ y

@@ -3,8 +3,8 @@ use Rattle.std.specs.Prelude.{◌≡◌, ◌≢◌, ℕ, suc, ◌<◌, ◌⊎◌
 use Rattle.ir_runs.specs.Machine.{In, Trace}
 use Rattle.ir_runs.specs.declared.access.Access.{Access}
 use Rattle.ir_runs.specs.declared.access.Access.TheVariants.{Writing}
-use Rattle.ir_runs.specs.Coherent.{reads, sum_below}
-use Rattle.ir_runs.specs.Cuts.{At}
+use Rattle.ir_runs.specs.Verdicts.{reads, sum_below}
+use Rattle.ir_runs.specs.Run.{At}
 use Rattle.ir_coherence.specs.declared.cause.Cause.{Cause}
 use Rattle.ir_coherence.specs.declared.cause.Cause.TheVariants.{Unmade, Twice, Readers}
 

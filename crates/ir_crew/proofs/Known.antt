@@ -5,8 +5,7 @@ use Rattle.std.proofs.lemmas.Bool.{cases_eq}
 use mathlib.Core.Option.{some}
 use lib.ListN.{get_elem?}
 use Rattle.atomic_table.specs.Table as table
-use Rattle.ir_image.specs.Guest.{Guest, IsWord, most_threads, object_count, object_words}
-use Rattle.ir_image.specs.Within.{IsGuest}
+use Rattle.ir_image.specs.Guest.{Guest, IsWord, most_threads, object_count, object_words, IsGuest}
 use Rattle.ir_image.proofs.CallerLemmas.{guest_threads_at_most_limit, element_of_padded}
 use Rattle.ir_thread.specs.Calls.{most_events}
 use Rattle.ir_thread.specs.Instance.{thread_machine}

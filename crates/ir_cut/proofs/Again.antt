@@ -4,19 +4,16 @@ use Rattle.std.proofs.lemmas.Bool.{cases_lt}
 use Rattle.ir_runs.specs.Machine.{Label, Quiet, Answer, In, Refused, Out}
 use Rattle.ir_runs.specs.declared.access.Access.{Access}
 use Rattle.ir_thread.proofs.CallerLemmas.{thread_machine_is_lawful}
-use Rattle.ir_runs.specs.Run.{Step, trail, count, events}
+use Rattle.ir_runs.specs.Run.{Step, trail, count, events, At, Emits}
 use Rattle.ir_runs.proofs.CallerLemmas.{state_invariant_at_start, same_logs_give_same_trails}
 use Rattle.ir_flat.proofs.CallerLemmas.{guest_start_is_idle}
 use Rattle.ir_log.specs.Logging.{label_of}
 use Rattle.ir_log.specs.declared.event.Event.{Event}
 use Rattle.ir_log.specs.declared.event.Event.TheVariants.{Answer as Result, Read, Write, Try}
 use Rattle.ir_thread.specs.declared.profile.Profile.{Profile}
-use Rattle.ir_trace.specs.Within.{IsRecorded, IsEvent}
 use Rattle.std.specs.List.{AllByRecursion, slice_index_or}
-use Rattle.ir_trace.specs.Recorded.{recorded_thread}
-use Rattle.ir_runs.specs.Cuts.{At, Emits}
-use Rattle.ir_fit.specs.Fit.{FittedTrace, HasRun, IsRunOf}
-use Rattle.ir_fit.specs.Places.{places_of, leaves_of}
+use Rattle.ir_trace.specs.Recorded.{recorded_thread, IsRecorded, IsEvent}
+use Rattle.ir_fit.specs.Fit.{FittedTrace, HasRun, IsRunOf, places_of, leaves_of}
 use Rattle.ir_fit.proofs.CallerLemmas.{guest_start_is_start, idle_thread_has_empty_trail, emitting_thread_is_guest_thread, get_or_of_at, at_place_of_get_or, entry_step_is_of_event}
 use Rattle.ir_coherence.proofs.CallerLemmas.{recorded_thread_at_number_is_recorded}
 use Rattle.ir_cut.specs.Positions.{machine_of, start_of}

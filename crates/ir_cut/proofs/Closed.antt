@@ -8,10 +8,9 @@ use Rattle.std.proofs.lemmas.Option.{slice_get_within, slice_get-get_or}
 use Rattle.ir_log.specs.Logging.{label_of}
 use Rattle.ir_log.specs.declared.event.Event.{Event}
 use Rattle.ir_trace.specs.Recorded.{recorded_thread}
-use Rattle.ir_runs.specs.Cuts.{Emits, IsNeededBy}
-use Rattle.ir_fit.specs.Fit.{FittedTrace, HasRun}
+use Rattle.ir_runs.specs.Run.{Emits, IsNeededBy}
+use Rattle.ir_fit.specs.Fit.{FittedTrace, HasRun, placed_at}
 use Rattle.ir_fit.specs.Within.{IsFitted}
-use Rattle.ir_fit.specs.Places.{placed_at}
 use Rattle.ir_cut.specs.Positions.{machine_of, start_of, cut_of, EachRun, IsConsistentCut}
 use Rattle.ir_cut.specs.Searching.{AreInside, NeededBy, IsClosed}
 use Rattle.ir_cut.proofs.Again.{emitting_thread_exists}

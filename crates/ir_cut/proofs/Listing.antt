@@ -11,13 +11,11 @@ use Rattle.ir_cut.proofs.Again.{has_run_from_any_run}
 use Rattle.std.specs.Prelude.{slice_get}
 use Rattle.ir_runs.specs.Machine.{In, Out}
 use Rattle.ir_runs.specs.declared.access.Access.{Access}
-use Rattle.ir_runs.specs.Run.{Step}
+use Rattle.ir_runs.specs.Run.{Step, Emits}
 use Rattle.ir_log.specs.Logging.{label_of}
 use Rattle.ir_log.specs.declared.event.Event.{Event}
 use Rattle.ir_trace.specs.Recorded.{recorded_thread}
-use Rattle.ir_runs.specs.Cuts.{Emits}
-use Rattle.ir_fit.specs.Fit.{FittedTrace, HasRun, IsRunOf}
-use Rattle.ir_fit.specs.Places.{placed_at, none_placed}
+use Rattle.ir_fit.specs.Fit.{FittedTrace, HasRun, IsRunOf, placed_at, none_placed}
 use Rattle.ir_fit.specs.declared.leave.Leave.{Leave}
 use Rattle.ir_cut.specs.Positions.{machine_of, start_of}
 

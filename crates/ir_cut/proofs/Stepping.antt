@@ -7,14 +7,12 @@ use Rattle.std.proofs.lemmas.Grind.{get_or_default_zero}
 use Rattle.std.proofs.lemmas.Option.{slice_get_within, slice_get-get_or, get_or_from_slice_get}
 use Rattle.ir_log.specs.Logging.{label_of}
 use Rattle.ir_log.specs.declared.event.Event.{Event}
-use Rattle.ir_trace.specs.Recorded.{Recorded, RecordedThread, absent, recorded_thread}
-use Rattle.ir_trace.specs.Within.{IsRecorded}
+use Rattle.ir_trace.specs.Recorded.{Recorded, RecordedThread, absent, recorded_thread, IsRecorded}
 use Rattle.std.specs.List.Sorted.{IsNonDecreasingBy, IsPartitionPoint}
 use Rattle.std.proofs.lemmas.List.{get_or_default}
-use Rattle.ir_runs.specs.Coherent.{sum_below}
-use Rattle.ir_fit.specs.Fit.{FittedTrace, HasRun}
+use Rattle.ir_runs.specs.Verdicts.{sum_below}
+use Rattle.ir_fit.specs.Fit.{FittedTrace, HasRun, placed_at}
 use Rattle.ir_fit.specs.Within.{IsFitted}
-use Rattle.ir_fit.specs.Places.{placed_at}
 use Rattle.ir_fit.specs.declared.leave.Leave.{Leave}
 use Rattle.ir_runs.proofs.CallerLemmas.{sum_below_less_if_one_less}
 use Rattle.ir_cut.specs.Positions.{EachRun, cut_of}

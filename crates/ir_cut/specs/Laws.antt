@@ -3,8 +3,7 @@ use Rattle.std.specs.Prelude.{◌≡◌, ℕ, min, max, ◌<◌, ◌≤◌, List
 use Rattle.ir_image.specs.Guest.{Guest}
 use Rattle.ir_runs.specs.Machine.{Label, logged}
 use Rattle.ir_flat.specs.Flat.{start_flat, tables, machine}
-use Rattle.ir_runs.specs.Run.{Step, Can, label, IsRun, end, count}
-use Rattle.ir_runs.specs.Cuts.{Emits, Cut, IsCut, Consistent, part, IsLeast, IsGreatest}
+use Rattle.ir_runs.specs.Run.{Step, Can, label, IsRun, end, count, Emits, Cut, IsCut, Consistent, part, IsLeast, IsGreatest}
 use Rattle.ir_runs.specs.Admitted.{Admitted}
 use Rattle.ir_thread.specs.declared.profile.Profile.{Profile}
 

@@ -1,6 +1,6 @@
 -- Positions that are moved so that steps are inside a cut, or outside.
 use Rattle.std.specs.Prelude.{◌≡◌, ℕ, ◌+◌, ◌<◌, ◌≤◌, ◌^◌, List, length, slice_get, Some}
-use Rattle.ir_runs.specs.Cuts.{Cut}
+use Rattle.ir_runs.specs.Run.{Cut}
 use Rattle.ir_cut.specs.Positions.{cut_of}
 use Rattle.ir_fit.specs.declared.place.Place.{Place}
 

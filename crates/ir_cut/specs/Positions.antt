@@ -4,8 +4,7 @@ use Rattle.std.specs.List.{slice_index_or}
 use Rattle.ir_runs.specs.Machine.{Machine}
 use Rattle.ir_thread.specs.State as thread
 use Rattle.ir_flat.specs.Flat.{start_flat, tables, machine}
-use Rattle.ir_runs.specs.Run.{State, Step}
-use Rattle.ir_runs.specs.Cuts.{Cut, IsCut, Consistent}
+use Rattle.ir_runs.specs.Run.{State, Step, Cut, IsCut, Consistent}
 use Rattle.ir_fit.specs.Fit.{FittedTrace, IsRunOf}
 
 -- what the guest's threads do

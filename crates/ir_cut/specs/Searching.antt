@@ -2,14 +2,12 @@
 use Rattle.std.specs.Prelude.{◌≡◌, ℕ, suc, ◌-◌, ◌<◌, ◌≤◌, List, length, slice_get, Some}
 use Rattle.ir_runs.specs.Machine.{Label, In, Out}
 use Rattle.ir_runs.specs.declared.access.Access.{Access}
-use Rattle.ir_runs.specs.Run.{Step}
+use Rattle.ir_runs.specs.Run.{Step, Emits, IsNeededBy, Cut, IsCut, Consistent, IsLeast, IsGreatest}
 use Rattle.ir_log.specs.Logging.{label_of}
 use Rattle.ir_log.specs.declared.event.Event.{Event}
 use Rattle.ir_trace.specs.Recorded.{recorded_thread}
-use Rattle.ir_runs.specs.Coherent.{sum_below}
-use Rattle.ir_runs.specs.Cuts.{Emits, IsNeededBy, Cut, IsCut, Consistent, IsLeast, IsGreatest}
-use Rattle.ir_fit.specs.Fit.{FittedTrace}
-use Rattle.ir_fit.specs.Places.{placed_at}
+use Rattle.ir_runs.specs.Verdicts.{sum_below}
+use Rattle.ir_fit.specs.Fit.{FittedTrace, placed_at}
 use Rattle.ir_fit.specs.declared.leave.Leave.{Leave}
 use Rattle.ir_cut.specs.Positions.{machine_of, start_of, cut_of, EachRun}
 

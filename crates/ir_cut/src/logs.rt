@@ -2,7 +2,7 @@
 
 ghost use Rattle.std.specs.Prelude.{◌≡◌, ◌<◌, length};
 ghost use Rattle.ir_trace.specs.Recorded.{recorded_thread};
-ghost use Rattle.ir_fit.specs.Places.{placed_at};
+ghost use Rattle.ir_fit.specs.Fit.{placed_at};
 ghost use Rattle.ir_fit.specs.Within.{IsFitted};
 
 use ir_fit::Fitted;

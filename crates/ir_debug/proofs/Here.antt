@@ -6,8 +6,7 @@ use Rattle.ir_image.specs.Guest.{object_words}
 use Rattle.ir_object.specs.Cell.{Cell}
 use Rattle.ir_flat.specs.Flat.{empty, object_with}
 use Rattle.ir_runs.specs.Machine.{Label, Object}
-use Rattle.ir_runs.specs.Run.{Step}
-use Rattle.ir_runs.specs.Cuts.{object_at}
+use Rattle.ir_runs.specs.Run.{Step, object_at}
 use Rattle.ir_thread.specs.State as thread
 use Rattle.ir_cut.specs.Positions.{machine_of, start_of, cut_of, EachRun}
 use Rattle.ir_weave.specs.Standing.{flat_in, IsAt}

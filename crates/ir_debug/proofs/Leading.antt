@@ -2,7 +2,7 @@
 use Rattle.std.proofs.Common.{◌≡◌, ℕ, ◌+◌, ◌-◌, ◌^◌, ◌<◌, ◌≤◌, min, arith, List, sym, ap, subst, ◌∙◌}
 use Rattle.std.specs.Prelude.{if◌then◌else◌}
 use Rattle.std.proofs.lemmas.Bool.{le-leb, lt-leb}
-use Rattle.ir_runs.specs.Cuts.{IsLeast, IsGreatest}
+use Rattle.ir_runs.specs.Run.{IsLeast, IsGreatest}
 use Rattle.ir_fit.specs.Fit.{FittedTrace}
 use Rattle.ir_cut.specs.Positions.{machine_of, start_of, cut_of, EachRun}
 use Rattle.ir_cut.specs.Searching.{IsLeastCut, IsGreatestCut}

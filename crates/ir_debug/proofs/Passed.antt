@@ -5,7 +5,7 @@ use Rattle.std.proofs.lemmas.Bool.{ltb-true, leb-true}
 use Rattle.std.proofs.lemmas.Bool.Decides.{nat_tests}
 use Rattle.ir_image.specs.Guest.{Guest, code_start, memory_start, object_count}
 use Rattle.ir_mach.specs.Core.{memory_size}
-use Rattle.ir_mach.specs.Memory.{lies_in_memory}
+use Rattle.ir_mach.specs.Execution.{lies_in_memory}
 use Rattle.ir_mach.specs.Within.{IsMemoryWord}
 use Rattle.ir_command.specs.declared.command.Command.{Command}
 use Rattle.ir_command.specs.declared.refusal.Refusal.TheVariants.{NoSuchThread, NoSuchObject, NoSuchNumber, BadAddress, Full}

@@ -1,7 +1,7 @@
 //! What the bytes of an image and of a trace open.
 
 ghost use Rattle.std.specs.Prelude.{◌≡◌, IfOk, Ok};
-ghost use Rattle.ir_trace.specs.Reading.{recorded_at};
+ghost use Rattle.ir_trace.specs.Recorded.{recorded_at};
 ghost use Rattle.ir_debug.specs.Machine.Opening.{Opens, OpensImage, OpensTrace, OpensFit};
 ghost use Rattle.ir_debug.specs.Openings.{opening_of};
 

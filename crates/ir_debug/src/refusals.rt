@@ -1,7 +1,7 @@
 //! The commands that are refused, whatever the run.
 
 ghost use Rattle.std.specs.Prelude.{◌≡◌, ◌≤◌};
-ghost use Rattle.ir_mach.specs.Memory.{lies_in_memory};
+ghost use Rattle.ir_mach.specs.Execution.{lies_in_memory};
 ghost use Rattle.ir_debug.specs.Machine.Refusals.{thread_named, object_named, lies_in_code, has_address};
 
 use crate::debugger::Debugger;

@@ -4,7 +4,7 @@ use Rattle.std.specs.Prelude.{slice_get, flat_map}
 use Rattle.std.proofs.lemmas.List.{length_push, flat_map_more}
 use Rattle.std.proofs.lemmas.Option.{same_Some, none-some}
 use Rattle.ir_runs.specs.Machine.{In}
-use Rattle.ir_runs.specs.Cuts.{At}
+use Rattle.ir_runs.specs.Run.{At}
 use Rattle.ir_runs.specs.declared.access.Access.{Access}
 use Rattle.ir_runs.specs.declared.access.Access.TheVariants.{Reading, Writing}
 use Rattle.ir_log.specs.declared.event.Event.{Event}

@@ -1,7 +1,7 @@
 -- How far a common part is put together.
 use Rattle.std.specs.Prelude.{◌≡◌, ℕ, ◌-◌, List, length}
 use Rattle.std.specs.List.{slice_index_or}
-use Rattle.ir_runs.specs.Coherent.{sum_below}
+use Rattle.ir_runs.specs.Verdicts.{sum_below}
 use Rattle.ir_trace.specs.Recorded.{Recorded, recorded_thread}
 use Rattle.ir_past.specs.Answers.{AreCoherent}
 use Rattle.ir_past.specs.Progress.{Makes}

@@ -3,7 +3,7 @@
 ghost use Rattle.std.specs.Prelude.{◌≡◌, ◌<◌, ◌++◌, ℕ, List, codes, length, Some, IfOk};
 ghost use Rattle.std.specs.String.{string_bytes};
 ghost use Rattle.ir_runs.specs.Machine.{In};
-ghost use Rattle.ir_runs.specs.Cuts.{At};
+ghost use Rattle.ir_runs.specs.Run.{At};
 ghost use Rattle.ir_runs.specs.declared.access.Access.{Access};
 ghost use Rattle.ir_trace.specs.Recorded.{trace_of};
 ghost use Rattle.ir_past.specs.Past.{event_at, IsMadeBy};

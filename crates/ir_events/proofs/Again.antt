@@ -3,7 +3,7 @@ use Rattle.std.proofs.Common.{List, get_or, subst}
 use Rattle.std.proofs.lemmas.Option.{slice_get_within, get_or_from_slice_get}
 use Rattle.ir_thread.specs.State as thread
 use Rattle.ir_runs.specs.Machine.{Label}
-use Rattle.ir_runs.specs.Cuts.{At, Emits}
+use Rattle.ir_runs.specs.Run.{At, Emits}
 use Rattle.ir_log.specs.Logging.{label_of}
 use Rattle.ir_log.specs.declared.event.Event.{Event}
 use Rattle.ir_trace.specs.Recorded.{recorded_thread}

@@ -3,8 +3,7 @@ use Rattle.std.specs.Prelude.{◌≡◌, ◌<◌, ℕ, List, [], length, slice_i
 use Rattle.std.specs.List.{slice_index_or}
 use Rattle.ir_runs.specs.Run.{Step}
 use Rattle.ir_trace.specs.Recorded.{recorded_thread}
-use Rattle.ir_fit.specs.Fit.{FittedTrace}
-use Rattle.ir_fit.specs.Places.{placed_at}
+use Rattle.ir_fit.specs.Fit.{FittedTrace, placed_at}
 use Rattle.ir_cut.specs.Positions.{EachRun}
 use Rattle.ir_weave.specs.Ahead.{thread_at}
 

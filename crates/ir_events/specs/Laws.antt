@@ -1,6 +1,6 @@
 -- What holds of the positions of events.
 use Rattle.std.specs.Prelude.{◌≡◌, ◌<◌, ℕ, length, slice_get, Some}
-use Rattle.ir_runs.specs.Cuts.{Emits}
+use Rattle.ir_runs.specs.Run.{Emits}
 use Rattle.ir_log.specs.Logging.{label_of}
 use Rattle.ir_log.specs.declared.event.Event.{Event}
 use Rattle.ir_trace.specs.Recorded.{recorded_thread}

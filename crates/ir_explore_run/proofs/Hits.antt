@@ -9,8 +9,7 @@ use Rattle.ir_flat.specs.Flat.{Flat, tables}
 use Rattle.ir_graph.specs.Nodes.{told}
 use Rattle.ir_graph.specs.Outcomes.{outcome_of}
 use Rattle.ir_graph.specs.Reached.{beginning}
-use Rattle.ir_image.specs.Guest.{Guest}
-use Rattle.ir_image.specs.Reading.{guest_at}
+use Rattle.ir_image.specs.Guest.{Guest, guest_at}
 use Rattle.ir_order.proofs.CallerLemmas.{complete_runs_have_steps, recordings_are_of_the_run}
 use Rattle.ir_order.specs.Spelling.{Spells}
 use Rattle.ir_outcomes.specs.Again.{steps_of}

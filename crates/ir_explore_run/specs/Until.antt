@@ -7,8 +7,7 @@ use Rattle.ir_files.specs.declared.exit_status.ExitStatus.{ExitStatus}
 use Rattle.ir_flat.specs.Flat.{Flat}
 use Rattle.ir_graph.specs.Nodes.{told}
 use Rattle.ir_graph.specs.Reached.{AllReached}
-use Rattle.ir_image.specs.Guest.{Guest}
-use Rattle.ir_image.specs.Reading.{guest_at}
+use Rattle.ir_image.specs.Guest.{Guest, guest_at}
 use Rattle.ir_order.specs.Recording.{IsPlanned, IsOfRun}
 use Rattle.ir_outcomes.specs.Explored.{outcome_by, switches_by, IsAt, AreExplored}
 use Rattle.ir_outcomes.specs.declared.shown.Shown.{Shown}

@@ -11,7 +11,7 @@ ghost use Rattle.ir_record_run.specs.Faults as recorded;
 ghost use Rattle.ir_record_run.specs.Faults.{Refuses, Stops, IsReported, unwritten_of};
 ghost use Rattle.ir_record_run.specs.Recording.{lines_of};
 ghost use Rattle.ir_record_run.specs.declared.record_fault.RecordFault.{RecordFault};
-ghost use Rattle.ir_image.specs.Reading.{guest_at};
+ghost use Rattle.ir_image.specs.Guest.{guest_at};
 ghost use Rattle.ir_thread.specs.State.{IsAllowed};
 ghost use Rattle.ir_thread.specs.declared.profile.Profile.TheVariants.{One};
 ghost use Rattle.ir_trace.specs.Encoding.{encoding};

@@ -12,7 +12,7 @@ use Rattle.ir_runs.specs.declared.env_kind.EnvKind.{EnvKind}
 use Rattle.ir_runs.specs.declared.env_kind.EnvKind.TheVariants.{Clock, Random, Input}
 use Rattle.ir_thread.proofs.CallerLemmas.{thread_machine_is_lawful, thread_machine_is_closing}
 use Rattle.ir_flat.specs.Flat.{Flat, start_flat, tables}
-use Rattle.ir_runs.specs.Run.{Step, log}
+use Rattle.ir_runs.specs.Run.{Step, log, At}
 use Rattle.ir_runs.specs.Bounds.{trace}
 use Rattle.ir_runs.proofs.CallerLemmas.{state_invariant_at_start, maximal_followers_reach_same_end, AfterThreadEnd, ended_thread_only_leaves, done_follower_is_whole_run, maximal_follower_done_if_whole_run, runs_reaching_same_share_verdict, own_trace_is_coherent, maximal_if_each_thread_stands, verdict_from_standing, thread_not_same_is_not_done, done_if_each_thread_is_same}
 use Rattle.ir_flat.proofs.CallerLemmas.{guest_start_is_idle}
@@ -20,23 +20,19 @@ use Rattle.ir_log.specs.Logging.{label_of}
 use Rattle.ir_log.specs.declared.event.Event.{Event}
 use Rattle.ir_log.specs.declared.event.Event.TheVariants.{Answer, Read, Write, Try}
 use Rattle.ir_thread.specs.declared.profile.Profile.{Profile}
-use Rattle.ir_trace.specs.Recorded.{Recorded, RecordedThread, absent, trace_of}
-use Rattle.ir_trace.specs.Within.{IsRecorded, IsRecordedThread, IsEvent, IsResult}
+use Rattle.ir_trace.specs.Recorded.{Recorded, RecordedThread, absent, trace_of, IsRecorded, IsRecordedThread, IsEvent, IsResult}
 use Rattle.ir_coherence.proofs.CallerLemmas.{coherent_trace_is_unbroken}
 use Rattle.ir_fit.proofs.Guests.{guest_start_is_start, guest_start_is_live}
 use Rattle.ir_coherence.specs.Breaking.{IsFirstBreak}
-use Rattle.ir_runs.specs.Coherent.{IsCoherent}
-use Rattle.ir_runs.specs.Cuts.{At}
-use Rattle.ir_fit.specs.Fit.{HasHeader, IsRunOf, HasRun, GoesFurthest, AreVerdicts, IsRefused}
+use Rattle.ir_fit.specs.Fit.{HasHeader, IsRunOf, HasRun, GoesFurthest, AreVerdicts, IsRefused, placed_at}
 use Rattle.ir_fit.specs.Within.{BreaksBy}
 use Rattle.ir_fit.specs.Follower.{IsFollowed, AreStanding}
-use Rattle.ir_runs.specs.Following as following
-use Rattle.ir_fit.specs.Places.{placed_at}
+use Rattle.ir_runs.specs.Verdicts as following
 use Rattle.ir_fit.specs.Growing.{Growing, grown, growing_at}
 use Rattle.ir_runs.specs.Standing.{StandsAs}
 use Rattle.ir_runs.specs.Verdicts as verdicts
 use Rattle.ir_runs.specs.Events as events
-use Rattle.ir_runs.specs.Verdicts.{IsWhole}
+use Rattle.ir_runs.specs.Verdicts.{IsWhole, IsCoherent}
 use Rattle.ir_runs.specs.Events.{HoldsEvents}
 use Rattle.ir_fit.specs.declared.fit_err.FitErr.{FitErr}
 use Rattle.ir_fit.specs.declared.fit_err.FitErr.TheVariants.{NoMem, Refused}

@@ -8,8 +8,7 @@ use Rattle.ir_flat.specs.Flat.{idle, tables, start_threads, start_flat}
 use Rattle.ir_runs.specs.Bounds.{IsStart}
 use Rattle.ir_flat.proofs.CallerLemmas.{start_thread_is_fresh, start_cell_has_zero_fields}
 use Rattle.ir_runs.specs.Events.{IsLive}
-use Rattle.ir_trace.specs.Recorded.{Recorded}
-use Rattle.ir_trace.specs.Within.{IsRecorded}
+use Rattle.ir_trace.specs.Recorded.{Recorded, IsRecorded}
 use Rattle.ir_fit.specs.Fit.{HasHeader}
 use Rattle.ir_thread.specs.declared.profile.Profile.{Profile}
 

@@ -9,7 +9,7 @@ use Rattle.ir_runs.specs.declared.access.Access.{Access}
 use Rattle.ir_runs.specs.declared.env_kind.EnvKind.{EnvKind}
 use Rattle.ir_runs.specs.declared.env_kind.EnvKind.TheVariants.{Clock}
 use Rattle.ir_flat.specs.Flat.{start_flat, tables, machine}
-use Rattle.ir_runs.specs.Run.{State, Step, after, IsRun, trail, count, events}
+use Rattle.ir_runs.specs.Run.{State, Step, after, IsRun, trail, count, events, At}
 use Rattle.ir_runs.specs.Bounds.{IsIdle}
 use Rattle.ir_flat.proofs.CallerLemmas.{guest_start_is_idle}
 use Rattle.ir_log.specs.Logging.{label_of}
@@ -17,9 +17,7 @@ use Rattle.ir_log.specs.declared.event.Event.{Event}
 use Rattle.ir_log.specs.declared.event.Event.TheVariants as logged_event
 use Rattle.ir_trace.specs.Recorded.{recorded_thread}
 use Rattle.ir_runs.proofs.CallerLemmas.{trail_of_cons_other_thread, step_below_idle_keeps_idle}
-use Rattle.ir_runs.specs.Cuts.{At}
-use Rattle.ir_fit.specs.Fit.{FittedTrace, HasRun}
-use Rattle.ir_fit.specs.Places.{placed_at, place_if, places_from, leave_if, leaves_from}
+use Rattle.ir_fit.specs.Fit.{FittedTrace, HasRun, placed_at, place_if, places_from, leave_if, leaves_from}
 use Rattle.ir_fit.specs.Listed.{EmitsIn}
 use Rattle.ir_fit.specs.declared.leave.Leave.{Leave}
 

@@ -23,13 +23,11 @@ use Rattle.ir_flat.proofs.CallerLemmas.{tallies_along_run, shared_done_is_done, 
 use Rattle.ir_log.specs.Logging.{label_of}
 use Rattle.ir_trace.specs.Recorded.{Recorded, RecordedThread, recorded_thread, absent, trace_of}
 use Rattle.ir_fit.specs.Ahead.{steps_ahead, log_ahead, StepFollows, CanFollow, IsStopped, AgreesAhead, IsMove}
-use Rattle.ir_runs.specs.Coherent.{sum_below}
 use Rattle.ir_fit.specs.Follower.{IsFollower, IsFollowed, IsPlaced, GoesOn, all_ahead}
-use Rattle.ir_fit.specs.Places.{place_if, leave_if, places_of, leaves_of}
+use Rattle.ir_fit.specs.Fit.{place_if, leave_if, places_of, leaves_of}
 use Rattle.ir_fit.specs.Growing.{Growing, growing_at, placed_by, placed_more, none_growing}
-use Rattle.ir_runs.specs.Following.{Check, unlogged, left_log, left_steps, Fits, Follows, Meets, closing}
 use Rattle.ir_runs.specs.Standing.{StandsAs}
-use Rattle.ir_runs.specs.Verdicts.{Agrees}
+use Rattle.ir_runs.specs.Verdicts.{Agrees, sum_below, Check, unlogged, left_log, left_steps, Fits, Follows, Meets, closing}
 use Rattle.ir_runs.specs.declared.thread_verdict.ThreadVerdict.{ThreadVerdict}
 use Rattle.ir_runs.specs.declared.thread_verdict.ThreadVerdict.TheVariants.{Same, Disagrees, Starves}
 use Rattle.ir_fit.specs.declared.follower.look.Move.{Move}

@@ -6,8 +6,7 @@ use Rattle.std.proofs.lemmas.Bool.{cases_eq}
 use Rattle.std.proofs.lemmas.Bool.Decides.{nat_tests}
 use Rattle.std.proofs.lemmas.List.{length-map}
 use Rattle.std.proofs.lemmas.List.FromFn.{get_or-map-range_with_len, length-map-range_with_len}
-use Rattle.ir_image.specs.Guest.{Guest, object_count}
-use Rattle.ir_image.specs.Within.{IsGuest}
+use Rattle.ir_image.specs.Guest.{Guest, object_count, IsGuest}
 use Rattle.ir_image.proofs.CallerLemmas.{guest_threads_at_most_limit, guest_objects_at_most_limit}
 use Rattle.ir_thread.specs.State.{IsAllowed, end_number, end_code}
 use Rattle.ir_thread.specs.Calls.{ask_of, most_budget}
@@ -32,8 +31,7 @@ use Rattle.ir_flat.proofs.CallerLemmas.{counts_all_fit, start_thread_has_no_step
 use Rattle.ir_log.specs.Logging.{label_of}
 use Rattle.ir_log.specs.declared.event.Event.{Event}
 use Rattle.ir_log.specs.declared.event.Event.TheVariants.{Answer, Read, Write, Try}
-use Rattle.ir_trace.specs.Recorded.{IsWord, RecordedThread, Recorded, absent, recorded_thread}
-use Rattle.ir_trace.specs.Within.{IsResult, IsEvent, IsRecordedThread, IsRecorded}
+use Rattle.ir_trace.specs.Recorded.{IsWord, RecordedThread, Recorded, absent, recorded_thread, IsResult, IsEvent, IsRecordedThread, IsRecorded}
 use Rattle.ir_fit.specs.Fit.{IsRunOf}
 use Rattle.ir_fit.specs.Laws.{EachRunIsRecorded}
 

@@ -29,13 +29,12 @@ use Rattle.ir_log.specs.Asked.{ask_of as event_ask, Suits}
 use Rattle.ir_log.proofs.CallerLemmas.{ask_of_suiting_call_event as call_asked, ask_of_suiting_entry_event as entry_asked}
 use Rattle.ir_log.specs.declared.event.Event.{Event}
 use Rattle.ir_log.specs.declared.event.Event.TheVariants.{Answer, Read, Write, Try as Refused}
-use Rattle.ir_trace.specs.Recorded.{Recorded, recorded_thread, trace_of}
-use Rattle.ir_trace.specs.Within.{IsResult, IsEvent, IsRecordedThread}
+use Rattle.ir_trace.specs.Recorded.{Recorded, recorded_thread, trace_of, IsResult, IsEvent, IsRecordedThread}
 use Rattle.ir_fit.specs.Ahead.{steps_ahead, log_ahead, CanFollow, IsStopped, AgreesAhead, IsOpen, IsOwn, EndsSo, IsSeen}
 use Rattle.ir_fit.specs.declared.follower.look.Look.{Look}
 use Rattle.ir_fit.specs.declared.follower.look.Look.TheVariants as look
 use Rattle.ir_fit.specs.declared.follower.look.Move.{Move}
-use Rattle.ir_runs.specs.Following.{unlogged, ends_at, ends_now, Meets}
+use Rattle.ir_runs.specs.Verdicts.{unlogged, ends_at, ends_now, Meets}
 use Rattle.ir_runs.specs.Verdicts as verdicts
 
 -- ---- the end that a step asks for

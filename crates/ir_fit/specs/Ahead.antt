@@ -16,8 +16,7 @@ use Rattle.ir_log.specs.Logging.{label_of}
 use Rattle.ir_log.specs.declared.event.Event.{Event}
 use Rattle.ir_log.specs.declared.event.Event.TheVariants.{Answer, Read, Write, Try}
 use Rattle.ir_trace.specs.Recorded.{Recorded, recorded_thread, trace_of}
-use Rattle.ir_runs.specs.Following.{unlogged, closing}
-use Rattle.ir_runs.specs.Verdicts.{Agrees, Awaits}
+use Rattle.ir_runs.specs.Verdicts.{Agrees, Awaits, unlogged, closing}
 use Rattle.ir_fit.specs.declared.follower.look.Look.{Look}
 use Rattle.ir_fit.specs.declared.follower.look.Look.TheVariants.{Done, Disagrees, Waits, Goes}
 use Rattle.ir_fit.specs.declared.follower.look.Move.{Move}

@@ -6,9 +6,8 @@ use Rattle.ir_flat.specs.Flat.{Flat, thread_of, tables, machine, start_flat}
 use Rattle.ir_runs.specs.Run.{Step, end, trail, log, count}
 use Rattle.ir_trace.specs.Recorded.{Recorded, recorded_thread, trace_of}
 use Rattle.ir_fit.specs.Ahead.{steps_ahead, IsStopped}
-use Rattle.ir_runs.specs.Coherent.{sum_below}
-use Rattle.ir_runs.specs.Following.{Follows, closing}
-use Rattle.ir_fit.specs.Places.{places_of, leaves_of}
+use Rattle.ir_runs.specs.Verdicts.{sum_below, Follows, closing}
+use Rattle.ir_fit.specs.Fit.{places_of, leaves_of}
 use Rattle.ir_fit.specs.Growing.{Growing, growing_at}
 use Rattle.ir_runs.specs.Standing.{StandsAs}
 use Rattle.ir_fit.specs.declared.follower.Follower.{Follower}

@@ -1,10 +1,8 @@
 pub mod Laws
 pub mod Fit
 pub mod Ahead
-pub mod Places
 pub mod Growing
 pub mod Follower
-pub mod Visits
 pub mod Passed
 pub mod Within
 pub mod Listed

@@ -5,11 +5,9 @@ use Rattle.std.specs.List.Sorted.{IsPermutation, IsNonDecreasingBy}
 use Rattle.ir_runs.specs.Machine.{Label, In, Out}
 use Rattle.ir_runs.specs.declared.access.Access.{Access}
 use Rattle.ir_flat.specs.Flat.{start_flat, tables, machine}
-use Rattle.ir_runs.specs.Run.{join_if}
-use Rattle.ir_runs.specs.Cuts.{Emits}
-use Rattle.ir_fit.specs.Fit.{FittedTrace, HasRun}
+use Rattle.ir_runs.specs.Run.{join_if, Emits}
+use Rattle.ir_fit.specs.Fit.{FittedTrace, HasRun, Listing, Visit, picked, listed}
 use Rattle.ir_fit.specs.declared.place.Place.{Place}
-use Rattle.ir_fit.specs.Visits.{Listing, Visit, picked, listed}
 
 -- step k of thread t emits this in the run that is kept
 abbrev pub EmitsIn : (f : FittedTrace) → HasRun f → ℕ → ℕ → Label → Type 0

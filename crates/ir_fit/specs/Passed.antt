@@ -4,7 +4,7 @@ use Rattle.std.specs.List.{All}
 use Rattle.ir_image.specs.Guest.{Guest, object_count}
 use Rattle.ir_flat.specs.Flat.{Flat, IsFlat, tables, machine, start_flat}
 use Rattle.ir_runs.specs.Run.{Step, end}
-use Rattle.ir_runs.specs.Following.{Follows, closing}
+use Rattle.ir_runs.specs.Verdicts.{Follows, closing}
 use Rattle.ir_trace.specs.Recorded.{Recorded, trace_of}
 use Rattle.ir_fit.specs.declared.passed_state.PassedState.{PassedState}
 

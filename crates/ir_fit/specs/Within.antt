@@ -1,7 +1,6 @@
 -- What holds of a trace that fits.
 use Rattle.std.specs.Prelude.{length, ⊤}
-use Rattle.ir_trace.specs.Recorded.{Recorded, trace_of}
-use Rattle.ir_trace.specs.Within.{IsRecorded}
+use Rattle.ir_trace.specs.Recorded.{Recorded, trace_of, IsRecorded}
 use Rattle.ir_coherence.specs.Breaking.{IsFirstBreak}
 use Rattle.ir_fit.specs.declared.header_cause.HeaderCause.TheVariants.{Threads}
 use Rattle.ir_fit.specs.declared.fit_err.FitErr.{FitErr}

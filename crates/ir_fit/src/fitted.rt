@@ -1,10 +1,8 @@
 //! A guest with the trace of one of its runs.
 
 ghost use Rattle.std.specs.Prelude.{◌≡◌, ◌<◌, length, IfOk};
-ghost use Rattle.ir_fit.specs.Fit.{FittedTrace, HasRun};
+ghost use Rattle.ir_fit.specs.Fit.{FittedTrace, HasRun, placed_at, IsListing, all_entered, all_left};
 ghost use Rattle.ir_fit.specs.Within.{IsFitted};
-ghost use Rattle.ir_fit.specs.Places.{placed_at};
-ghost use Rattle.ir_fit.specs.Visits.{IsListing, all_entered, all_left};
 ghost use Rattle.ir_fit.specs.Listed.{OnlyEntries, AllEntries, OnlyLeaves, AllLeaves};
 
 use crate::leave::Leave;

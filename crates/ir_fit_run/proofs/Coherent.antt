@@ -6,9 +6,8 @@ use Rattle.std.proofs.lemmas.List.{get_or_past}
 use Rattle.ir_runs.specs.Machine.{Label, In}
 use Rattle.ir_runs.specs.declared.access.Access.{Access}
 use Rattle.ir_runs.specs.declared.access.Access.TheVariants.{Writing}
-use Rattle.ir_runs.specs.Run.{log, events}
-use Rattle.ir_runs.specs.Cuts.{At}
-use Rattle.ir_runs.specs.Coherent.{reads, sum_below}
+use Rattle.ir_runs.specs.Run.{log, events, At}
+use Rattle.ir_runs.specs.Verdicts.{reads, sum_below}
 use Rattle.ir_runs.proofs.CallerLemmas.{own_trace_is_coherent}
 use Rattle.ir_flat.proofs.CallerLemmas.{guest_start_is_idle}
 use Rattle.ir_log.specs.Logging.{label_of}

@@ -5,8 +5,7 @@ use Rattle.std.specs.List.Sorted.{IsNonDecreasingBy, IsPartitionPoint}
 use Rattle.std.proofs.lemmas.Bool.{cases_lt}
 use Rattle.std.proofs.lemmas.Option.{slice_get_within, none-some}
 use Rattle.ir_runs.specs.Machine.{Label, Out}
-use Rattle.ir_runs.specs.Run.{trail}
-use Rattle.ir_runs.specs.Cuts.{At, Emits}
+use Rattle.ir_runs.specs.Run.{trail, At, Emits}
 use Rattle.ir_runs.specs.declared.access.Access.{Access}
 use Rattle.ir_runs.specs.declared.access.Access.TheVariants.{Reading, Writing}
 use Rattle.ir_thread.specs.State as thread
@@ -14,9 +13,8 @@ use Rattle.ir_log.specs.declared.event.Event.{Event}
 use Rattle.ir_log.specs.declared.event.Event.TheVariants.{Answer, Read, Write, Try}
 use Rattle.ir_trace.specs.Recorded.{Recorded, recorded_thread}
 use Rattle.ir_coherence.proofs.CallerLemmas.{recorded_thread_at_number_is_recorded}
-use Rattle.ir_fit.specs.Fit.{FittedTrace, HasRun}
+use Rattle.ir_fit.specs.Fit.{FittedTrace, HasRun, placed_at}
 use Rattle.ir_fit.specs.Within.{IsFitted}
-use Rattle.ir_fit.specs.Places.{placed_at}
 use Rattle.ir_fit.specs.declared.leave.Leave.{Leave}
 use Rattle.ir_fit.proofs.CallerLemmas.{entries_as_many_as_events, entry_position_below_steps, get_or_of_at, step_of_leave_emits_leave, leave_step_is_kept, leave_positions_rise}
 use Rattle.ir_cut.specs.Positions.{EachRun, machine_of, start_of}

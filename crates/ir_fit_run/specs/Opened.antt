@@ -1,10 +1,8 @@
 -- What the bytes of an image and of a trace are.
 use Rattle.std.specs.Prelude.{◌≡◌, ℕ, List, ◌++◌, codes, decimal, Some, Ok, Err}
-use Rattle.ir_image.specs.Guest.{Guest}
-use Rattle.ir_image.specs.Reading.{guest_at, image_fault_number as image_fault}
+use Rattle.ir_image.specs.Guest.{Guest, guest_at, image_fault_number as image_fault}
 use Rattle.ir_image.specs.declared.image_err.ImageErr.{ImageErr}
-use Rattle.ir_trace.specs.Reading.{recorded_at, trace_fault_number as trace_fault}
-use Rattle.ir_trace.specs.Recorded.{Recorded}
+use Rattle.ir_trace.specs.Recorded.{Recorded, recorded_at, trace_fault_number as trace_fault}
 use Rattle.ir_trace.specs.declared.trace_err.TraceErr.{TraceErr}
 use Rattle.ir_fit.specs.Fit.{FittedTrace, HasRun, IsRefusal as IsRefusedBy}
 use Rattle.ir_fit.specs.declared.verdict.Verdict.{Verdict}

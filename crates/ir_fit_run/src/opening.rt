@@ -3,8 +3,8 @@
 ghost use Rattle.std.specs.Prelude.{◌≡◌, ℕ, List, Ok, IfOk, OnOk, OnErr, IfErr, true, false};
 ghost use Rattle.std.specs.Io.KnownBytes.{Appends};
 ghost use Rattle.ir_stream.specs.Answers.{AppendsPrefix};
-ghost use Rattle.ir_image.specs.Reading.{guest_at};
-ghost use Rattle.ir_trace.specs.Reading.{recorded_at};
+ghost use Rattle.ir_image.specs.Guest.{guest_at};
+ghost use Rattle.ir_trace.specs.Recorded.{recorded_at};
 ghost use Rattle.ir_files.specs.Writers.{writer_of};
 ghost use Rattle.ir_past.specs.Answers.{Stops};
 ghost use Rattle.ir_fit_run.specs.Opened.{IsOpened, refusal_text, refusal_status};

@@ -2,8 +2,7 @@
 use Rattle.std.proofs.Common.{◌≡◌, ℕ, zero, suc, ◌+◌, ◌-◌, ◌*◌, ◌<◌, ◌≤◌, List, [], ◌∷◌, ◌++◌, length, take, drop, replicate, get_or, Option, None, refl, sym, ap, ◌∙◌, subst, arith, inl, inr, false}
 use Rattle.std.proofs.lemmas.List.{get_or-replicate, get_or_past, length-replicate, length-append, length-take}
 use Rattle.std.proofs.lemmas.Bool.{cases_lt}
-use Rattle.ir_image.specs.Guest.{Guest, object_count, object_words, most_object_words, first_words}
-use Rattle.ir_image.specs.Within.{IsGuest}
+use Rattle.ir_image.specs.Guest.{Guest, object_count, object_words, most_object_words, first_words, IsGuest}
 use Rattle.ir_image.proofs.CallerLemmas.{words_of_form_at_most_limit, guest_threads_at_most_limit, guest_objects_at_most_limit}
 use Rattle.ir_thread.specs.State.{held_at}
 use Rattle.ir_thread.specs.declared.profile.Profile.{Profile}
@@ -12,8 +11,7 @@ use Rattle.ir_runs.specs.declared.access.Access.{Access}
 use Rattle.ir_object.specs.Cell.{Cell, Counts, readers, has_writer, bit_of}
 use Rattle.ir_object.specs.declared.fields.Fields.{Fields}
 use Rattle.ir_object.proofs.CallerLemmas.{no_readers_if_nobody_reads, no_writer_if_nobody_writes}
-use Rattle.ir_flat.specs.Flat.{Flat, idle, empty, cell_of, inside_of, tables, start_threads, start_cell, start_cells, start_flat, IsFlat}
-use Rattle.ir_flat.specs.Kept.{IsKept}
+use Rattle.ir_flat.specs.Flat.{Flat, idle, empty, cell_of, inside_of, tables, start_threads, start_cell, start_cells, start_flat, IsFlat, IsKept}
 
 pub length_of_start_threads : (g : Guest) (budget : ℕ) (profile : Profile) (from n : ℕ) → length (start_threads g budget profile from n) ≡ n
 length_of_start_threads g budget profile from zero = refl

@@ -19,8 +19,7 @@ use Rattle.ir_object.specs.Standing.{CanLeave}
 use Rattle.ir_object.specs.Word.{IsFields, entered, left_by}
 use Rattle.ir_object.proofs.CallerLemmas.{no_writer_if_reader_admitted, reader_admitted_if_no_writer, nobody_inside_if_writer_admitted, writer_admitted_if_nobody_inside, counts_after_entry, inside_thread_can_leave, counts_after_leave}
 use Rattle.ir_runs.proofs.CallerLemmas.{upd_by_cases, upd_with_old_value}
-use Rattle.ir_flat.specs.Flat.{Flat, idle, empty, thread_of, cell_of, inside_of, tables, machine, IsShared, IsFlat}
-use Rattle.ir_flat.specs.Kept.{IsKept}
+use Rattle.ir_flat.specs.Flat.{Flat, idle, empty, thread_of, cell_of, inside_of, tables, machine, IsShared, IsFlat, IsKept}
 use Rattle.ir_flat.specs.Next.{with_thread, with_object, answered, next, next_try, MayStep, MayTry}
 use Rattle.ir_runs.specs.Run.{Can, after}
 use Rattle.ir_flat.proofs.Kept.{length_of_held_after_ask, kept_after_step, events_below_within_limit}

@@ -17,8 +17,7 @@ use Rattle.ir_runs.specs.declared.env_kind.EnvKind.{EnvKind}
 use Rattle.ir_runs.specs.declared.env_kind.EnvKind.TheVariants.{Clock, Random, Input}
 use Rattle.ir_thread.proofs.CallerLemmas.{ask_of_permitted, thread_machine_is_lawful}
 use Rattle.ir_runs.proofs.CallerLemmas.{upd_by_cases, idle_after_run, idle_after_step, some_thread_can_step}
-use Rattle.ir_flat.specs.Flat.{idle, thread_of, tables, start_threads, start_flat}
-use Rattle.ir_flat.specs.Kept.{IsKept}
+use Rattle.ir_flat.specs.Flat.{idle, thread_of, tables, start_threads, start_flat, IsKept}
 use Rattle.ir_flat.specs.Laws.{NothingStuck, WritersAlone, HeldInside, CountsFit}
 use Rattle.ir_runs.specs.Run.{State, Step, act, Can, after, IsRun, end}
 use Rattle.ir_runs.specs.Bounds.{IsIdle, IsBounded}

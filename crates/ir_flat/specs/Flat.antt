@@ -1,5 +1,5 @@
 -- The threads and objects of a guest.
-use Rattle.std.specs.Prelude.{◌≡◌, ◌<◌, ◌≤◌, ℕ, zero, suc, List, [], ◌∷◌, length, slice_index, Option, Some, false}
+use Rattle.std.specs.Prelude.{◌≡◌, ◌<◌, ◌≤◌, ℕ, zero, suc, List, [], ◌∷◌, length, slice_index, Option, Some, false, ◌≢◌, ◌+◌, None}
 use Rattle.std.specs.List.{slice_index_or}
 use Rattle.ir_image.specs.Guest.{Guest, most_threads, most_objects, most_object_words, object_count, first_words}
 use Rattle.ir_image.specs.declared.form.ImageForm.TheVariants.{Small}
@@ -10,9 +10,29 @@ use Rattle.ir_runs.specs.declared.access.Access.{Access}
 use Rattle.ir_thread.specs.declared.end.End.TheVariants.{Breakpoint}
 use Rattle.ir_thread.specs.declared.profile.Profile.{Profile}
 use Rattle.ir_thread.specs.declared.profile.Profile.TheVariants.{One}
-use Rattle.ir_object.specs.Cell.{Cell, Counts}
-use Rattle.ir_flat.specs.Kept.{IsKept}
+use Rattle.ir_object.specs.Cell.{Cell, Counts, readers, has_writer, bit_of}
 use Rattle.ir_runs.specs.Run as run
+use Rattle.ir_thread.specs.Calls.{most_events}
+use Rattle.ir_thread.specs.State as thread
+use Rattle.ir_runs.specs.declared.access.Access.TheVariants.{Writing}
+use Rattle.ir_runs.specs.Run.{State}
+
+-- how many events the first n threads have logged
+abbrev pub events_below : ℕ → (ℕ → thread.ThreadState) → ℕ
+events_below zero now = 0
+events_below (suc n) now = events_below n now + (now n).events
+
+-- how many entries an object has seen at least
+abbrev pub entries_seen : ℕ → Object → ℕ
+entries_seen n b = b.version + b.left + readers n b.inside + bit_of (has_writer n b.inside)
+
+-- of n threads: who is inside an object holds it, a writer is alone inside, each entry was logged, and no thread logged more than it may
+pub record IsKept (n : ℕ) (s : State thread.ThreadState) : Type 0 where
+  pub linked : (t o : ℕ) → (s.objects o).inside t ≡ held_at (s.now t).held o
+  pub exclusive : (o t u : ℕ) → t ≢ u → (s.objects o).inside t ≡ Some Writing → (s.objects o).inside u ≡ None
+  pub others : (t o : ℕ) → n ≤ t → (s.objects o).inside t ≡ None
+  pub logged : (o : ℕ) → entries_seen n (s.objects o) ≤ events_below n s.now
+  pub events : (t : ℕ) → t < n → (s.now t).events ≤ most_events
 
 -- the lists that the code keeps
 pub record Flat : Type 0 where

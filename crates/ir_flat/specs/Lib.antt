@@ -1,4 +1,3 @@
-pub mod Kept
 pub mod Flat
 pub mod Next
 pub mod Alone

@@ -2,11 +2,10 @@
 use Rattle.std.proofs.Common.{◌≡◌, ◌≤◌, ◌<◌, ◌+◌, ◌-◌, ◌/◌, ◌%◌, ◌∙◌, ℕ, Bool, cond, List, length, slice_index_or, slice_index, Some, None, sym, ap, arith, lt-ltb, le-ltb}
 use Rattle.ir_image.specs.Guest.{object_count, object_words, most_objects}
 use Rattle.ir_flat.specs.Flat.{empty}
-use Rattle.ir_mach.specs.Memory.{byte_at}
+use Rattle.ir_mach.specs.Execution.{byte_at}
 use Rattle.ir_object.specs.Cell.{Cell}
 use Rattle.ir_runs.specs.Machine.{Object}
-use Rattle.ir_runs.specs.Run.{Step}
-use Rattle.ir_runs.specs.Cuts.{object_at}
+use Rattle.ir_runs.specs.Run.{Step, object_at}
 use Rattle.ir_cut.specs.Positions.{EachRun, machine_of, start_of, cut_of}
 use Rattle.ir_gdb.specs.Serving.{Serving, IsThere}
 use Rattle.ir_gdb.specs.Reads.{object_size, object_byte, word_byte, objects_start, byte_seen, current_of, bytes_there}

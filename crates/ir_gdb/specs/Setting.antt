@@ -2,7 +2,7 @@
 use Rattle.std.specs.Prelude.{ℕ, ◌+◌, ◌%◌, ◌==◌, ◌&&◌, not, nat_lt, nat_le, Bool, true, false, List, [], ◌∷◌, ◌++◌, length, find, is_some, if◌then◌else◌}
 use Rattle.std.specs.List.{filter}
 use Rattle.ir_image.specs.Guest.{Guest}
-use Rattle.ir_mach.specs.Memory.{lies_in_memory}
+use Rattle.ir_mach.specs.Execution.{lies_in_memory}
 use Rattle.ir_debug.specs.Machine.Refusals.{lies_in_code}
 use Rattle.ir_packet.specs.declared.reply.Reply.{Reply}
 use Rattle.ir_packet.specs.declared.reply.Reply.TheVariants as reply

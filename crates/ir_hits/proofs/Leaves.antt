@@ -7,8 +7,7 @@ use Rattle.ir_runs.specs.Lawful.{held_after, Holds}
 use Rattle.ir_runs.specs.Machine as machine
 use Rattle.ir_runs.specs.declared.access.Access.{Access}
 use Rattle.ir_runs.specs.declared.access.Access.TheVariants.{Reading, Writing}
-use Rattle.ir_runs.specs.Run.{Step, trail, thread_in, end}
-use Rattle.ir_runs.specs.Cuts.{Emits}
+use Rattle.ir_runs.specs.Run.{Step, trail, thread_in, end, Emits}
 use Rattle.ir_runs.proofs.CallerLemmas.{upd_at_own_place, upd_at_other_place}
 use Rattle.ir_thread.specs.State as thread
 use Rattle.ir_thread.specs.State.{held_at}

@@ -1,7 +1,7 @@
 -- What a thread passes over at instructions that aren't marked.
 use Rattle.std.proofs.Common.{◌≡◌, ℕ, suc, zero, ◌+◌, ◌-◌, ◌<◌, ◌≤◌, Bool, true, false, List, refl, sym, ap, ◌∙◌, subst, add-zero, add-suc, inl, inr, arith}
 use Rattle.ir_mach.specs.Marks.{Marked, is_marked}
-use Rattle.ir_mach.specs.Memory.{memory_word}
+use Rattle.ir_mach.specs.Execution.{memory_word}
 use Rattle.ir_runs.specs.Machine.{act_of, reply}
 use Rattle.ir_runs.specs.Run.{Step}
 use Rattle.ir_thread.specs.State.{ThreadState, held_at}

@@ -1,6 +1,6 @@
 -- What points see of a thread before and after one of its steps.
 use Rattle.std.specs.Prelude.{◌≡◌, ◌≢◌, ℕ, ◌<◌, ◌≤◌, ⊤, List, length, slice_get, min, Option, Some, None}
-use Rattle.ir_mach.specs.Memory.{memory_word}
+use Rattle.ir_mach.specs.Execution.{memory_word}
 use Rattle.ir_runs.specs.declared.access.Access.TheVariants.{Writing}
 use Rattle.ir_thread.specs.State.{held_at, ThreadState}
 use Rattle.ir_command.specs.declared.command.Point.{Point}

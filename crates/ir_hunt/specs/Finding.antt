@@ -1,8 +1,7 @@
 -- What a hunt finds.
 use Rattle.std.specs.Prelude.{Bool, false, ◌≡◌, ℕ, List, length, true, Option, Some, Ok}
 use Rattle.std.specs.List.{list_all}
-use Rattle.ir_image.specs.Guest.{Guest}
-use Rattle.ir_image.specs.Reading.{guest_at}
+use Rattle.ir_image.specs.Guest.{Guest, guest_at}
 use Rattle.ir_runs.specs.Run.{Step, end}
 use Rattle.ir_flat.specs.Flat.{Flat, tables, machine, start_flat}
 use Rattle.ir_trace.specs.Recorded.{Recorded}

@@ -7,11 +7,9 @@ use Rattle.ir_bytes.specs.Reading.{◌>>=◌, field_at}
 use Rattle.ir_bytes.proofs.CallerLemmas.{two_steps_succeed, ok_is_injective, IsBytes, Takes, number_at_takes_number, number_at_of_little_bytes, field_at_takes_field, field_at_of_little_bytes, test_true_if_no_fault}
 use Rattle.ir_image.specs.declared.image_err.ImageErr.{ImageErr}
 use Rattle.ir_image.specs.declared.image_err.ImageErr.TheVariants.{Short, Magic, Entry}
-use Rattle.ir_image.specs.Guest.{IsWord, code_start, most_code_words, image_magic, magic_number, form_of}
-use Rattle.ir_image.specs.Within.{IsPlace}
+use Rattle.ir_image.specs.Guest.{IsWord, code_start, most_code_words, image_magic, magic_number, form_of, IsPlace, image_magic_field, is_place, entry_field, word_at, entry_at, form_at}
 use Rattle.ir_image.specs.declared.form.ImageForm.{ImageForm}
 use Rattle.ir_image.specs.declared.form.ImageForm.TheVariants.{Small, Large}
-use Rattle.ir_image.specs.Reading.{image_magic_field, is_place, entry_field, word_at, entry_at, form_at}
 
 -- the bytes of a form's number
 pub bytes_of_magic_number : (form : ImageForm) → little_bytes 4 (magic_number form) ≡ image_magic form

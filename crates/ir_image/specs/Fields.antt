@@ -3,8 +3,7 @@ use Rattle.std.specs.Prelude.{ℕ, ◌*◌, List, Option}
 use Rattle.ir_bytes.specs.Format.{Format, finished, next, before, repeated, first_refused, plain}
 use Rattle.ir_image.specs.declared.image_err.ImageErr.{ImageErr}
 use Rattle.ir_image.specs.declared.image_err.ImageErr.TheVariants.{Short, Trailing}
-use Rattle.ir_image.specs.Guest.{limits_of, form_of}
-use Rattle.ir_image.specs.Reading.{image_magic_field, image_threads_field, image_objects_field, words_field, bytes_field, entry_field}
+use Rattle.ir_image.specs.Guest.{limits_of, form_of, image_magic_field, image_threads_field, image_objects_field, words_field, bytes_field, entry_field}
 
 -- the magic, which names the form; how many threads, objects, words of code and bytes of data; the entries; the code; the data; the
 -- objects' first words

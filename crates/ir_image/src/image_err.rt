@@ -2,7 +2,7 @@
 
 ghost use Rattle.std.specs.Prelude.{◌≡◌};
 ghost use Rattle.ir_image.specs.declared.image_err.ImageErr.TheVariants.{NoMem};
-ghost use Rattle.ir_image.specs.Reading.{image_fault_number};
+ghost use Rattle.ir_image.specs.Guest.{image_fault_number};
 
 use std::alloc::{AllocError, AllocFailed};
 use thiserror::Error;

@@ -1,12 +1,10 @@
 //! The reader of images.
 
 ghost use Rattle.std.specs.Prelude.{◌≡◌, List, ℕ, length, IfOk, Ok, ◌<◌, ◌≤◌};
-ghost use Rattle.ir_image.specs.Guest.{Guest, most_code_words};
-ghost use Rattle.ir_image.specs.Within.{IsGuest};
+ghost use Rattle.ir_image.specs.Guest.{Guest, most_code_words, IsGuest, word_at, entry_at, form_at, counts_at, body_at, guest_at};
 ghost use Rattle.ir_image.specs.Encoding.{encoding};
 ghost use Rattle.ir_bytes.specs.Reading.{bytes_at, fields_at};
 ghost use Rattle.ir_image.specs.declared.image_err.ImageErr.TheVariants.{Short};
-ghost use Rattle.ir_image.specs.Reading.{word_at, entry_at, form_at, counts_at, body_at, guest_at};
 ghost use Rattle.ir_image.specs.Results.{Gives};
 
 use crate::code::Code;
@@ -29,7 +27,7 @@ struct Parts {
 }
 
 // The form that the magic names.
-#[tactic(auto, unfolding(crate::specs::Reading::form_at, ir_bytes::specs::Reading::field_at))]
+#[tactic(auto, unfolding(crate::specs::Guest::form_at, ir_bytes::specs::Reading::field_at))]
 fn form(bytes: &[u8]) -> Result<(ImageForm, &[u8]), ImageErr>
     ensures { Gives (λ x. (x.0, x.1.now)) result (form_at bytes.now) }
 {
@@ -42,7 +40,7 @@ fn form(bytes: &[u8]) -> Result<(ImageForm, &[u8]), ImageErr>
     }
 }
 
-#[tactic(auto, unfolding(crate::specs::Reading::counts_at))]
+#[tactic(auto, unfolding(crate::specs::Guest::counts_at))]
 fn counts(bytes: &[u8]) -> Result<(Counts, &[u8]), ImageErr>
     ensures exact { Gives (λ x. (x.0, x.1.now)) result (counts_at bytes.now) }
     ensures short_code { IfOk result (λ x. x.0.words ≤ most_code_words) }
@@ -117,7 +115,7 @@ fn data_bytes(alloc: Global, count: usize, bytes: &[u8]) -> Result<(Vec<u8>, &[u
     Ok((data, rest))
 }
 
-#[tactic(auto, unfolding(crate::specs::Reading::body_at))]
+#[tactic(auto, unfolding(crate::specs::Guest::body_at))]
 fn body(alloc: Global, counts: Counts, bytes: &[u8]) -> Result<Parts, ImageErr>
     requires { counts.words ≤ most_code_words }
     ensures { Gives (λ p. record { form = counts.form; entries = p.entries.items; code = p.code.items; bytes = p.bytes.items; words = p.words.items }) result (body_at counts bytes.now) }
@@ -137,7 +135,7 @@ fn body(alloc: Global, counts: Counts, bytes: &[u8]) -> Result<Parts, ImageErr>
     })
 }
 
-#[tactic(auto, unfolding(crate::specs::Reading::guest_at))]
+#[tactic(auto, unfolding(crate::specs::Guest::guest_at))]
 fn image(alloc: Global, bytes: &[u8]) -> Result<Image, ImageErr>
     ensures found { IfOk result (λ image. IsGuest image × (bytes.now ≡ encoding image)) }
     ensures exact { Gives (λ image. image) result (guest_at bytes.now) }

@@ -1,6 +1,4 @@
 pub mod Core
-pub mod Arithmetic
-pub mod Memory
 pub mod Pages
 pub mod Execution
 pub mod Effects

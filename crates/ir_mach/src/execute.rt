@@ -2,11 +2,9 @@
 
 ghost use Rattle.std.specs.Prelude.{◌≡◌, true, ◌+◌, ◌%◌, ◌^◌, pos, ◌+ℤ◌, IsTrue};
 ghost use Rattle.ir_isa.specs.declared.inst.Inst.{Inst};
-ghost use Rattle.ir_mach.specs.Arithmetic.{low_32, is_taken};
 ghost use Rattle.ir_mach.specs.Core.{register, next_pc, Goes, Calls};
 ghost use Rattle.ir_mach.specs.Effects.{applied, IsPossible};
-ghost use Rattle.ir_mach.specs.Execution.{sum_of, writes, jumps, branches, loads, stores, execute, outcome_of};
-ghost use Rattle.ir_mach.specs.Memory.{loaded, stored};
+ghost use Rattle.ir_mach.specs.Execution.{sum_of, writes, jumps, branches, loads, stores, execute, outcome_of, low_32, is_taken, loaded, stored};
 
 use crate::arithmetic::{of_registers, plus, shifted, takes, with_immediate};
 use crate::effect::Effect;

@@ -5,7 +5,7 @@ ghost use Rattle.ir_isa.specs.declared.inst.LoadOp.TheVariants.{Lw};
 ghost use Rattle.ir_image.specs.Guest.{IsByte, IsWord};
 ghost use Rattle.ir_mach.specs.Core.{Core, memory_size, register, start_core, start_memory};
 ghost use Rattle.ir_mach.specs.Within.{IsCore, IsMemoryWord};
-ghost use Rattle.ir_mach.specs.Memory.{memory_word, loaded};
+ghost use Rattle.ir_mach.specs.Execution.{memory_word, loaded};
 
 use crate::effect::Effect;
 use crate::memory::overwrite;

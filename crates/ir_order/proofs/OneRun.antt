@@ -3,9 +3,8 @@ use Rattle.std.proofs.Common.{◌≡◌, ℕ, zero, suc, ◌+◌, ◌-◌, ◌<�
 use Rattle.std.specs.List.{range_with_len}
 use Rattle.std.proofs.lemmas.Bool.{cases_lt}
 use Rattle.ir_runs.specs.Machine.{Act, act_of, Machine, upd, target, Admits}
-use Rattle.ir_runs.specs.Run.{State, Step, asked, act, after, end, log, IsDone}
+use Rattle.ir_runs.specs.Run.{State, Step, asked, act, after, end, log, IsDone, InTurn, rounds, IsByOrder}
 use Rattle.ir_runs.specs.Bounds.{IsIdle}
-use Rattle.ir_runs.specs.InOrder.{InTurn, rounds, IsByOrder}
 use Rattle.ir_runs.proofs.CallerLemmas.{step_below_idle_keeps_idle}
 use Rattle.ir_flat.specs.Flat.{start_flat, tables, machine}
 use Rattle.ir_flat.proofs.CallerLemmas.{guest_start_is_idle}

@@ -1,7 +1,6 @@
 -- What is recorded by an order is of the run by that order.
 use Rattle.std.specs.Prelude.{◌≡◌, ℕ, List, length, Some, Ok, true}
-use Rattle.ir_image.specs.Guest.{Guest}
-use Rattle.ir_image.specs.Reading.{guest_at}
+use Rattle.ir_image.specs.Guest.{Guest, guest_at}
 use Rattle.ir_runs.specs.Run.{Step}
 use Rattle.ir_thread.specs.declared.profile.Profile.{Profile}
 use Rattle.ir_trace.specs.Recorded.{Recorded}

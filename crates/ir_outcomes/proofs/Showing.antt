@@ -2,8 +2,7 @@
 use Rattle.std.proofs.Common.{◌≡◌, ℕ, suc, ◌≤◌, List, [], ◌∷◌, inr, refl, sym, ap, ◌∙◌, subst, arith}
 use Rattle.std.proofs.lemmas.List.{append-nil}
 use Rattle.ir_image.specs.Guest.{Guest}
-use Rattle.ir_runs.specs.InOrder.{InTurn, EntersIfFree}
-use Rattle.ir_runs.specs.Run.{State, IsDone, after, end}
+use Rattle.ir_runs.specs.Run.{State, IsDone, after, end, InTurn, EntersIfFree}
 use Rattle.ir_states.specs.Outcomes.{switches}
 use Rattle.ir_thread.specs.Instance.{thread_machine}
 use Rattle.ir_thread.specs.State as thread

@@ -1,8 +1,7 @@
 -- An outcome of a guest, and an order that leads to it.
 use Rattle.std.specs.Prelude.{◌≡◌, ℕ, ◌≤◌, List, ◌++◌, length}
 use Rattle.ir_image.specs.Guest.{Guest}
-use Rattle.ir_runs.specs.InOrder.{InTurn, IsByOrder}
-use Rattle.ir_runs.specs.Run.{Step, end}
+use Rattle.ir_runs.specs.Run.{Step, end, InTurn, IsByOrder}
 use Rattle.ir_states.specs.Counting.{entering}
 use Rattle.ir_states.specs.Outcomes.{switches}
 use Rattle.ir_thread.specs.Calls.{most_budget}

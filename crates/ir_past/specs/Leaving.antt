@@ -2,9 +2,8 @@
 use Rattle.std.specs.Prelude.{ℕ, ◌<◌, ◌≤◌, List}
 use Rattle.ir_runs.specs.Machine.{Machine, In, Out}
 use Rattle.ir_runs.specs.declared.access.Access.{Access}
-use Rattle.ir_runs.specs.Run.{State, Step}
+use Rattle.ir_runs.specs.Run.{State, Step, Emits}
 use Rattle.ir_runs.specs.Bounds.{IsStart, IsComplete}
-use Rattle.ir_runs.specs.Cuts.{Emits}
 use Rattle.ir_thread.specs.Instance.{thread_machine}
 use Rattle.ir_thread.specs.State as thread
 

@@ -3,7 +3,7 @@
 ghost use Rattle.std.specs.Prelude.{◌≡◌, OnOk, IfOk, IfErr, false};
 ghost use Rattle.std.specs.String.{string_bytes};
 ghost use Rattle.std.specs.Io.KnownBytes.{Appends};
-ghost use Rattle.ir_trace.specs.Reading.{recorded_at};
+ghost use Rattle.ir_trace.specs.Recorded.{recorded_at};
 ghost use Rattle.ir_files.specs.Writers.{writer_of};
 ghost use Rattle.ir_past.specs.Answers.{IsOpened, refused_line, incoherent_line, refusal_text, refusal_status, Stops};
 

@@ -3,14 +3,13 @@ use Rattle.std.proofs.Common.{◌≡◌, ℕ, suc, zero, ◌+◌, ◌*◌, ◌<�
 use Rattle.std.specs.Prelude.{slice_get}
 use Rattle.std.proofs.lemmas.Bool.{cases_eq, cases_lt}
 use Rattle.std.proofs.lemmas.Option.{same_Some, none-some}
-use Rattle.ir_runs.specs.Coherent.{reads_one, reads, sum_below}
+use Rattle.ir_runs.specs.Verdicts.{reads_one, reads, sum_below}
 use Rattle.ir_runs.proofs.CallerLemmas.{sum_below_less_if_one_less}
 use Rattle.ir_log.specs.Logging.{label_of}
 use Rattle.ir_log.specs.declared.event.Event.{Event}
 use Rattle.ir_log.specs.declared.event.Event.TheVariants.{Answer, Read, Write, Try}
 use Rattle.ir_thread.specs.Calls.{most_events}
-use Rattle.ir_trace.specs.Recorded.{Recorded, recorded_thread, trace_of}
-use Rattle.ir_trace.specs.Within.{IsRecorded}
+use Rattle.ir_trace.specs.Recorded.{Recorded, recorded_thread, trace_of, IsRecorded}
 use Rattle.ir_coherence.proofs.CallerLemmas.{recorded_thread_at_number_is_recorded}
 use Rattle.ir_past.specs.Past.{event_at, IsReadAt}
 use Rattle.ir_past.proofs.CallerLemmas.{event_is_of_existing_thread}

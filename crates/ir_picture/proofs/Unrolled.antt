@@ -6,9 +6,8 @@ use Rattle.ir_runs.specs.Machine.{Act, Silent, Result, Entry, Refusal, Exit, Loa
 use Rattle.ir_runs.specs.Lawful.{IsLawful}
 use Rattle.ir_runs.specs.declared.access.Access.{Access}
 use Rattle.ir_runs.specs.declared.access.Access.TheVariants.{Reading, Writing}
-use Rattle.ir_runs.specs.Run.{act, State, Step, Can, after, label, IsRun, log}
+use Rattle.ir_runs.specs.Run.{act, State, Step, Can, after, label, IsRun, log, At}
 use Rattle.ir_runs.specs.Bounds.{IsStart}
-use Rattle.ir_runs.specs.Cuts.{At}
 use Rattle.ir_runs.proofs.CallerLemmas.{upd_at_own_place, StateInvariant, state_invariant_after_step, state_invariant_at_start}
 use Rattle.ir_thread.specs.Instance.{thread_machine}
 use Rattle.ir_thread.specs.State as thread

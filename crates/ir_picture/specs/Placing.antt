@@ -2,12 +2,11 @@
 use Rattle.std.specs.Prelude.{◌≡◌, ℕ, suc, ◌+◌, ◌-◌, ◌*◌, ◌^◌, ◌<◌, ◌≤◌, ◌⊎◌, max, ◌==◌, ◌&&◌, if◌then◌else◌, List, [], ◌∷◌, map, take, length, vec_len, Option, Some, None}
 use Rattle.std.specs.List.{slice_get, slice_index_or}
 use Rattle.std.specs.Option.{option_map, option_map_or}
-use Rattle.ir_runs.specs.Coherent.{reads, sum_below}
+use Rattle.ir_runs.specs.Verdicts.{reads, sum_below}
 use Rattle.ir_log.specs.Logging.{label_of}
 use Rattle.ir_log.specs.declared.event.Event.{Event}
 use Rattle.ir_log.specs.declared.event.Event.TheVariants.{Answer, Read, Write, Try}
-use Rattle.ir_trace.specs.Recorded.{Recorded, recorded_thread}
-use Rattle.ir_trace.specs.Within.{IsRecorded}
+use Rattle.ir_trace.specs.Recorded.{Recorded, recorded_thread, IsRecorded}
 use Rattle.ir_past.specs.Past.{event_at, IsReadAt, IsWriteAt}
 use Rattle.ir_picture.specs.Needs.{placed, IsOrder}
 use Rattle.ir_picture.specs.Boxes.{IsInBox, AreBoxes}

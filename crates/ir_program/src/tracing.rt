@@ -2,7 +2,7 @@
 
 ghost use Rattle.std.specs.Prelude.{◌≡◌, ◌≢◌, OnOk, IfOk, IfErr, false};
 ghost use Rattle.std.specs.Io.KnownBytes.{Appends};
-ghost use Rattle.ir_trace.specs.Reading.{recorded_at};
+ghost use Rattle.ir_trace.specs.Recorded.{recorded_at};
 ghost use Rattle.ir_program.specs.Bundle.{fault_words};
 ghost use Rattle.ir_program.specs.Listing.{shown, status_of, Stops, fault_of};
 ghost use Rattle.ir_files.specs.Writers.{writer_of, Took, Reports, fault_text};

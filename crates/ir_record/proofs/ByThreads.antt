@@ -7,8 +7,7 @@ use Rattle.std.proofs.lemmas.List.{length-map, get_or_past}
 use Rattle.std.proofs.lemmas.Option.{slice_get-get_or, slice_get-map}
 use Rattle.std.specs.List.{slice_get}
 use Rattle.std.specs.Prelude.{option_map}
-use Rattle.ir_image.specs.Guest.{limits_of, Guest, object_count, object_words, first_words}
-use Rattle.ir_image.specs.Within.{IsGuest}
+use Rattle.ir_image.specs.Guest.{limits_of, Guest, object_count, object_words, first_words, IsGuest}
 use Rattle.ir_image.specs.declared.form.ImageForm.{ImageForm}
 use Rattle.ir_image.specs.declared.form.ImageForm.TheVariants.{Small, Large}
 use Rattle.ir_thread.specs.Calls.{ask_of}

@@ -15,15 +15,13 @@ use Rattle.ir_thread.specs.State as thread
 use Rattle.ir_thread.proofs.CallerLemmas.{ask_of_permitted}
 use Rattle.ir_runs.specs.Machine.{Admits, target}
 use Rattle.ir_flat.specs.Flat.{Flat, thread_of, tables, machine, idle, start_flat, start_threads}
-use Rattle.ir_runs.specs.Run.{State, Step, asked, Can, IsRun, end, log, IsDone}
+use Rattle.ir_runs.specs.Run.{State, Step, asked, Can, IsRun, end, log, IsDone, HasNone, rounds}
 use Rattle.ir_flat.proofs.CallerLemmas.{start_thread_is_fresh, length_of_start_threads, length_of_start_cells, nothing_is_stuck, guest_start_is_idle, shared_done_is_done}
 use Rattle.ir_runs.proofs.CallerLemmas.{idle_after_run, turns_are_run}
 use Rattle.ir_log.specs.Logged.{Logged}
 use Rattle.ir_log.specs.Logging.{label_of}
-use Rattle.ir_trace.specs.Recorded.{Recorded}
-use Rattle.ir_trace.specs.Within.{IsEvent}
+use Rattle.ir_trace.specs.Recorded.{Recorded, IsEvent}
 use Rattle.ir_record.specs.Gathered.{AreThreadTraces}
-use Rattle.ir_runs.specs.InOrder.{HasNone, rounds}
 use Rattle.ir_record.specs.Progress.{Progress, Took, IsReady, log_at, no_log}
 use Rattle.ir_record.specs.Worlds.{answers_at, Answered, NoneFailed}
 use Rattle.ir_record.specs.Recording.{IsRecordingInOrder}

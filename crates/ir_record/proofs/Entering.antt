@@ -11,13 +11,12 @@ use Rattle.ir_thread.specs.declared.ask.Ask.{Ask}
 use Rattle.ir_thread.specs.declared.ask.Ask.TheVariants.{Private, Env, Enter, Try, Leave, Get, Put, Print, End, Done}
 use Rattle.ir_thread.proofs.CallerLemmas.{ask_of_permitted}
 use Rattle.ir_flat.specs.Flat.{Flat, thread_of, tables, machine, IsFlat}
-use Rattle.ir_runs.specs.Run.{Can, after, label}
+use Rattle.ir_runs.specs.Run.{Can, after, label, HasNone, EntersIfFree}
 use Rattle.ir_flat.proofs.CallerLemmas.{events_added_by}
 use Rattle.ir_log.specs.Logged.{Logged}
 use Rattle.ir_log.specs.Logging.{label_of}
 use Rattle.ir_log.specs.declared.event.Event.{Event}
-use Rattle.ir_trace.specs.Within.{IsEvent}
-use Rattle.ir_runs.specs.InOrder.{HasNone, EntersIfFree}
+use Rattle.ir_trace.specs.Recorded.{IsEvent}
 use Rattle.ir_record.specs.Progress.{TookIf, IsTape, IsQuiet, log_at, labels_at}
 use Rattle.ir_record.specs.Worlds.{answers_at, Answered, answers_in}
 use Rattle.ir_record.proofs.Steps.{turn_taken_by_step, turn_without_step_changes_nothing, ask_not_try_enters_if_free}

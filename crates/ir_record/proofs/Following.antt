@@ -6,8 +6,7 @@ use Rattle.ir_thread.specs.Calls.{ask_of}
 use Rattle.ir_thread.specs.Instance.{shared_ask}
 use Rattle.ir_runs.specs.Machine.{act_of, target, Admits}
 use Rattle.ir_flat.specs.Flat.{Flat, tables, machine, idle}
-use Rattle.ir_runs.specs.Run.{end}
-use Rattle.ir_runs.specs.InOrder.{HasNone, InTurn}
+use Rattle.ir_runs.specs.Run.{end, HasNone, InTurn}
 use Rattle.ir_record.specs.Progress.{Progress, Took, TookIf}
 use Rattle.ir_record.specs.Recording.{order_of_turns}
 use Rattle.ir_record.specs.declared.turns.Turns.{Turns}

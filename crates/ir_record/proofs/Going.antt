@@ -8,10 +8,9 @@ use Rattle.ir_runs.specs.Machine.{Machine, Private, Quiet}
 use Rattle.ir_thread.specs.State as thread
 use Rattle.ir_flat.specs.Alone.{WentAlone}
 use Rattle.ir_flat.specs.Flat.{Flat, tables, machine, IsFlat}
-use Rattle.ir_runs.specs.Run.{State, Step, Can, after, label, end, join_if, events, log}
+use Rattle.ir_runs.specs.Run.{State, Step, Can, after, label, end, join_if, events, log, HasNone, EntersIfFree, InTurn, rounds}
 use Rattle.ir_runs.proofs.CallerLemmas.{log_append, end_append, turns_append}
 use Rattle.ir_record.specs.Ahead.{lead, IsAhead, all_ahead, NoneAhead, Went, WentIf}
-use Rattle.ir_runs.specs.InOrder.{HasNone, EntersIfFree, InTurn, rounds}
 use Rattle.ir_record.specs.Progress.{Progress, Took, TookIf, all_left, labels_at}
 use Rattle.ir_record.specs.Worlds.{answers_at, answers_in}
 use Rattle.ir_record.proofs.Joining.{range_with_last_number, rounds_with_round_added, append_non_empty_by_first, append_non_empty_by_second, no_step_in_empty_turns}

@@ -31,7 +31,7 @@ use Rattle.ir_log.specs.Logged.{Logged}
 use Rattle.ir_log.specs.Logging as logging
 use Rattle.ir_log.specs.declared.event.Event.{Event}
 use Rattle.ir_log.specs.declared.event.Event.TheVariants as event
-use Rattle.ir_trace.specs.Within.{IsEvent}
+use Rattle.ir_trace.specs.Recorded.{IsEvent}
 use Rattle.ir_crew.specs.Plays.{M, IsAlone, history, did, inside_by}
 use Rattle.ir_crew.specs.Rule.{shared_by, shared_of, label_of, one_if_entry, entries}
 use Rattle.ir_crew.specs.declared.deed.Deed.{Deed}

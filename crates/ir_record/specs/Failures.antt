@@ -6,8 +6,7 @@ use Rattle.ir_thread.specs.declared.ask.Ask.TheVariants as ask
 use Rattle.ir_runs.specs.Machine as machine
 use Rattle.ir_runs.specs.declared.env_kind.EnvKind.{EnvKind}
 use Rattle.ir_flat.specs.Flat.{thread_of, machine}
-use Rattle.ir_runs.specs.Run.{State, Step, asked, end, log}
-use Rattle.ir_runs.specs.InOrder.{InTurn}
+use Rattle.ir_runs.specs.Run.{State, Step, asked, end, log, InTurn}
 use Rattle.ir_record.specs.Progress.{Progress}
 use Rattle.ir_record.specs.Worlds.{answers_at, Answered, answers_in}
 

@@ -9,11 +9,10 @@ use Rattle.ir_thread.specs.declared.ask.Ask.TheVariants as ask
 use Rattle.ir_flat.specs.Flat.{start_flat, tables, machine}
 use Rattle.ir_flat.specs.Lone.{MayRun, alone_after, alone_trail}
 use Rattle.ir_runs.specs.Machine.{Env}
-use Rattle.ir_runs.specs.Run.{Step, asked, events, log, end}
+use Rattle.ir_runs.specs.Run.{Step, asked, events, log, end, InTurn, IsByOrder, rounds}
 use Rattle.ir_runs.specs.declared.env_kind.EnvKind.{EnvKind}
 use Rattle.ir_runs.specs.Verdicts.{IsWhole}
 use Rattle.ir_trace.specs.Recorded.{Recorded, trace_of}
-use Rattle.ir_runs.specs.InOrder.{InTurn, IsByOrder, rounds}
 use Rattle.ir_record.specs.Worlds.{answers_at, Answered, answers_in, NoneFailed, IsFirstFailed, AreSameWorlds}
 use Rattle.ir_record.specs.declared.outputs.Outputs.{Outputs}
 use Rattle.ir_record.specs.declared.record_err.RecordErr.{RecordErr}

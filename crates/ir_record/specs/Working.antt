@@ -24,7 +24,7 @@ use Rattle.ir_flat.specs.Splice.{shared_steps}
 use Rattle.ir_flat.specs.Lone.{MayRun, alone_after, alone_trail}
 use Rattle.ir_log.specs.Logged.{Logged}
 use Rattle.ir_log.specs.Logging.{label_of}
-use Rattle.ir_trace.specs.Within.{IsEvent}
+use Rattle.ir_trace.specs.Recorded.{IsEvent}
 use Rattle.ir_record.specs.Worlds.{Answered, answers_in}
 use Rattle.ir_record.specs.declared.worker.Worker.{Worker}
 

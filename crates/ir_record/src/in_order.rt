@@ -4,7 +4,7 @@ ghost use Rattle.std.specs.Prelude.{◌≡◌, ◌<◌, ◌≤◌, ◌++◌, ℕ
 ghost use Rattle.ir_thread.specs.State.{IsAllowed};
 ghost use Rattle.ir_thread.specs.Calls.{most_budget};
 ghost use Rattle.ir_flat.specs.Flat.{tables, machine};
-ghost use Rattle.ir_runs.specs.InOrder.{HasNone, rounds};
+ghost use Rattle.ir_runs.specs.Run.{HasNone, rounds};
 ghost use Rattle.ir_record.specs.Progress.{Took};
 ghost use Rattle.ir_record.specs.Recorders.{progress_of, CanGoOn, NamesFirst, StopsIn};
 ghost use Rattle.ir_record.specs.Recording.{IsRecordedInOrder, AllWork, AreHandedBack, IsFailureInOrder, order_of_turns};

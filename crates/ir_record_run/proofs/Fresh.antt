@@ -2,8 +2,7 @@
 use Rattle.std.proofs.Common.{true, false, ◌≡◌, ◌<◌, ℕ, List, [], length, get_or, sym, ap, ◌∙◌, subst, arith}
 use Rattle.std.specs.Prelude.{Option, Some, None, Ok, replicate}
 use Rattle.std.specs.Option.{is_some}
-use Rattle.ir_image.specs.Guest.{Guest}
-use Rattle.ir_image.specs.Reading.{guest_at}
+use Rattle.ir_image.specs.Guest.{Guest, guest_at}
 use Rattle.ir_trace.specs.Recorded.{Recorded}
 use Rattle.ir_record.specs.Recording.{IsRecordingInOrder, IsRecordingOfSome}
 use Rattle.ir_record.specs.Worlds.{Answered}

@@ -1,8 +1,7 @@
 -- Why there is no recording, and what that leaves.
 use Rattle.std.specs.Prelude.{◌≡◌, ℕ, ◌==◌, List, [], length, codes, ⊤, ◌⊎◌, Some, None, Ok, Err}
 use Rattle.std.specs.List.{slice_split}
-use Rattle.ir_image.specs.Guest.{Guest}
-use Rattle.ir_image.specs.Reading.{guest_at}
+use Rattle.ir_image.specs.Guest.{Guest, guest_at}
 use Rattle.ir_image.specs.declared.image_err.ImageErr.{ImageErr}
 use Rattle.ir_image.specs.declared.image_err.ImageErr.TheVariants as image
 use Rattle.ir_thread.specs.State.{IsAllowed}

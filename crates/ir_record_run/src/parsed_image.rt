@@ -1,7 +1,7 @@
 //! An image that is parsed once.
 
 ghost use Rattle.std.specs.Prelude.{◌≡◌, ◌≢◌, ℕ, List, Ok, IfOk, IfErr, IfSome, OnOk};
-ghost use Rattle.ir_image.specs.Reading.{guest_at};
+ghost use Rattle.ir_image.specs.Guest.{guest_at};
 ghost use Rattle.ir_image.specs.Results.{Gives};
 ghost use Rattle.ir_thread.specs.State.{IsAllowed};
 ghost use Rattle.ir_record_run.specs.Faults.{Allows, Refuses};

@@ -2,7 +2,7 @@
 use Rattle.std.proofs.Common.{◌≡◌, ℕ, ◌+◌, ◌<◌, ◌≤◌, List, length, arith, inl, inr, sym, subst}
 use Rattle.std.proofs.lemmas.Bool.{cases_lt, cases_eq}
 use Rattle.std.proofs.lemmas.List.{get_or_past}
-use Rattle.ir_runs.specs.Cuts.{Cut}
+use Rattle.ir_runs.specs.Run.{Cut}
 use Rattle.ir_cut.specs.Positions.{cut_of}
 use Rattle.ir_weave.specs.Standing.{OneIsBelow}
 

@@ -5,9 +5,8 @@ use Rattle.std.proofs.lemmas.Bool.{cases_lt}
 use Rattle.std.proofs.lemmas.List.{get_or_past}
 use Rattle.std.specs.List.{slice_index_or}
 use Rattle.ir_flat.specs.Flat.{Flat, IsFlat, idle}
-use Rattle.ir_runs.specs.Run.{Step}
+use Rattle.ir_runs.specs.Run.{Step, Cut}
 use Rattle.ir_fit.specs.Ahead.{steps_ahead}
-use Rattle.ir_runs.specs.Cuts.{Cut}
 use Rattle.ir_runs.specs.Admitted.{Admitted}
 use Rattle.ir_fit.specs.Fit.{FittedTrace, HasRun, IsRunOf}
 use Rattle.ir_cut.specs.Positions.{machine_of, start_of, cut_of, IsConsistentCut}

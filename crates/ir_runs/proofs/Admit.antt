@@ -3,7 +3,7 @@ use Rattle.std.proofs.Common.{◌≡◌, ◌≢◌, ℕ, suc, zero, ◌<◌, ◌
 use Rattle.std.proofs.lemmas.Bool.{cases_eq}
 use Rattle.ir_runs.specs.Machine.{Machine, Label, Quiet, Answer, In, Refused, Out, logged}
 use Rattle.ir_runs.specs.Lawful.{IsLawful}
-use Rattle.ir_runs.specs.Run.{State, Step, Can, IsRun, end, join_if, trail, events, log, count, label}
+use Rattle.ir_runs.specs.Run.{State, Step, Can, IsRun, end, join_if, trail, events, log, count, label, At, Emits, Cut, IsCut, Consistent, part}
 use Rattle.ir_runs.proofs.Good.{StateInvariant}
 use Rattle.ir_runs.proofs.Append.{trail_append, append_of_runs_is_run, events_append}
 use Rattle.ir_runs.proofs.Early.{moment}
@@ -12,7 +12,6 @@ use Rattle.ir_runs.proofs.Early.{moment_is_consistent_cut}
 use Rattle.ir_runs.proofs.Order.{moment_at_length_is_count, equal_cut_is_consistent}
 use Rattle.ir_runs.proofs.Same.{BeginsRun, run_with_beginning_logs_begins_run}
 use Rattle.ir_runs.proofs.Sort.{PartIsRun, part_in_consistent_cut_is_run}
-use Rattle.ir_runs.specs.Cuts.{At, Emits, Cut, IsCut, Consistent, part}
 use Rattle.ir_runs.specs.Admitted.{further, Admitted}
 
 logged_splits_off_log : (k : Label) (es : List Label) → logged k es ≡ logged k [] ++ es

@@ -7,13 +7,12 @@ use Rattle.ir_runs.specs.Lawful.{IsLawful}
 use Rattle.ir_runs.specs.declared.access.Access.{Access}
 use Rattle.ir_runs.specs.declared.access.Access.TheVariants.{Reading, Writing}
 use Rattle.ir_runs.proofs.Tables.{upd_at_own_place, upd_at_other_place}
-use Rattle.ir_runs.specs.Run.{act, State, Step, Can, after, label, IsRun, join_if, trail}
+use Rattle.ir_runs.specs.Run.{act, State, Step, Can, after, label, IsRun, join_if, trail, At, IsNeededBy}
 use Rattle.ir_runs.proofs.Good.{InsideForAct, StateInvariant, inside_for_act_of_step, state_invariant_after_step}
 use Rattle.ir_runs.proofs.Pull.{clash_is_symmetric}
 use Rattle.ir_runs.proofs.Same.{thread_after_step_of_other}
 use Rattle.ir_runs.proofs.Steps.{Clashes, StepUnchanged, step_unchanged_after_other_step, steps_commute_unless_clash}
 use Rattle.ir_runs.proofs.Swap.{Clash}
-use Rattle.ir_runs.specs.Cuts.{At, IsNeededBy}
 
 no_writer_inside_before_change : {T : Type 0} (m : Machine T) (b : Object) (t : ℕ) (x : Option Access) → (x ≡ Some Writing → ⊥) → b.inside t ≡ x
     → (a : Option Access) → ((w : ℕ) → upd b.inside t a w ≢ Some Writing) → (w : ℕ) → b.inside w ≢ Some Writing

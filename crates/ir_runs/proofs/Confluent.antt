@@ -5,7 +5,7 @@ use Rattle.std.proofs.lemmas.Bool.{cases_eq, eqb-true, cases_lt}
 use Rattle.ir_runs.specs.Machine.{Act, act_of, Entry, Done, Machine, Object, target, Admits, emitted, Label, Quiet, Answer, In, Refused, Out, logged, Trace}
 use Rattle.ir_runs.specs.Lawful.{IsLawful}
 use Rattle.ir_runs.specs.declared.access.Access.TheVariants.{Reading, Writing}
-use Rattle.ir_runs.specs.Run.{act, State, Step, asked, Can, after, label, IsRun, end, join_if, trail}
+use Rattle.ir_runs.specs.Run.{act, State, Step, asked, Can, after, label, IsRun, end, join_if, trail, At}
 use Rattle.ir_runs.specs.Bounds.{IsStart, IsIdle}
 use Rattle.ir_runs.proofs.Good.{StateInvariant, state_invariant_after_step}
 use Rattle.ir_runs.proofs.Append.{trail_append, append_of_runs_is_run}
@@ -16,9 +16,7 @@ use Rattle.ir_runs.proofs.Steps.{Clashes, StepUnchanged, step_unchanged_after_ot
 use Rattle.ir_runs.proofs.Swap.{Clash}
 use Rattle.ir_runs.proofs.Tally.{Tally, tally_after_step, tally_at_start, sum_below_less_if_one_less, sum_below_of_zeros, one_if_reader, readers_inside, counted_read}
 use Rattle.ir_runs.specs.Alike.{Reaches}
-use Rattle.ir_runs.specs.Coherent.{reads_one, reads, sum_below, IsCoherent}
-use Rattle.ir_runs.specs.Cuts.{At}
-use Rattle.ir_runs.specs.Following.{Ending, Check, unlogged, Fits, Follows, IsMaximal}
+use Rattle.ir_runs.specs.Verdicts.{reads_one, reads, sum_below, IsCoherent, Ending, Check, unlogged, Fits, Follows, IsMaximal}
 use Rattle.ir_runs.proofs.Ending.{last_step_can_be_taken}
 
 abbrev pub steps_left : (ℕ → ℕ) → Step → ℕ → ℕ

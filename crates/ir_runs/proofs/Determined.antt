@@ -3,14 +3,13 @@ use Rattle.std.proofs.Common.{◌≡◌, ◌≢◌, ℕ, suc, zero, min, ◌+◌
 use Rattle.std.proofs.lemmas.Bool.{cases_eq}
 use Rattle.ir_runs.specs.Machine.{Machine, Label}
 use Rattle.ir_runs.specs.Lawful.{IsLawful}
-use Rattle.ir_runs.specs.Run.{State, Step, Can, after, label, IsRun, end, join_if, trail, count, events, th, thread_in}
+use Rattle.ir_runs.specs.Run.{State, Step, Can, after, label, IsRun, end, join_if, trail, count, events, th, thread_in, At, Emits, Cut, IsCut, Consistent, part}
 use Rattle.ir_runs.specs.Bounds.{IsStart}
 use Rattle.ir_runs.proofs.Good.{StateInvariant}
 use Rattle.ir_runs.proofs.Append.{events_append}
 use Rattle.ir_runs.proofs.Same.{BeginsRun, run_with_beginning_logs_begins_run, SameTrailsAndEnd, same_logs_give_same_trails, thread_after_step_of_other, run_without_counts_is_empty}
 use Rattle.ir_runs.proofs.Sort.{PartIsRun, part_in_consistent_cut_is_run}
 use Rattle.ir_runs.specs.Alike.{SameTrace, SameRun}
-use Rattle.ir_runs.specs.Cuts.{At, Emits, Cut, IsCut, Consistent, part}
 use Rattle.ir_runs.specs.Admitted.{AtCut, further, Admitted}
 
 -- the cuts of two runs with the same trails

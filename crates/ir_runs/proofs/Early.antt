@@ -7,11 +7,10 @@ use Rattle.ir_runs.specs.Lawful.{IsLawful}
 use Rattle.ir_runs.specs.declared.access.Access.{Access}
 use Rattle.ir_runs.specs.declared.access.Access.TheVariants.{Reading, Writing}
 use Rattle.ir_runs.proofs.Tables.{upd_at_own_place}
-use Rattle.ir_runs.specs.Run.{act, State, Step, Can, after, label, IsRun, join_if, trail}
+use Rattle.ir_runs.specs.Run.{act, State, Step, Can, after, label, IsRun, join_if, trail, At, Emits, IsNeededBy, Cut, Consistent}
 use Rattle.ir_runs.proofs.Good.{InsideForAct, StateInvariant, state_invariant_after_step, inside_for_act_of_step}
 use Rattle.ir_runs.proofs.Pull.{target_object_after_step}
 use Rattle.ir_runs.proofs.Ratchet.{TakenStep, step_of_trail_was_taken, WritesOrPast, writes_or_past_is_kept, VersionAtLeast, version_at_least_is_kept}
-use Rattle.ir_runs.specs.Cuts.{At, Emits, IsNeededBy, Cut, Consistent}
 
 -- the cut after the first i steps of the run
 abbrev pub moment : List Step → ℕ → Cut

@@ -8,7 +8,7 @@ use Rattle.ir_runs.specs.Run.{act, State, Step, asked, Can, after, label, IsRun,
 use Rattle.ir_runs.specs.Bounds.{trace}
 use Rattle.ir_runs.proofs.Follow.{trail_fits_own_log}
 use Rattle.ir_runs.proofs.Same.{thread_after_step_of_other}
-use Rattle.ir_runs.specs.Following.{Follows, IsMaximal, ends_at, ends_now, Meets, closing}
+use Rattle.ir_runs.specs.Verdicts.{Follows, IsMaximal, ends_at, ends_now, Meets, closing}
 
 pub thread_after_own_step : {T : Type 0} (m : Machine T) (s : State T) (e : Step)
     → (after m s e).now e.0 ≡ m.take (s.now e.0) (reply (act m s e) (s.objects (target (act m s e))))

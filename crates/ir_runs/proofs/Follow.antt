@@ -8,7 +8,7 @@ use Rattle.ir_runs.proofs.Good.{StateInvariant}
 use Rattle.ir_runs.proofs.Append.{join_if_of_append, trail_append, append_of_runs_is_run}
 use Rattle.ir_runs.proofs.Same.{BeginsRun, run_with_beginning_logs_begins_run}
 use Rattle.ir_runs.specs.Alike.{Reaches}
-use Rattle.ir_runs.specs.Following.{left_log, Ending, Check, unlogged, Fits, Follows, IsMaximal}
+use Rattle.ir_runs.specs.Verdicts.{left_log, Ending, Check, unlogged, Fits, Follows, IsMaximal}
 
 logged_keeps_prefix : (k : Label) (xs ys zs : List Label) → xs ++ ys ≡ zs → logged k xs ++ ys ≡ logged k zs
 logged_keeps_prefix Label.Quiet xs ys zs h = h

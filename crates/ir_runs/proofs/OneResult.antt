@@ -7,7 +7,7 @@ use Rattle.ir_runs.proofs.Append.{trail_append}
 use Rattle.ir_runs.proofs.Ending.{trail_of_cons_own_thread, last_step_can_be_taken}
 use Rattle.ir_runs.proofs.Follow.{prefix_of_fitting_steps_fits}
 use Rattle.ir_runs.proofs.Judge.{follows_with_last_step_added}
-use Rattle.ir_runs.specs.Following.{Check, unlogged, Fits, Follows, IsMaximal, left_log, left_steps, closing}
+use Rattle.ir_runs.specs.Verdicts.{Check, unlogged, Fits, Follows, IsMaximal, left_log, left_steps, closing}
 use Rattle.ir_runs.specs.Events.{result_of}
 
 pub following_act_is_of_logged_result : {T : Type 0} (m : Machine T) (q : Ask) (r : ℕ) (b : Object) (es : List Label) → Admits m (act_of q r) b

@@ -12,8 +12,7 @@ use Rattle.ir_runs.proofs.Judge.{env_kind_equality_is_decidable, pair_is_decidab
 use Rattle.ir_runs.proofs.OneResult.{following_act_is_of_logged_result}
 use Rattle.ir_runs.proofs.Own.{step_below_idle_keeps_idle}
 use Rattle.ir_runs.proofs.Tally.{sum_below_less_if_one_less}
-use Rattle.ir_runs.specs.Coherent.{sum_below}
-use Rattle.ir_runs.specs.Following.{unlogged, ends_now, closing}
+use Rattle.ir_runs.specs.Verdicts.{sum_below, unlogged, ends_now, closing}
 use Rattle.ir_runs.specs.Events.{result_of}
 
 logged_unlogged_is_decidable : (k : Label) (es : List Label) → (logged k (unlogged k es) ≡ es) ⊎ ((logged k (unlogged k es) ≡ es) → ⊥)

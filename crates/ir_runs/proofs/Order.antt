@@ -3,10 +3,9 @@ use Rattle.std.proofs.Common.{◌≡◌, ◌≢◌, ℕ, suc, zero, min, max, �
 use Rattle.std.proofs.lemmas.Bool.{cases_eq, cases_lt}
 use Rattle.ir_runs.specs.Machine.{Machine, Label}
 use Rattle.ir_runs.specs.Lawful.{IsLawful}
-use Rattle.ir_runs.specs.Run.{State, Step, after, label, IsRun, join_if, trail, count}
+use Rattle.ir_runs.specs.Run.{State, Step, after, label, IsRun, join_if, trail, count, IsLeast, IsGreatest, Cut, IsCut, Consistent}
 use Rattle.ir_runs.proofs.Good.{StateInvariant}
 use Rattle.ir_runs.proofs.Early.{moment}
-use Rattle.ir_runs.specs.Cuts.{IsLeast, IsGreatest, Cut, IsCut, Consistent}
 use Rattle.ir_runs.proofs.Early.{moment_is_consistent_cut}
 use Rattle.ir_runs.specs.Admitted.{further, Admitted}
 use Rattle.ir_runs.proofs.Determined.{further_at_own_thread, further_at_other_thread}

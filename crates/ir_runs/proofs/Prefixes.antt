@@ -3,10 +3,9 @@ use Rattle.std.proofs.Common.{◌≡◌, ℕ, suc, ◌≤◌, cond, eqb, List, [
 use Rattle.std.proofs.Math.Seq.{take-append_seam}
 use Rattle.ir_runs.specs.Machine.{Machine, Label}
 use Rattle.ir_runs.specs.Lawful.{IsLawful}
-use Rattle.ir_runs.specs.Run.{State, Step, IsRun, end, trail, events, log, count}
+use Rattle.ir_runs.specs.Run.{State, Step, IsRun, end, trail, events, log, count, Cut, IsCut, Consistent, part}
 use Rattle.ir_runs.proofs.Append.{trail_append, append_of_runs_is_run}
 use Rattle.ir_runs.proofs.Good.{StateInvariant}
-use Rattle.ir_runs.specs.Cuts.{Cut, IsCut, Consistent, part}
 use Rattle.ir_runs.proofs.Determined.{consistent_cut_if_same_trails}
 use Rattle.ir_runs.proofs.Same.{BeginsRun, run_with_beginning_logs_begins_run, same_logs_give_same_trails}
 use Rattle.ir_runs.proofs.Sort.{PartIsRun, part_in_consistent_cut_is_run}

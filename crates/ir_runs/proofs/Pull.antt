@@ -7,12 +7,11 @@ use Rattle.ir_runs.specs.Lawful.{IsLawful}
 use Rattle.ir_runs.specs.declared.access.Access.{Access}
 use Rattle.ir_runs.specs.declared.access.Access.TheVariants.{Reading, Writing}
 use Rattle.ir_runs.proofs.Tables.{upd_at_own_place}
-use Rattle.ir_runs.specs.Run.{act, State, after_act, Step, asked, Can, after, label, IsRun, end, join_if, trail}
+use Rattle.ir_runs.specs.Run.{act, State, after_act, Step, asked, Can, after, label, IsRun, end, join_if, trail, At}
 use Rattle.ir_runs.proofs.Good.{StateInvariant, state_invariant_after_step}
 use Rattle.ir_runs.proofs.Ratchet.{TakenStep, step_of_trail_was_taken, WritesOrPast, ReadsOrPast, writes_or_past_is_kept, reads_or_past_is_kept, Entering, emitted_entry_is_entering}
 use Rattle.ir_runs.proofs.Steps.{Clashes, StepUnchanged, step_unchanged_after_other_step, steps_commute_unless_clash}
 use Rattle.ir_runs.proofs.Swap.{Clash}
-use Rattle.ir_runs.specs.Cuts.{At}
 
 pub record TakenEntry {T : Type 0} (m : Machine T) (R : Object → Type 0) (o : ℕ) (a : Access) (v l : ℕ) : Type 0 where
   pub object : Object

@@ -7,9 +7,8 @@ use Rattle.ir_runs.specs.Lawful.{IsLawful}
 use Rattle.ir_runs.specs.declared.access.Access.{Access}
 use Rattle.ir_runs.specs.declared.access.Access.TheVariants.{Reading, Writing}
 use Rattle.ir_runs.proofs.Tables.{upd_at_other_place, upd_by_cases}
-use Rattle.ir_runs.specs.Run.{act, State, Step, Can, after, label, IsRun, join_if, trail}
+use Rattle.ir_runs.specs.Run.{act, State, Step, Can, after, label, IsRun, join_if, trail, At}
 use Rattle.ir_runs.proofs.Good.{Exclusive, InsideForAct, StateInvariant, inside_for_act_of_step, state_invariant_after_step}
-use Rattle.ir_runs.specs.Cuts.{At}
 
 abbrev pub IsKeptByActs : {T : Type 0} → Machine T → (Object → Type 0) → Type 0
 IsKeptByActs m R = (b : Object) (t : ℕ) (q : Act) → Exclusive b → InsideForAct q (b.inside t) → Admits m q b → R b → R (acted q t b)

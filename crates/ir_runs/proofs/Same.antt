@@ -6,10 +6,9 @@ use Rattle.ir_runs.specs.Machine.{Ask, Act, act_of, Silent, Result, Entry, Refus
 use Rattle.ir_runs.specs.Lawful.{IsLawful}
 use Rattle.ir_runs.specs.declared.access.Access.TheVariants.{Reading, Writing}
 use Rattle.ir_runs.proofs.Tables.{upd_at_other_place}
-use Rattle.ir_runs.specs.Run.{act, State, Can, Step, asked, after, label, IsRun, end, join_if, trail, events, log, count}
+use Rattle.ir_runs.specs.Run.{act, State, Can, Step, asked, after, label, IsRun, end, join_if, trail, events, log, count, At}
 use Rattle.ir_runs.proofs.Good.{StateInvariant, state_invariant_after_step}
 use Rattle.ir_runs.proofs.Pull.{PulledFirst, thread_step_can_come_first, act_same_if_logs_same}
-use Rattle.ir_runs.specs.Cuts.{At}
 
 pub record FirstStepEmits {T : Type 0} (m : Machine T) (s : State T) (t : ℕ) (x : T) (j : Label) : Type 0 where
   pub result : ℕ

@@ -3,10 +3,9 @@ use Rattle.std.proofs.Common.{◌≡◌, ℕ, suc, zero, pred, ◌<◌, Bool, tr
 use Rattle.std.proofs.lemmas.Bool.{eqb-true, cases_lt, lt-ltb, le-ltb}
 use Rattle.ir_runs.specs.Machine.{Machine, Label}
 use Rattle.ir_runs.specs.Lawful.{IsLawful}
-use Rattle.ir_runs.specs.Run.{State, Step, Can, after, label, IsRun, join_if, trail}
+use Rattle.ir_runs.specs.Run.{State, Step, Can, after, label, IsRun, join_if, trail, At, Emits, Cut, Consistent, lower, part}
 use Rattle.ir_runs.proofs.Good.{StateInvariant, state_invariant_after_step}
 use Rattle.ir_runs.proofs.Back.{RunWithoutStep, run_without_unneeded_step}
-use Rattle.ir_runs.specs.Cuts.{At, Emits, Cut, Consistent, lower, part}
 
 at_after_join_if : {A : Type 0} (b : Bool) (x y : A) (xs : List A) (k : ℕ) → At xs k y → At (join_if b x xs) (cond b (suc k) k) y
 at_after_join_if true x y xs k h = h

@@ -9,7 +9,7 @@ use Rattle.ir_runs.proofs.Tables.{upd_at_own_place, upd_at_other_place, upd_by_c
 use Rattle.ir_runs.specs.Run.{act, State, Step, Can, after, label}
 use Rattle.ir_runs.specs.Bounds.{IsStart}
 use Rattle.ir_runs.proofs.Good.{Exclusive, InsideForAct, StateInvariant, inside_for_act_of_step}
-use Rattle.ir_runs.specs.Coherent.{reads_one, sum_below}
+use Rattle.ir_runs.specs.Verdicts.{reads_one, sum_below}
 
 pub sum_below_of_equal_functions : (n : ℕ) (f g : ℕ → ℕ) → ((t : ℕ) → t < n → f t ≡ g t) → sum_below n f ≡ sum_below n g
 sum_below_of_equal_functions zero f g h = refl

@@ -1,8 +1,7 @@
 -- Steps that are admitted at a cut.
 use Rattle.std.specs.Prelude.{◌≡◌, ℕ, suc, ◌<◌, cond, eqb, List}
 use Rattle.ir_runs.specs.Machine.{Machine}
-use Rattle.ir_runs.specs.Run.{State, Step, Can, after, label, IsRun, end, count, th}
-use Rattle.ir_runs.specs.Cuts.{Emits, Cut, Consistent, part}
+use Rattle.ir_runs.specs.Run.{State, Step, Can, after, label, IsRun, end, count, th, Emits, Cut, Consistent, part}
 
 -- p, and one more step of thread t
 abbrev pub further : Cut → ℕ → Cut

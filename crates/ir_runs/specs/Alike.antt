@@ -1,8 +1,7 @@
 -- Runs that are the same up to the order of their steps.
 use Rattle.std.specs.Prelude.{◌≡◌, ◌↔◌, ℕ, List}
 use Rattle.ir_runs.specs.Machine.{Machine}
-use Rattle.ir_runs.specs.Run.{State, Step, end, trail, log, count, th}
-use Rattle.ir_runs.specs.Cuts.{Cut, Consistent, object_at}
+use Rattle.ir_runs.specs.Run.{State, Step, end, trail, log, count, th, Cut, Consistent, object_at}
 
 -- the same number of steps and the same log of each thread
 abbrev pub SameTrace : {T : Type 0} → Machine T → State T → List Step → List Step → Type 0

@@ -2,8 +2,7 @@
 use Rattle.std.specs.Prelude.{◌≡◌, ℕ, ◌<◌, true, List, ◌∷◌, None}
 use Rattle.ir_runs.specs.Machine.{Ask, Env, Try, Machine, Label, Quiet, Answer, In, Refused, Out, Trace}
 use Rattle.ir_runs.specs.declared.access.Access.TheVariants.{Reading, Writing}
-use Rattle.ir_runs.specs.Run.{State}
-use Rattle.ir_runs.specs.Cuts.{At}
+use Rattle.ir_runs.specs.Run.{State, At}
 
 -- what a trace may hold: results that fit, entries and refused tries
 abbrev pub IsEvent : {T : Type 0} → Machine T → Label → Type 0

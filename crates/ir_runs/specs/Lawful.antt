@@ -4,7 +4,7 @@ use Rattle.ir_runs.specs.declared.access.Access.{Access}
 use Rattle.ir_runs.specs.declared.access.Access.TheVariants.{Writing}
 use Rattle.ir_runs.specs.Machine.{Ask, Private, Env, Enter, Try, Leave, Get, Put, Done, Act, Silent, Result, Entry, Refusal, Exit, Load, Store, Never, act_of, Machine, upd, Label, logged}
 use Rattle.ir_runs.specs.Run.{events}
-use Rattle.ir_runs.specs.Following.{Check}
+use Rattle.ir_runs.specs.Verdicts.{Check}
 
 -- what is held after an act
 abbrev pub held_after : Act → (ℕ → Option Access) → ℕ → Option Access

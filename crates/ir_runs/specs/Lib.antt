@@ -1,12 +1,8 @@
 pub mod Machine
 pub mod Run
-pub mod Cuts
-pub mod Coherent
-pub mod Following
 pub mod Alike
 pub mod Verdicts
 pub mod Standing
-pub mod InOrder
 pub mod Admitted
 pub mod Lawful
 pub mod Bounds

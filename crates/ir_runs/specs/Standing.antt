@@ -2,8 +2,7 @@
 use Rattle.std.specs.Prelude.{◌≡◌, ◌≢◌, ℕ, List, [], ◌∷◌, ◌++◌, length}
 use Rattle.ir_runs.specs.Machine.{Machine, Done, Label, Trace}
 use Rattle.ir_runs.specs.Run.{State, Step, asked, end, trail, log, count}
-use Rattle.ir_runs.specs.Following.{Follows, left_log, left_steps, closing}
-use Rattle.ir_runs.specs.Verdicts.{Agrees}
+use Rattle.ir_runs.specs.Verdicts.{Agrees, Follows, left_log, left_steps, closing}
 use Rattle.ir_runs.specs.Events.{result_of}
 use Rattle.ir_runs.specs.declared.thread_verdict.ThreadVerdict.{ThreadVerdict}
 use Rattle.ir_runs.specs.declared.thread_verdict.ThreadVerdict.TheVariants.{Same, Disagrees, Starves}

@@ -1,6 +1,6 @@
 -- Bytes from an address on, by the last byte.
 use Rattle.std.proofs.Common.{◌≡◌, ◌+◌, ℕ, zero, suc, List, [], ◌∷◌, ◌++◌, refl, ap, ◌∙◌, arith}
-use Rattle.ir_mach.specs.Memory.{byte_at}
+use Rattle.ir_mach.specs.Execution.{byte_at}
 use Rattle.ir_text.specs.Texts.{byte_or_zero, bytes_from}
 
 abbrev byte_after_bytes : List ℕ → List ℕ → ℕ → List ℕ

@@ -2,7 +2,7 @@
 use Rattle.std.specs.Prelude.{◌==◌, ℕ, zero, suc, ◌+◌, ◌/◌, List, [], ◌∷◌, ◌++◌, take, drop, length, flat_map, codes, decimal, Option, Some, None, if◌then◌else◌, ◌%◌}
 use Rattle.hex.specs.Hex.{encode_lower}
 use Rattle.ir_image.specs.Guest.{word_at_pc}
-use Rattle.ir_mach.specs.Memory.{byte_at}
+use Rattle.ir_mach.specs.Execution.{byte_at}
 use Rattle.ir_thread.specs.State.{highest}
 use Rattle.ir_runs.specs.Machine.{Label, Quiet, Answer, In, Out, Object}
 use Rattle.ir_runs.specs.Machine as machine

@@ -5,7 +5,7 @@ ghost use Rattle.std.specs.Io.KnownBytes.{Appends};
 ghost use Rattle.arrayvec.specs.ArrayVec.{array_vec_len};
 ghost use Rattle.hex.specs.Hex.{encode_lower};
 ghost use Rattle.ir_mach.specs.Core.{memory_size};
-ghost use Rattle.ir_mach.specs.Memory.{byte_at};
+ghost use Rattle.ir_mach.specs.Execution.{byte_at};
 ghost use Rattle.ir_stream.specs.Answers.{AppendsPrefix};
 ghost use Rattle.ir_text.specs.Texts.{hex_word, byte_or_zero, bytes_from, number_line, memory_text, output_text};
 

@@ -2,9 +2,8 @@
 use Rattle.std.specs.Prelude.{◌==◌, ◌&&◌, ℕ, ◌+◌, ◌%◌, ◌^◌, Bool, List, [], ◌∷◌, ◌++◌, length, slice_set, nat_le, nat_lt, if◌then◌else◌, Option, Some, None}
 use Rattle.std.specs.Fmt.{signed_decimal}
 use Rattle.ir_image.specs.Guest.{limits_of}
-use Rattle.ir_mach.specs.Arithmetic.{signed}
 use Rattle.ir_mach.specs.Core.{Core, Outcome, Goes, Calls, Ends, register}
-use Rattle.ir_mach.specs.Execution.{outcome_of, past_call}
+use Rattle.ir_mach.specs.Execution.{outcome_of, past_call, signed}
 use Rattle.ir_thread.specs.State.{end_of_fault, ThreadState, held_at, highest, is_above}
 use Rattle.ir_runs.specs.declared.access.Access.{Access}
 use Rattle.ir_runs.specs.declared.access.Access.TheVariants.{Reading, Writing}

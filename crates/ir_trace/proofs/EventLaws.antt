@@ -13,10 +13,8 @@ use Rattle.ir_log.specs.declared.event.Event.{Event}
 use Rattle.ir_log.specs.declared.event.Event.TheVariants.{Answer, Read, Write, Try}
 use Rattle.ir_trace.specs.declared.trace_err.TraceErr.{TraceErr}
 use Rattle.ir_trace.specs.declared.trace_err.TraceErr.TheVariants.{Short, Count, Tag, Range}
-use Rattle.ir_trace.specs.Recorded.{IsWord, input_end}
-use Rattle.ir_trace.specs.Within.{IsResult, IsEvent}
+use Rattle.ir_trace.specs.Recorded.{IsWord, input_end, IsResult, IsEvent, is_input, input_field, object_field, answer_at, input_at, read_at, write_at, try_at, try_by, event_by, event_at}
 use Rattle.ir_trace.specs.Encoding.{kind_tag, event_encoding}
-use Rattle.ir_trace.specs.Reading.{is_input, input_field, object_field, answer_at, input_at, read_at, write_at, try_at, try_by, event_by, event_at}
 
 -- what reading an event takes
 abbrev pub TakesEvent : Profile → ℕ → List ℕ → Event × List ℕ → Type 0

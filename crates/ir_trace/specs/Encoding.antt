@@ -8,9 +8,8 @@ use Rattle.ir_runs.specs.declared.env_kind.EnvKind.TheVariants.{Clock, Random, I
 use Rattle.ir_thread.specs.declared.end.End.{End}
 use Rattle.ir_log.specs.declared.event.Event.{Event}
 use Rattle.ir_log.specs.declared.event.Event.TheVariants.{Answer, Read, Write, Try}
-use Rattle.ir_trace.specs.Recorded.{RecordedThread, Recorded}
+use Rattle.ir_trace.specs.Recorded.{RecordedThread, Recorded, trace_magic}
 use Rattle.ir_trace.specs.declared.header.Header.{Header}
-use Rattle.ir_trace.specs.Reading.{trace_magic}
 
 -- the byte that a call of the environment begins with
 abbrev pub kind_tag : EnvKind → ℕ

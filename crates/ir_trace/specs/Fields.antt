@@ -4,7 +4,7 @@ use Rattle.ir_bytes.specs.Format.{Format, finished, next, before, repeated, firs
 use Rattle.ir_thread.specs.declared.profile.Profile.{Profile}
 use Rattle.ir_trace.specs.declared.trace_err.TraceErr.{TraceErr}
 use Rattle.ir_trace.specs.declared.trace_err.TraceErr.TheVariants.{Short, Trailing}
-use Rattle.ir_trace.specs.Reading.{trace_magic_field, profile_of, trace_threads_field, trace_objects_field, reserved_field, budget_field, end_field, events_field, input_field, object_field}
+use Rattle.ir_trace.specs.Recorded.{trace_magic_field, profile_of, trace_threads_field, trace_objects_field, reserved_field, budget_field, end_field, events_field, input_field, object_field}
 use Rattle.ir_trace.specs.Results.{code_field, tag_field}
 
 -- after the tag: an input's value; an entry's object and version, and, if it is for writing, its readers; a refused try's object;

@@ -1,14 +1,25 @@
--- What was recorded of a run, however the code keeps it.
-use Rattle.std.specs.Prelude.{ℕ, List, [], map, Some}
-pub use Rattle.ir_bytes.specs.Numbers.{IsWord}
+-- What was recorded of a run, however the code keeps it; how it is read from bytes, and its limits.
+use Rattle.std.specs.Prelude.{ℕ, List, [], map, Some, Bool, length, Option, None, Result, Ok, Err, nat_lt, ◌==◌, ◌||◌, if◌then◌else◌, ◌∷◌, ◌≡◌, ◌^◌, ◌<◌, ◌≤◌, ◌⊎◌}
+pub use Rattle.ir_bytes.specs.Reading.{IsWord}
 use Rattle.ir_thread.specs.declared.end.End.{End}
 use Rattle.ir_thread.specs.declared.profile.Profile.{Profile}
 use Rattle.ir_log.specs.declared.event.Event.{Event}
-use Rattle.std.specs.List.{slice_index_or}
-use Rattle.ir_thread.specs.State.{end_number, end_code}
+use Rattle.std.specs.List.{slice_index_or, AllByRecursion}
+use Rattle.ir_thread.specs.State.{end_number, end_code, largest, end_of}
 use Rattle.ir_runs.specs.Machine.{Trace}
 use Rattle.ir_thread.specs.declared.end.End.TheVariants.{Breakpoint}
 use Rattle.ir_log.specs.Logging.{label_of}
+use Rattle.byteorder.specs.Endian.{little_number}
+use Rattle.ir_bytes.specs.Reading.{◌>>=◌, Reader, Field, tested, within, fixed, number_at, field_at, fields_at}
+use Rattle.ir_image.specs.Guest.{limits_of}
+use Rattle.ir_thread.specs.Calls.{most_budget, most_events}
+use Rattle.ir_runs.specs.declared.env_kind.EnvKind.{EnvKind}
+use Rattle.ir_runs.specs.declared.env_kind.EnvKind.TheVariants.{Clock, Random, Input}
+use Rattle.ir_thread.specs.declared.profile.Profile.TheVariants.{One, Two}
+use Rattle.ir_log.specs.declared.event.Event.TheVariants.{Answer, Read, Write, Try}
+use Rattle.ir_trace.specs.declared.header.Header.{Header}
+use Rattle.ir_trace.specs.declared.trace_err.TraceErr.{TraceErr}
+use Rattle.ir_trace.specs.declared.trace_err.TraceErr.TheVariants.{Short, Magic, Count, Tag, Reserved, Range, Trailing, NoMem}
 
 -- what was recorded of one thread
 pub record RecordedThread : Type 0 where
@@ -48,3 +59,184 @@ trace_of r = record {
   logs = λ t. map label_of (recorded_thread r t).events;
   ends = λ t. let e = (recorded_thread r t).end in Some (end_number e, end_code e);
 }
+
+-- ---- reading from the left: each field is read whole and then tested, and the first fault is named
+
+-- `IRT1`, and in the second profile `IRT2`
+abbrev pub trace_magic : Profile → List ℕ
+trace_magic One = 0x49 ∷ 0x52 ∷ 0x54 ∷ 0x31 ∷ []
+trace_magic Two = 0x49 ∷ 0x52 ∷ 0x54 ∷ 0x32 ∷ []
+
+-- whether a number is the magic of a profile
+abbrev pub is_magic : ℕ → Bool
+is_magic n = n == little_number 4 (trace_magic One) || n == little_number 4 (trace_magic Two)
+
+abbrev pub trace_magic_field : Field TraceErr
+trace_magic_field = tested 4 is_magic Magic
+
+-- the profile of a magic
+abbrev pub profile_of : ℕ → Profile
+profile_of n = if n == little_number 4 (trace_magic One) then One else Two
+
+abbrev pub trace_threads_field : Profile → Field TraceErr
+trace_threads_field profile = within 1 1 (limits_of (largest profile)).threads Count
+
+abbrev pub trace_objects_field : Profile → Field TraceErr
+trace_objects_field profile = within 1 0 (limits_of (largest profile)).objects Count
+
+-- the two bytes that are reserved
+abbrev pub reserved_field : Field TraceErr
+reserved_field = fixed 2 0 Reserved
+
+abbrev pub budget_field : Field TraceErr
+budget_field = within 8 0 most_budget Count
+
+-- the number of an end
+abbrev pub end_field : Field TraceErr
+end_field = within 1 1 14 Range
+
+-- the number of events
+abbrev pub events_field : Field TraceErr
+events_field = within 4 0 most_events Count
+
+-- a byte, or the end of the input
+abbrev pub is_input : ℕ → Bool
+is_input n = nat_lt n 256 || n == input_end
+
+abbrev pub input_field : Field TraceErr
+input_field = tested 4 is_input Range
+
+-- the number of an object of a guest with `objects` objects
+abbrev pub object_field : ℕ → Field TraceErr
+object_field objects = tested 1 (λ n. nat_lt n objects) Count
+
+-- ---- the parts
+
+-- the profile, by the magic
+unfoldable pub profile_at : Reader Profile TraceErr
+profile_at bytes = field_at Short trace_magic_field bytes >>= λ n. Ok (profile_of n.0, n.1)
+
+-- what comes before the threads
+unfoldable pub header_at : Reader Header TraceErr
+header_at bytes = do
+  profile ← profile_at bytes
+  threads ← field_at Short (trace_threads_field profile.0) profile.1
+  objects ← field_at Short (trace_objects_field profile.0) threads.1
+  reserved ← field_at Short reserved_field objects.1
+  budget ← field_at Short budget_field reserved.1
+  Ok (record { profile = profile.0; threads = threads.0; objects = objects.0; budget = budget.0 }, budget.1)
+
+-- an end that was found by its number and its code
+abbrev pub end_by : Option End → Reader End TraceErr
+end_by (Some end) rest = Ok (end, rest)
+end_by None rest = Err Range
+
+-- an end: its number, and then its code
+unfoldable pub end_at : Reader End TraceErr
+end_at bytes = do
+  end ← field_at Short end_field bytes
+  code ← number_at Short 4 end.1
+  end_by (end_of end.0 code.0) code.1
+
+-- the result of a call of the environment
+unfoldable pub answer_at : EnvKind → Reader Event TraceErr
+answer_at kind bytes = number_at Short 4 bytes >>= λ n. Ok (Answer kind n.0, n.1)
+
+-- the result of an input
+unfoldable pub input_at : Reader Event TraceErr
+input_at bytes = field_at Short input_field bytes >>= λ n. Ok (Answer Input n.0, n.1)
+
+-- an entry for reading: the object, and its version
+unfoldable pub read_at : ℕ → Reader Event TraceErr
+read_at objects bytes = do
+  object ← field_at Short (object_field objects) bytes
+  version ← number_at Short 4 object.1
+  Ok (Read object.0 version.0, version.1)
+
+-- an entry for writing: the object, its version, and how many readers had left it
+unfoldable pub write_at : ℕ → Reader Event TraceErr
+write_at objects bytes = do
+  object ← field_at Short (object_field objects) bytes
+  version ← number_at Short 4 object.1
+  readers ← number_at Short 4 version.1
+  Ok (Write object.0 version.0 readers.0, readers.1)
+
+-- a refused try: the object
+unfoldable pub try_at : ℕ → Reader Event TraceErr
+try_at objects bytes = field_at Short (object_field objects) bytes >>= λ object. Ok (Try object.0, object.1)
+
+-- a refused try, in the second profile
+unfoldable pub try_by : Profile → ℕ → Reader Event TraceErr
+try_by One objects bytes = Err Tag
+try_by Two objects bytes = try_at objects bytes
+
+-- the fields of an event whose tag was read
+unfoldable pub event_by : Profile → ℕ → ℕ → Reader Event TraceErr
+event_by profile tag objects bytes =
+    if tag == 1 then answer_at Clock bytes else
+    if tag == 2 then answer_at Random bytes else
+    if tag == 3 then input_at bytes else
+    if tag == 4 then read_at objects bytes else
+    if tag == 5 then write_at objects bytes else
+    if tag == 6 then try_by profile objects bytes else Err Tag
+
+-- an event of a guest with `objects` objects
+unfoldable pub event_at : Profile → ℕ → Reader Event TraceErr
+event_at profile objects bytes = number_at Short 1 bytes >>= λ n. event_by profile n.0 objects n.1
+
+-- a thread of a guest with `objects` objects
+unfoldable pub thread_part_at : Profile → ℕ → Reader RecordedThread TraceErr
+thread_part_at profile objects bytes = do
+  steps ← number_at Short 8 bytes
+  end ← end_at steps.1
+  count ← field_at Short events_field end.1
+  events ← fields_at (event_at profile objects) count.0 count.1
+  Ok (record { steps = steps.0; end = end.0; events = events.0 }, events.1)
+
+-- the whole trace
+unfoldable pub recorded_at : List ℕ → Result Recorded TraceErr
+recorded_at bytes = do
+  header ← header_at bytes
+  threads ← fields_at (thread_part_at header.0.profile header.0.objects) header.0.threads header.1
+  if length threads.1 == 0
+      then Ok (record { objects = header.0.objects; budget = header.0.budget; profile = header.0.profile; threads = threads.0 })
+      else Err Trailing
+
+-- the number that a fault of the bytes goes by; running out of memory is no fault of theirs
+abbrev pub trace_fault_number : TraceErr → Option ℕ
+trace_fault_number Short = Some 1
+trace_fault_number Magic = Some 2
+trace_fault_number Count = Some 3
+trace_fault_number Tag = Some 4
+trace_fault_number Reserved = Some 5
+trace_fault_number Range = Some 6
+trace_fault_number Trailing = Some 7
+trace_fault_number NoMem = None
+
+-- the values that a call of the environment may have: an input gives a byte, or its end
+abbrev pub IsResult : EnvKind → ℕ → Type 0
+IsResult Clock value = IsWord value
+IsResult Random value = IsWord value
+IsResult Input value = (value < 256) ⊎ (value ≡ input_end)
+
+-- the limits of an event of a guest with `objects` objects; a refused try is in the second profile alone
+abbrev pub IsEvent : Profile → ℕ → Event → Type 0
+IsEvent profile objects (Answer kind value) = IsResult kind value
+IsEvent profile objects (Read object version) = (object < objects) × IsWord version
+IsEvent profile objects (Write object version readers) = (object < objects) × IsWord version × IsWord readers
+IsEvent profile objects (Try object) = (profile ≡ Two) × (object < objects)
+
+-- the limits of what is recorded of a thread of a guest with `objects` objects
+pub record IsRecordedThread (profile : Profile) (objects : ℕ) (t : RecordedThread) : Type 0 where
+  pub steps_fit : t.steps < 2 ^ 64
+  pub code_fits : IsWord (end_code t.end)
+  pub few_events : length t.events ≤ most_events
+  pub events_fit : AllByRecursion (IsEvent profile objects) t.events
+
+-- the limits of what is recorded, the threads and objects by the profile
+pub record IsRecorded (r : Recorded) : Type 0 where
+  pub some_thread : 1 ≤ length r.threads
+  pub few_threads : length r.threads ≤ (limits_of (largest r.profile)).threads
+  pub few_objects : r.objects ≤ (limits_of (largest r.profile)).objects
+  pub budget_fits : r.budget ≤ most_budget
+  pub threads_fit : AllByRecursion (IsRecordedThread r.profile r.objects) r.threads

@@ -3,7 +3,7 @@
 ghost use Rattle.std.specs.Prelude.{◌≡◌, ◌≤◌, ◌+◌, length, IfOk};
 ghost use Rattle.ir_bytes.specs.Reading.{field_at, fields_at};
 ghost use Rattle.ir_trace.specs.declared.trace_err.TraceErr.TheVariants.{Short};
-ghost use Rattle.ir_trace.specs.Reading.{object_field, answer_at, input_at, read_at, write_at, try_at, try_by, event_by, event_at};
+ghost use Rattle.ir_trace.specs.Recorded.{object_field, answer_at, input_at, read_at, write_at, try_at, try_by, event_by, event_at};
 ghost use Rattle.ir_trace.specs.Results.{Gives, shortest};
 ghost use Rattle.ir_thread.specs.Calls.{most_events};
 
@@ -15,7 +15,7 @@ use ir_runs::EnvKind;
 use ir_thread::Profile;
 use std::alloc::Global;
 
-#[tactic(auto, unfolding(crate::specs::Reading::answer_at))]
+#[tactic(auto, unfolding(crate::specs::Recorded::answer_at))]
 fn answer(kind: EnvKind, bytes: &[u8]) -> Result<(Event, &[u8]), TraceErr>
     ensures exact { Gives (λ x. (x.0, x.1.now)) result (answer_at kind bytes.now) }
     ensures taken { IfOk result (λ x. length x.1.now + 4 ≤ length bytes.now) }
@@ -24,7 +24,7 @@ fn answer(kind: EnvKind, bytes: &[u8]) -> Result<(Event, &[u8]), TraceErr>
     Ok((Event::Answer(kind, value), rest))
 }
 
-#[tactic(auto, unfolding(crate::specs::Reading::input_at, ir_bytes::specs::Reading::field_at))]
+#[tactic(auto, unfolding(crate::specs::Recorded::input_at, ir_bytes::specs::Reading::field_at))]
 fn input(bytes: &[u8]) -> Result<(Event, &[u8]), TraceErr>
     ensures exact { Gives (λ x. (x.0, x.1.now)) result (input_at bytes.now) }
     ensures taken { IfOk result (λ x. length x.1.now + 4 ≤ length bytes.now) }
@@ -50,7 +50,7 @@ fn object(objects: u8, bytes: &[u8]) -> Result<(u8, &[u8]), TraceErr>
     }
 }
 
-#[tactic(auto, unfolding(crate::specs::Reading::read_at))]
+#[tactic(auto, unfolding(crate::specs::Recorded::read_at))]
 fn read_entry(objects: u8, bytes: &[u8]) -> Result<(Event, &[u8]), TraceErr>
     ensures exact { Gives (λ x. (x.0, x.1.now)) result (read_at objects bytes.now) }
     ensures taken { IfOk result (λ x. length x.1.now + 4 ≤ length bytes.now) }
@@ -60,7 +60,7 @@ fn read_entry(objects: u8, bytes: &[u8]) -> Result<(Event, &[u8]), TraceErr>
     Ok((Event::Read { object, version }, rest))
 }
 
-#[tactic(auto, unfolding(crate::specs::Reading::write_at))]
+#[tactic(auto, unfolding(crate::specs::Recorded::write_at))]
 fn write_entry(objects: u8, bytes: &[u8]) -> Result<(Event, &[u8]), TraceErr>
     ensures exact { Gives (λ x. (x.0, x.1.now)) result (write_at objects bytes.now) }
     ensures taken { IfOk result (λ x. length x.1.now + 4 ≤ length bytes.now) }
@@ -78,7 +78,7 @@ fn write_entry(objects: u8, bytes: &[u8]) -> Result<(Event, &[u8]), TraceErr>
     ))
 }
 
-#[tactic(auto, unfolding(crate::specs::Reading::try_at, crate::specs::Reading::try_by))]
+#[tactic(auto, unfolding(crate::specs::Recorded::try_at, crate::specs::Recorded::try_by))]
 fn refused_try(profile: Profile, objects: u8, bytes: &[u8]) -> Result<(Event, &[u8]), TraceErr>
     ensures exact { Gives (λ x. (x.0, x.1.now)) result (try_by profile objects bytes.now) }
     ensures taken { IfOk result (λ x. length x.1.now + shortest profile ≤ length bytes.now + 1) }
@@ -92,7 +92,7 @@ fn refused_try(profile: Profile, objects: u8, bytes: &[u8]) -> Result<(Event, &[
     }
 }
 
-#[tactic(auto, unfolding(crate::specs::Reading::event_by))]
+#[tactic(auto, unfolding(crate::specs::Recorded::event_by))]
 fn tagged(profile: Profile, tag: u8, objects: u8, bytes: &[u8]) -> Result<(Event, &[u8]), TraceErr>
     ensures exact { Gives (λ x. (x.0, x.1.now)) result (event_by profile tag objects bytes.now) }
     ensures taken { IfOk result (λ x. length x.1.now + shortest profile ≤ length bytes.now + 1) }
@@ -108,7 +108,7 @@ fn tagged(profile: Profile, tag: u8, objects: u8, bytes: &[u8]) -> Result<(Event
     }
 }
 
-#[tactic(auto, unfolding(crate::specs::Reading::event_at))]
+#[tactic(auto, unfolding(crate::specs::Recorded::event_at))]
 fn event(profile: Profile, objects: u8, bytes: &[u8]) -> Result<(Event, &[u8]), TraceErr>
     ensures exact { Gives (λ x. (x.0, x.1.now)) result (event_at profile objects bytes.now) }
     ensures taken { IfOk result (λ x. length x.1.now + shortest profile ≤ length bytes.now) }

@@ -1,11 +1,9 @@
 //! The reader of traces.
 
 ghost use Rattle.std.specs.Prelude.{◌≡◌, List, ℕ, IfOk, Ok};
-ghost use Rattle.ir_trace.specs.Recorded.{Recorded};
-ghost use Rattle.ir_trace.specs.Within.{IsRecorded};
+ghost use Rattle.ir_trace.specs.Recorded.{Recorded, IsRecorded, profile_at, header_at, end_at, thread_part_at, recorded_at};
 ghost use Rattle.ir_trace.specs.Encoding.{encoding};
 ghost use Rattle.ir_bytes.specs.Reading.{fields_at};
-ghost use Rattle.ir_trace.specs.Reading.{profile_at, header_at, end_at, thread_part_at, recorded_at};
 ghost use Rattle.ir_trace.specs.Results.{Gives};
 
 use crate::event_reader::events;
@@ -18,7 +16,7 @@ use ir_bytes::{byte_within, double, double_within, fixed_half, word, word_within
 use ir_thread::{End, MOST_BUDGET, MOST_EVENTS, Profile};
 use std::alloc::Global;
 
-#[tactic(auto, unfolding(crate::specs::Reading::profile_at, ir_bytes::specs::Reading::field_at))]
+#[tactic(auto, unfolding(crate::specs::Recorded::profile_at, ir_bytes::specs::Reading::field_at))]
 fn profile(bytes: &[u8]) -> Result<(Profile, &[u8]), TraceErr>
     ensures { Gives (λ x. (x.0, x.1.now)) result (profile_at bytes.now) }
 {
@@ -29,7 +27,7 @@ fn profile(bytes: &[u8]) -> Result<(Profile, &[u8]), TraceErr>
     }
 }
 
-#[tactic(auto, unfolding(crate::specs::Reading::header_at))]
+#[tactic(auto, unfolding(crate::specs::Recorded::header_at))]
 fn header(bytes: &[u8]) -> Result<(Header, &[u8]), TraceErr>
     ensures { Gives (λ x. (x.0, x.1.now)) result (header_at bytes.now) }
 {
@@ -50,7 +48,7 @@ fn header(bytes: &[u8]) -> Result<(Header, &[u8]), TraceErr>
     ))
 }
 
-#[tactic(auto, unfolding(crate::specs::Reading::end_at))]
+#[tactic(auto, unfolding(crate::specs::Recorded::end_at))]
 fn end(bytes: &[u8]) -> Result<(End, &[u8]), TraceErr>
     ensures { Gives (λ x. (x.0, x.1.now)) result (end_at bytes.now) }
 {
@@ -62,7 +60,7 @@ fn end(bytes: &[u8]) -> Result<(End, &[u8]), TraceErr>
     }
 }
 
-#[tactic(auto, unfolding(crate::specs::Reading::thread_part_at))]
+#[tactic(auto, unfolding(crate::specs::Recorded::thread_part_at))]
 fn thread(
     alloc: Global,
     profile: Profile,
@@ -97,7 +95,7 @@ fn threads(
     Ok((threads, rest))
 }
 
-#[tactic(auto, unfolding(crate::specs::Reading::recorded_at))]
+#[tactic(auto, unfolding(crate::specs::Recorded::recorded_at))]
 fn trace(alloc: Global, bytes: &[u8]) -> Result<Trace, TraceErr>
     ensures found { IfOk result (λ trace. IsRecorded trace × (bytes.now ≡ encoding trace)) }
     ensures exact { Gives (λ trace. trace) result (recorded_at bytes.now) }

@@ -2,7 +2,7 @@
 
 ghost use Rattle.std.specs.Prelude.{◌≡◌};
 ghost use Rattle.ir_trace.specs.declared.trace_err.TraceErr.TheVariants.{NoMem};
-ghost use Rattle.ir_trace.specs.Reading.{trace_fault_number};
+ghost use Rattle.ir_trace.specs.Recorded.{trace_fault_number};
 
 use std::alloc::{AllocError, AllocFailed};
 use thiserror::Error;

@@ -6,8 +6,7 @@ use Rattle.ir_runs.specs.Machine.{Ask, Private, Env, Enter, Try, Leave, Get, Put
 use Rattle.ir_runs.specs.Lawful.{Holds, held_after}
 use Rattle.ir_runs.specs.declared.access.Access.{Access}
 use Rattle.ir_runs.specs.declared.access.Access.TheVariants.{Reading, Writing}
-use Rattle.ir_runs.specs.Run.{Step}
-use Rattle.ir_runs.specs.Cuts.{Emits}
+use Rattle.ir_runs.specs.Run.{Step, Emits}
 use Rattle.ir_runs.proofs.CallerLemmas.{upd_at_own_place}
 use Rattle.ir_flat.specs.Flat.{empty}
 use Rattle.ir_thread.specs.State as thread

@@ -7,10 +7,9 @@ use Rattle.ir_runs.specs.Lawful.{Holds, IsLawful}
 use Rattle.ir_runs.specs.declared.access.Access.{Access}
 use Rattle.ir_runs.specs.declared.access.Access.TheVariants.{Reading, Writing}
 use Rattle.ir_thread.specs.State as thread
-use Rattle.ir_runs.specs.Run.{State, Step, asked, act, after, IsRun, end, count}
-use Rattle.ir_runs.specs.Cuts.{Cut, IsCut, Consistent, part, object_at}
+use Rattle.ir_runs.specs.Run.{State, Step, asked, act, after, IsRun, end, count, Cut, IsCut, Consistent, part, object_at}
 use Rattle.ir_runs.specs.Admitted.{further, Admitted, AtCut}
-use Rattle.ir_runs.specs.Coherent.{sum_below}
+use Rattle.ir_runs.specs.Verdicts.{sum_below}
 use Rattle.ir_runs.proofs.CallerLemmas.{upd_by_cases, StateInvariant, state_invariant_after_step, state_at_consistent_cut, progress_below_consistent_target, min_of_cuts_is_consistent, sum_below_less_if_one_less}
 use Rattle.ir_fit.specs.Fit.{FittedTrace, IsRunOf}
 use Rattle.ir_cut.specs.Positions.{machine_of, start_of}

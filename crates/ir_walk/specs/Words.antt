@@ -1,6 +1,6 @@
 -- The words of the objects of a recorded run.
 use Rattle.std.specs.Prelude.{◌≡◌, ℕ, List, slice_index}
-use Rattle.ir_runs.specs.Cuts.{Cut, IsCut, Consistent, object_at}
+use Rattle.ir_runs.specs.Run.{Cut, IsCut, Consistent, object_at}
 use Rattle.ir_fit.specs.Fit.{FittedTrace}
 use Rattle.ir_cut.specs.Positions.{EachRun, machine_of, start_of}
 

@@ -24,14 +24,13 @@ use Rattle.ir_object.specs.declared.fields.Fields.{Fields}
 use Rattle.ir_object.specs.Word.{reader_unit, left_unit, version_unit, inside_limit, left_limit, reader_leaves, IsFields, word_of, fields_of, entered, left_by}
 use Rattle.ir_flat.specs.Flat.{Flat, IsFlat, idle, thread_of, cell_of, inside_of, tables}
 use Rattle.ir_flat.specs.Next.{next}
-use Rattle.ir_runs.specs.Run.{count, label, end, trail}
+use Rattle.ir_runs.specs.Run.{count, label, end, trail, At, Emits, part}
 use Rattle.ir_flat.proofs.CallerLemmas.{counts_within_logged_limit, inside_within_most_threads, entered_fields_fit, left_fields_fit, flat_inside_thread_can_leave, next_keeps_thread_count}
 use Rattle.ir_log.specs.Asked.{ask_of as event_ask, Suits}
 use Rattle.ir_log.proofs.CallerLemmas.{entry_event_suits_enter_or_try}
 use Rattle.ir_log.specs.declared.event.Event.{Event}
 use Rattle.ir_log.specs.declared.event.Event.TheVariants.{Answer as Answered, Read, Write, Try as Refused}
 use Rattle.ir_trace.specs.Recorded.{recorded_thread}
-use Rattle.ir_runs.specs.Cuts.{At, Emits, part}
 use Rattle.ir_fit.specs.Fit.{FittedTrace, HasRun}
 use Rattle.ir_cut.specs.Positions.{machine_of, start_of, EachRun}
 use Rattle.ir_runs.proofs.CallerLemmas.{admitted_persists_at_later_cut}

@@ -3,8 +3,7 @@ use Rattle.std.proofs.Common.{◌≡◌, ℕ, ◌+◌, ◌<◌, ◌≤◌, List,
 use Rattle.std.proofs.Math.Seq.{take-append_seam}
 use Rattle.std.proofs.lemmas.List.{length-map, take-map}
 use Rattle.ir_runs.specs.Machine.{Label}
-use Rattle.ir_runs.specs.Run.{Step, trail, events, log}
-use Rattle.ir_runs.specs.Cuts.{Cut, part}
+use Rattle.ir_runs.specs.Run.{Step, trail, events, log, Cut, part}
 use Rattle.ir_flat.specs.Flat.{Flat, thread_of}
 use Rattle.ir_log.specs.Logging.{label_of}
 use Rattle.ir_log.specs.declared.event.Event.{Event}

@@ -8,16 +8,15 @@ use Rattle.ir_thread.specs.Instance.{thread_machine}
 use Rattle.ir_thread.specs.State as thread
 use Rattle.ir_thread.proofs.CallerLemmas.{thread_machine_is_lawful}
 use Rattle.ir_flat.specs.Flat.{Flat, tables, machine}
-use Rattle.ir_runs.specs.Run.{State, Step, Can, label, IsRun, end, trail, events, log, count}
+use Rattle.ir_runs.specs.Run.{State, Step, Can, label, IsRun, end, trail, events, log, count, Cut, At, IsCut, Consistent, part}
 use Rattle.ir_runs.proofs.CallerLemmas.{events_append, StateInvariant, state_invariant_at_start, state_at_consistent_cut, PartIsRun, part_in_consistent_cut_is_run}
 use Rattle.ir_flat.proofs.CallerLemmas.{tallies_along_run, start_thread_is_fresh, start_thread_has_no_steps, states_equal_if_parts_equal}
 use Rattle.ir_log.specs.Logging.{label_of}
 use Rattle.ir_trace.specs.Recorded.{recorded_thread}
 use Rattle.ir_fit.specs.Ahead.{log_ahead}
-use Rattle.ir_runs.specs.Cuts.{Cut, At, IsCut, Consistent, part}
 use Rattle.ir_runs.specs.Admitted.{AtCut, Admitted}
 use Rattle.ir_fit.specs.Fit.{FittedTrace, IsRunOf}
-use Rattle.ir_runs.specs.Following.{unlogged}
+use Rattle.ir_runs.specs.Verdicts.{unlogged}
 use Rattle.ir_fit.proofs.CallerLemmas.{guest_start_is_start}
 use Rattle.ir_cut.specs.Positions.{machine_of, start_of}
 use Rattle.ir_weave.specs.Standing.{IsAt, IsStateAt, positions}

@@ -13,17 +13,16 @@ use Rattle.ir_thread.specs.declared.ask.Ask.{Ask}
 use Rattle.ir_thread.specs.declared.ask.Ask.TheVariants.{Private, Env, Enter, Try, Leave, Get, Put, Print, End, Done}
 use Rattle.ir_flat.specs.Flat.{Flat, IsFlat, thread_of, tables, machine as machine_in}
 use Rattle.ir_flat.specs.Next.{next, MayStep}
-use Rattle.ir_runs.specs.Run.{Step, after, label, count, th, trail}
+use Rattle.ir_runs.specs.Run.{Step, after, label, count, th, trail, At, Emits, IsNeededBy, Cut}
 use Rattle.ir_log.specs.Logging.{label_of}
 use Rattle.ir_log.specs.declared.event.Event.{Event}
 use Rattle.ir_log.specs.declared.event.Event.TheVariants.{Answer as Answered, Read, Write, Try as Refused}
 use Rattle.ir_trace.specs.Recorded.{Recorded, recorded_thread}
 use Rattle.ir_fit.specs.Ahead.{log_ahead}
 use Rattle.ir_flat.proofs.CallerLemmas.{events_added_by, may_step_is_can_for_ask, tables_of_next_are_after, next_is_flat, next_keeps_thread_count, next_keeps_object_count}
-use Rattle.ir_runs.specs.Cuts.{At, Emits, IsNeededBy, Cut}
 use Rattle.ir_runs.specs.Admitted.{further}
 use Rattle.ir_fit.specs.Fit.{FittedTrace, HasRun, IsRunOf}
-use Rattle.ir_runs.specs.Following.{unlogged}
+use Rattle.ir_runs.specs.Verdicts.{unlogged}
 use Rattle.ir_cut.specs.Positions.{machine_of, start_of}
 use Rattle.ir_weave.specs.Ahead.{IsRefused, IsAlone, GoesAlone, HasStep, ask_at, event_of, thread_at, IsThreadAt, AreAlone}
 use Rattle.ir_weave.specs.Standing.{IsStateAt, positions}

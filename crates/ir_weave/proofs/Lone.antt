@@ -14,7 +14,7 @@ use Rattle.ir_thread.specs.declared.ask.Ask.TheVariants.{Private, Env, Enter, Tr
 use Rattle.ir_runs.specs.declared.env_kind.EnvKind.{EnvKind}
 use Rattle.ir_thread.specs.declared.ask.Reply.{Reply}
 use Rattle.ir_thread.specs.declared.ask.Reply.TheVariants.{Go, Value}
-use Rattle.ir_runs.specs.Run.{Step, trail, events, count}
+use Rattle.ir_runs.specs.Run.{Step, trail, events, count, At, Emits}
 use Rattle.ir_runs.proofs.CallerLemmas.{events_append}
 use Rattle.ir_flat.specs.Flat.{Flat, start_flat, machine as machine_in}
 use Rattle.ir_flat.proofs.CallerLemmas.{start_thread_is_fresh, events_added_by, events_after_ask, length_of_held_after_ask}
@@ -22,7 +22,6 @@ use Rattle.ir_log.specs.Logging.{label_of}
 use Rattle.ir_log.specs.declared.event.Event.{Event}
 use Rattle.ir_log.specs.declared.event.Event.TheVariants.{Answer as Answered, Read, Write, Try as Refused}
 use Rattle.ir_trace.specs.Recorded.{recorded_thread}
-use Rattle.ir_runs.specs.Cuts.{At, Emits}
 use Rattle.ir_fit.specs.Fit.{FittedTrace, IsRunOf}
 use Rattle.ir_cut.specs.Positions.{machine_of, start_of, EachRun}
 use Rattle.ir_weave.specs.Ahead.{IsAlone, GoesAlone, HasStep, IsThreadAt, IsAhead, ask_at, event_of, thread_at}

@@ -6,15 +6,14 @@ use Rattle.ir_runs.specs.Machine.{Machine, Label, Quiet, Answer, In, Refused, Ou
 use Rattle.ir_thread.specs.State as thread
 use Rattle.ir_flat.specs.Alone.{WentAlone}
 use Rattle.ir_flat.specs.Flat.{Flat, tables, machine, start_flat}
-use Rattle.ir_runs.specs.Run.{State, Step, Can, after, label, IsRun, end, trail, events, log, count}
+use Rattle.ir_runs.specs.Run.{State, Step, Can, after, label, IsRun, end, trail, events, log, count, part}
 use Rattle.ir_runs.proofs.CallerLemmas.{append_of_runs_is_run, end_append, log_append, trail_of_cons_own_thread, trail_of_cons_other_thread, events_then_left_log_is_log, IsPrefix, run_with_beginning_logs_is_prefix}
 use Rattle.ir_flat.proofs.CallerLemmas.{tallies_along_run, length_of_start_threads, length_of_start_cells, start_thread_has_no_steps, guest_start_is_idle}
-use Rattle.ir_runs.specs.Cuts.{part}
 use Rattle.ir_trace.specs.Recorded.{trace_of}
 use Rattle.ir_fit.specs.Fit.{FittedTrace, IsRunOf}
 use Rattle.ir_fit.specs.Passed.{IsAlong}
 use Rattle.ir_fit.proofs.CallerLemmas.{idle_thread_has_empty_trail}
-use Rattle.ir_runs.specs.Following.{Check, Fits, Follows, closing, left_log, unlogged}
+use Rattle.ir_runs.specs.Verdicts.{Check, Fits, Follows, closing, left_log, unlogged}
 use Rattle.ir_cut.specs.Positions.{machine_of, start_of, cut_of}
 use Rattle.ir_weave.specs.Standing.{IsAt, IsStateAt, positions}
 use Rattle.ir_weave.specs.Stepping.{LogsNext, IsTarget, IsUnder, HasGone}

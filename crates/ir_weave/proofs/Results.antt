@@ -15,10 +15,9 @@ use Rattle.ir_flat.proofs.CallerLemmas.{entered_object_is_of_state}
 use Rattle.ir_log.specs.Asked.{Suits}
 use Rattle.ir_log.specs.declared.event.Event.{Event}
 use Rattle.ir_log.specs.declared.event.Event.TheVariants.{Answer, Try as Refused}
-use Rattle.ir_trace.specs.Recorded.{Recorded, recorded_thread, trace_of}
-use Rattle.ir_trace.specs.Within.{IsRecordedThread}
+use Rattle.ir_trace.specs.Recorded.{Recorded, recorded_thread, trace_of, IsRecordedThread}
 use Rattle.ir_fit.specs.Ahead.{steps_ahead, log_ahead, CanFollow, IsOpen}
-use Rattle.ir_runs.specs.Following.{Meets}
+use Rattle.ir_runs.specs.Verdicts.{Meets}
 use Rattle.ir_fit.specs.declared.follower.look.Look.TheVariants as look
 use Rattle.ir_fit.proofs.CallerLemmas.{end_asked, ends_now_is_end_asked, environment_call_is_not_done, suited_call_can_follow, unsuited_call_disagrees, open_entry_can_follow, shut_entry_is_stopped, unsuited_entry_disagrees, entry_is_not_done, refused_try_can_follow, GotIn, open_try_can_follow, shut_try_is_stopped, unsuited_try_disagrees, try_is_not_done, thread_without_move_is_stopped}
 use Rattle.ir_weave.specs.Stepping.{LogsNext}

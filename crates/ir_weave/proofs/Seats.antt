@@ -17,7 +17,7 @@ use Rattle.ir_thread.proofs.CallerLemmas.{ask_of_permitted}
 use Rattle.ir_log.proofs.CallerLemmas.{entry_event_suits_enter_or_try}
 use Rattle.ir_log.specs.declared.event.Event.{Event}
 use Rattle.ir_trace.specs.Recorded.{recorded_thread}
-use Rattle.ir_runs.specs.Cuts.{Emits}
+use Rattle.ir_runs.specs.Run.{Emits}
 use Rattle.ir_fit.specs.Fit.{FittedTrace, HasRun}
 use Rattle.ir_cut.specs.Positions.{machine_of, start_of, EachRun}
 use Rattle.ir_weave.specs.Ahead.{IsAlone, event_of, HasStep, IsAhead, IsAsking, IsEntering, IsNextObject, ask_at, thread_at}

@@ -6,8 +6,7 @@ use Rattle.ir_runs.specs.Machine as machine
 use Rattle.ir_runs.specs.declared.access.Access.{Access}
 use Rattle.ir_runs.specs.declared.access.Access.TheVariants.{Reading, Writing}
 use Rattle.ir_runs.proofs.CallerLemmas.{upd_at_own_place, thread_after_step_of_other}
-use Rattle.ir_runs.specs.Run.{State, Step, act, Can, IsRun, after, label, end, join_if, trail, thread_in, th}
-use Rattle.ir_runs.specs.Cuts.{At, Emits, IsNeededBy}
+use Rattle.ir_runs.specs.Run.{State, Step, act, Can, IsRun, after, label, end, join_if, trail, thread_in, th, At, Emits, IsNeededBy}
 
 pub record StepOf {T : Type 0} (m : Machine T) (x y : T) (a : Label) : Type 0 where
   pub result : ℕ

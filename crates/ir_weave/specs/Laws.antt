@@ -1,7 +1,7 @@
 -- What holds of the states at consistent cuts.
 use Rattle.std.specs.Prelude.{◌≡◌}
 use Rattle.ir_flat.specs.Flat.{Flat, IsFlat}
-use Rattle.ir_runs.specs.Cuts.{Cut}
+use Rattle.ir_runs.specs.Run.{Cut}
 use Rattle.ir_fit.specs.Fit.{FittedTrace, HasRun}
 use Rattle.ir_weave.specs.Standing.{IsStateAt}
 

@@ -3,11 +3,10 @@ use Rattle.std.specs.Prelude.{List, ◌≡◌, ℕ, ◌<◌, ◌≤◌, length}
 use Rattle.ir_thread.specs.State as thread
 use Rattle.ir_object.specs.Cell.{Cell}
 use Rattle.ir_flat.specs.Flat.{Flat, IsFlat, thread_of, tables}
-use Rattle.ir_runs.specs.Cuts.{Cut, IsCut, Consistent, object_at}
 use Rattle.ir_fit.specs.Fit.{FittedTrace}
 use Rattle.ir_cut.specs.Positions.{cut_of, machine_of, start_of, EachRun}
 use Rattle.ir_image.specs.Guest.{object_count}
-use Rattle.ir_runs.specs.Run.{Step, th}
+use Rattle.ir_runs.specs.Run.{Step, th, Cut, IsCut, Consistent, object_at}
 
 -- the threads and objects of a guest at one moment
 pub record Standing : Type 0 where

@@ -5,10 +5,9 @@ use Rattle.ir_flat.specs.Flat.{Flat, tables, machine}
 use Rattle.ir_runs.specs.Run.{Can, label}
 use Rattle.ir_trace.specs.Recorded.{Recorded}
 use Rattle.ir_fit.specs.Ahead.{log_ahead}
-use Rattle.ir_runs.specs.Coherent.{sum_below}
+use Rattle.ir_runs.specs.Verdicts.{sum_below, unlogged}
 use Rattle.ir_runs.specs.Admitted.{Admitted}
 use Rattle.ir_fit.specs.Fit.{FittedTrace, HasRun}
-use Rattle.ir_runs.specs.Following.{unlogged}
 use Rattle.ir_cut.specs.Positions.{machine_of, start_of, cut_of, EachRun, IsConsistentCut}
 use Rattle.ir_weave.specs.Standing.{IsStateAt, positions}
 

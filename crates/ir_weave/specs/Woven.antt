@@ -19,8 +19,7 @@ use Rattle.ir_flat.specs.Flat.{Flat, IsFlat, idle}
 use Rattle.ir_log.specs.declared.event.Event.{Event}
 use Rattle.ir_trace.specs.Recorded.{recorded_thread}
 use Rattle.ir_fit.specs.Ahead.{IsOpen}
-use Rattle.ir_runs.specs.Run.{count}
-use Rattle.ir_runs.specs.Cuts.{Cut, IsCut, Consistent, Emits}
+use Rattle.ir_runs.specs.Run.{count, Cut, IsCut, Consistent, Emits}
 use Rattle.ir_runs.specs.Admitted.{Admitted}
 use Rattle.ir_fit.specs.Fit.{FittedTrace, HasRun}
 use Rattle.ir_cut.specs.Positions.{machine_of, start_of, EachRun}

@@ -5,13 +5,12 @@ use Rattle.std.specs.List.{AllByRecursion}
 use Rattle.std.proofs.lemmas.Bool.{cases_eq, cases_lt}
 use Rattle.std.proofs.lemmas.Option.{same_Some, none-some}
 use Rattle.ir_runs.specs.declared.access.Access.TheVariants.{Reading}
-use Rattle.ir_runs.specs.Coherent.{reads, sum_below}
+use Rattle.ir_runs.specs.Verdicts.{reads, sum_below}
 use Rattle.ir_log.specs.Logging.{label_of}
 use Rattle.ir_log.specs.declared.event.Event.{Event}
 use Rattle.ir_log.specs.declared.event.Event.TheVariants as variant
 use Rattle.ir_thread.specs.declared.profile.Profile.{Profile}
-use Rattle.ir_trace.specs.Recorded.{Recorded, recorded_thread, trace_of}
-use Rattle.ir_trace.specs.Within.{IsRecorded, IsEvent}
+use Rattle.ir_trace.specs.Recorded.{Recorded, recorded_thread, trace_of, IsRecorded, IsEvent}
 use Rattle.ir_coherence.proofs.CallerLemmas.{recorded_thread_at_number_is_recorded}
 use Rattle.ir_past.specs.Past.{event_at, IsReadAt, IsWriteAt, IsMadeBy, IsOverwriter}
 use Rattle.ir_past.specs.Answers.{AreCoherent}

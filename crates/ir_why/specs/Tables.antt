@@ -3,7 +3,7 @@ use Rattle.std.specs.Prelude.{◌≡◌, ◌<◌, ◌≤◌, ◌⊎◌, ◌-◌,
 use Rattle.std.specs.List.{slice_get, slice_index_or}
 use Rattle.ir_log.specs.declared.event.Event.{Event}
 use Rattle.ir_log.specs.declared.event.Event.TheVariants.{Answer, Read, Write, Try}
-use Rattle.ir_runs.specs.Coherent.{sum_below}
+use Rattle.ir_runs.specs.Verdicts.{sum_below}
 use Rattle.ir_thread.specs.Calls.{most_events}
 use Rattle.ir_trace.specs.Recorded.{Recorded, recorded_thread}
 use Rattle.ir_past.specs.Past.{AreReaders}

@@ -1,8 +1,7 @@
 //! `ir why`: the bytes of a trace in, why an event came when it did out.
 
 ghost use Rattle.std.specs.Prelude.{◌≡◌, ◌≢◌, ◌<◌, ◌⊎◌, length, Ok, IfOk, IfErr, OnOk, false};
-ghost use Rattle.ir_trace.specs.Reading.{recorded_at};
-ghost use Rattle.ir_trace.specs.Recorded.{recorded_thread};
+ghost use Rattle.ir_trace.specs.Recorded.{recorded_thread, recorded_at};
 ghost use Rattle.ir_files.specs.Writers.{writer_of, Reports, fault_text};
 ghost use Rattle.ir_files.specs.declared.exit_status.ExitStatus.TheVariants as status;
 ghost use Rattle.ir_past.specs.Answers.{AreCoherent, Answered};

@@ -1,7 +1,7 @@
 -- The cut that a move leads to.
 use Rattle.std.specs.Prelude.{◌≡◌, ℕ, ◌+◌, ◌-◌, min, nat_le, List, length, Option, Some, None, if◌then◌else◌}
 use Rattle.ir_runs.specs.Run as run
-use Rattle.ir_runs.specs.Cuts.{IsLeast, IsGreatest}
+use Rattle.ir_runs.specs.Run.{IsLeast, IsGreatest}
 use Rattle.ir_cut.specs.Positions.{machine_of, start_of, cut_of}
 use Rattle.ir_command.specs.declared.command.Direction.{Direction}
 use Rattle.ir_command.specs.declared.command.Direction.TheVariants.{Forwards, Backwards}

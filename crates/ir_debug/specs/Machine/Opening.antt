@@ -1,13 +1,11 @@
 -- What the bytes of an image and of a trace open, and the lines that a session begins with.
 use Rattle.std.specs.Prelude.{◌≡◌, ◌≢◌, ℕ, List, codes, Result, Ok, Err}
-use Rattle.ir_image.specs.Guest.{Guest}
-use Rattle.ir_image.specs.Reading.{guest_at}
-use Rattle.ir_image.specs.Reading as reading
+use Rattle.ir_image.specs.Guest.{Guest, guest_at}
+use Rattle.ir_image.specs.Guest as reading
 use Rattle.ir_image.specs.declared.image_err.ImageErr.{ImageErr}
 use Rattle.ir_image.specs.declared.image_err.ImageErr.TheVariants as image_err
-use Rattle.ir_trace.specs.Recorded.{Recorded}
-use Rattle.ir_trace.specs.Reading.{recorded_at}
-use Rattle.ir_trace.specs.Reading as reading_trace
+use Rattle.ir_trace.specs.Recorded.{Recorded, recorded_at}
+use Rattle.ir_trace.specs.Recorded as reading_trace
 use Rattle.ir_trace.specs.declared.trace_err.TraceErr.{TraceErr}
 use Rattle.ir_trace.specs.declared.trace_err.TraceErr.TheVariants as trace_err
 use Rattle.ir_fit.specs.Fit.{FittedTrace, HasRun, IsRefused}

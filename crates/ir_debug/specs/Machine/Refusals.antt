@@ -1,7 +1,7 @@
 -- What is refused, whatever the run: the first reason in the order of the tests.
 use Rattle.std.specs.Prelude.{◌&&◌, ◌||◌, ◌==◌, ℕ, ◌+◌, ◌*◌, ◌%◌, not, nat_le, nat_lt, Bool, true, false, length, Option, Some, None, is_some, if◌then◌else◌}
 use Rattle.ir_image.specs.Guest.{Guest, code_start, object_count}
-use Rattle.ir_mach.specs.Memory.{lies_in_memory}
+use Rattle.ir_mach.specs.Execution.{lies_in_memory}
 use Rattle.ir_command.specs.declared.command.Command.{Command}
 use Rattle.ir_command.specs.declared.command.Command.TheVariants as command
 use Rattle.ir_command.specs.declared.command.Move.TheVariants.{Step, Back, Goto}

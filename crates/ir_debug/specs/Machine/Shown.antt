@@ -4,7 +4,7 @@ use Rattle.ir_image.specs.Guest.{object_words}
 use Rattle.ir_runs.specs.Machine.{Label}
 use Rattle.ir_thread.specs.State as thread
 use Rattle.ir_runs.specs.Run as run
-use Rattle.ir_runs.specs.Cuts.{object_at}
+use Rattle.ir_runs.specs.Run.{object_at}
 use Rattle.ir_cut.specs.Positions.{machine_of, start_of, cut_of}
 use Rattle.ir_command.specs.declared.command.Show.{Show}
 use Rattle.ir_command.specs.declared.command.Show.TheVariants.{Registers, Memory, Object, Output, Log, Next}

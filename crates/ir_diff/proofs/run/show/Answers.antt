@@ -1,5 +1,5 @@
 use Rattle.std.proofs.Common.{inr, refl}
-use Rattle.ir_trace.specs.Reading.{recorded_at}
+use Rattle.ir_trace.specs.Recorded.{recorded_at}
 use Rattle.ir_files.specs.Writers.{Writer, writer_of}
 use Rattle.ir_past.specs.Answers.{refusal_status, refusal_text, NotAnswered, Stops}
 use Rattle.ir_diff.specs.Lines.{IsDiffAnswer}

@@ -3,7 +3,7 @@ use Rattle.ir_thread.proofs.CallerLemmas.{thread_machine_is_lawful, thread_machi
 use Rattle.ir_flat.specs.Flat.{tables, start_flat}
 use Rattle.ir_runs.specs.Bounds.{trace}
 use Rattle.ir_runs.proofs.CallerLemmas.{state_invariant_at_start, maximal_follower_reaches_own_run, complete_run_follows_own_trace}
-use Rattle.ir_runs.specs.Following.{closing}
+use Rattle.ir_runs.specs.Verdicts.{closing}
 use Rattle.ir_fit.proofs.Guests.{guest_start_is_start}
 use Rattle.ir_fit.proofs.laws.complete_fits.Goals as goal
 

@@ -4,7 +4,7 @@ use Rattle.ir_thread.proofs.CallerLemmas.{thread_machine_is_lawful}
 use Rattle.ir_flat.specs.Flat.{tables, start_flat}
 use Rattle.ir_runs.proofs.CallerLemmas.{state_invariant_at_start, MaximalRun, maximal_run_exists}
 use Rattle.ir_flat.proofs.CallerLemmas.{guest_start_is_idle}
-use Rattle.ir_runs.specs.Coherent.{sum_below}
+use Rattle.ir_runs.specs.Verdicts.{sum_below}
 use Rattle.ir_fit.proofs.Guests.{guest_start_is_start}
 use Rattle.ir_fit.proofs.laws.maximal_exists.Goals as goal
 

@@ -1,5 +1,4 @@
-use Rattle.ir_fit.specs.Places.{placed_at}
-use Rattle.ir_fit.specs.Visits.{of_threads, left_by}
+use Rattle.ir_fit.specs.Fit.{placed_at, of_threads, left_by}
 use Rattle.ir_fit.specs.Listed.{AddsAll, none_listed}
 use Rattle.ir_fit.proofs.visiting.left.Given as goal
 

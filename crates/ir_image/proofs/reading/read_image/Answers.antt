@@ -1,5 +1,5 @@
 use Rattle.std.proofs.Common.{ap, subst, ◌∙◌}
-use Rattle.ir_image.specs.Reading.{guest_at}
+use Rattle.ir_image.specs.Guest.{guest_at}
 use Rattle.ir_image.specs.Results.{Gives}
 use Rattle.ir_image.proofs.Whole.{guest_at_of_encoding}
 use Rattle.ir_image.proofs.reading.read_image.Goals as goal

@@ -1,7 +1,6 @@
 use Rattle.std.proofs.Common.{Result, IfOk, IfErr, sym, subst}
 use Rattle.std.proofs.lemmas.Result.{err_from_is_err_and}
-use Rattle.ir_trace.specs.Reading.{recorded_at}
-use Rattle.ir_trace.specs.Recorded.{Recorded}
+use Rattle.ir_trace.specs.Recorded.{Recorded, recorded_at}
 use Rattle.ir_trace.specs.declared.trace_err.TraceErr.{TraceErr}
 use Rattle.ir_files.proofs.CallerLemmas.{if_err_for_handed_on_error}
 use Rattle.ir_files.specs.Writers.{Writer, writer_of}

@@ -1,4 +1,4 @@
-use Rattle.ir_trace.specs.Reading.{recorded_at}
+use Rattle.ir_trace.specs.Recorded.{recorded_at}
 use Rattle.ir_past.specs.Lines.{IsStaleAnswer}
 use Rattle.ir_past.proofs.Shown.{answered_status_is_not_failed}
 use Rattle.ir_past.proofs.run.stale_run.Goals as goal

@@ -2,7 +2,7 @@ use Rattle.std.proofs.Common.{arith, ◌∙◌, ap, length, length-append, ◌�
 use Rattle.std.proofs.lemmas.Result.{err_from_is_err_and}
 use Rattle.ir_log.specs.Logged.{Logged}
 use Rattle.ir_bytes.specs.Reading.{fields_at}
-use Rattle.ir_trace.specs.Reading.{event_at}
+use Rattle.ir_trace.specs.Recorded.{event_at}
 use Rattle.ir_bytes.proofs.CallerLemmas.{fields_at_after_read_field, fields_at_after_all_fields}
 use Rattle.ir_trace.proofs.Loop.{fields_fail_if_field_fails}
 use Rattle.ir_trace.proofs.Room.{event_room_step, event_room_for_next_event}

@@ -1,6 +1,6 @@
 use Rattle.std.proofs.Common.{◌≡◌, ◌≤◌, ◌+◌, ◌*◌, ◌-◌, ◌/◌, length, min}
 use Rattle.ir_bytes.specs.Reading.{fields_at}
-use Rattle.ir_trace.specs.Reading.{event_at}
+use Rattle.ir_trace.specs.Recorded.{event_at}
 use Rattle.ir_trace.specs.Results.{shortest}
 use Rattle.ir_bytes.proofs.CallerLemmas.{with_prefix}
 use Rattle.ir_trace.proofs.event_reader.events.Given as goal

@@ -1,5 +1,5 @@
 use Rattle.std.proofs.Common.{ap, subst, ◌∙◌}
-use Rattle.ir_trace.specs.Reading.{recorded_at}
+use Rattle.ir_trace.specs.Recorded.{recorded_at}
 use Rattle.ir_trace.specs.Results.{Gives}
 use Rattle.ir_trace.proofs.Whole.{recorded_at_of_encoding}
 use Rattle.ir_trace.proofs.reader.read_trace.Goals as goal

@@ -1,6 +1,6 @@
 use Rattle.std.proofs.lemmas.Result.{err_from_is_err_and}
 use Rattle.ir_bytes.specs.Reading.{fields_at}
-use Rattle.ir_trace.specs.Reading.{thread_part_at}
+use Rattle.ir_trace.specs.Recorded.{thread_part_at}
 use Rattle.ir_bytes.proofs.CallerLemmas.{fields_at_after_read_field, fields_at_after_all_fields}
 use Rattle.ir_trace.proofs.Loop.{fields_fail_if_field_fails}
 use Rattle.ir_trace.proofs.reader.threads.Goals as goal

@@ -1,6 +1,6 @@
 use Rattle.std.proofs.Common.{◌≡◌, ◌-◌}
 use Rattle.ir_bytes.specs.Reading.{fields_at}
-use Rattle.ir_trace.specs.Reading.{thread_part_at}
+use Rattle.ir_trace.specs.Recorded.{thread_part_at}
 use Rattle.ir_bytes.proofs.CallerLemmas.{with_prefix}
 use Rattle.ir_trace.proofs.reader.threads.Given as goal
 

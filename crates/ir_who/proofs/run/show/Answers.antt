@@ -1,6 +1,6 @@
 use Rattle.std.proofs.Common.{Err, subst}
 use Rattle.std.proofs.lemmas.Result.{err_from_is_err_and}
-use Rattle.ir_trace.specs.Reading.{recorded_at}
+use Rattle.ir_trace.specs.Recorded.{recorded_at}
 use Rattle.ir_files.proofs.CallerLemmas.{if_err_for_handed_on_error}
 use Rattle.ir_past.specs.Answers.{IsOpened}
 use Rattle.ir_past.specs.declared.opened.Opened.TheVariants.{Refused}

@@ -1,6 +1,6 @@
 use Rattle.std.proofs.Common.{◌<◌, ◌≤◌, List, length, sym, ap, subst, arith}
 use Rattle.ir_trace.specs.Recorded.{recorded_thread}
-use Rattle.ir_fit.specs.Places.{Placed, placed_at}
+use Rattle.ir_fit.specs.Fit.{Placed, placed_at}
 use Rattle.ir_fit.proofs.Listed.{entries_as_many_as_events}
 use Rattle.ir_fit.proofs.fitted.Fitted.new.Goals as goal
 

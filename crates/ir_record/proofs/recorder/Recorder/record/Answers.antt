@@ -1,6 +1,6 @@
 use Rattle.std.proofs.Common.{[], ◌++◌, length, map, replicate, refl, sym, ap, ◌∙◌, subst}
 use Rattle.ir_flat.specs.Flat.{tables}
-use Rattle.ir_runs.specs.InOrder.{rounds}
+use Rattle.ir_runs.specs.Run.{rounds}
 use Rattle.ir_record.specs.Failures.{StoppedAt}
 use Rattle.ir_record.specs.Progress.{Progress, Took}
 use Rattle.ir_record.specs.Recorders.{progress_of}
