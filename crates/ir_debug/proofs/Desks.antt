@@ -5,7 +5,7 @@ use Rattle.ir_cut.specs.Positions.{IsConsistentCut}
 use Rattle.ir_hits.specs.Watchable.{AreWatchable}
 use Rattle.ir_timeline.specs.Positions.{threads_of}
 use Rattle.ir_timeline.specs.Hand.{IsCutOf}
-use Rattle.ir_debug.specs.Machine.Desk.{Desk, most_kept}
+use Rattle.ir_debug.specs.Machine.{Desk, most_kept}
 use Rattle.ir_weave.specs.Standing.{Standing}
 use Rattle.ir_debug.specs.Debugging.{IsDebugging, IsDesk, AllKept}
 

@@ -4,9 +4,8 @@ use Rattle.std.specs.Prelude.{find, cond, option_map, is_some, MatchOption, IsSo
 use Rattle.std.proofs.lemmas.List.{at_drop_more, at_drop_all}
 use Rattle.ir_fit.specs.Fit.{FittedTrace}
 use Rattle.ir_timeline.specs.Hand.{IsCutOf}
-use Rattle.ir_debug.specs.Machine.Desk.{Kept, kept_cut}
+use Rattle.ir_debug.specs.Machine.{Kept, kept_cut, kept_line, kept_text}
 use Rattle.ir_debug.specs.Debugging.{AllKept}
-use Rattle.ir_debug.specs.Machine.Answers.{kept_line, kept_text}
 
 first_or_other_kept_is_cut : (f : FittedTrace) (k : Kept) (c : List ℕ) (rest : Option Kept) (b : Bool) → IsCutOf f k.cut
     → (option_map (λ z. z.cut) rest ≡ Some c → IsCutOf f c) → option_map (λ z. z.cut) (cond b (Some k) rest) ≡ Some c → IsCutOf f c

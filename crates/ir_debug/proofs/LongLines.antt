@@ -9,8 +9,7 @@ use Rattle.ir_command.specs.Commands.{most_line, command_of}
 use Rattle.ir_command.specs.declared.command.Command.{Command}
 use Rattle.ir_command.specs.declared.refusal.Refusal.{Refusal}
 use Rattle.ir_command.specs.declared.refusal.Refusal.TheVariants.{LineTooLong}
-use Rattle.ir_debug.specs.Machine.Desk.{Desk}
-use Rattle.ir_debug.specs.Machine.Answers.{RepliesBy, Replies, quits_by, quits}
+use Rattle.ir_debug.specs.Machine.{Desk, RepliesBy, Replies, quits_by, quits}
 
 too_long : (line : List ℕ) → most_line < length line → command_of line ≡ Err LineTooLong
 unfolding command_of

@@ -10,9 +10,7 @@ use Rattle.ir_stream.specs.declared.serving.Served.{Served}
 use Rattle.ir_stream.specs.declared.serving.Served.TheVariants as served
 use Rattle.ir_stream.specs.declared.serving.Fault.{Fault}
 use Rattle.ir_stream.specs.declared.serving.Fault.TheVariants as fault
-use Rattle.ir_debug.specs.Machine.Desk.{Desk}
-use Rattle.ir_debug.specs.Machine.Answers.{Replies, quits}
-use Rattle.ir_debug.specs.Machine.Opening.{Opening, ImageRefused, TraceRefused, Unfit, Ready, Opens, opening_text}
+use Rattle.ir_debug.specs.Machine.{Desk, Replies, quits, Opening, ImageRefused, TraceRefused, Unfit, Ready, Opens, opening_text}
 use Rattle.ir_debug.specs.Debugging.{Debugging}
 use Rattle.ir_debug.specs.Openings.{opening_of}
 use Rattle.ir_debug.specs.declared.opening.Opened.{Opened}

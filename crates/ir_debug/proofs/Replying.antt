@@ -9,7 +9,7 @@ use Rattle.ir_command.specs.declared.refusal.Refusal.{Refusal}
 use Rattle.ir_stream.specs.Answers.{RepliedPrefix, AppendsPrefix}
 use Rattle.ir_stream.specs.Written.{Replied}
 use Rattle.ir_debug.specs.declared.answer.Answer.{Answer}
-use Rattle.ir_debug.specs.Machine.Answers.{RepliesBy, Replies}
+use Rattle.ir_debug.specs.Machine.{RepliesBy, Replies}
 use Rattle.ir_debug.specs.Debugging.{Debugging, IsAnswer, IsText}
 
 -- the answer's text is one that the small machine may reply with

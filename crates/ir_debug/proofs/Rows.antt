@@ -16,9 +16,7 @@ use Rattle.ir_command.specs.declared.refusal.Refusal.{Refusal}
 use Rattle.ir_command.specs.declared.refusal.Refusal.TheVariants.{UnknownCommand, BadArgument, NoSuchThread, NoSuchObject, BadAddress, LineTooLong}
 use Rattle.ir_fit.specs.Fit.{FittedTrace}
 use Rattle.ir_timeline.specs.Positions.{last_cut, last_positions}
-use Rattle.ir_debug.specs.Machine.Desk.{Desk, desk_of}
-use Rattle.ir_debug.specs.Machine.Answers.{moved_text}
-use Rattle.ir_debug.specs.Machine.Refusals.{refusal_of, may_lack}
+use Rattle.ir_debug.specs.Machine.{Desk, desk_of, moved_text, refusal_of, may_lack}
 
 abbrev AskedCommand : Type 0
 AskedCommand = Result (Option Command) Refusal

@@ -15,8 +15,7 @@ use Rattle.ir_runs.specs.Run.{Step, after}
 use Rattle.ir_fit.specs.Fit.{FittedTrace}
 use Rattle.ir_text.specs.Texts.{registers_text, inside_for, event_lines, memory_lines, output_lines, bytes_from}
 use Rattle.ir_command.specs.declared.command.Show.TheVariants.{Registers, Memory, Output, Object, Log, Next}
-use Rattle.ir_debug.specs.Machine.Desk.{Desk, desk_of}
-use Rattle.ir_debug.specs.Machine.Shown.{shown}
+use Rattle.ir_debug.specs.Machine.{Desk, desk_of, shown}
 
 abbrev fitted_by : ImageForm → Profile → List ℕ → ℕ → ℕ → FittedTrace
 fitted_by form profile code objects steps = record {

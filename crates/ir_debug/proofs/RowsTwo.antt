@@ -14,9 +14,8 @@ use Rattle.ir_runs.specs.Run.{Step, after}
 use Rattle.ir_fit.specs.Fit.{FittedTrace}
 use Rattle.ir_command.specs.declared.command.Show.TheVariants.{Object, Log, Next}
 use Rattle.ir_hits.specs.Hits.{thread_at}
-use Rattle.ir_debug.specs.Machine.Desk.{Desk, desk_of}
+use Rattle.ir_debug.specs.Machine.{Desk, desk_of, shown}
 use Rattle.ir_text.specs.Texts.{inside_for, event_lines}
-use Rattle.ir_debug.specs.Machine.Shown.{shown}
 
 abbrev code_of_two_threads : List ℕ
 code_of_two_threads =

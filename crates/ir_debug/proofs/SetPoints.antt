@@ -16,9 +16,8 @@ use Rattle.ir_command.specs.declared.command.Point.{Point}
 use Rattle.ir_command.specs.declared.command.Point.TheVariants.{Break, Watch, WatchObject}
 use Rattle.ir_hits.specs.Hits.{Numbered, HitBy, thread_at, steps_of}
 use Rattle.ir_command.specs.declared.hit.Hit.{Hit}
-use Rattle.ir_debug.specs.Machine.Desk.{Desk}
+use Rattle.ir_debug.specs.Machine.{Desk, stop_of}
 use Rattle.ir_timeline.specs.Positions.{threads_of, last_of, Finds}
-use Rattle.ir_debug.specs.Machine.Moves.{stop_of}
 
 -- after its last step a thread stays as it is
 pub thread_same_after_last_step : (f : FittedTrace) (run : List Step) (t j : ℕ) → steps_of f run t ≤ j → thread_at f run t j ≡ thread_at f run t (suc j)

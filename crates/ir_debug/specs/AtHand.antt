@@ -16,8 +16,7 @@ use Rattle.ir_debug.specs.declared.answer.Answer.{Answer}
 use Rattle.ir_text.specs.Texts.{machine_text, bytes_from, memory_text, output_text, object_text, log_text, next_text}
 use Rattle.ir_debug.specs.Debugging.{Debugging, IsThere, text_by}
 use Rattle.ir_timeline.specs.Positions.{threads_of}
-use Rattle.ir_debug.specs.Machine.Refusals.{thread_named}
-use Rattle.ir_debug.specs.Machine.Shown.{shown}
+use Rattle.ir_debug.specs.Machine.{thread_named, shown}
 use Rattle.ir_text.specs.Held.{held_by}
 
 -- a thread in hand

@@ -15,11 +15,8 @@ use Rattle.ir_command.specs.declared.refusal.Refusal.{Refusal}
 use Rattle.ir_debug.specs.declared.answer.Answer.{Answer}
 use Rattle.ir_debug.specs.declared.answer.Answer.TheVariants.{Moved, Continued, Position, Shown, Next, Set, Cleared, Kept, Dropped, KeptCuts, Refused, Bye}
 use Rattle.ir_text.specs.Texts.{refusal_text, number_line, positions_text}
-use Rattle.ir_debug.specs.Machine.Desk as desk
-use Rattle.ir_debug.specs.Machine.Desk.{Desk, most_kept}
-use Rattle.ir_debug.specs.Machine.Refusals.{refusal_of, is_at_hand}
-use Rattle.ir_debug.specs.Machine.Shown.{shown}
-use Rattle.ir_debug.specs.Machine.Answers.{kept_text, moved_text, continued_text, RepliesBy}
+use Rattle.ir_debug.specs.Machine as desk
+use Rattle.ir_debug.specs.Machine.{Desk, most_kept, refusal_of, is_at_hand, shown, kept_text, moved_text, continued_text, RepliesBy}
 
 -- all kept cuts are such
 abbrev pub AllKept : FittedTrace → List desk.Kept → Type 0

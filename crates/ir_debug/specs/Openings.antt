@@ -1,6 +1,6 @@
 -- What was opened, as the small machine's.
-use Rattle.ir_debug.specs.Machine.Opening.{Opening}
-use Rattle.ir_debug.specs.Machine.Opening as opening
+use Rattle.ir_debug.specs.Machine.{Opening}
+use Rattle.ir_debug.specs.Machine as opening
 use Rattle.ir_debug.specs.declared.opening.Opened.{Opened}
 use Rattle.ir_debug.specs.declared.opening.Opened.TheVariants as opened
 

@@ -6,10 +6,8 @@ use Rattle.ir_stream.specs.declared.serving.Served.{Served}
 use Rattle.ir_stream.specs.declared.serving.Served.TheVariants as served
 use Rattle.ir_stream.specs.declared.serving.Fault.{Fault}
 use Rattle.ir_stream.specs.declared.serving.Fault.TheVariants as fault
-use Rattle.ir_debug.specs.Machine.Desk.{Desk}
-use Rattle.ir_debug.specs.Machine.Answers.{Replies, quits}
-use Rattle.ir_debug.specs.Machine.Opening.{Opening, Opens, opening_text}
-use Rattle.ir_debug.specs.Machine.Opening as opening
+use Rattle.ir_debug.specs.Machine.{Desk, Replies, quits, Opening, Opens, opening_text}
+use Rattle.ir_debug.specs.Machine as opening
 use Rattle.ir_debug.specs.declared.ended.Ended.{Ended}
 use Rattle.ir_debug.specs.declared.ended.Ended.TheVariants.{Quit, InputEnd, ImageRefused, TraceRefused, NotFit}
 use Rattle.ir_debug.specs.declared.ended.SessionErr.{SessionErr}

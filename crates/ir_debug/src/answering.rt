@@ -9,9 +9,8 @@ ghost use Rattle.ir_stream.specs.Answers.{AppendsPrefix};
 ghost use Rattle.ir_command.specs.declared.command.Command.TheVariants as command;
 ghost use Rattle.ir_debug.specs.AtHand.{text_here};
 ghost use Rattle.ir_debug.specs.Debugging.{IsLast, IsText};
-ghost use Rattle.ir_debug.specs.Machine.Answers.{moved_text, continued_text, kept_line, kept_text};
+ghost use Rattle.ir_debug.specs.Machine.{moved_text, continued_text, kept_line, kept_text, refusal_of};
 ghost use Rattle.ir_cut.specs.Positions.{cut_of};
-ghost use Rattle.ir_debug.specs.Machine.Refusals.{refusal_of};
 ghost use Rattle.ir_timeline.specs.Positions.{threads_of, last_of};
 ghost use Rattle.ir_text.specs.Texts.{positions_text, stop_text};
 

@@ -2,7 +2,7 @@
 
 ghost use Rattle.std.specs.Prelude.{◌≡◌, IfOk, Ok};
 ghost use Rattle.ir_trace.specs.Recorded.{recorded_at};
-ghost use Rattle.ir_debug.specs.Machine.Opening.{Opens, OpensImage, OpensTrace, OpensFit};
+ghost use Rattle.ir_debug.specs.Machine.{Opens, OpensImage, OpensTrace, OpensFit};
 ghost use Rattle.ir_debug.specs.Openings.{opening_of};
 
 use crate::debugger::Debugger;
@@ -39,7 +39,7 @@ fn open_trace<H: Hands>(hands: &H, image: Image, trace: &[u8]) -> Result<Opened,
 ///
 /// # Errors
 /// Out of memory.
-#[tactic(auto, unfolding(crate::specs::Machine::Opening::Opens))]
+#[tactic(auto, unfolding(crate::specs::Machine::Opens))]
 pub fn open<H: Hands>(hands: &H, image: &[u8], trace: &[u8]) -> Result<Opened, AllocError>
     ensures { IfOk result (λ opened. Opens image.now trace.now (opening_of opened)) }
 {

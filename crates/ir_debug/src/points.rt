@@ -1,7 +1,7 @@
 //! Points that are set, each by a number.
 
 ghost use Rattle.std.specs.Prelude.{◌≡◌};
-ghost use Rattle.ir_debug.specs.Machine.Desk.{is_set, most_points, points_without};
+ghost use Rattle.ir_debug.specs.Machine.{is_set, most_points, points_without};
 
 use ir_hits::NumberedPoint;
 use std::alloc::{AllocError, Global};
@@ -20,7 +20,7 @@ impl Model for Points {
     ghost use Rattle.std.specs.Prelude.{◌≤◌, List};
     ghost use Rattle.std.specs.Vec.{vec_capacity};
     ghost use Rattle.ir_hits.specs.Hits.{Numbered};
-    ghost use Rattle.ir_debug.specs.Machine.Desk.{most_points};
+    ghost use Rattle.ir_debug.specs.Machine.{most_points};
 
     ghost Value = { List Numbered };
 

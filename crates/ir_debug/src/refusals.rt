@@ -2,7 +2,7 @@
 
 ghost use Rattle.std.specs.Prelude.{◌≡◌, ◌≤◌};
 ghost use Rattle.ir_mach.specs.Execution.{lies_in_memory};
-ghost use Rattle.ir_debug.specs.Machine.Refusals.{thread_named, object_named, lies_in_code, has_address};
+ghost use Rattle.ir_debug.specs.Machine.{thread_named, object_named, lies_in_code, has_address};
 
 use crate::debugger::Debugger;
 use crate::kept::{MOST_KEPT, kept_cut};
@@ -84,7 +84,7 @@ fn has_address(image: &Image, command: &Command) -> bool
 }
 
 impl Debugger {
-    ghost use Rattle.ir_debug.specs.Machine.Refusals.{refusal_of, has_number, has_place};
+    ghost use Rattle.ir_debug.specs.Machine.{refusal_of, has_number, has_place};
 
     // Whether a point is set, or a cut kept, by the number that a command names; the start isn't dropped.
     fn has_number(&self, command: &Command) -> bool
@@ -115,7 +115,7 @@ impl Debugger {
 
     // Why a command is refused, if it is: its thread, its object, its point or kept cut or its bytes aren't there, or there is no
     // place for one more, in this order.
-    #[tactic(auto, unfolding(crate::specs::Machine::Refusals::refusal_of))]
+    #[tactic(auto, unfolding(crate::specs::Machine::refusal_of))]
     pub(crate) fn refusal_of(&self, command: &Command) -> Option<Refusal>
         ensures { result ≡ refusal_of self.now.desk command.now }
     {

@@ -5,7 +5,7 @@ ghost use Rattle.std.specs.Io.KnownBytes.{IsAtEnd};
 ghost use Rattle.ir_stream.specs.Answers.{split_lines, lines_of, last_line, RepliedPrefix, through, some_quits, ReadsUpTo};
 ghost use Rattle.ir_stream.specs.Written.{Wrote, WroteInPart, Replied};
 ghost use Rattle.ir_stream.specs.Endings.{flow_after, served_after, IfEnded, LeadsTo};
-ghost use Rattle.ir_debug.specs.Machine.Answers.{Replies, quits, quits_by};
+ghost use Rattle.ir_debug.specs.Machine.{Replies, quits, quits_by};
 ghost use Rattle.ir_debug.specs.Debugging.{IsAnswer};
 
 use crate::answer::Answer;
@@ -43,7 +43,7 @@ fn carry_out<H: Hands>(
 }
 
 /// Answers a line. It comes without its line feed, and with the carriage return that may be before it.
-#[tactic(auto, unfolding(crate::specs::Machine::Answers::quits))]
+#[tactic(auto, unfolding(crate::specs::Machine::quits))]
 pub fn respond<H: Hands, W: Sink>(
     hands: &H,
     debugger: &mut Debugger,

@@ -16,7 +16,7 @@ use Rattle.ir_packet.specs.declared.found.Found.TheVariants as found
 use Rattle.ir_packet.specs.declared.reply.Reply.TheVariants as reply
 use Rattle.ir_packet.specs.declared.request.Request.{Request}
 use Rattle.ir_packet.specs.declared.request.Request.TheVariants as request
-use Rattle.ir_debug.specs.Machine.Answers.{quits}
+use Rattle.ir_debug.specs.Machine.{quits}
 use Rattle.ir_gdb.proofs.Answering.{sent_answer_to_packet, sent_part_of_answer_to_packet}
 use Rattle.ir_gdb.specs.Connection.{Link, sent, sign, unacknowledged, is_copy, is_packet, before_reply, AnswersLine, AnswersBy, AnswersRequest, AnswersPacket, AnswersNew, AnswersItem, AnswersItemBy, ends_request, ends_by, ends, Sent, SentInPart}
 

@@ -6,8 +6,7 @@ use Rattle.ir_command.specs.Commands.{command_of}
 use Rattle.ir_command.specs.declared.command.Command.{Command}
 use Rattle.ir_command.specs.declared.refusal.Refusal.{Refusal}
 use Rattle.ir_debug.specs.declared.answer.Answer.{Answer}
-use Rattle.ir_debug.specs.Machine.Answers.{RepliesBy, Replies, quits}
-use Rattle.ir_debug.specs.Machine.Desk.{Desk}
+use Rattle.ir_debug.specs.Machine.{RepliesBy, Replies, quits, Desk}
 use Rattle.ir_debug.specs.Debugging.{Debugging, IsAnswer, IsText}
 use Rattle.ir_gdb.specs.Stub.{Stub}
 use Rattle.ir_gdb.specs.declared.console.Answered.{Answered}

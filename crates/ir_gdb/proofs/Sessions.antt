@@ -8,9 +8,8 @@ use Rattle.ir_stream.specs.declared.serving.Served.{Served}
 use Rattle.ir_stream.specs.declared.serving.Served.TheVariants as served
 use Rattle.ir_stream.specs.declared.serving.Fault.{Fault}
 use Rattle.ir_stream.specs.declared.serving.Fault.TheVariants as fault
-use Rattle.ir_debug.specs.Machine.Desk.{Desk}
-use Rattle.ir_debug.specs.Machine.Opening.{Opening, Opens, opening_text}
-use Rattle.ir_debug.specs.Machine.Opening as opening
+use Rattle.ir_debug.specs.Machine.{Desk, Opening, Opens, opening_text}
+use Rattle.ir_debug.specs.Machine as opening
 use Rattle.ir_debug.specs.Debugging.{Debugging}
 use Rattle.ir_debug.specs.Openings.{opening_of}
 use Rattle.ir_debug.specs.Session.{most_input, ended_by, IfServed, IfRefused}

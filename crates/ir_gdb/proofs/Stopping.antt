@@ -9,7 +9,7 @@ use Rattle.ir_command.specs.declared.command.Direction.TheVariants.{Forwards}
 use Rattle.ir_command.specs.declared.hit.Hit.{Hit}
 use Rattle.ir_hits.specs.Hits.{Numbered, IsFirstHit, IsLastHit}
 use Rattle.ir_hits.specs.Searching.{IsNextHit}
-use Rattle.ir_debug.specs.Machine.Desk.{Desk}
+use Rattle.ir_debug.specs.Machine.{Desk}
 use Rattle.ir_timeline.specs.Positions.{threads_of, last_of, Finds}
 use Rattle.ir_packet.specs.declared.reply.Reason.{Reason}
 use Rattle.ir_gdb.specs.declared.point.Breakpoint.{Breakpoint}

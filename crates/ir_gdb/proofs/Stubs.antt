@@ -2,7 +2,7 @@
 use Rattle.std.proofs.Common.{◌≡◌, ◌<◌, sym, subst}
 use Rattle.ir_fit.specs.Fit.{FittedTrace}
 use Rattle.ir_timeline.specs.Positions.{threads_of}
-use Rattle.ir_debug.specs.Machine.Desk.{Desk}
+use Rattle.ir_debug.specs.Machine.{Desk}
 use Rattle.ir_gdb.specs.Stub.{Stub, IsStub, IsChoice}
 
 pub stub_with_other_desk_is_stub : (s : Stub) (d : Desk) → d.fitted ≡ s.desk.fitted → IsStub s → IsStub (record s { desk = d })

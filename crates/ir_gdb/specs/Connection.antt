@@ -6,8 +6,8 @@ use Rattle.ir_stream.specs.declared.serving.Served.{Served}
 use Rattle.ir_stream.specs.declared.serving.Served.TheVariants.{Quit, InputEnd}
 use Rattle.ir_stream.specs.declared.serving.Fault.{Fault}
 use Rattle.ir_stream.specs.declared.serving.Fault.TheVariants as fault
-use Rattle.ir_debug.specs.Machine.Desk.{Desk}
-use Rattle.ir_debug.specs.Machine.Answers as session
+use Rattle.ir_debug.specs.Machine.{Desk}
+use Rattle.ir_debug.specs.Machine as session
 use Rattle.ir_packet.specs.Packets.{packet_of}
 use Rattle.ir_packet.specs.Replies.{reply_text, output_text}
 use Rattle.ir_packet.specs.Requests.{request_of, console_line}

@@ -2,7 +2,7 @@
 use Rattle.std.specs.Prelude.{◌≡◌, ℕ, ◌+◌, Bool, true, false, List, Option, Some, None, option_map, if◌then◌else◌}
 use Rattle.ir_mach.specs.Core.{Core, register}
 use Rattle.ir_runs.specs.Run.{Step}
-use Rattle.ir_debug.specs.Machine.Desk.{moved_to}
+use Rattle.ir_debug.specs.Machine.{moved_to}
 use Rattle.ir_packet.specs.Replies.{stop_text}
 use Rattle.ir_packet.specs.declared.reply.Reason.TheVariants as reason
 use Rattle.ir_packet.specs.declared.reply.Stop.{Stop}

@@ -1,7 +1,7 @@
 -- The program is run again, from 0 or from a kept cut on.
 use Rattle.std.specs.Prelude.{◌≡◌, ℕ, Bool, true, false, List, [], Option, Some, None}
 use Rattle.ir_runs.specs.Run.{Step}
-use Rattle.ir_debug.specs.Machine.Desk.{kept_cut}
+use Rattle.ir_debug.specs.Machine.{kept_cut}
 use Rattle.ir_timeline.specs.Positions.{first_cut}
 use Rattle.ir_packet.specs.Replies.{reply_text}
 use Rattle.ir_packet.specs.declared.reply.Reason.TheVariants as reason

@@ -4,9 +4,8 @@ use Rattle.std.specs.Io.KnownBytes.{Appends}
 use Rattle.ir_stream.specs.declared.serving.Served.{Served}
 use Rattle.ir_stream.specs.declared.serving.Fault.{Fault}
 use Rattle.ir_packet.specs.Stream.{items}
-use Rattle.ir_debug.specs.Machine.Desk.{Desk}
-use Rattle.ir_debug.specs.Machine.Opening.{Opening, Opens, opening_text}
-use Rattle.ir_debug.specs.Machine.Opening as opening
+use Rattle.ir_debug.specs.Machine.{Desk, Opening, Opens, opening_text}
+use Rattle.ir_debug.specs.Machine as opening
 use Rattle.ir_debug.specs.Session.{most_input, ended_by}
 use Rattle.ir_debug.specs.declared.ended.Ended.{Ended}
 use Rattle.ir_debug.specs.declared.ended.Ended.TheVariants.{Quit, InputEnd, ImageRefused, TraceRefused, NotFit}

@@ -3,7 +3,7 @@ use Rattle.std.specs.Prelude.{ℕ, ◌+◌, ◌%◌, ◌==◌, ◌&&◌, not, na
 use Rattle.std.specs.List.{filter}
 use Rattle.ir_image.specs.Guest.{Guest}
 use Rattle.ir_mach.specs.Execution.{lies_in_memory}
-use Rattle.ir_debug.specs.Machine.Refusals.{lies_in_code}
+use Rattle.ir_debug.specs.Machine.{lies_in_code}
 use Rattle.ir_packet.specs.declared.reply.Reply.{Reply}
 use Rattle.ir_packet.specs.declared.reply.Reply.TheVariants as reply
 use Rattle.ir_gdb.specs.declared.point.Breakpoint.{Breakpoint}

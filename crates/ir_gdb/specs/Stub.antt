@@ -4,8 +4,8 @@ use Rattle.std.specs.List.{AllByRecursion}
 use Rattle.ir_mach.specs.Core.{memory_start, memory_size}
 use Rattle.ir_fit.specs.Fit.{FittedTrace}
 use Rattle.ir_timeline.specs.Positions.{threads_of}
-use Rattle.ir_debug.specs.Machine.Desk as desk
-use Rattle.ir_debug.specs.Machine.Desk.{Desk}
+use Rattle.ir_debug.specs.Machine as desk
+use Rattle.ir_debug.specs.Machine.{Desk}
 use Rattle.ir_packet.specs.declared.reply.Reason.TheVariants.{Step}
 use Rattle.ir_gdb.specs.declared.point.Breakpoint.{Breakpoint}
 use Rattle.ir_gdb.specs.declared.point.Watched.{Watched}

@@ -7,7 +7,7 @@ use Rattle.ir_log.specs.Logging.{label_of}
 use Rattle.ir_trace.specs.Recorded.{RecordedThread, Recorded}
 use Rattle.ir_trace.specs.declared.trace_err.TraceErr.{TraceErr}
 use Rattle.ir_text.specs.Texts.{log_text}
-use Rattle.ir_debug.specs.Machine.Opening.{TraceRefused, opening_text}
+use Rattle.ir_debug.specs.Machine.{TraceRefused, opening_text}
 use Rattle.ir_record_run.specs.Recording.{thread_line}
 use Rattle.ir_files.specs.Writers.{Writer, Failed}
 use Rattle.ir_files.specs.declared.exit_status.ExitStatus.{ExitStatus}

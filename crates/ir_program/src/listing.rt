@@ -3,7 +3,7 @@
 ghost use Rattle.std.specs.Prelude.{◌≡◌, OnOk, IfOk, IfErr, length, false};
 ghost use Rattle.std.specs.String.{string_bytes};
 ghost use Rattle.std.specs.Io.KnownBytes.{Appends};
-ghost use Rattle.ir_debug.specs.Machine.Opening.{TraceRefused, opening_text};
+ghost use Rattle.ir_debug.specs.Machine.{TraceRefused, opening_text};
 ghost use Rattle.ir_program.specs.Listing.{profile_number, header_line, thread_listing, threads_listing, listing, Stops};
 ghost use Rattle.ir_files.specs.Writers.{writer_of};
 

@@ -1,5 +1,5 @@
 -- The texts of answers, by what is at the cut.
-use Rattle.std.specs.Prelude.{◌==◌, ℕ, zero, suc, ◌+◌, ◌/◌, List, [], ◌∷◌, ◌++◌, take, drop, length, flat_map, codes, decimal, Option, Some, None, if◌then◌else◌, ◌%◌}
+use Rattle.std.specs.Prelude.{◌==◌, ℕ, zero, suc, ◌+◌, ◌/◌, List, [], ◌∷◌, ◌++◌, take, drop, length, flat_map, codes, decimal, Option, Some, None, if◌then◌else◌, ◌%◌, unwrap_or}
 use Rattle.hex.specs.Hex.{encode_lower}
 use Rattle.ir_image.specs.Guest.{word_at_pc}
 use Rattle.ir_mach.specs.Execution.{byte_at}
@@ -78,15 +78,10 @@ output_lines (suc n) bytes = encode_lower (take 32 bytes) ++ codes "\n" ++ outpu
 abbrev pub output_text : List ℕ → List ℕ
 output_text bytes = number_line (codes "out ") (length bytes) ++ output_lines (lines_for 32 (length bytes)) bytes
 
--- a byte that is looked at
-abbrev pub byte_or_zero : Option ℕ → ℕ
-byte_or_zero (Some b) = b
-byte_or_zero None = 0
-
 -- n bytes from an address on, of code or private memory
 unfoldable pub bytes_from : List ℕ → List ℕ → ℕ → ℕ → List ℕ
 bytes_from code memory zero address = []
-bytes_from code memory (suc n) address = byte_or_zero (byte_at code memory address) ∷ bytes_from code memory n (address + 1)
+bytes_from code memory (suc n) address = unwrap_or (byte_at code memory address) 0 ∷ bytes_from code memory n (address + 1)
 
 -- ---- objects
 
@@ -185,11 +180,6 @@ abbrev pub verdict_text : Verdict → List ℕ
 verdict_text (Header cause) = header_text cause ++ codes "\n"
 verdict_text (Incoherent thread event cause) = incoherent_text thread event cause ++ codes "\n"
 verdict_text (Threads vs) = threads_text 0 vs.items
-
--- the number of a fault of the bytes; there is none for running out of memory
-abbrev pub number_or_zero : Option ℕ → ℕ
-number_or_zero (Some n) = n
-number_or_zero None = 0
 
 abbrev pub reason_text : Refusal → List ℕ
 reason_text UnknownCommand = codes "unknown command"

@@ -1,13 +1,13 @@
 //! The lines of bytes.
 
-ghost use Rattle.std.specs.Prelude.{◌≡◌, ◌≤◌, ◌+◌, ◌*◌, ◌++◌, ◌^◌, OnOk, OnErr, length, codes, true};
+ghost use Rattle.std.specs.Prelude.{◌≡◌, ◌≤◌, ◌+◌, ◌*◌, ◌++◌, ◌^◌, OnOk, OnErr, length, codes, true, unwrap_or};
 ghost use Rattle.std.specs.Io.KnownBytes.{Appends};
 ghost use Rattle.arrayvec.specs.ArrayVec.{array_vec_len};
 ghost use Rattle.hex.specs.Hex.{encode_lower};
 ghost use Rattle.ir_mach.specs.Core.{memory_size};
 ghost use Rattle.ir_mach.specs.Execution.{byte_at};
 ghost use Rattle.ir_stream.specs.Answers.{AppendsPrefix};
-ghost use Rattle.ir_text.specs.Texts.{hex_word, byte_or_zero, bytes_from, number_line, memory_text, output_text};
+ghost use Rattle.ir_text.specs.Texts.{hex_word, bytes_from, number_line, memory_text, output_text};
 
 use crate::next::code_word;
 use crate::room::{FULL, make_room};
@@ -70,7 +70,7 @@ fn put_memory(text: &mut Text, address: u32, bytes: &[u8])
 // The byte at an address of private memory or the code; 0 elsewhere.
 fn byte(code: &Code, memory: &[u8], address: u32) -> u8
     requires { length memory.now ≡ memory_size }
-    ensures { result ≡ byte_or_zero (byte_at code.now memory.now address) }
+    ensures { result ≡ unwrap_or (byte_at code.now memory.now address) 0 }
 {
     if address >= MEMORY_START && ((address - MEMORY_START) as usize) < memory.len() {
         return memory[(address - MEMORY_START) as usize];

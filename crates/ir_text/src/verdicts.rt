@@ -1,9 +1,9 @@
 //! The lines of a verdict.
 
-ghost use Rattle.std.specs.Prelude.{◌≡◌, ◌≤◌, ◌+◌, ◌++◌, OnOk, OnErr, length, codes, decimal, true};
+ghost use Rattle.std.specs.Prelude.{◌≡◌, ◌≤◌, ◌+◌, ◌++◌, OnOk, OnErr, length, codes, decimal, true, unwrap_or};
 ghost use Rattle.std.specs.Io.KnownBytes.{Appends};
 ghost use Rattle.arrayvec.specs.ArrayVec.{array_vec_len};
-ghost use Rattle.ir_text.specs.Texts.{thread_verdict_text, thread_line, header_text, incoherent_text, number_or_zero, threads_text, verdict_text};
+ghost use Rattle.ir_text.specs.Texts.{thread_verdict_text, thread_line, header_text, incoherent_text, threads_text, verdict_text};
 ghost use Rattle.ir_stream.specs.Answers.{AppendsPrefix};
 
 use crate::text::{Text, put_number};
@@ -66,7 +66,7 @@ fn put_thread(text: &mut Text, thread: u64, verdict: ThreadVerdict)
 /// A line of words and the number of a fault.
 pub fn refusal_line(words: &[u8], number: Option<u8>) -> Text
     requires { length words.now ≤ 256 }
-    ensures { result.items ≡ words.now ++ decimal (number_or_zero number) ++ codes "\n" }
+    ensures { result.items ≡ words.now ++ decimal (unwrap_or number 0) ++ codes "\n" }
 {
     let mut text = Text::new();
     let mut buffer = Buffer::new();

@@ -4,9 +4,7 @@ ghost use Rattle.std.specs.Prelude.{◌≡◌, ◌+◌, List, ℕ, None, Some, I
 ghost use Rattle.ir_cut.specs.Positions.{EachRun};
 ghost use Rattle.ir_command.specs.declared.command.Command.TheVariants as command;
 ghost use Rattle.ir_command.specs.declared.command.Keeping.TheVariants as keeping;
-ghost use Rattle.ir_debug.specs.Machine.Desk.{moved_to, spoken, with_kept, without_kept, kept_cut};
-ghost use Rattle.ir_debug.specs.Machine.Refusals.{refusal_of};
-ghost use Rattle.ir_debug.specs.Machine.Answers.{AnswersBy};
+ghost use Rattle.ir_debug.specs.Machine.{moved_to, spoken, with_kept, without_kept, kept_cut, refusal_of, AnswersBy};
 ghost use Rattle.ir_debug.specs.Debugging.{IsLast, answer_text};
 
 use crate::answer::Answer;

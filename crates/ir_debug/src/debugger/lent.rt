@@ -7,8 +7,7 @@ ghost use Rattle.ir_hits.specs.Watchable.{AreWatchable};
 ghost use Rattle.ir_hits.specs.Searching.{IsNextHit};
 ghost use Rattle.ir_timeline.specs.Positions.{Finds, last_of, threads_of};
 ghost use Rattle.ir_timeline.specs.Hand.{IsCutOf};
-ghost use Rattle.ir_debug.specs.Machine.Desk.{kept_cut, spoken};
-ghost use Rattle.ir_debug.specs.Machine.Moves.{StopsAt};
+ghost use Rattle.ir_debug.specs.Machine.{kept_cut, spoken, StopsAt};
 
 use crate::debugger::Debugger;
 use crate::destinations::stop_at;

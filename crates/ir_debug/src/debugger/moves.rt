@@ -4,10 +4,7 @@ ghost use Rattle.std.specs.Prelude.{◌≡◌, List, ℕ, None, length, IfOk, On
 ghost use Rattle.ir_cut.specs.Positions.{EachRun, IsConsistentCut};
 ghost use Rattle.ir_command.specs.declared.command.Command.TheVariants as command;
 ghost use Rattle.ir_timeline.specs.Positions.{threads_of};
-ghost use Rattle.ir_debug.specs.Machine.Desk.{moved_to, spoken};
-ghost use Rattle.ir_debug.specs.Machine.Refusals.{refusal_of};
-ghost use Rattle.ir_debug.specs.Machine.Moves.{Leads, Continues};
-ghost use Rattle.ir_debug.specs.Machine.Answers.{AnswersBy};
+ghost use Rattle.ir_debug.specs.Machine.{moved_to, spoken, refusal_of, Leads, Continues, AnswersBy};
 ghost use Rattle.ir_debug.specs.Debugging.{IsLast, answer_text};
 
 use crate::answer::Answer;

@@ -6,7 +6,7 @@ ghost use Rattle.ir_packet.specs.Reading.{item_found};
 ghost use Rattle.ir_packet.specs.Requests.{request_of, console_line};
 ghost use Rattle.ir_packet.specs.Stream.{TooLong};
 ghost use Rattle.ir_packet.specs.declared.request.Request.TheVariants.{Register};
-ghost use Rattle.ir_debug.specs.Machine.Answers.{quits};
+ghost use Rattle.ir_debug.specs.Machine.{quits};
 ghost use Rattle.ir_gdb.specs.Replies.{has_reply};
 ghost use Rattle.ir_gdb.specs.Connection.{sign, before_reply, is_copy, is_packet, Consults, AnswersLine, AnswersBy, AnswersRequest, AnswersPacket, AnswersNew, AnswersItem, ends_request, ends_by, ends, Sent, SentInPart};
 
@@ -26,7 +26,7 @@ fn is_packet(found: Found) -> bool
 }
 
 // Whether a line ends a session.
-#[tactic(auto, unfolding(ir_debug::specs::Machine::Answers::quits))]
+#[tactic(auto, unfolding(ir_debug::specs::Machine::quits))]
 fn quits(line: &[u8]) -> bool
     ensures { result ≡ quits line.now }
 {

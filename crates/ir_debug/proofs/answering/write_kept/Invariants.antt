@@ -1,6 +1,6 @@
 use Rattle.std.proofs.Common.{◌≡◌, drop}
 use Rattle.ir_text.specs.Buffered.{Buffered}
-use Rattle.ir_debug.specs.Machine.Answers.{kept_text}
+use Rattle.ir_debug.specs.Machine.{kept_text}
 use Rattle.ir_debug.proofs.answering.write_kept.Given as goal
 
 -- the lines that are written, and those of the other cuts

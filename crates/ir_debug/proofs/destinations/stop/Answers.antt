@@ -1,5 +1,5 @@
 use Rattle.std.proofs.lemmas.Result.{IfOk-weaker}
-use Rattle.ir_debug.specs.Machine.Moves.{stop_of}
+use Rattle.ir_debug.specs.Machine.{stop_of}
 use Rattle.ir_debug.proofs.Leading.{StopsInEachRun, stop_at_equal_position}
 use Rattle.ir_debug.proofs.destinations.stop.Goals as goal
 

@@ -1,6 +1,6 @@
 use Rattle.std.proofs.Common.{arith, sym, ap, ◌∙◌, Some, option_map}
 use Rattle.std.proofs.lemmas.Bool.Decides.{nat_tests}
-use Rattle.ir_debug.specs.Machine.Desk.{Kept}
+use Rattle.ir_debug.specs.Machine.{Kept}
 use Rattle.ir_debug.proofs.Chosen.{found, further, found_none}
 use Rattle.ir_debug.proofs.kept.kept_cut.Goals as goal
 

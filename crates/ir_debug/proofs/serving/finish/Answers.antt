@@ -6,7 +6,7 @@ use Rattle.ir_stream.specs.declared.serving.Flow.TheVariants.{Goes, Quits}
 use Rattle.ir_stream.specs.declared.serving.Served.TheVariants.{Quit, InputEnd}
 use Rattle.ir_stream.specs.Endings.{flow_after, served_after}
 use Rattle.ir_stream.proofs.CallerLemmas.{wrote_nothing_for_empty_end, wrote_reply_to_last_line, some_quits_of_empty_end, some_quits_of_nonempty_end}
-use Rattle.ir_debug.specs.Machine.Answers.{Replies, quits}
+use Rattle.ir_debug.specs.Machine.{Replies, quits}
 use Rattle.ir_debug.proofs.serving.finish.Goals as goal
 
 some : (line : List ℕ) (b : Bool) → b ≡ eqb (length line) 0 → b ≡ false → line ≡ [] → ⊥

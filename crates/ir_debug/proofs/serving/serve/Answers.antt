@@ -9,7 +9,7 @@ use Rattle.ir_stream.specs.declared.serving.Flow.{Flow}
 use Rattle.ir_stream.specs.declared.serving.Flow.TheVariants.{Goes, Quits}
 use Rattle.ir_stream.specs.Endings.{flow_after}
 use Rattle.ir_stream.proofs.CallerLemmas.{session_at_equal_line_and_count, at_start, at_byte, at_feed, quit_ended, quit_known, feed_failed, finish_ended, finish_known, finish_failed, long_ended, long_known}
-use Rattle.ir_debug.specs.Machine.Answers.{Replies, quits}
+use Rattle.ir_debug.specs.Machine.{Replies, quits}
 use Rattle.ir_debug.proofs.LongLines.{long_replies, long_quits}
 use Rattle.ir_debug.proofs.serving.serve.Goals as goal
 

@@ -1,6 +1,6 @@
 use Rattle.std.proofs.Common.{◌≡◌, false}
 use Rattle.ir_stream.proofs.CallerLemmas.{IsSessionAt}
-use Rattle.ir_debug.specs.Machine.Answers.{Replies, quits}
+use Rattle.ir_debug.specs.Machine.{Replies, quits}
 use Rattle.ir_debug.proofs.serving.serve.Given as goal
 
 abbrev pub invariant-loop-taken : goal.invariant-loop-taken

@@ -2,7 +2,7 @@ use Rattle.std.proofs.Common.{[], refl, sym, ap, ◌∙◌}
 use Rattle.std.specs.Prelude.{IfSome}
 use Rattle.ir_stream.specs.Answers.{ReadsUpTo}
 use Rattle.ir_debug.specs.Openings.{opening_of}
-use Rattle.ir_debug.specs.Machine.Opening as opening
+use Rattle.ir_debug.specs.Machine as opening
 use Rattle.ir_debug.proofs.Openings.{answered_in_part_of_opening_prefix, reads_empty_input, whatever, session_of_refused_opening, reads_of_implied, if_some_of_implied, ready_debugger_opens, opening_text_of_ready_debugger, read_fault_if_ended_by_read, write_fault_if_ended_by_write, session_says, answered, answered_in_part}
 use Rattle.ir_debug.proofs.sessions.session_up_to.Goals as goal
 

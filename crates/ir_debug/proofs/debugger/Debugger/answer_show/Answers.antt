@@ -1,6 +1,6 @@
 use Rattle.std.proofs.Common.{ap, ◌∙◌}
 use Rattle.ir_command.specs.declared.command.Command.TheVariants as command
-use Rattle.ir_debug.specs.Machine.Desk.{Desk}
+use Rattle.ir_debug.specs.Machine.{Desk}
 use Rattle.ir_debug.proofs.CarriedOut.{thread_of_permitted_show_exists, show_at_hand_unless_next, show_answers_command, refusal_after_spoken_same}
 use Rattle.ir_debug.proofs.debugger.Debugger.answer_show.Goals as goal
 

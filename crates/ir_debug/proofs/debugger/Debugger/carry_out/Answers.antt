@@ -4,7 +4,7 @@ use Rattle.ir_fit.specs.Fit.{FittedTrace}
 use Rattle.ir_cut.specs.Positions.{IsConsistentCut}
 use Rattle.ir_timeline.specs.Positions.{threads_of}
 use Rattle.ir_timeline.specs.Hand.{IsCutOf}
-use Rattle.ir_debug.specs.Machine.Refusals.{if_some, thread_named}
+use Rattle.ir_debug.specs.Machine.{if_some, thread_named}
 use Rattle.ir_command.specs.declared.command.Command.TheVariants as command
 use Rattle.ir_debug.specs.Debugging.{Debugging}
 use Rattle.ir_debug.proofs.CarriedOut.{thread_of_permitted_move_exists}

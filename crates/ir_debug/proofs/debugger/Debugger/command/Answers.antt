@@ -1,6 +1,6 @@
 use Rattle.std.proofs.Common.{sym, ap, ◌∙◌}
 use Rattle.ir_debug.specs.declared.answer.Answer.TheVariants as answer
-use Rattle.ir_debug.specs.Machine.Desk.{spoken}
+use Rattle.ir_debug.specs.Machine.{spoken}
 use Rattle.ir_debug.specs.Debugging.{Debugging}
 use Rattle.ir_debug.proofs.CarriedOut.{refused_command_answers_refusal, carried_command_answers, position_answers_command, quit_answers_command, set_answers_command, clear_answers_command}
 use Rattle.ir_debug.proofs.debugger.Debugger.command.Goals as goal

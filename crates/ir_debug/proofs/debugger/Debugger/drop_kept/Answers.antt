@@ -1,7 +1,7 @@
 use Rattle.std.proofs.Common.{◌==◌, length, sym, ap, subst, arith, List}
 use Rattle.std.specs.Prelude.{not}
 use Rattle.ir_timeline.specs.Replaying.{Replaying}
-use Rattle.ir_debug.specs.Machine.Desk.{Kept}
+use Rattle.ir_debug.specs.Machine.{Kept}
 use Rattle.ir_debug.specs.Debugging.{AllKept}
 use Rattle.ir_debug.proofs.Desks.{desk_of_equal_trace}
 use Rattle.ir_debug.proofs.Chosen.{all_without, fewer}

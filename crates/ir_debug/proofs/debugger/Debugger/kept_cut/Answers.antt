@@ -2,7 +2,7 @@ use Rattle.std.proofs.Common.{List, sym, subst}
 use Rattle.std.specs.Prelude.{IfSome}
 use Rattle.ir_timeline.specs.Hand.{IsCutOf}
 use Rattle.ir_debug.specs.Debugging.{Debugging, AllKept}
-use Rattle.ir_debug.specs.Machine.Desk.{Kept}
+use Rattle.ir_debug.specs.Machine.{Kept}
 use Rattle.ir_debug.proofs.KeptCuts.{found_kept_cut_is_cut}
 use Rattle.ir_debug.proofs.debugger.Debugger.kept_cut.Goals as goal
 

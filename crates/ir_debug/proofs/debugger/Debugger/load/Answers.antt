@@ -1,7 +1,7 @@
 use Rattle.std.proofs.Common.{◌≡◌, Some, List, sym, ap, ◌∙◌}
 use Rattle.std.specs.Prelude.{is_some}
 use Rattle.ir_debug.specs.Debugging.{Debugging}
-use Rattle.ir_debug.specs.Machine.Desk.{Kept, kept_cut}
+use Rattle.ir_debug.specs.Machine.{Kept, kept_cut}
 use Rattle.ir_debug.proofs.KeptCuts.{found_cut_is_some_if_kept, found_cut_is_kept_cut, kept_cut_of_number_is_cut}
 use Rattle.ir_debug.proofs.Passed.{number_of_permitted_load_is_kept}
 use Rattle.ir_debug.proofs.debugger.Debugger.load.Goals as goal

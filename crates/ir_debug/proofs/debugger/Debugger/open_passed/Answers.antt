@@ -4,7 +4,7 @@ use Rattle.ir_cut.specs.Positions.{cut_of}
 use Rattle.ir_weave.specs.Standing.{StandsAt}
 use Rattle.ir_hits.specs.Watchable.{AreWatchable}
 use Rattle.ir_timeline.specs.Hand.{IsCutOf}
-use Rattle.ir_debug.specs.Machine.Desk.{Kept}
+use Rattle.ir_debug.specs.Machine.{Kept}
 use Rattle.ir_debug.specs.Debugging.{AllKept, IsDesk}
 use Rattle.ir_debug.proofs.debugger.Debugger.open_passed.Goals as goal
 

@@ -2,7 +2,7 @@ use Rattle.std.proofs.Common.{◌≡◌, ap, ◌∙◌}
 use Rattle.std.proofs.lemmas.Result.{IfOk-weaker}
 use Rattle.ir_cut.specs.Positions.{EachRun}
 use Rattle.ir_command.specs.declared.command.Show.TheVariants.{Next}
-use Rattle.ir_debug.specs.Machine.Shown.{shown}
+use Rattle.ir_debug.specs.Machine.{shown}
 use Rattle.ir_text.specs.Texts.{next_text}
 use Rattle.ir_debug.specs.Debugging.{Debugging}
 use Rattle.ir_debug.proofs.CarriedOut.{next_line_shown_by_debugger}

@@ -2,7 +2,7 @@ use Rattle.std.proofs.Common.{◌∙◌, ℕ, List, Ok, ap, subst}
 use Rattle.std.specs.Io.KnownBytes.{Appends}
 use Rattle.ir_stream.specs.Answers.{AppendsPrefix}
 use Rattle.ir_packet.specs.Requests.{console_line}
-use Rattle.ir_debug.specs.Machine.Answers.{quits}
+use Rattle.ir_debug.specs.Machine.{quits}
 use Rattle.ir_gdb.specs.Connection.{answer_text}
 use Rattle.ir_gdb.proofs.Answering.{on_err_from_fact, on_ok_of_implied, on_err_of_implied, sent_answer_to_line, sent_part_of_answer_to_line, sent_part_of_closing_packet, sent_part_to_quitting_line, sent_part_of_no_memory_reply}
 use Rattle.ir_gdb.proofs.Lines.{some_consulted, none_consulted, err_consulted}
