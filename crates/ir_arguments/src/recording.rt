@@ -1,7 +1,7 @@
 //! Options that say how a guest is recorded, by whatever order.
 
 ghost use Rattle.std.specs.Prelude.{◌≡◌, ◌≤◌, option_map};
-ghost use Rattle.ir_thread.specs.Calls.{most_budget};
+ghost use Rattle.ir_thread.specs.State.{most_budget};
 
 use crate::values::given_text;
 use clap::{Arg, ArgMatches, Command};

@@ -10,7 +10,7 @@ use Rattle.ir_runs.proofs.CallerLemmas.{idle_after_run}
 use Rattle.ir_runs.specs.Machine as machine
 use Rattle.ir_runs.specs.Machine.{Machine, Admits, target}
 use Rattle.ir_runs.specs.Run.{State, Step, asked, Can, after, IsRun, end, IsDone}
-use Rattle.ir_thread.specs.Instance.{thread_machine}
+use Rattle.ir_thread.specs.State.{thread_machine}
 use Rattle.ir_thread.specs.State as thread
 use Rattle.ir_thread.specs.declared.profile.Profile.{Profile}
 use Rattle.ir_chaos.specs.Moments.{Moment, Ran, RanToEnd, IsAtRest, AllRest, OthersRest, IsStartOfGuest}

@@ -15,8 +15,7 @@ use Rattle.ir_runs.specs.Run.{State, Step, asked, Can, after, label, IsRun, end,
 use Rattle.ir_runs.specs.declared.access.Access.TheVariants.{Reading, Writing}
 use Rattle.ir_runs.specs.declared.env_kind.EnvKind.{EnvKind}
 use Rattle.ir_runs.specs.declared.env_kind.EnvKind.TheVariants.{Clock, Random, Input}
-use Rattle.ir_thread.specs.Calls.{ask_of}
-use Rattle.ir_thread.specs.Instance.{shared_ask, is_result, thread_machine}
+use Rattle.ir_thread.specs.State.{ask_of, shared_ask, is_result, thread_machine}
 use Rattle.ir_thread.specs.State as thread
 use Rattle.ir_thread.specs.declared.ask.Ask.{Ask}
 use Rattle.ir_thread.specs.declared.ask.Ask.TheVariants as asks

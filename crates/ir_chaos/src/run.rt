@@ -9,8 +9,7 @@ ghost use Rattle.ir_chaos.specs.declared.chooser.Chooser.{Chooser};
 ghost use Rattle.ir_flat.specs.Flat.{tables, machine, thread_of, IsFlat};
 ghost use Rattle.ir_record.specs.Worlds.{AreSameWorlds};
 ghost use Rattle.ir_runs.specs.Run.{Can};
-ghost use Rattle.ir_thread.specs.Calls.{ask_of};
-ghost use Rattle.ir_thread.specs.Instance.{shared_ask};
+ghost use Rattle.ir_thread.specs.State.{ask_of, shared_ask};
 
 use crate::chooser::Chooser;
 use crate::note::note;

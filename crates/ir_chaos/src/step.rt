@@ -7,8 +7,7 @@ ghost use Rattle.ir_chaos.specs.declared.stop.Stop.TheVariants.{World};
 ghost use Rattle.ir_flat.specs.Flat.{machine, tables, thread_of};
 ghost use Rattle.ir_record.specs.Worlds.{answers_at, NoneFailed, IsFirstFailed, AreSameWorlds};
 ghost use Rattle.ir_runs.specs.Run.{Can};
-ghost use Rattle.ir_thread.specs.Calls.{ask_of};
-ghost use Rattle.ir_thread.specs.Instance.{is_result, shared_ask};
+ghost use Rattle.ir_thread.specs.State.{ask_of, is_result, shared_ask};
 
 use crate::stop::Stop;
 use ir_flat::Flat;

@@ -9,8 +9,7 @@ use Rattle.atomic_table.specs.Table as table
 use Rattle.atomic_table.specs.Table.{Step, step, stepped, keeps, Allows}
 use Rattle.atomic_table.proofs.Lists.{at_set, set_again}
 use Rattle.ir_image.specs.Guest.{Guest, most_threads, object_count, most_object_words}
-use Rattle.ir_thread.specs.Calls.{most_events}
-use Rattle.ir_thread.specs.Instance.{thread_machine}
+use Rattle.ir_thread.specs.State.{most_events, thread_machine}
 use Rattle.ir_runs.specs.Machine.{Entry, Exit, Store, upd, Object, target, Admits, acted, reply, emitted, Label}
 use Rattle.ir_runs.specs.declared.access.Access.TheVariants.{Reading, Writing}
 use Rattle.ir_object.specs.Standing.{Admitted}

@@ -2,7 +2,7 @@
 
 ghost use Rattle.std.specs.Prelude.{◌≡◌, ◌<◌, map, None};
 ghost use Rattle.ir_image.specs.Guest.{object_count};
-ghost use Rattle.ir_thread.specs.Calls.{most_events};
+ghost use Rattle.ir_thread.specs.State.{most_events};
 ghost use Rattle.ir_runs.specs.declared.access.Access.TheVariants.{Reading, Writing};
 ghost use Rattle.ir_crew.specs.Rule.{entries, shared_of};
 ghost use Rattle.ir_crew.specs.Plays.{IsAlone, history, did, inside_by};

@@ -7,7 +7,7 @@ use Rattle.ir_image.specs.declared.form.ImageForm.{ImageForm}
 use Rattle.ir_image.specs.declared.form.ImageForm.TheVariants.{Small, Large}
 use Rattle.ir_isa.specs.Decoded as decoded
 use Rattle.ir_runs.specs.Machine.{upd}
-use Rattle.ir_thread.specs.Calls.{after_reply}
+use Rattle.ir_thread.specs.State.{after_reply}
 use Rattle.ir_thread.specs.declared.end.End.TheVariants.{Exit}
 use Rattle.ir_thread.specs.declared.profile.Profile.{Profile}
 use Rattle.ir_thread.specs.declared.profile.Profile.TheVariants.{One, Two}

@@ -1,7 +1,7 @@
 //! The events that a common part counts, and those after them.
 
 ghost use Rattle.std.specs.Prelude.{◌≡◌, ◌<◌, length, OnSome};
-ghost use Rattle.ir_thread.specs.Calls.{most_events};
+ghost use Rattle.ir_thread.specs.State.{most_events};
 ghost use Rattle.ir_past.specs.Past.{event_at};
 ghost use Rattle.ir_diff.specs.Common.{Tells};
 ghost use Rattle.ir_diff.specs.Progress.{counts_of};

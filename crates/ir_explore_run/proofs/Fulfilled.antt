@@ -16,7 +16,7 @@ use Rattle.ir_image.specs.Guest.{Guest, most_object_words, object_count}
 use Rattle.ir_object.specs.Cell.{Cell}
 use Rattle.ir_outcomes.specs.Explored.{switches_by, IsAt, AreExplored, AreAll}
 use Rattle.ir_outcomes.specs.declared.shown.Shown.{Shown}
-use Rattle.ir_thread.specs.Calls.{most_budget}
+use Rattle.ir_thread.specs.State.{most_budget}
 use Rattle.ir_thread.specs.declared.profile.Profile.TheVariants.{One}
 use Rattle.ir_explore_run.specs.Conditions.{first_of, seen_outcome, fulfils_each, NeverFulfils, NeverWithin, NoneBefore, OutcomesDecide}
 

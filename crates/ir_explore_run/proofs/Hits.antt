@@ -26,8 +26,7 @@ use Rattle.ir_runs.specs.Run.{State, Step, IsRun, after, log}
 use Rattle.ir_runs.specs.Bounds.{IsIdle}
 use Rattle.ir_sources.specs.Sources.{origin_of, IsAnswered, source}
 use Rattle.ir_states.specs.Sources.{Gives}
-use Rattle.ir_thread.specs.Calls.{most_budget}
-use Rattle.ir_thread.specs.Instance.{thread_machine}
+use Rattle.ir_thread.specs.State.{most_budget, thread_machine}
 use Rattle.ir_thread.specs.State as thread
 use Rattle.ir_thread.specs.declared.profile.Profile.TheVariants.{One}
 use Rattle.ir_trace.specs.Recorded.{Recorded}

@@ -15,8 +15,7 @@ use Rattle.ir_record_run.specs.Order.{order_of}
 use Rattle.ir_record_run.specs.Plan.{Plan}
 use Rattle.ir_runs.specs.Run.{Step}
 use Rattle.ir_seen.specs.Seen.{IsCounted}
-use Rattle.ir_thread.specs.State.{IsAllowed}
-use Rattle.ir_thread.specs.Calls.{most_budget}
+use Rattle.ir_thread.specs.State.{IsAllowed, most_budget}
 use Rattle.ir_thread.specs.declared.profile.Profile.TheVariants.{One}
 use Rattle.ir_trace.specs.Recorded.{Recorded}
 use Rattle.ir_explore_run.specs.Conditions.{fulfils_each, NeverFulfils, NeverWithin, NoneBefore, IsFirst}

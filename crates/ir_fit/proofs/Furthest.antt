@@ -6,7 +6,7 @@ use Rattle.std.specs.List.{AllByRecursion}
 use Rattle.std.proofs.lemmas.Bool.{cases_lt}
 use Rattle.std.proofs.lemmas.Bool.Decides.{nat_tests}
 use Rattle.ir_image.specs.Guest.{Guest}
-use Rattle.ir_thread.specs.Instance.{thread_machine, is_result}
+use Rattle.ir_thread.specs.State.{thread_machine, is_result}
 use Rattle.ir_runs.specs.Machine.{Label}
 use Rattle.ir_runs.specs.declared.env_kind.EnvKind.{EnvKind}
 use Rattle.ir_runs.specs.declared.env_kind.EnvKind.TheVariants.{Clock, Random, Input}

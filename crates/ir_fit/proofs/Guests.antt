@@ -2,8 +2,7 @@
 use Rattle.std.proofs.Common.{◌≡◌, ℕ, zero, suc, ◌<◌, length, None, refl, ap, arith, get_or}
 use Rattle.std.specs.Prelude.{option_map}
 use Rattle.ir_image.specs.Guest.{Guest, object_count}
-use Rattle.ir_thread.specs.State.{IsAllowed, end_number, end_code}
-use Rattle.ir_thread.specs.Instance.{thread_machine}
+use Rattle.ir_thread.specs.State.{IsAllowed, end_number, end_code, thread_machine}
 use Rattle.ir_flat.specs.Flat.{idle, tables, start_threads, start_flat}
 use Rattle.ir_runs.specs.Bounds.{IsStart}
 use Rattle.ir_flat.proofs.CallerLemmas.{start_thread_is_fresh, start_cell_has_zero_fields}

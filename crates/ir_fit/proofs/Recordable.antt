@@ -8,10 +8,8 @@ use Rattle.std.proofs.lemmas.List.{length-map}
 use Rattle.std.proofs.lemmas.List.FromFn.{get_or-map-range_with_len, length-map-range_with_len}
 use Rattle.ir_image.specs.Guest.{Guest, object_count, IsGuest}
 use Rattle.ir_image.proofs.CallerLemmas.{guest_threads_at_most_limit, guest_objects_at_most_limit}
-use Rattle.ir_thread.specs.State.{IsAllowed, end_number, end_code}
-use Rattle.ir_thread.specs.Calls.{ask_of, most_budget}
+use Rattle.ir_thread.specs.State.{IsAllowed, end_number, end_code, ask_of, most_budget, shared_ask, is_result, thread_machine}
 use Rattle.ir_thread.specs.Permitted.{Permits}
-use Rattle.ir_thread.specs.Instance.{shared_ask, is_result, thread_machine}
 use Rattle.ir_thread.specs.State as thread
 use Rattle.ir_thread.specs.declared.ask.Ask.{Ask}
 use Rattle.ir_thread.specs.declared.ask.Ask.TheVariants as ask

@@ -3,10 +3,8 @@ use Rattle.std.proofs.Common.{◌≡◌, ◌≢◌, ℕ, zero, suc, ◌<◌, ◌
 use Rattle.std.specs.Prelude.{◌↔◌, IsTrue, slice_get, nat_lt, ◌||◌, ◌==◌}
 use Rattle.std.specs.List.{AllByRecursion}
 use Rattle.std.proofs.lemmas.Bool.Decides.{nat_tests}
-use Rattle.ir_thread.specs.Calls.{ask_of, after_ask, after_reply}
 use Rattle.ir_thread.specs.Permitted.{Permits}
-use Rattle.ir_thread.specs.State.{end_number, end_code, held_count}
-use Rattle.ir_thread.specs.Instance.{shared_ask, reply_of, is_result, thread_machine}
+use Rattle.ir_thread.specs.State.{end_number, end_code, held_count, ask_of, after_ask, after_reply, shared_ask, reply_of, is_result, thread_machine}
 use Rattle.ir_runs.specs.Machine as machine
 use Rattle.ir_runs.specs.Machine.{act_of, target, Admits, emitted, Label, logged}
 use Rattle.ir_thread.specs.State as thread

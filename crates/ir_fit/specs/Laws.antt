@@ -11,8 +11,7 @@ use Rattle.ir_runs.specs.declared.thread_verdict.ThreadVerdict.{ThreadVerdict}
 use Rattle.ir_runs.specs.declared.thread_verdict.ThreadVerdict.TheVariants.{Same}
 use Rattle.ir_runs.specs.Verdicts.{IsVerdict, IsWhole, IsCoherent, Follows, IsMaximal, closing, left_log}
 use Rattle.ir_runs.specs.Events.{HoldsEvents, result_of}
-use Rattle.ir_thread.specs.State.{IsAllowed}
-use Rattle.ir_thread.specs.Calls.{most_budget}
+use Rattle.ir_thread.specs.State.{IsAllowed, most_budget}
 use Rattle.ir_trace.specs.Recorded.{Recorded, IsRecorded}
 use Rattle.ir_fit.specs.Fit.{IsRunOf}
 use Rattle.ir_thread.specs.declared.profile.Profile.{Profile}

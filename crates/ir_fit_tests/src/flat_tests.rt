@@ -1,7 +1,7 @@
 //! Guests of a few instructions, stepped by hand.
 
 ghost use Rattle.std.specs.Prelude.{◌≤◌};
-ghost use Rattle.ir_thread.specs.Calls.{most_budget};
+ghost use Rattle.ir_thread.specs.State.{most_budget};
 
 use crate::guests::{
     ECALL, ENTER_READ, ENTER_WRITE, EXIT, FIRST_OBJECT, GET, INPUT, LEAVE, PRINT_BYTE,

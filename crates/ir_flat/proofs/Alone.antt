@@ -1,7 +1,7 @@
 -- Private steps of a thread as a run.
 use Rattle.std.proofs.Common.{◌≡◌, ℕ, zero, suc, ◌<◌, Bool, true, false, eqb, List, ◌∷◌, length, set, replicate, refl, sym, ap, ◌∙◌, subst, arith, get_or-set_same, length-set}
 use Rattle.std.proofs.lemmas.List.{set-get_or, set-set}
-use Rattle.ir_thread.specs.Calls.{ask_of, after_ask, after_reply}
+use Rattle.ir_thread.specs.State.{ask_of, after_ask, after_reply, shared_ask}
 use Rattle.ir_thread.specs.Permitted.{Permits, step_of, run_of}
 use Rattle.ir_runs.specs.Machine.{Label, Quiet, target, emitted, act_of}
 use Rattle.ir_thread.specs.Private.{PrivateSteps}
@@ -9,7 +9,6 @@ use Rattle.ir_thread.specs.State as thread
 use Rattle.ir_thread.specs.declared.ask.Ask.TheVariants.{Private}
 use Rattle.ir_thread.specs.declared.ask.Reply.TheVariants.{Go}
 use Rattle.ir_thread.proofs.CallerLemmas.{ask_of_permitted}
-use Rattle.ir_thread.specs.Instance.{shared_ask}
 use Rattle.ir_flat.specs.Alone.{WentAlone}
 use Rattle.ir_flat.specs.Flat.{Flat, idle, thread_of, tables, machine, IsFlat}
 use Rattle.ir_flat.specs.Next.{with_thread, MayStep}

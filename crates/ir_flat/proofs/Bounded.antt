@@ -6,10 +6,8 @@ use Rattle.std.proofs.lemmas.List.{get_or_past, length-replicate}
 use Rattle.ir_image.specs.Guest.{Guest, IsWord, object_count, object_words, IsGuest}
 use Rattle.ir_image.proofs.CallerLemmas.{guest_threads_at_most_limit, element_of_padded}
 use Rattle.ir_mach.proofs.CallerLemmas.{property_at_place_or_default, all_of_take, all_of_drop, HasWords, start_core_has_words}
-use Rattle.ir_thread.specs.Calls.{ask_of, after_ask, after_reply, most_events}
 use Rattle.ir_thread.specs.Permitted.{IsRunning, Permits}
-use Rattle.ir_thread.specs.State.{end_code, held_count}
-use Rattle.ir_thread.specs.Instance.{shared_ask, reply_of, is_result, thread_machine}
+use Rattle.ir_thread.specs.State.{end_code, held_count, ask_of, after_ask, after_reply, most_events, shared_ask, reply_of, is_result, thread_machine}
 use Rattle.ir_thread.specs.State as thread
 use Rattle.ir_thread.specs.declared.ask.Ask.{Ask}
 use Rattle.ir_thread.specs.declared.ask.Ask.TheVariants.{Private, Env, Enter, Try, Leave, Get, Put, Print, End, Done}

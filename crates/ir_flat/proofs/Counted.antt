@@ -1,8 +1,7 @@
 -- What threads count along a run.
 use Rattle.std.proofs.Common.{◌≡◌, ◌≢◌, ℕ, zero, suc, ◌+◌, List, [], ◌∷◌, length, refl, sym, ap, ◌∙◌, subst, arith, inl, inr, eq-eqb, ne_eqb}
 use Rattle.std.proofs.lemmas.Bool.{cases_eq}
-use Rattle.ir_thread.specs.Calls.{ask_of, after_ask, after_reply}
-use Rattle.ir_thread.specs.Instance.{shared_ask, reply_of, thread_machine}
+use Rattle.ir_thread.specs.State.{ask_of, after_ask, after_reply, shared_ask, reply_of, thread_machine}
 use Rattle.ir_runs.specs.Machine as machine
 use Rattle.ir_runs.specs.Machine.{act_of, upd, Object, target, reply, emitted, Admits, Label, Quiet, Answer, In, Refused, Out, logged}
 use Rattle.ir_thread.specs.State as thread

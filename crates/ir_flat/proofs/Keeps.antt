@@ -2,10 +2,8 @@
 use Rattle.std.proofs.Common.{◌≡◌, ◌≢◌, ◌↔◌, ℕ, zero, suc, ◌+◌, ◌*◌, ◌<◌, ◌≤◌, true, Bool, false, length, length-set, Option, Some, None, refl, sym, le_refl, ap, ◌∙◌, subst, arith, get_or-set_same}
 use Rattle.std.specs.Prelude.{slice_index, IsTrue}
 use Rattle.ir_image.specs.Guest.{most_threads, most_object_words}
-use Rattle.ir_thread.specs.Calls.{ask_of, most_events}
 use Rattle.ir_thread.specs.Permitted.{Permits}
-use Rattle.ir_thread.specs.State.{held_at}
-use Rattle.ir_thread.specs.Instance.{shared_ask}
+use Rattle.ir_thread.specs.State.{held_at, ask_of, most_events, shared_ask}
 use Rattle.ir_runs.specs.Machine.{act_of, upd, target, Admits}
 use Rattle.ir_thread.specs.State as thread
 use Rattle.ir_runs.specs.declared.access.Access.{Access}

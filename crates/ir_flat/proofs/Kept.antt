@@ -1,10 +1,8 @@
 -- Each step keeps what is kept.
 use Rattle.std.proofs.Common.{◌≡◌, ◌≢◌, ℕ, zero, suc, ◌+◌, ◌*◌, ◌<◌, ◌≤◌, List, length, length-set, Option, Some, None, refl, sym, le_refl, ap, ◌∙◌, arith, inl, inr}
 use Rattle.std.proofs.lemmas.Bool.{cases_eq}
-use Rattle.ir_thread.specs.Calls.{ask_of, held_after_try, after_ask, after_reply, most_events}
 use Rattle.ir_thread.specs.Permitted.{Permits}
-use Rattle.ir_thread.specs.State.{held_at}
-use Rattle.ir_thread.specs.Instance.{shared_ask, reply_of, thread_machine}
+use Rattle.ir_thread.specs.State.{held_at, ask_of, held_after_try, after_ask, after_reply, most_events, shared_ask, reply_of, thread_machine}
 use Rattle.ir_runs.specs.Machine.{act_of, upd, Object, target, Admits, acted, reply}
 use Rattle.ir_thread.specs.State as thread
 use Rattle.ir_runs.specs.declared.access.Access.{Access}

@@ -1,9 +1,8 @@
 -- A thread with its replies is the thread run alone.
 use Rattle.std.proofs.Common.{◌≡◌, ℕ, zero, suc, List, [], ◌∷◌, Some, refl, inl, inr, ap, ◌∙◌}
 use Rattle.ir_thread.specs.Alone.{AllSuit, after_replies}
-use Rattle.ir_thread.specs.Calls.{ask_of}
+use Rattle.ir_thread.specs.State.{ask_of, shared_ask, reply_of, thread_machine}
 use Rattle.ir_thread.specs.Permitted.{Suits}
-use Rattle.ir_thread.specs.Instance.{shared_ask, reply_of, thread_machine}
 use Rattle.ir_runs.specs.Machine.{act_of}
 use Rattle.ir_thread.specs.State as thread
 use Rattle.ir_thread.specs.declared.ask.Ask.{Ask}

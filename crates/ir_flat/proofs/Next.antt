@@ -4,10 +4,8 @@ use Rattle.std.proofs.Math.Path.{fun_ext}
 use Rattle.std.specs.Prelude.{slice_set}
 use Rattle.std.proofs.lemmas.Bool.{cases_eq}
 use Rattle.ir_image.specs.Guest.{most_object_words}
-use Rattle.ir_thread.specs.Calls.{ask_of, after_ask, after_reply}
 use Rattle.ir_thread.specs.Permitted.{Permits}
-use Rattle.ir_thread.specs.State.{held_at}
-use Rattle.ir_thread.specs.Instance.{shared_ask, reply_of}
+use Rattle.ir_thread.specs.State.{held_at, ask_of, after_ask, after_reply, shared_ask, reply_of}
 use Rattle.ir_runs.specs.Machine.{act_of, upd, Exit, Store, Object, target, acted, reply}
 use Rattle.ir_thread.specs.State as thread
 use Rattle.ir_runs.specs.declared.access.Access.{Access}

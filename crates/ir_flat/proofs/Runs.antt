@@ -3,9 +3,8 @@ use Rattle.std.proofs.Common.{◌≡◌, ℕ, ◌<◌, ◌≤◌, true, List, []
 use Rattle.std.proofs.lemmas.Bool.{cases_lt}
 use Rattle.std.proofs.lemmas.List.{get_or_past}
 use Rattle.ir_image.specs.Guest.{Guest, object_count}
-use Rattle.ir_thread.specs.Calls.{ask_of, after_ask, after_reply}
+use Rattle.ir_thread.specs.State.{ask_of, after_ask, after_reply, shared_ask, reply_of, is_result, thread_machine}
 use Rattle.ir_thread.specs.Permitted.{Permits}
-use Rattle.ir_thread.specs.Instance.{shared_ask, reply_of, is_result, thread_machine}
 use Rattle.ir_runs.specs.Machine as machine
 use Rattle.ir_runs.specs.Machine.{upd, target, Admits, reply}
 use Rattle.ir_thread.specs.declared.profile.Profile.{Profile}

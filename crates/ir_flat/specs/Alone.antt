@@ -1,6 +1,6 @@
 -- Steps that one thread takes by itself.
 use Rattle.std.specs.Prelude.{◌≡◌, ◌<◌, ℕ, [], length, replicate}
-use Rattle.ir_thread.specs.Calls.{ask_of}
+use Rattle.ir_thread.specs.State.{ask_of}
 use Rattle.ir_thread.specs.declared.ask.Ask.TheVariants as ask
 use Rattle.ir_flat.specs.Flat.{Flat, tables, machine}
 use Rattle.ir_runs.specs.Run.{IsRun, end, log}

@@ -1,7 +1,6 @@
 -- The lists of threads and objects after a step.
 use Rattle.std.specs.Prelude.{◌≡◌, ℕ, zero, suc, true, slice_index, slice_set, ⊤}
-use Rattle.ir_thread.specs.Calls.{after_ask}
-use Rattle.ir_thread.specs.Instance.{is_result}
+use Rattle.ir_thread.specs.State.{after_ask, is_result}
 use Rattle.ir_thread.specs.State as thread
 use Rattle.ir_thread.specs.declared.ask.Ask.{Ask}
 use Rattle.ir_thread.specs.declared.ask.Ask.TheVariants.{Env, Enter, Try, Leave, Get, Put, Done}

@@ -1,8 +1,7 @@
 -- A run made of the runs of threads alone and of one order of their object steps.
 use Rattle.std.specs.Prelude.{◌≡◌, ℕ, suc, zero, ◌≤◌, cond, List, [], ◌∷◌, ◌++◌, map, length, Some}
 use Rattle.ir_thread.specs.Alone.{lone_run, values_of}
-use Rattle.ir_thread.specs.Calls.{ask_of}
-use Rattle.ir_thread.specs.Instance.{reply_of, thread_machine}
+use Rattle.ir_thread.specs.State.{ask_of, reply_of, thread_machine}
 use Rattle.ir_thread.specs.State as thread
 use Rattle.ir_thread.specs.declared.ask.Reply.{Reply}
 use Rattle.ir_runs.specs.Machine.{act_of, Done, Machine, upd, is_shared}

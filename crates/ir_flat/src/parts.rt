@@ -6,9 +6,8 @@ ghost use Rattle.ir_flat.specs.Next.{with_thread, with_object, answered, next, n
 ghost use Rattle.ir_image.specs.Guest.{most_object_words, object_count};
 ghost use Rattle.ir_object.specs.Standing.{Admitted, CanLeave};
 ghost use Rattle.ir_object.specs.Word.{IsFields, entered, left_by};
-ghost use Rattle.ir_thread.specs.Calls.{ask_of, after_reply, most_budget};
+ghost use Rattle.ir_thread.specs.State.{ask_of, after_reply, most_budget, is_result};
 ghost use Rattle.ir_thread.specs.Permitted.{run_of, Permits, Suits};
-ghost use Rattle.ir_thread.specs.Instance.{is_result};
 ghost use Rattle.ir_thread.specs.Private.{NoInstruction, UnmarkedSteps, StopsUnmarked};
 ghost use Rattle.ir_thread.specs.declared.ask.Ask.TheVariants.{Private, Try};
 ghost use Rattle.std.specs.Prelude.{ℕ, ◌≡◌, ◌<◌, ◌≤◌, ◌≢◌, ◌↔◌, true, length, slice_index, slice_set, IsTrue, IfOk};
@@ -120,7 +119,7 @@ impl<'a> Parts<'a> {
     }
 
     // Thread t takes the step that it asked.
-    #[tactic(auto, unfolding(ir_thread::specs::Calls::after_reply))]
+    #[tactic(auto, unfolding(ir_thread::specs::State::after_reply))]
     #[inline(always)]
     fn take(&mut self, t: usize, asked: Ask, reply: Reply)
         requires thread { t < length self.old.threads }

@@ -3,8 +3,7 @@ use Rattle.std.specs.Prelude.{◌≡◌, ◌↔◌, ℕ, ◌≤◌, List, length
 use Rattle.ir_image.specs.Guest.{IsWord}
 use Rattle.ir_mach.specs.Core.{memory_size}
 use Rattle.ir_mach.specs.Within.{IsCore}
-use Rattle.ir_thread.specs.Calls.{most_output}
-use Rattle.ir_thread.specs.State.{end_code, ThreadState}
+use Rattle.ir_thread.specs.State.{end_code, ThreadState, most_output}
 use Rattle.ir_thread.specs.Frames.{frame_of}
 use Rattle.ir_seen.specs.Seen.{Same, view}
 use Rattle.ir_freeze.specs.Frozen.{changes, frozen, is_over}

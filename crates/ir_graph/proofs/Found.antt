@@ -6,7 +6,7 @@ use Rattle.std.proofs.lemmas.Option.{same_Some}
 use Rattle.ir_explore.proofs.CallerLemmas.{slice_get_after_push_cases, place_of_element_is_below_length}
 use Rattle.ir_runs.specs.Run.{Can, after}
 use Rattle.ir_states.specs.Nodes.{LeadsTo}
-use Rattle.ir_thread.specs.Calls.{ask_of}
+use Rattle.ir_thread.specs.State.{ask_of}
 use Rattle.ir_flat.specs.Flat.{Flat, tables, machine, thread_of}
 use Rattle.ir_graph.specs.Nodes.{Alike, seen_by, told_by, seen_of, LookAlike, AllRest, AreNodes, Stay, LeadsFrom}
 use Rattle.ir_graph.specs.Plain.{GoesPlain, IsLike, OthersStay, Rests}

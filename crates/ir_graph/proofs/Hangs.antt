@@ -21,8 +21,7 @@ use Rattle.ir_states.specs.Outcomes.{switches, IsFinished, HasWay}
 use Rattle.ir_states.specs.Sources.{Giving, answer_of, left_of, sourced, by_source}
 use Rattle.ir_states.specs.Views.{beside}
 use Rattle.ir_states.proofs.CallerLemmas.{Completes, back, finds, found, is_done_from_alike_state, unspoilt_run_is_live, unspoilt_after_live_run, looks_alike, real_seen, seen_good, sourced_counts, sourced_entering, sourced_machine_is_lawful, sourced_live, sourced_view_is_view, viewed_counts, viewed_entering}
-use Rattle.ir_thread.specs.Calls.{most_budget}
-use Rattle.ir_thread.specs.Instance.{thread_machine}
+use Rattle.ir_thread.specs.State.{most_budget, thread_machine}
 use Rattle.ir_thread.specs.State as thread
 use Rattle.ir_thread.specs.declared.profile.Profile.TheVariants.{One}
 use Rattle.ir_seen.specs.Seen.{view, seen_machine, IsLive, IsSpoilt, seen_start, IsCounted, Same}

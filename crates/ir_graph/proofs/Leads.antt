@@ -10,8 +10,7 @@ use Rattle.ir_states.specs.Outcomes.{Begins}
 use Rattle.ir_states.specs.Sources.{answer_of, left_of}
 use Rattle.ir_states.specs.Views.{viewed, beside}
 use Rattle.ir_states.proofs.CallerLemmas.{leads_to_by_equal_act}
-use Rattle.ir_thread.specs.Calls.{ask_of}
-use Rattle.ir_thread.specs.Instance.{shared_ask}
+use Rattle.ir_thread.specs.State.{ask_of, shared_ask}
 use Rattle.ir_thread.specs.State as thread
 use Rattle.ir_thread.specs.declared.ask.Ask.{Ask}
 use Rattle.ir_thread.specs.declared.ask.Ask.TheVariants as ask

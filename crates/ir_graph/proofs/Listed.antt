@@ -16,8 +16,7 @@ use Rattle.ir_states.specs.Counting.{IsAtRest}
 use Rattle.ir_states.specs.Nodes.{LeadsTo}
 use Rattle.ir_states.specs.Outcomes.{IsFinished, Covers}
 use Rattle.ir_states.specs.Sources.{plain}
-use Rattle.ir_thread.specs.Instance.{thread_machine}
-use Rattle.ir_thread.specs.State.{ThreadState}
+use Rattle.ir_thread.specs.State.{ThreadState, thread_machine}
 use Rattle.ir_thread.specs.declared.profile.Profile.TheVariants.{One}
 use Rattle.ir_seen.specs.Seen.{seen_start}
 use Rattle.ir_seen.proofs.CallerLemmas.{seen_machine_is_view, guest_all, guest_outcome_within_is_done_node}

@@ -6,10 +6,9 @@ use Rattle.ir_object.specs.Cell.{Cell}
 use Rattle.ir_object.specs.Standing.{Admitted, CanLeave}
 use Rattle.ir_object.specs.Word.{IsFields, entered, left_by}
 use Rattle.ir_runs.specs.Run.{Can, after}
-use Rattle.ir_thread.specs.Calls.{ask_of, after_reply, after_ask}
 use Rattle.ir_thread.specs.Permitted.{run_of, step_of, Permits}
 use Rattle.ir_thread.specs.Private.{PrivateSteps}
-use Rattle.ir_thread.specs.State.{ThreadState, held_at}
+use Rattle.ir_thread.specs.State.{ThreadState, held_at, ask_of, after_reply, after_ask}
 use Rattle.ir_thread.specs.declared.ask.Ask.{Ask}
 use Rattle.ir_thread.specs.declared.ask.Ask.TheVariants as ask
 use Rattle.ir_thread.specs.declared.ask.Reply.TheVariants.{Go}

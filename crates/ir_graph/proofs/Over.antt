@@ -5,10 +5,8 @@ use Rattle.std.proofs.lemmas.Bool.{cases_lt}
 use Rattle.ir_runs.specs.Machine as machine
 use Rattle.ir_runs.specs.Run.{IsDone}
 use Rattle.ir_runs.specs.declared.access.Access.{Access}
-use Rattle.ir_thread.specs.Calls.{ask_of, ask_by, release_ask}
 use Rattle.ir_thread.specs.Permitted.{Permits}
-use Rattle.ir_thread.specs.State.{highest, ThreadState}
-use Rattle.ir_thread.specs.Instance.{shared_ask}
+use Rattle.ir_thread.specs.State.{highest, ThreadState, ask_of, ask_by, release_ask, shared_ask}
 use Rattle.ir_thread.specs.declared.ask.Ask.{Ask}
 use Rattle.ir_thread.specs.declared.ask.Ask.TheVariants as ask
 use Rattle.ir_thread.specs.declared.end.End.{End}

@@ -10,8 +10,7 @@ use Rattle.ir_states.specs.Counting.{IsAnswered, Counts, is_own, GoesAhead}
 use Rattle.ir_states.specs.Sources.{Giving, answer_of, left_of, sourced, by_source}
 use Rattle.ir_states.specs.Views.{viewed, beside}
 use Rattle.ir_states.proofs.CallerLemmas.{sourced_view_is_view, viewed_end, viewed_counts}
-use Rattle.ir_thread.specs.Calls.{ask_of, after_ask, after_reply, held_after_try}
-use Rattle.ir_thread.specs.Instance.{thread_machine, shared_ask, reply_of}
+use Rattle.ir_thread.specs.State.{ask_of, after_ask, after_reply, held_after_try, thread_machine, shared_ask, reply_of}
 use Rattle.ir_thread.specs.State as thread
 use Rattle.ir_thread.specs.declared.ask.Ask.{Ask}
 use Rattle.ir_thread.specs.declared.ask.Ask.TheVariants as ask

@@ -10,8 +10,7 @@ use Rattle.ir_runs.specs.declared.access.Access.TheVariants.{Reading, Writing}
 use Rattle.ir_states.specs.Sources.{Giving, Gives}
 use Rattle.ir_states.specs.Views.{IsLiveRun}
 use Rattle.ir_states.proofs.CallerLemmas.{unspoilt_after_live_run}
-use Rattle.ir_thread.specs.Calls.{ask_of, most_budget}
-use Rattle.ir_thread.specs.Instance.{thread_machine, shared_ask}
+use Rattle.ir_thread.specs.State.{ask_of, most_budget, thread_machine, shared_ask}
 use Rattle.ir_thread.specs.State as thread
 use Rattle.ir_thread.specs.declared.ask.Ask.{Ask}
 use Rattle.ir_thread.specs.declared.ask.Ask.TheVariants as ask

@@ -4,7 +4,7 @@ use Rattle.ir_image.specs.Guest.{Guest}
 use Rattle.ir_explore.specs.declared.stop.Stop.{Stop}
 use Rattle.ir_explore.specs.declared.stop.Stop.TheVariants.{Nodes, Private, Log, Order, World, Try, Memory}
 use Rattle.ir_runs.specs.Run.{Can, after}
-use Rattle.ir_thread.specs.Calls.{ask_of, most_budget}
+use Rattle.ir_thread.specs.State.{ask_of, most_budget}
 use Rattle.ir_thread.specs.declared.profile.Profile.TheVariants.{One}
 use Rattle.ir_flat.specs.Flat.{Flat, tables, machine, thread_of, start_flat}
 use Rattle.ir_graph.specs.Plain.{GoesPlain, Rests}

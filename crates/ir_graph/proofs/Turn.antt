@@ -6,8 +6,7 @@ use Rattle.ir_runs.specs.Run.{State, Step, asked, Can, after, end}
 use Rattle.ir_runs.proofs.CallerLemmas.{end_append}
 use Rattle.ir_states.specs.Counting.{entering}
 use Rattle.ir_states.proofs.CallerLemmas.{entering_append}
-use Rattle.ir_thread.specs.Calls.{ask_of}
-use Rattle.ir_thread.specs.Instance.{thread_machine, shared_ask}
+use Rattle.ir_thread.specs.State.{ask_of, thread_machine, shared_ask}
 use Rattle.ir_thread.specs.State as thread
 use Rattle.ir_thread.specs.declared.ask.Ask.{Ask}
 use Rattle.ir_thread.specs.declared.ask.Ask.TheVariants as ask

@@ -9,7 +9,7 @@ use Rattle.ir_states.specs.Counting.{Counts, entering}
 use Rattle.ir_states.specs.Outcomes.{switches}
 use Rattle.ir_states.specs.Sources.{Gives}
 use Rattle.ir_states.specs.Views.{IsUnspoilt}
-use Rattle.ir_thread.specs.Instance.{thread_machine}
+use Rattle.ir_thread.specs.State.{thread_machine}
 use Rattle.ir_thread.specs.declared.profile.Profile.TheVariants.{One}
 use Rattle.ir_flat.specs.Flat.{Flat, machine, tables, start_flat}
 use Rattle.ir_seen.specs.Seen.{IsSpoilt, seen_start}

@@ -7,8 +7,7 @@ use Rattle.ir_states.specs.Looks.{Looks}
 use Rattle.ir_states.specs.Nodes.{LeadsTo}
 use Rattle.ir_states.specs.Sources.{Giving, sourced, by_source}
 use Rattle.ir_states.specs.Views.{viewed, beside}
-use Rattle.ir_thread.specs.Calls.{ask_of}
-use Rattle.ir_thread.specs.State.{ThreadState}
+use Rattle.ir_thread.specs.State.{ThreadState, ask_of}
 use Rattle.ir_flat.specs.Flat.{Flat, tables, thread_of}
 use Rattle.ir_seen.specs.Seen.{view, seen_machine, Same}
 use Rattle.ir_graph.specs.Plain.{Rests, IsLike}

@@ -5,9 +5,7 @@ use Rattle.ir_explore.specs.declared.origin.Origin.{Origin}
 use Rattle.ir_runs.specs.Run as run
 use Rattle.ir_states.specs.Counting.{entering}
 use Rattle.ir_states.specs.Outcomes.{switches}
-use Rattle.ir_thread.specs.Calls.{most_budget}
-use Rattle.ir_thread.specs.Instance.{thread_machine}
-use Rattle.ir_thread.specs.State.{ThreadState}
+use Rattle.ir_thread.specs.State.{ThreadState, most_budget, thread_machine}
 use Rattle.ir_thread.specs.declared.end.End.{End}
 use Rattle.ir_thread.specs.declared.profile.Profile.TheVariants.{One}
 use Rattle.ir_flat.specs.Flat.{Flat, machine, tables, start_flat}

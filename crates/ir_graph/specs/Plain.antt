@@ -2,7 +2,7 @@
 use Rattle.std.specs.Prelude.{◌≡◌, ◌≢◌, ℕ, Bool, true, false, List, [], ◌∷◌, length}
 use Rattle.ir_runs.specs.Machine as machine
 use Rattle.ir_runs.specs.Run.{State, Step, asked, Can, after, end}
-use Rattle.ir_thread.specs.Instance.{thread_machine}
+use Rattle.ir_thread.specs.State.{thread_machine}
 use Rattle.ir_thread.specs.State as thread
 use Rattle.ir_thread.specs.declared.ask.Ask.{Ask}
 use Rattle.ir_thread.specs.declared.ask.Ask.TheVariants as ask

@@ -3,8 +3,7 @@ use Rattle.std.specs.Prelude.{◌≡◌, ℕ, Bool, true, false, List, [], ◌�
 use Rattle.ir_image.specs.Guest.{Guest}
 use Rattle.ir_runs.specs.Machine as machine
 use Rattle.ir_runs.specs.Run.{State, Step, asked, Can, after, end}
-use Rattle.ir_thread.specs.Calls.{most_budget}
-use Rattle.ir_thread.specs.Instance.{thread_machine}
+use Rattle.ir_thread.specs.State.{most_budget, thread_machine}
 use Rattle.ir_thread.specs.State as thread
 use Rattle.ir_thread.specs.declared.profile.Profile.TheVariants.{One}
 use Rattle.ir_seen.specs.Seen.{IsLive}

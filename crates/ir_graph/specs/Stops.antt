@@ -3,7 +3,7 @@ use Rattle.std.specs.Prelude.{◌≡◌, ℕ, List, length}
 use Rattle.ir_image.specs.Guest.{Guest}
 use Rattle.ir_explore.specs.declared.stop.Stop.{Stop}
 use Rattle.ir_explore.specs.declared.stop.Stop.TheVariants.{Nodes, Private, Log, Order, World, Try, Memory}
-use Rattle.ir_thread.specs.Calls.{ask_of}
+use Rattle.ir_thread.specs.State.{ask_of}
 use Rattle.ir_thread.specs.declared.ask.Ask.{Ask}
 use Rattle.ir_thread.specs.declared.ask.Ask.TheVariants as ask
 use Rattle.ir_thread.specs.declared.end.End.TheVariants as ending

@@ -3,7 +3,7 @@
 ghost use Rattle.std.specs.Prelude.{◌≡◌, ℕ, ◌<◌, true, false, length};
 ghost use Rattle.std.specs.List.{slice_index_or};
 ghost use Rattle.ir_runs.specs.Run.{IsDone};
-ghost use Rattle.ir_thread.specs.Calls.{ask_of};
+ghost use Rattle.ir_thread.specs.State.{ask_of};
 ghost use Rattle.ir_thread.specs.declared.ask.Ask.TheVariants.{Done};
 ghost use Rattle.ir_flat.specs.Flat.{tables, machine, thread_of, idle};
 ghost use Rattle.ir_graph.specs.Outcomes.{EndAlike, outcome_of};

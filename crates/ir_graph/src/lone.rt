@@ -4,7 +4,7 @@ ghost use Rattle.std.specs.Prelude.{◌≡◌, ℕ, true, IfSome};
 ghost use Rattle.ir_graph.specs.Lone.{IsAbout, answer_from, cell_after, GoesLone, TakesTurn, AreBeside, MayTake};
 ghost use Rattle.ir_graph.specs.Plain.{IsFair, Rests};
 ghost use Rattle.ir_object.specs.Standing.{Admitted};
-ghost use Rattle.ir_thread.specs.Calls.{ask_of, after_ask};
+ghost use Rattle.ir_thread.specs.State.{ask_of, after_ask};
 ghost use Rattle.ir_thread.specs.declared.ask.Ask.TheVariants as ask;
 
 use ir_image::Code;
@@ -39,7 +39,7 @@ fn is_about(object: u8, asked: Ask) -> bool
 }
 
 // The thread takes the step that it asked, which is about this object or none.
-#[tactic(auto, unfolding(ir_thread::specs::Calls::after_reply))]
+#[tactic(auto, unfolding(ir_thread::specs::State::after_reply))]
 fn take_beside(code: &Code, thread: &mut Thread, object: &mut Object, asked: Ask)
     requires asked { asked ≡ ask_of code.now thread.old }
     requires may { MayTake object.old asked }

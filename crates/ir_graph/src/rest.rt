@@ -6,8 +6,7 @@ ghost use Rattle.ir_graph.specs.Plain.{IsFair, GoesPlain, OthersStay, Rests};
 ghost use Rattle.ir_graph.specs.Stops.{IsRefused, StopsAt};
 ghost use Rattle.ir_graph.specs.Turn.{GoesAlone};
 ghost use Rattle.ir_seen.specs.Seen.{view};
-ghost use Rattle.ir_thread.specs.Calls.{ask_of};
-ghost use Rattle.ir_thread.specs.Instance.{shared_ask};
+ghost use Rattle.ir_thread.specs.State.{ask_of, shared_ask};
 
 use ir_explore::Stop;
 use ir_flat::Flat;

@@ -10,8 +10,7 @@ ghost use Rattle.ir_graph.specs.Plain.{GoesPlain};
 ghost use Rattle.ir_graph.specs.Stops.{IsStop};
 ghost use Rattle.ir_image.specs.Guest.{Guest};
 ghost use Rattle.ir_mach.specs.Core.{memory_size};
-ghost use Rattle.ir_thread.specs.State.{IsAllowed};
-ghost use Rattle.ir_thread.specs.Calls.{most_budget};
+ghost use Rattle.ir_thread.specs.State.{IsAllowed, most_budget};
 ghost use Rattle.ir_thread.specs.declared.profile.Profile.TheVariants.{One};
 
 use crate::ahead::Ahead;

@@ -4,10 +4,8 @@ use Rattle.ir_mach.specs.Marks.{Marked, is_marked}
 use Rattle.ir_mach.specs.Execution.{memory_word}
 use Rattle.ir_runs.specs.Machine.{act_of, reply}
 use Rattle.ir_runs.specs.Run.{Step}
-use Rattle.ir_thread.specs.State.{ThreadState, held_at}
-use Rattle.ir_thread.specs.Calls.{ask_of, after_reply}
+use Rattle.ir_thread.specs.State.{ThreadState, held_at, ask_of, after_reply, reply_of}
 use Rattle.ir_thread.specs.Permitted.{step_of, run_of}
-use Rattle.ir_thread.specs.Instance.{reply_of}
 use Rattle.ir_thread.specs.Private.{UnmarkedSteps}
 use Rattle.ir_thread.specs.declared.ask.Ask.TheVariants as ask
 use Rattle.ir_thread.proofs.CallerLemmas.{private_steps_prefix, held_after_private_steps, unmarked_steps_prefix, thread_unmarked_step_begins_unmarked, thread_memory_after_unmarked_steps}

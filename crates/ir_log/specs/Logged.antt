@@ -1,6 +1,6 @@
 -- A log apart from where it lies in memory.
 use Rattle.std.specs.Prelude.{ℕ, ◌≤◌, List, length}
-use Rattle.ir_thread.specs.Calls.{most_events}
+use Rattle.ir_thread.specs.State.{most_events}
 use Rattle.ir_log.specs.declared.event.Event.{Event}
 
 -- what a log holds, and how much it may hold

@@ -1,7 +1,7 @@
 //! A place in a log, and what is expected there.
 
 ghost use Rattle.std.specs.Prelude.{◌≡◌, ◌<◌, ◌≤◌, ◌+◌, ℕ, slice_get, Some, IfOk, OnOk, OnErr};
-ghost use Rattle.ir_thread.specs.Calls.{most_events};
+ghost use Rattle.ir_thread.specs.State.{most_events};
 ghost use Rattle.ir_log.specs.Asked.{Suits};
 ghost use Rattle.ir_log.specs.declared.event.Event.{Event};
 

@@ -2,7 +2,7 @@
 
 ghost use Rattle.std.specs.Prelude.{◌≡◌, ◌<◌, ◌≤◌, ◌++◌, [], ◌∷◌, length, IfOk, vec_len, vec_capacity};
 ghost use Rattle.ir_log.specs.Logged.{Logged, IsLogged};
-ghost use Rattle.ir_thread.specs.Calls.{most_events};
+ghost use Rattle.ir_thread.specs.State.{most_events};
 
 use crate::event::Event;
 use std::alloc::{AllocError, Global};

@@ -2,9 +2,8 @@
 use Rattle.std.proofs.Common.{◌≡◌, ◌≤◌, ℕ, zero, suc, List, [], ◌∷◌, length, get_or, None, refl, subst, arith}
 use Rattle.std.specs.Prelude.{◌≢◌}
 use Rattle.ir_image.specs.Guest.{Guest}
-use Rattle.ir_thread.specs.Calls.{ask_of}
 use Rattle.ir_thread.specs.Permitted.{Permits}
-use Rattle.ir_thread.specs.State.{ThreadState}
+use Rattle.ir_thread.specs.State.{ThreadState, ask_of}
 use Rattle.ir_thread.specs.declared.ask.Ask.TheVariants.{Done}
 use Rattle.ir_thread.specs.declared.profile.Profile.{Profile}
 use Rattle.ir_thread.proofs.CallerLemmas.{ask_of_permitted}

@@ -6,8 +6,7 @@ use Rattle.ir_runs.specs.Run.{State, Step, end}
 use Rattle.ir_runs.proofs.CallerLemmas.{end_append}
 use Rattle.ir_states.specs.Counting.{entering}
 use Rattle.ir_states.proofs.CallerLemmas.{entering_append}
-use Rattle.ir_thread.specs.Calls.{most_budget}
-use Rattle.ir_thread.specs.Instance.{thread_machine}
+use Rattle.ir_thread.specs.State.{most_budget, thread_machine}
 use Rattle.ir_thread.specs.State as thread
 use Rattle.ir_thread.specs.declared.profile.Profile.TheVariants.{One}
 use Rattle.ir_flat.specs.Flat.{Flat, tables, start_flat}

@@ -11,7 +11,7 @@ use Rattle.ir_explore.specs.Ways.{shut}
 use Rattle.ir_record.specs.Recording.{order_of_turns}
 use Rattle.ir_runs.specs.Run.{Step}
 use Rattle.ir_states.specs.Outcomes.{switches}
-use Rattle.ir_thread.specs.Calls.{most_budget}
+use Rattle.ir_thread.specs.State.{most_budget}
 use Rattle.ir_flat.specs.Flat.{Flat}
 use Rattle.ir_graph.specs.Hangs.{CanEndFrom, IsHangOf, AreMarked, AllStand}
 use Rattle.ir_graph.specs.Nodes.{LookAlike}

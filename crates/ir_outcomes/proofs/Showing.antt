@@ -4,7 +4,7 @@ use Rattle.std.proofs.lemmas.List.{append-nil}
 use Rattle.ir_image.specs.Guest.{Guest}
 use Rattle.ir_runs.specs.Run.{State, IsDone, after, end, InTurn, EntersIfFree}
 use Rattle.ir_states.specs.Outcomes.{switches}
-use Rattle.ir_thread.specs.Instance.{thread_machine}
+use Rattle.ir_thread.specs.State.{thread_machine}
 use Rattle.ir_thread.specs.State as thread
 use Rattle.ir_flat.specs.Flat.{Flat, machine, tables}
 use Rattle.ir_graph.specs.Outcomes.{outcome_of}

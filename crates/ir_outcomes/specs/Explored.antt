@@ -7,7 +7,7 @@ use Rattle.ir_record.specs.Recording.{order_of_turns}
 use Rattle.ir_runs.specs.Run.{Step, end}
 use Rattle.ir_states.specs.Counting.{entering}
 use Rattle.ir_states.specs.Outcomes.{switches}
-use Rattle.ir_thread.specs.Instance.{thread_machine}
+use Rattle.ir_thread.specs.State.{thread_machine}
 use Rattle.ir_thread.specs.declared.profile.Profile.TheVariants.{One}
 use Rattle.ir_flat.specs.Flat.{Flat, tables, start_flat}
 use Rattle.ir_seen.specs.Seen.{IsCounted}

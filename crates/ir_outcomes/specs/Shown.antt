@@ -4,8 +4,7 @@ use Rattle.ir_image.specs.Guest.{Guest}
 use Rattle.ir_runs.specs.Run.{Step, end, InTurn, IsByOrder}
 use Rattle.ir_states.specs.Counting.{entering}
 use Rattle.ir_states.specs.Outcomes.{switches}
-use Rattle.ir_thread.specs.Calls.{most_budget}
-use Rattle.ir_thread.specs.Instance.{thread_machine}
+use Rattle.ir_thread.specs.State.{most_budget, thread_machine}
 use Rattle.ir_thread.specs.declared.profile.Profile.TheVariants.{One}
 use Rattle.ir_flat.specs.Flat.{Flat, tables}
 use Rattle.ir_seen.specs.Seen.{IsCounted}

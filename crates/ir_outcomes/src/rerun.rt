@@ -7,8 +7,7 @@ ghost use Rattle.ir_flat.specs.Flat.{thread_of, start_flat};
 ghost use Rattle.ir_graph.specs.Plain.{Rests};
 ghost use Rattle.ir_graph.specs.Turn.{GoesAlone};
 ghost use Rattle.ir_record.specs.Recording.{order_of_turns};
-ghost use Rattle.ir_thread.specs.State.{IsAllowed};
-ghost use Rattle.ir_thread.specs.Calls.{ask_of, most_budget};
+ghost use Rattle.ir_thread.specs.State.{IsAllowed, ask_of, most_budget};
 ghost use Rattle.ir_thread.specs.declared.profile.Profile.TheVariants.{One};
 ghost use Rattle.ir_outcomes.specs.Again.{IsAgain, IsAgainWithin};
 

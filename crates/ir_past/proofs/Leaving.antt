@@ -9,7 +9,7 @@ use Rattle.ir_runs.specs.declared.access.Access.TheVariants.{Reading, Writing}
 use Rattle.ir_runs.specs.Run.{act, State, Step, after, label, trail, IsRun, IsDone, end, At, Emits}
 use Rattle.ir_runs.specs.Bounds.{IsComplete, IsStart}
 use Rattle.ir_runs.proofs.CallerLemmas.{upd_at_own_place, StateInvariant, state_invariant_after_step, state_invariant_at_start, trail_of_cons_own_thread, trail_of_cons_other_thread}
-use Rattle.ir_thread.specs.Instance.{thread_machine}
+use Rattle.ir_thread.specs.State.{thread_machine}
 use Rattle.ir_thread.specs.State as thread
 use Rattle.ir_thread.proofs.CallerLemmas.{thread_machine_is_lawful}
 use Rattle.ir_past.specs.Leaving.{LeavesFirst}

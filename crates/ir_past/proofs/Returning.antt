@@ -9,7 +9,7 @@ use Rattle.ir_runs.specs.declared.access.Access.TheVariants.{Reading, Writing}
 use Rattle.ir_runs.specs.Run.{asked, act, State, Step, Can, after, label, IsRun, events, log, At}
 use Rattle.ir_runs.specs.Bounds.{IsStart}
 use Rattle.ir_runs.proofs.CallerLemmas.{upd_at_own_place, upd_at_other_place, StateInvariant, state_invariant_after_step, state_invariant_at_start, trail_of_cons_own_thread, trail_of_cons_other_thread}
-use Rattle.ir_thread.specs.Instance.{thread_machine}
+use Rattle.ir_thread.specs.State.{thread_machine}
 use Rattle.ir_thread.specs.State as thread
 use Rattle.ir_thread.proofs.CallerLemmas.{thread_machine_is_lawful}
 use Rattle.ir_log.specs.Logging.{label_of}

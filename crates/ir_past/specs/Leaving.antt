@@ -4,7 +4,7 @@ use Rattle.ir_runs.specs.Machine.{Machine, In, Out}
 use Rattle.ir_runs.specs.declared.access.Access.{Access}
 use Rattle.ir_runs.specs.Run.{State, Step, Emits}
 use Rattle.ir_runs.specs.Bounds.{IsStart, IsComplete}
-use Rattle.ir_thread.specs.Instance.{thread_machine}
+use Rattle.ir_thread.specs.State.{thread_machine}
 use Rattle.ir_thread.specs.State as thread
 
 -- a step of thread t past its step j leaves object o after such access at version v, and is the first that does

@@ -5,7 +5,7 @@ use Rattle.ir_runs.specs.Machine.{Machine, Label, Quiet, Answer, In, Refused, Ou
 use Rattle.ir_runs.specs.declared.access.Access.TheVariants.{Reading, Writing}
 use Rattle.ir_runs.specs.Run.{State, Step, after, label, IsRun, end, log}
 use Rattle.ir_runs.specs.Bounds.{IsStart}
-use Rattle.ir_thread.specs.Instance.{thread_machine}
+use Rattle.ir_thread.specs.State.{thread_machine}
 use Rattle.ir_thread.specs.State as thread
 use Rattle.ir_log.specs.Logging.{label_of}
 use Rattle.ir_log.specs.declared.event.Event.{Event}

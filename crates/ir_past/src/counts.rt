@@ -1,7 +1,7 @@
 //! How many write entries a trace has.
 
 ghost use Rattle.std.specs.Prelude.{◌≡◌, ◌≤◌, length};
-ghost use Rattle.ir_thread.specs.Calls.{most_events};
+ghost use Rattle.ir_thread.specs.State.{most_events};
 ghost use Rattle.ir_past.specs.Past.{write_one, writes_in, write_count};
 
 use ir_log::Event;

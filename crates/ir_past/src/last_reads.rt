@@ -2,7 +2,7 @@
 
 ghost use Rattle.std.specs.Prelude.{◌≡◌, ◌+◌, ◌<◌, ◌≤◌, ℕ, Some, None, length, slice_set, IfSome, IfNone};
 ghost use Rattle.std.specs.List.{slice_get};
-ghost use Rattle.ir_thread.specs.Calls.{most_events};
+ghost use Rattle.ir_thread.specs.State.{most_events};
 ghost use Rattle.ir_past.specs.Past.{IsStaleIn};
 ghost use Rattle.ir_past.specs.Tables.{last_read};
 ghost use Rattle.ir_past.specs.declared.last_reads.ReadEntry.{ReadEntry};

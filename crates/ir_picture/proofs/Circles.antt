@@ -6,7 +6,7 @@ use Rattle.std.proofs.lemmas.List.{get_or_past}
 use Rattle.std.proofs.lemmas.Nat.{mul-le}
 use Rattle.std.proofs.lemmas.Option.{same_Some, none-some, slice_get_within}
 use Rattle.ir_log.specs.declared.event.Event.{Event}
-use Rattle.ir_thread.specs.Calls.{most_events}
+use Rattle.ir_thread.specs.State.{most_events}
 use Rattle.ir_trace.specs.Recorded.{Recorded, RecordedThread, absent, recorded_thread}
 use Rattle.ir_past.specs.Past.{event_at}
 use Rattle.ir_past.specs.Answers.{AreCoherent}

@@ -4,7 +4,7 @@ use Rattle.std.specs.Prelude.{slice_get, IfSome, IfNone}
 use Rattle.std.proofs.lemmas.Option.{same_Some, slice_get_within, slice_get_read}
 use Rattle.std.proofs.lemmas.Nat.{mul-le}
 use Rattle.ir_log.specs.declared.event.Event.{Event}
-use Rattle.ir_thread.specs.Calls.{most_events}
+use Rattle.ir_thread.specs.State.{most_events}
 use Rattle.ir_trace.specs.Recorded.{Recorded, recorded_thread}
 use Rattle.ir_trace.proofs.CallerLemmas.{recorded_threads_at_most_limit}
 use Rattle.ir_coherence.proofs.CallerLemmas.{recorded_thread_at_number_is_recorded}

@@ -1,7 +1,7 @@
 -- How far the boxes of a trace are made.
 use Rattle.std.specs.Prelude.{◌≡◌, ℕ, zero, suc, ◌+◌, ◌*◌, ◌<◌, ◌≤◌, ◌⊎◌, ⊤, Bool, true, false, List, Option, Some, None, length}
 use Rattle.std.specs.List.{slice_get, slice_index_or}
-use Rattle.ir_thread.specs.Calls.{most_events}
+use Rattle.ir_thread.specs.State.{most_events}
 use Rattle.ir_log.specs.declared.event.Event.{Event}
 use Rattle.ir_log.specs.declared.event.Event.TheVariants.{Try}
 use Rattle.ir_trace.specs.Recorded.{Recorded, recorded_thread}

@@ -2,7 +2,7 @@
 
 ghost use Rattle.std.specs.Prelude.{◌≡◌, ℕ, ◌+◌, ◌*◌, ◌^◌, ◌<◌, ◌≤◌, Some, IfSome, IfNone, map, length, vec_len, OnOk, IfOk, MatchOption};
 ghost use Rattle.std.specs.List.{slice_get};
-ghost use Rattle.ir_thread.specs.Calls.{most_events};
+ghost use Rattle.ir_thread.specs.State.{most_events};
 ghost use Rattle.ir_past.specs.Past.{event_at};
 ghost use Rattle.ir_past.specs.Answers.{AreCoherent};
 ghost use Rattle.ir_picture.specs.Needs.{IsCircleAt};

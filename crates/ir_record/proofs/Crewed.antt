@@ -6,10 +6,8 @@ use Rattle.std.specs.List.{AllByRecursion}
 use Rattle.atomic_table.specs.Seated.{TableId}
 use Rattle.ir_image.specs.Guest.{Guest, object_count, IsGuest}
 use Rattle.ir_runs.specs.declared.env_kind.EnvKind.{EnvKind}
-use Rattle.ir_thread.specs.Calls.{ask_of}
 use Rattle.ir_thread.specs.Permitted.{Permits}
-use Rattle.ir_thread.specs.State.{held_at}
-use Rattle.ir_thread.specs.Instance.{thread_machine}
+use Rattle.ir_thread.specs.State.{held_at, ask_of, thread_machine}
 use Rattle.ir_thread.specs.State as thread
 use Rattle.ir_thread.specs.declared.ask.Ask.TheVariants as ask
 use Rattle.ir_thread.proofs.CallerLemmas.{ask_of_permitted}

@@ -1,8 +1,7 @@
 -- Entries, and steps that nothing is logged of.
 use Rattle.std.proofs.Common.{◌≡◌, ◌≢◌, ℕ, ◌<◌, true, false, Bool, List, [], ◌∷◌, ◌++◌, length, set, Result, Ok, Err, OnOk, OnErr, is_ok, is_err, refl, sym, ap, ◌∙◌, subst, arith, append-nil}
-use Rattle.ir_thread.specs.Calls.{ask_of, most_events}
+use Rattle.ir_thread.specs.State.{ask_of, most_events, shared_ask}
 use Rattle.ir_thread.specs.Permitted.{Permits}
-use Rattle.ir_thread.specs.Instance.{shared_ask}
 use Rattle.ir_runs.specs.Machine as machine
 use Rattle.ir_runs.specs.Machine.{act_of, Object, target, emitted, Admits, Label, logged}
 use Rattle.ir_runs.specs.declared.access.Access.{Access}

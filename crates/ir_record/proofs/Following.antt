@@ -2,8 +2,7 @@
 use Rattle.std.proofs.Common.{◌≡◌, ℕ, zero, suc, ◌+◌, ◌-◌, ◌<◌, ◌≤◌, false, Bool, List, [], ◌∷◌, ◌++◌, length, take, drop, replicate, get_or, refl, sym, ap, ◌∙◌, subst, arith, inl, inr, append-nil}
 use Rattle.std.proofs.lemmas.List.{get_or_past, replicate-append-replicate, take-append-drop, take_all, take_more, length-drop}
 use Rattle.std.proofs.lemmas.List.Concat.{flat_map-append}
-use Rattle.ir_thread.specs.Calls.{ask_of}
-use Rattle.ir_thread.specs.Instance.{shared_ask}
+use Rattle.ir_thread.specs.State.{ask_of, shared_ask}
 use Rattle.ir_runs.specs.Machine.{act_of, target, Admits}
 use Rattle.ir_flat.specs.Flat.{Flat, tables, machine, idle}
 use Rattle.ir_runs.specs.Run.{end, HasNone, InTurn}

@@ -4,7 +4,7 @@ use Rattle.std.proofs.Math.Nat.{min-le_left, min-le_right}
 use Rattle.std.proofs.lemmas.Bool.{cases_eq}
 use Rattle.std.specs.List.{range_with_len}
 use Rattle.ir_thread.specs.State as thread
-use Rattle.ir_thread.specs.Instance.{thread_machine}
+use Rattle.ir_thread.specs.State.{thread_machine}
 use Rattle.ir_flat.specs.Flat.{Flat, tables, machine}
 use Rattle.ir_runs.specs.Run.{State, HasNone}
 use Rattle.ir_record.specs.Ahead.{lead, CanSkip, WentIf}

@@ -2,8 +2,7 @@
 use Rattle.std.proofs.Common.{◌≡◌, ℕ, zero, suc, ◌<◌, List, [], ◌∷◌, get_or, refl, sym, ap, ◌∙◌, subst, arith}
 use Rattle.std.specs.List.{AllByRecursion}
 use Rattle.ir_image.specs.Guest.{Guest}
-use Rattle.ir_thread.specs.Calls.{ask_of, after_ask}
-use Rattle.ir_thread.specs.Instance.{reply_of, thread_machine}
+use Rattle.ir_thread.specs.State.{ask_of, after_ask, reply_of, thread_machine}
 use Rattle.ir_thread.specs.State as thread
 use Rattle.ir_thread.specs.declared.ask.Ask.{Ask}
 use Rattle.ir_thread.specs.declared.ask.Ask.TheVariants.{Private, Env, Enter, Try, Leave, Get, Put, Print, End, Done}

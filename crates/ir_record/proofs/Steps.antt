@@ -1,8 +1,7 @@
 -- Steps that are recorded.
 use Rattle.std.proofs.Common.{◌≡◌, ◌≢◌, ℕ, zero, suc, ◌+◌, ◌<◌, ◌≤◌, true, false, List, [], ◌∷◌, ◌++◌, length, refl, sym, ap, ◌∙◌, subst, arith, inl, inr, eq-eqb, ne_eqb, append-nil, append_assoc, length-append}
 use Rattle.std.proofs.lemmas.Bool.{cases_eq}
-use Rattle.ir_thread.specs.Calls.{ask_of}
-use Rattle.ir_thread.specs.Instance.{shared_ask, thread_machine}
+use Rattle.ir_thread.specs.State.{ask_of, shared_ask, thread_machine}
 use Rattle.ir_thread.specs.declared.ask.Ask.{Ask}
 use Rattle.ir_runs.specs.Machine as machine
 use Rattle.ir_runs.specs.Machine.{Label, Quiet, Answer, In, Out, Refused, logged}

@@ -5,8 +5,7 @@ use Rattle.std.proofs.lemmas.List.{replicate-append-replicate}
 use Rattle.std.proofs.lemmas.Option.{slice_get-get_or}
 use Rattle.std.specs.List.{range_with_len}
 use Rattle.ir_image.specs.Guest.{Guest}
-use Rattle.ir_thread.specs.Calls.{ask_of}
-use Rattle.ir_thread.specs.Instance.{shared_ask, thread_machine}
+use Rattle.ir_thread.specs.State.{ask_of, shared_ask, thread_machine}
 use Rattle.ir_thread.specs.State as thread
 use Rattle.ir_runs.specs.Machine as machine
 use Rattle.ir_flat.specs.Flat.{Flat, thread_of, tables, machine, start_flat}

@@ -1,8 +1,7 @@
 -- What threads have left along a run.
 use Rattle.std.proofs.Common.{ℕ, zero, suc, ◌+◌, ◌<◌, ◌≤◌, List, length, replicate, sym, subst, arith}
 use Rattle.ir_image.specs.Guest.{most_objects}
-use Rattle.ir_thread.specs.Calls.{ask_of}
-use Rattle.ir_thread.specs.Instance.{reply_of, thread_machine}
+use Rattle.ir_thread.specs.State.{ask_of, reply_of, thread_machine}
 use Rattle.ir_thread.specs.State as thread
 use Rattle.ir_thread.proofs.CallerLemmas.{ask_of_permitted}
 use Rattle.ir_runs.specs.Machine.{target, reply}

@@ -5,10 +5,8 @@ use Rattle.std.proofs.lemmas.List.{length-map}
 use Rattle.std.specs.List.{AllByRecursion}
 use Rattle.atomic_table.specs.Seated.{TableId}
 use Rattle.ir_image.specs.Guest.{Guest, object_count, most_object_words}
-use Rattle.ir_thread.specs.Calls.{ask_of, after_ask, after_reply, most_events}
 use Rattle.ir_thread.specs.Permitted.{run_of, step_of, Permits}
-use Rattle.ir_thread.specs.State.{held_at}
-use Rattle.ir_thread.specs.Instance.{shared_ask, reply_of, thread_machine}
+use Rattle.ir_thread.specs.State.{held_at, ask_of, after_ask, after_reply, most_events, shared_ask, reply_of, thread_machine}
 use Rattle.ir_runs.specs.Machine as machine
 use Rattle.ir_runs.specs.Lawful as lawful
 use Rattle.ir_runs.specs.Machine.{Act, act_of, Machine, is_shared, Label, Quiet, Answer, In, Out, logged}

@@ -1,6 +1,6 @@
 -- Recordings in order that end because a world failed.
 use Rattle.std.specs.Prelude.{◌≡◌, ◌<◌, ℕ, List, ◌∷◌, ◌++◌, length}
-use Rattle.ir_thread.specs.Calls.{ask_of}
+use Rattle.ir_thread.specs.State.{ask_of}
 use Rattle.ir_thread.specs.State as thread
 use Rattle.ir_thread.specs.declared.ask.Ask.TheVariants as ask
 use Rattle.ir_runs.specs.Machine as machine

@@ -2,9 +2,7 @@
 use Rattle.ir_thread.specs.declared.profile.Profile.{Profile}
 use Rattle.std.specs.Prelude.{◌≡◌, ℕ, ◌<◌, ◌++◌, List, [], ◌∷◌, length, map, slice_get, slice_index_or, Some, Bool, true, false, ⊤, flat_map, replicate}
 use Rattle.ir_image.specs.Guest.{Guest, object_count}
-use Rattle.ir_thread.specs.Calls.{ask_of}
-use Rattle.ir_thread.specs.Instance.{thread_machine}
-use Rattle.ir_thread.specs.State.{start_state}
+use Rattle.ir_thread.specs.State.{start_state, ask_of, thread_machine}
 use Rattle.ir_thread.specs.declared.ask.Ask.TheVariants as ask
 use Rattle.ir_flat.specs.Flat.{start_flat, tables, machine}
 use Rattle.ir_flat.specs.Lone.{MayRun, alone_after, alone_trail}

@@ -6,7 +6,7 @@ use Rattle.std.specs.List.{AllByRecursion}
 use Rattle.atomic_table.specs.Seated.{TableId}
 use Rattle.atomic_table.specs.declared.shared.Seat.{Seat}
 use Rattle.ir_image.specs.Guest.{Guest}
-use Rattle.ir_thread.specs.Calls.{most_events, most_output}
+use Rattle.ir_thread.specs.State.{most_events, most_output}
 use Rattle.ir_thread.specs.State as thread
 use Rattle.ir_crew.specs.Rule.{View}
 use Rattle.ir_trace.specs.Recorded.{RecordedThread, IsEvent}

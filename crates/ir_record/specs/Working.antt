@@ -5,9 +5,7 @@ use Rattle.std.specs.List.{AllByRecursion}
 use Rattle.atomic_table.specs.Seated.{TableId}
 use Rattle.atomic_table.specs.declared.shared.Seat.{Seat}
 use Rattle.ir_image.specs.Guest.{Guest, object_count}
-use Rattle.ir_thread.specs.Calls.{ask_of, most_events}
-use Rattle.ir_thread.specs.State.{held_at}
-use Rattle.ir_thread.specs.Instance.{thread_machine}
+use Rattle.ir_thread.specs.State.{held_at, ask_of, most_events, thread_machine}
 use Rattle.ir_runs.specs.Machine.{Machine, Label}
 use Rattle.ir_runs.specs.declared.env_kind.EnvKind.{EnvKind}
 use Rattle.ir_thread.specs.State as thread

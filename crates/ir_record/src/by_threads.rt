@@ -1,8 +1,7 @@
 //! Recording on real threads.
 
 ghost use Rattle.std.specs.Prelude.{◌≡◌, ◌≤◌, length, map, vec_len, IfOk, IfErr};
-ghost use Rattle.ir_thread.specs.State.{IsAllowed};
-ghost use Rattle.ir_thread.specs.Calls.{most_budget};
+ghost use Rattle.ir_thread.specs.State.{IsAllowed, most_budget};
 ghost use Rattle.ir_record.specs.Recording.{IsRecordedByThreads, AllWork, AreHandedBack, IsFailure};
 ghost use Rattle.ir_record.specs.Worlds.{NoneFailed};
 

@@ -3,8 +3,7 @@
 ghost use Rattle.std.specs.Prelude.{◌≡◌, ◌≤◌, length, map, vec_len, IfOk};
 ghost use Rattle.std.specs.List.{AllByRecursion};
 ghost use Rattle.ir_image.specs.Guest.{limits_of};
-ghost use Rattle.ir_thread.specs.State.{largest};
-ghost use Rattle.ir_thread.specs.Calls.{most_budget};
+ghost use Rattle.ir_thread.specs.State.{largest, most_budget};
 ghost use Rattle.ir_record.specs.Threads.{IsEmptyFor, AreRooms, HasRoom, IsOver, AreTraces, IsSeatOf, views_of};
 
 use crate::gather::thread_trace;

@@ -3,8 +3,7 @@
 ghost use Rattle.std.specs.Prelude.{◌≡◌, ◌≤◌, [], length, replicate, IfOk, OnOk};
 ghost use Rattle.ir_image.specs.Guest.{IsGuest};
 ghost use Rattle.ir_flat.specs.Flat.{start_flat};
-ghost use Rattle.ir_thread.specs.State.{IsAllowed};
-ghost use Rattle.ir_thread.specs.Calls.{most_budget, most_events};
+ghost use Rattle.ir_thread.specs.State.{IsAllowed, most_budget, most_events};
 
 use crate::tape::Tape;
 use ir_flat::Flat;

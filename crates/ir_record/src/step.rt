@@ -3,9 +3,8 @@
 ghost use Rattle.std.specs.Prelude.{◌≡◌, ◌≢◌, ◌<◌, [], ◌∷◌, ◌++◌, ◌≤◌, true, false, List, length, slice_set, replicate};
 ghost use Rattle.ir_flat.specs.Alone.{WentAlone};
 ghost use Rattle.ir_flat.specs.Flat.{thread_of, IsFlat, tables};
-ghost use Rattle.ir_thread.specs.Calls.{ask_of};
+ghost use Rattle.ir_thread.specs.State.{ask_of, is_result};
 ghost use Rattle.ir_thread.specs.Permitted.{Permits};
-ghost use Rattle.ir_thread.specs.Instance.{is_result};
 ghost use Rattle.ir_thread.specs.declared.ask.Ask.TheVariants.{Env, Enter, Try};
 ghost use Rattle.ir_thread.specs.declared.profile.Profile.{Profile};
 ghost use Rattle.ir_log.specs.Logging.{label_of};

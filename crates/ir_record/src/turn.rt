@@ -2,8 +2,7 @@
 
 ghost use Rattle.std.specs.Prelude.{◌≡◌, ◌<◌, [], ◌∷◌, ◌++◌, true, false, length, map, slice_set, IfOk, OnOk, IfErr, OnErr};
 ghost use Rattle.ir_flat.specs.Flat.{IsFlat, thread_of};
-ghost use Rattle.ir_thread.specs.Calls.{ask_of};
-ghost use Rattle.ir_thread.specs.Instance.{is_result};
+ghost use Rattle.ir_thread.specs.State.{ask_of, is_result};
 ghost use Rattle.ir_record.specs.Progress.{TookIf};
 ghost use Rattle.ir_record.specs.Worlds.{answers_at, NoneFailed, AreSameWorlds};
 ghost use Rattle.ir_record.specs.Recorders.{progress_of, CanGoOn, NamesFirst, StopsAtOnce};

@@ -1,7 +1,7 @@
 //! The steps of a worker.
 
 ghost use Rattle.std.specs.Prelude.{◌≡◌, ◌≢◌, ◌++◌, false, OnOk, OnErr};
-ghost use Rattle.ir_thread.specs.Calls.{ask_of};
+ghost use Rattle.ir_thread.specs.State.{ask_of};
 ghost use Rattle.ir_runs.specs.declared.access.Access.TheVariants.{Reading, Writing};
 ghost use Rattle.ir_thread.specs.declared.ask.Ask.TheVariants as ask;
 ghost use Rattle.ir_record.specs.Working.{IsAtWork, StaysAtWork, IsStopped, IsReadyWorker, RanToEnd, IsOwn, IsInside, IsOutside};

@@ -1,7 +1,7 @@
 //! The workers of a recording: one for each thread of the guest.
 
 ghost use Rattle.std.specs.Prelude.{◌≡◌, ◌<◌, ◌≤◌, ℕ, length, map, slice_index_or, vec_len, IfOk, IfSome, None};
-ghost use Rattle.ir_thread.specs.Calls.{most_budget};
+ghost use Rattle.ir_thread.specs.State.{most_budget};
 ghost use Rattle.ir_crew.specs.Ends.{AreSeats};
 ghost use Rattle.ir_record.specs.Threads.{AreNew, Pairs};
 ghost use Rattle.ir_record.specs.Working.{AreReady, RanToEnd};

@@ -1,7 +1,7 @@
 //! The world outside, which answers a thread's calls of the environment.
 
 ghost use Rattle.ir_record.specs.Worlds.{Answered};
-ghost use Rattle.ir_thread.specs.Instance.{is_result};
+ghost use Rattle.ir_thread.specs.State.{is_result};
 ghost use Rattle.std.specs.Prelude.{◌≡◌, ◌++◌, [], ◌∷◌, List, Bool, true, false, IfOk, OnOk, OnErr};
 
 use ir_runs::EnvKind;

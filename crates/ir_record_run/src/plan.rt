@@ -1,7 +1,7 @@
 //! How a guest is recorded.
 
 ghost use Rattle.std.specs.Prelude.{◌≤◌, option_map};
-ghost use Rattle.ir_thread.specs.Calls.{most_budget};
+ghost use Rattle.ir_thread.specs.State.{most_budget};
 ghost use Rattle.ir_record_run.specs.Plan.{Plan};
 
 use ir_thread::Profile;

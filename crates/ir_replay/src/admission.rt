@@ -1,7 +1,7 @@
 //! Whether a thread's next step is admitted: the log says.
 
 ghost use Rattle.std.specs.Prelude.{◌≡◌, ◌<◌, ◌≤◌, length};
-ghost use Rattle.ir_thread.specs.Calls.{ask_of, most_events};
+ghost use Rattle.ir_thread.specs.State.{ask_of, most_events};
 ghost use Rattle.ir_thread.specs.declared.ask.Ask.TheVariants as ask;
 ghost use Rattle.ir_flat.specs.Flat.{thread_of, IsFlat};
 ghost use Rattle.ir_fit.specs.Ahead.{steps_ahead};

@@ -2,8 +2,7 @@
 use Rattle.std.proofs.Common.{◌≡◌, ◌<◌, ◌≤◌, ◌+◌, ◌-◌, ℕ, suc, zero, Bool, true, false, List, [], ◌∷◌, length, drop, get_or, refl, sym, ap, subst, ◌∙◌, arith}
 use Rattle.std.specs.Prelude.{◌&&◌, ◌==◌, if◌then◌else◌, slice_index, Option, Some, None}
 use Rattle.std.proofs.lemmas.List.{drop_more, drop_all}
-use Rattle.ir_thread.specs.State.{ThreadState}
-use Rattle.ir_thread.specs.Calls.{ask_of, after_reply}
+use Rattle.ir_thread.specs.State.{ThreadState, ask_of, after_reply}
 use Rattle.ir_thread.specs.Permitted.{step_of, run_of, Suits, IsValue}
 use Rattle.ir_thread.specs.Private.{PrivateSteps}
 use Rattle.ir_thread.specs.declared.ask.Ask.{Ask}

@@ -5,8 +5,7 @@ use Rattle.ir_runs.specs.declared.access.Access.{Access}
 use Rattle.ir_runs.specs.declared.access.Access.TheVariants as access
 use Rattle.ir_runs.specs.declared.env_kind.EnvKind.{EnvKind}
 use Rattle.ir_runs.specs.declared.env_kind.EnvKind.TheVariants.{Clock, Random, Input}
-use Rattle.ir_thread.specs.State.{ThreadState, end_number, end_code}
-use Rattle.ir_thread.specs.Calls.{ask_of, after_reply}
+use Rattle.ir_thread.specs.State.{ThreadState, end_number, end_code, ask_of, after_reply}
 use Rattle.ir_thread.specs.Permitted.{step_of}
 use Rattle.ir_thread.specs.declared.ask.Ask.{Ask}
 use Rattle.ir_thread.specs.declared.ask.Ask.TheVariants as ask

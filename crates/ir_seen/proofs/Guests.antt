@@ -7,8 +7,7 @@ use Rattle.ir_runs.specs.Machine.{Machine, Try}
 use Rattle.ir_runs.specs.Run as run
 use Rattle.ir_runs.specs.Run.{IsDone}
 use Rattle.ir_runs.proofs.CallerLemmas.{StateInvariant}
-use Rattle.ir_thread.specs.Instance.{thread_machine}
-use Rattle.ir_thread.specs.State.{ThreadState}
+use Rattle.ir_thread.specs.State.{ThreadState, thread_machine}
 use Rattle.ir_thread.specs.declared.profile.Profile.{Profile}
 use Rattle.ir_flat.specs.Flat.{start_flat, start_threads, tables, idle}
 use Rattle.ir_flat.proofs.CallerLemmas.{no_thread_inside_at_start}

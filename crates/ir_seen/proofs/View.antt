@@ -4,10 +4,8 @@ use Rattle.std.specs.Prelude.{nat_le, ◌++◌}
 use Rattle.ir_mach.specs.Core.{Outcome, Goes, Calls, Ends}
 use Rattle.ir_mach.specs.Execution.{outcome_of}
 use Rattle.ir_mach.specs.declared.outcome.Fault.TheVariants as fault
-use Rattle.ir_thread.specs.Calls.{a0, a1, a2, call_at, call_output, is_object, has_word, leave_held, get_held, put_held, call_ask, outcome_ask, release_ask, ask_by, ask_of, after_ask, after_reply, most_events}
 use Rattle.ir_thread.specs.Permitted.{Permits}
-use Rattle.ir_thread.specs.State.{end_number, ThreadState, held_at, highest, is_above}
-use Rattle.ir_thread.specs.Instance.{shared_ask, reply_of, thread_machine}
+use Rattle.ir_thread.specs.State.{end_number, ThreadState, held_at, highest, is_above, a0, a1, a2, call_at, call_output, is_object, has_word, leave_held, get_held, put_held, call_ask, outcome_ask, release_ask, ask_by, ask_of, after_ask, after_reply, most_events, shared_ask, reply_of, thread_machine}
 use Rattle.ir_thread.proofs.CallerLemmas.{ask_of_permitted, thread_machine_is_lawful, thread_machine_is_closing}
 use Rattle.ir_runs.specs.Machine.{Machine}
 use Rattle.ir_runs.specs.Lawful.{IsLawful}

@@ -1,8 +1,7 @@
 //! The world of a thread that is recorded.
 
 ghost use Rattle.std.specs.Prelude.{◌≡◌, ◌≤◌, ◌⊎◌, [], ◌∷◌, ◌++◌, vec_len, vec_capacity, IfOk, OnOk, OnErr, true, false};
-ghost use Rattle.ir_thread.specs.Calls.{most_events};
-ghost use Rattle.ir_thread.specs.Instance.{is_result};
+ghost use Rattle.ir_thread.specs.State.{most_events, is_result};
 ghost use Rattle.ir_runs.specs.declared.env_kind.EnvKind.TheVariants.{Clock};
 ghost use Rattle.ir_sources.specs.Sources.{source, Gave, Gave-prop, MadeWith, made_with, is_counted, from_sources};
 

@@ -2,7 +2,7 @@
 
 ghost use Rattle.std.specs.Prelude.{◌≡◌, ◌<◌, ◌+◌, ◌^◌, true, false};
 ghost use Rattle.ir_sources.specs.Sources.{Source, source, given};
-ghost use Rattle.ir_thread.specs.Instance.{is_result};
+ghost use Rattle.ir_thread.specs.State.{is_result};
 ghost use Rattle.ir_runs.specs.declared.env_kind.EnvKind.TheVariants.{Clock, Random, Input};
 
 use ir_runs::EnvKind;

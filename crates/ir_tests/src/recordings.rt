@@ -1,8 +1,7 @@
 //! Guests recorded in an order or on real threads, and their traces fitted.
 
 ghost use Rattle.std.specs.Prelude.{◌≤◌};
-ghost use Rattle.ir_thread.specs.State.{IsAllowed};
-ghost use Rattle.ir_thread.specs.Calls.{most_budget};
+ghost use Rattle.ir_thread.specs.State.{IsAllowed, most_budget};
 ghost use Rattle.ir_thread.specs.declared.profile.Profile.TheVariants.{One};
 
 use crate::sources::{image_for, image_of};

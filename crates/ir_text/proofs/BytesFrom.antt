@@ -1,5 +1,6 @@
 -- Bytes from an address on, by the last byte.
 use Rattle.std.proofs.Common.{◌≡◌, ◌+◌, ℕ, zero, suc, List, [], ◌∷◌, ◌++◌, refl, ap, ◌∙◌, arith}
+use Rattle.std.specs.Prelude.{unwrap_or}
 use Rattle.ir_mach.specs.Execution.{byte_at}
 use Rattle.ir_text.specs.Texts.{bytes_from}
 

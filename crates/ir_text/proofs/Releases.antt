@@ -2,8 +2,7 @@
 use Rattle.std.proofs.Common.{◌≡◌, ℕ, List, Option, Some, None, refl, sym, ap, ◌∙◌}
 use Rattle.std.specs.Prelude.{codes}
 use Rattle.ir_runs.specs.declared.access.Access.{Access}
-use Rattle.ir_thread.specs.Calls.{ask_of, release_ask}
-use Rattle.ir_thread.specs.State.{highest, ThreadState}
+use Rattle.ir_thread.specs.State.{highest, ThreadState, ask_of, release_ask}
 use Rattle.ir_thread.specs.declared.ask.Ask.{Ask}
 use Rattle.ir_thread.specs.declared.ask.Ask.TheVariants.{Leave}
 use Rattle.ir_thread.specs.declared.end.End.{End}

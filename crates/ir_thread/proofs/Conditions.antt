@@ -5,9 +5,8 @@ use Rattle.ir_mach.specs.Core.{Outcome, Goes, Calls, Ends}
 use Rattle.ir_mach.specs.Execution.{outcome_of}
 use Rattle.ir_runs.specs.declared.access.Access.{Access}
 use Rattle.ir_runs.specs.declared.access.Access.TheVariants.{Reading, Writing}
-use Rattle.ir_thread.specs.Calls.{a0, a1, a2, call_at, is_object, has_word, leave_held, get_held, put_held, call_ask, outcome_ask, ask_by, ask_of}
 use Rattle.ir_thread.specs.Conditions.{first_end_or, is_writing, call_conditions, access_or_reading, call_wants, outcome_conditions, outcome_wants, step_conditions}
-use Rattle.ir_thread.specs.State.{held_at, ThreadState}
+use Rattle.ir_thread.specs.State.{held_at, ThreadState, a0, a1, a2, call_at, is_object, has_word, leave_held, get_held, put_held, call_ask, outcome_ask, ask_by, ask_of}
 use Rattle.ir_thread.specs.declared.ask.Ask.{Ask}
 use Rattle.ir_thread.specs.declared.ask.Ask.TheVariants as ask
 use Rattle.ir_thread.specs.declared.call.Call.{Call}

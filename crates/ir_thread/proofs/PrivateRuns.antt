@@ -7,8 +7,7 @@ use Rattle.ir_mach.specs.Core.{Core, Outcome, Goes, Calls, Ends}
 use Rattle.ir_mach.specs.Execution.{outcome_of, past_call}
 use Rattle.ir_mach.specs.Steps.{ran_of}
 use Rattle.ir_mach.specs.Run.{core_after as machine_after, core_of}
-use Rattle.ir_thread.specs.State.{ThreadState, end_of_fault}
-use Rattle.ir_thread.specs.Calls.{ask_of, after_ask, after_reply, core_after}
+use Rattle.ir_thread.specs.State.{ThreadState, end_of_fault, ask_of, after_ask, after_reply, core_after}
 use Rattle.ir_thread.specs.Permitted.{step_of, run_of, IsRunning, Permits}
 use Rattle.ir_thread.specs.Private.{PrivateSteps, NoInstruction}
 use Rattle.ir_thread.specs.declared.ask.Ask.TheVariants as ask

@@ -6,8 +6,7 @@ use Rattle.ir_mach.specs.Execution.{outcome_of}
 use Rattle.ir_mach.specs.Marks.{Marked, is_marked, AreStoresMarked}
 use Rattle.ir_mach.specs.Run.{unmarked_after, unmarked_next}
 use Rattle.ir_mach.proofs.CallerLemmas.{HasUnmarkedPrefix, unmarked_are_steps, unmarked_steps_have_prefix, unmarked_step_begins_unmarked, memory_after_unmarked_steps, unmarked_next_is_outcome}
-use Rattle.ir_thread.specs.State.{ThreadState}
-use Rattle.ir_thread.specs.Calls.{ask_of, after_ask, after_reply, core_after}
+use Rattle.ir_thread.specs.State.{ThreadState, ask_of, after_ask, after_reply, core_after}
 use Rattle.ir_thread.specs.Permitted.{step_of, run_of}
 use Rattle.ir_thread.specs.Private.{PrivateSteps, UnmarkedSteps}
 use Rattle.ir_thread.specs.declared.ask.Ask.TheVariants as ask

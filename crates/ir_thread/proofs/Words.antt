@@ -8,9 +8,7 @@ use Rattle.ir_mach.specs.Execution.{outcome_of}
 use Rattle.ir_mach.specs.declared.outcome.Fault.{Fault}
 use Rattle.ir_mach.specs.declared.outcome.Fault.TheVariants as fault
 use Rattle.ir_mach.proofs.CallerLemmas.{HasWords, LeavesWords, register_is_word, outcome_leaves_words, past_call_has_words}
-use Rattle.ir_thread.specs.Calls.{a0, a1, a2, call_at, is_object, has_word, entry_ask, leave_held, get_held, put_held, call_ask, outcome_ask, release_ask, ask_by, ask_of, core_after, core_left, after_ask, most_output, most_events}
-use Rattle.ir_thread.specs.State.{end_code, end_of_fault, ThreadState, held_at, highest, is_above}
-use Rattle.ir_thread.specs.Instance.{reply_of}
+use Rattle.ir_thread.specs.State.{end_code, end_of_fault, ThreadState, held_at, highest, is_above, a0, a1, a2, call_at, is_object, has_word, entry_ask, leave_held, get_held, put_held, call_ask, outcome_ask, release_ask, ask_by, ask_of, core_after, core_left, after_ask, most_output, most_events, reply_of}
 use Rattle.ir_runs.specs.declared.access.Access.{Access}
 use Rattle.ir_runs.specs.declared.access.Access.TheVariants.{Reading, Writing}
 use Rattle.ir_thread.specs.declared.ask.Ask.{Ask}

@@ -4,8 +4,7 @@ use Rattle.ir_mach.specs.Core.{Outcome, Goes, Calls, Ends}
 use Rattle.ir_mach.specs.Execution.{outcome_of}
 use Rattle.ir_runs.specs.declared.access.Access.{Access}
 use Rattle.ir_runs.specs.declared.access.Access.TheVariants.{Reading, Writing}
-use Rattle.ir_thread.specs.Calls.{a0, a1, a2, call_at, byte_text, number_text, is_object, has_word, most_output, most_events, ask_of}
-use Rattle.ir_thread.specs.State.{end_of_fault, ThreadState, held_at, highest, is_above}
+use Rattle.ir_thread.specs.State.{end_of_fault, ThreadState, held_at, highest, is_above, a0, a1, a2, call_at, byte_text, number_text, is_object, has_word, most_output, most_events, ask_of}
 use Rattle.ir_thread.specs.declared.ask.Ask.{Ask}
 use Rattle.ir_thread.specs.declared.ask.Ask.TheVariants as ask
 use Rattle.ir_thread.specs.declared.call.Call.{Call}

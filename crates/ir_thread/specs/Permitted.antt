@@ -1,7 +1,7 @@
 -- Replies that suit what a thread asks, and steps that are permitted.
 use Rattle.std.specs.Prelude.{◌≡◌, ◌⊎◌, ℕ, zero, suc, ◌+◌, ◌≢◌, ◌<◌, ◌≤◌, true, List, length, Some, None, ⊤}
 use Rattle.ir_image.specs.Guest.{most_objects, most_object_words}
-use Rattle.ir_thread.specs.State.{held_at, highest, is_above, ThreadState}
+use Rattle.ir_thread.specs.State.{held_at, highest, is_above, ThreadState, most_output, most_events, most_budget, next_output, after_reply}
 use Rattle.ir_runs.specs.declared.access.Access.TheVariants.{Writing}
 use Rattle.ir_thread.specs.declared.ask.Ask.{Ask}
 use Rattle.ir_thread.specs.declared.ask.Ask.TheVariants as ask
@@ -9,7 +9,6 @@ use Rattle.ir_thread.specs.declared.ask.Reply.{Reply}
 use Rattle.ir_thread.specs.declared.ask.Reply.TheVariants.{Go, Value}
 use Rattle.ir_thread.specs.declared.end.End.{End}
 use Rattle.ir_thread.specs.declared.profile.Profile.TheVariants.{Two}
-use Rattle.ir_thread.specs.Calls.{most_output, most_events, most_budget, next_output, after_reply}
 
 -- the most steps that a thread takes once its budget is spent: its end, and a leave for each object
 abbrev pub most_closing : ℕ

@@ -5,8 +5,7 @@ use Rattle.ir_mach.specs.Steps.{ran_of}
 use Rattle.ir_mach.specs.Marks.{Marked, is_marked}
 use Rattle.ir_mach.specs.Run.{unmarked_after}
 use Rattle.ir_mach.specs.declared.outcome.Ran.TheVariants as ran
-use Rattle.ir_thread.specs.State.{ThreadState}
-use Rattle.ir_thread.specs.Calls.{ask_of}
+use Rattle.ir_thread.specs.State.{ThreadState, ask_of}
 use Rattle.ir_thread.specs.Permitted.{run_of}
 use Rattle.ir_thread.specs.declared.ask.Ask.TheVariants as ask
 

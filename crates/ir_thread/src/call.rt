@@ -1,6 +1,6 @@
 //! The system calls.
 
-ghost use Rattle.ir_thread.specs.Calls.{call_of};
+ghost use Rattle.ir_thread.specs.State.{call_of};
 ghost use Rattle.std.specs.Prelude.{◌≡◌};
 
 use crate::profile::Profile;

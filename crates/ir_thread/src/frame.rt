@@ -2,9 +2,8 @@
 
 ghost use Rattle.std.specs.Prelude.{◌≡◌, ◌+◌, ◌<◌, ◌≤◌, length, MatchOption};
 ghost use Rattle.ir_image.specs.Guest.{most_objects};
-ghost use Rattle.ir_thread.specs.Calls.{most_budget, most_events, most_output};
 ghost use Rattle.ir_thread.specs.Frames.{ThreadFrame};
-ghost use Rattle.ir_thread.specs.State.{held_count};
+ghost use Rattle.ir_thread.specs.State.{held_count, most_budget, most_events, most_output};
 
 use crate::end::End;
 use crate::profile::Profile;

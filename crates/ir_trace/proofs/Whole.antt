@@ -7,8 +7,7 @@ use Rattle.byteorder.specs.Endian.{little_bytes}
 use Rattle.ir_bytes.specs.Reading.{number_at, field_at, fields_at}
 use Rattle.ir_bytes.proofs.CallerLemmas.{three_steps_succeed, five_steps_succeed, six_steps_succeed, test_passed_if_ok, ok_is_injective, number_within_if_no_fault, no_fault_if_number_within, IsBytes, bytes_if_each_fits, Takes, takes_after_takes, number_at_takes_number, number_at_of_little_bytes, TakesField, field_at_takes_field, field_at_of_little_bytes, number_of_one_byte_takes_byte, field_at_of_byte, TakesFields, fields_at_takes_fields, fields_at_of_encodings}
 use Rattle.ir_image.specs.Guest.{limits_of}
-use Rattle.ir_thread.specs.State.{largest}
-use Rattle.ir_thread.specs.Calls.{most_budget, most_events}
+use Rattle.ir_thread.specs.State.{largest, most_budget, most_events}
 use Rattle.ir_thread.specs.declared.end.End.{End}
 use Rattle.ir_thread.specs.declared.profile.Profile.{Profile}
 use Rattle.ir_log.specs.declared.event.Event.{Event}

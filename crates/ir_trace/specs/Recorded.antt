@@ -5,14 +5,13 @@ use Rattle.ir_thread.specs.declared.end.End.{End}
 use Rattle.ir_thread.specs.declared.profile.Profile.{Profile}
 use Rattle.ir_log.specs.declared.event.Event.{Event}
 use Rattle.std.specs.List.{slice_index_or, AllByRecursion}
-use Rattle.ir_thread.specs.State.{end_number, end_code, largest, end_of}
+use Rattle.ir_thread.specs.State.{end_number, end_code, largest, end_of, most_budget, most_events}
 use Rattle.ir_runs.specs.Machine.{Trace}
 use Rattle.ir_thread.specs.declared.end.End.TheVariants.{Breakpoint}
 use Rattle.ir_log.specs.Logging.{label_of}
 use Rattle.byteorder.specs.Endian.{little_number}
 use Rattle.ir_bytes.specs.Reading.{◌>>=◌, Reader, Field, tested, within, fixed, number_at, field_at, fields_at}
 use Rattle.ir_image.specs.Guest.{limits_of}
-use Rattle.ir_thread.specs.Calls.{most_budget, most_events}
 use Rattle.ir_runs.specs.declared.env_kind.EnvKind.{EnvKind}
 use Rattle.ir_runs.specs.declared.env_kind.EnvKind.TheVariants.{Clock, Random, Input}
 use Rattle.ir_thread.specs.declared.profile.Profile.TheVariants.{One, Two}

@@ -5,7 +5,7 @@ ghost use Rattle.ir_bytes.specs.Reading.{field_at, fields_at};
 ghost use Rattle.ir_trace.specs.declared.trace_err.TraceErr.TheVariants.{Short};
 ghost use Rattle.ir_trace.specs.Recorded.{object_field, answer_at, input_at, read_at, write_at, try_at, try_by, event_by, event_at};
 ghost use Rattle.ir_trace.specs.Results.{Gives, shortest};
-ghost use Rattle.ir_thread.specs.Calls.{most_events};
+ghost use Rattle.ir_thread.specs.State.{most_events};
 
 use crate::layout::{ANSWER_LENGTH, INPUT_END, TRY_LENGTH};
 use crate::trace_err::TraceErr;

@@ -2,7 +2,7 @@
 use Rattle.std.proofs.Common.{◌≡◌, ◌+◌, ◌<◌, ◌≤◌, ℕ, zero, suc, List, [], ◌∷◌, ◌++◌, refl, sym, ap, ◌∙◌, subst, arith, inl, inr}
 use Rattle.std.proofs.lemmas.Bool.{cases_lt}
 use Rattle.ir_thread.specs.State as thread
-use Rattle.ir_thread.specs.Calls.{ask_of}
+use Rattle.ir_thread.specs.State.{ask_of}
 use Rattle.ir_thread.specs.declared.ask.Ask.{Ask}
 use Rattle.ir_thread.specs.declared.ask.Ask.TheVariants as ask
 use Rattle.ir_thread.specs.declared.ask.Reply.{Reply}

@@ -4,9 +4,8 @@ use Rattle.std.specs.Prelude.{slice_index, slice_set}
 use Rattle.std.proofs.lemmas.Bool.{cases_lt}
 use Rattle.std.proofs.lemmas.List.{get_or_past}
 use Rattle.ir_thread.specs.State as thread
-use Rattle.ir_thread.specs.Calls.{ask_of, a0, after_ask, after_reply}
+use Rattle.ir_thread.specs.State.{ask_of, a0, after_ask, after_reply, shared_ask, reply_of}
 use Rattle.ir_thread.specs.Permitted.{step_of, run_of, Suits}
-use Rattle.ir_thread.specs.Instance.{shared_ask, reply_of}
 use Rattle.ir_thread.specs.Private.{PrivateSteps}
 use Rattle.ir_thread.specs.declared.ask.Ask.{Ask}
 use Rattle.ir_thread.specs.declared.ask.Ask.TheVariants as ask

@@ -1,10 +1,8 @@
 -- The calls of a thread, and what they were answered.
 use Rattle.std.specs.Prelude.{◌≡◌, ℕ, zero, suc, ◌+◌, List, [], ◌∷◌, ◌++◌}
 use Rattle.std.specs.List.{AllByRecursion}
-use Rattle.ir_thread.specs.State.{ThreadState}
-use Rattle.ir_thread.specs.Calls.{ask_of, a0}
+use Rattle.ir_thread.specs.State.{ThreadState, ask_of, a0, reply_of}
 use Rattle.ir_thread.specs.Permitted.{Suits}
-use Rattle.ir_thread.specs.Instance.{reply_of}
 use Rattle.ir_thread.specs.declared.ask.Ask.{Ask}
 use Rattle.ir_thread.specs.declared.ask.Ask.TheVariants as ask
 use Rattle.ir_thread.specs.declared.ask.Reply.{Reply}

@@ -1,8 +1,7 @@
 //! A thread that goes on alone, and its call.
 
 ghost use Rattle.std.specs.Prelude.{◌≡◌, ◌<◌, ◌≤◌, [], true, length, option_to_list, Some, None, false};
-ghost use Rattle.ir_thread.specs.Calls.{a0};
-ghost use Rattle.ir_thread.specs.Instance.{reply_of};
+ghost use Rattle.ir_thread.specs.State.{a0, reply_of};
 ghost use Rattle.ir_weave.specs.Standing.{flat_in, positions};
 ghost use Rattle.ir_weave.specs.Stepping.{HasGone, Rests};
 ghost use Rattle.ir_events.specs.Walk.{IsOnWay};

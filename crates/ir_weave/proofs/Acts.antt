@@ -7,10 +7,9 @@ use lib.ListN.{get_elem?}
 use Rattle.atomic_table.specs.Table.{State, step, keeps, Allows}
 use Rattle.atomic_table.proofs.Lists.{set_again}
 use Rattle.ir_image.specs.Guest.{object_count, most_object_words}
-use Rattle.ir_thread.specs.Calls.{ask_of, after_ask}
+use Rattle.ir_thread.specs.State.{ask_of, after_ask, shared_ask}
 use Rattle.ir_thread.specs.Permitted.{Permits}
 use Rattle.ir_thread.proofs.CallerLemmas.{ask_of_permitted}
-use Rattle.ir_thread.specs.Instance.{shared_ask}
 use Rattle.ir_runs.specs.Machine.{act_of, target, emitted, Out}
 use Rattle.ir_thread.specs.State as thread
 use Rattle.ir_runs.specs.declared.access.Access.{Access}

@@ -1,7 +1,7 @@
 -- The last step of a thread.
 use Rattle.std.proofs.Common.{◌≡◌, ◌≢◌, ℕ, suc, zero, ◌≤◌, List, [], ◌∷◌, length, refl, sym, ap, ◌∙◌, arith, inl, inr}
 use Rattle.std.proofs.lemmas.Bool.{cases_lt}
-use Rattle.ir_thread.specs.Calls.{ask_of}
+use Rattle.ir_thread.specs.State.{ask_of}
 use Rattle.ir_thread.specs.State as thread
 use Rattle.ir_thread.specs.declared.ask.Ask.TheVariants.{Done}
 use Rattle.ir_runs.specs.Machine.{Label}

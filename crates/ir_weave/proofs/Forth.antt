@@ -2,8 +2,7 @@
 use Rattle.std.proofs.Common.{◌≡◌, ◌≢◌, ℕ, suc, zero, ◌+◌, ◌-◌, ◌<◌, ◌≤◌, List, [], ◌∷◌, length, map, drop, Option, Some, None, ◌⊎◌, refl, sym, ap, ◌∙◌, subst, arith, inl, inr, eq-eqb, ne_eqb, le_refl}
 use Rattle.std.proofs.lemmas.Bool.{cases_eq, cases_lt}
 use Rattle.std.specs.Prelude.{slice_get, ⊤}
-use Rattle.ir_thread.specs.Calls.{ask_of}
-use Rattle.ir_thread.specs.Instance.{shared_ask}
+use Rattle.ir_thread.specs.State.{ask_of, shared_ask}
 use Rattle.ir_runs.specs.Machine.{act_of, Object, target, Admits, emitted, Label, logged}
 use Rattle.ir_runs.specs.Machine as machine
 use Rattle.ir_thread.specs.State as thread

@@ -1,9 +1,8 @@
 -- A seat and its thread after a step.
 use Rattle.std.proofs.Common.{◌≡◌, ◌≢◌, ℕ, suc, zero, ◌+◌, ◌<◌, false, List, [], ◌∷◌, length, Some, refl, sym, ap, ◌∙◌, subst, arith, inl, inr, ◌⊎◌}
 use Rattle.std.specs.Prelude.{slice_get}
-use Rattle.ir_thread.specs.Calls.{ask_of, after_ask, after_reply}
+use Rattle.ir_thread.specs.State.{ask_of, after_ask, after_reply, shared_ask}
 use Rattle.ir_thread.specs.Permitted.{step_of, run_of}
-use Rattle.ir_thread.specs.Instance.{shared_ask}
 use Rattle.ir_runs.specs.Machine.{act_of, Object, emitted, Admits}
 use Rattle.ir_thread.specs.Private.{PrivateSteps}
 use Rattle.ir_thread.specs.State as thread

@@ -2,7 +2,7 @@
 
 ghost use Rattle.std.specs.Prelude.{◌≡◌, ◌≢◌, ◌+◌, ◌*◌, ◌^◌, ◌<◌, ◌≤◌, ◌↔◌, [], ◌∷◌, suc, true, false, length, IfOk, OnErr, MatchBool, slice_get, Some, IsTrue};
 ghost use Rattle.ir_image.specs.Guest.{object_count};
-ghost use Rattle.ir_thread.specs.Calls.{ask_of};
+ghost use Rattle.ir_thread.specs.State.{ask_of};
 ghost use Rattle.ir_thread.specs.declared.ask.Ask.TheVariants as ask;
 ghost use Rattle.ir_log.specs.declared.event.Event.{Event};
 ghost use Rattle.ir_fit.specs.Ahead.{IsOpen};

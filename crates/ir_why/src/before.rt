@@ -1,7 +1,7 @@
 //! What is before an event.
 
 ghost use Rattle.std.specs.Prelude.{◌≡◌, ◌≢◌, ◌≤◌, ◌<◌, ◌+◌, ℕ, true, false, length, slice_get, slice_index_or, IfOk, Some};
-ghost use Rattle.ir_thread.specs.Calls.{most_events};
+ghost use Rattle.ir_thread.specs.State.{most_events};
 ghost use Rattle.ir_trace.specs.Recorded.{recorded_thread};
 ghost use Rattle.ir_past.specs.Answers.{AreCoherent};
 ghost use Rattle.ir_why.specs.Before.{IsPast};

@@ -3,7 +3,7 @@
 ghost use Rattle.std.specs.Prelude.{◌≡◌, ◌≢◌, ◌+◌, ◌<◌, ◌≤◌, None};
 ghost use Rattle.ir_mach.specs.Execution.{outcome_of};
 ghost use Rattle.ir_mach.specs.Steps.{ran_of};
-ghost use Rattle.ir_thread.specs.Calls.{ask_of, after_reply};
+ghost use Rattle.ir_thread.specs.State.{ask_of, after_reply};
 ghost use Rattle.ir_thread.specs.Private.{PrivateSteps, NoInstruction, UnmarkedSteps, StopsUnmarked};
 ghost use Rattle.ir_thread.specs.declared.ask.Ask.TheVariants as ask;
 ghost use Rattle.ir_thread.specs.declared.ask.Reply.TheVariants.{Go};

@@ -17,7 +17,6 @@ const A0: u8 = 10;
 const LINE_FEED: u8 = 10;
 
 impl Reply {
-    ghost use Rattle.ir_thread.specs.Calls.{answer_of};
 
     // What goes into a0.
     fn answer(self) -> Option<u32>
@@ -31,9 +30,8 @@ impl Reply {
 }
 
 impl Thread {
-    ghost use Rattle.ir_thread.specs.Calls.{next_output, ask_of, core_after, core_left, held_after_try, after_ask, after_reply, most_output};
     ghost use Rattle.ir_thread.specs.Permitted.{Suits, Permits, IsRunning};
-    ghost use Rattle.ir_thread.specs.State.{held_at};
+    ghost use Rattle.ir_thread.specs.State.{held_at, answer_of, next_output, ask_of, core_after, core_left, held_after_try, after_ask, after_reply, most_output};
     ghost use Rattle.ir_mach.specs.Execution.{outcome_of, past_call};
 
     // A private step: an instruction, or the call that answers the thread's number.
@@ -166,7 +164,7 @@ impl Thread {
 
     /// Takes the step that the thread asks. The reply fits what is asked: the value that an
     /// environment call or a read wants, 1 or 0 to a try, and leave to go elsewhere.
-    #[tactic(auto, unfolding(crate::specs::Calls::after_reply))]
+    #[tactic(auto, unfolding(crate::specs::State::after_reply))]
     pub fn take(&mut self, code: &Code, reply: Reply)
         requires { Suits (ask_of code.now self.old) reply }
         ensures { self.new ≡ after_reply code.now self.old reply }
@@ -176,7 +174,7 @@ impl Thread {
     }
 
     /// The same, where it is known what the thread asks.
-    #[tactic(auto, using(crate::proofs::Asked::ask_of_permitted), unfolding(crate::specs::Calls::after_reply))]
+    #[tactic(auto, using(crate::proofs::Asked::ask_of_permitted), unfolding(crate::specs::State::after_reply))]
     #[inline(always)]
     pub fn take_asked(&mut self, code: &Code, asked: Ask, reply: Reply)
         requires asked { asked ≡ ask_of code.now self.old }

@@ -1,4 +1,4 @@
-use Rattle.ir_thread.specs.Instance.{thread_machine}
+use Rattle.ir_thread.specs.State.{thread_machine}
 use Rattle.ir_flat.specs.Flat.{tables, start_flat}
 use Rattle.ir_runs.proofs.CallerLemmas.{max_of_cuts_is_consistent, min_of_cuts_is_consistent}
 use Rattle.ir_cut.proofs.laws.lattice.Goals as goal

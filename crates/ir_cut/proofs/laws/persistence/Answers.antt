@@ -1,4 +1,4 @@
-use Rattle.ir_thread.specs.Instance.{thread_machine}
+use Rattle.ir_thread.specs.State.{thread_machine}
 use Rattle.ir_flat.specs.Flat.{tables, start_flat}
 use Rattle.ir_runs.proofs.CallerLemmas.{admitted_persists_at_later_cut}
 use Rattle.ir_cut.proofs.laws.persistence.Goals as goal

@@ -1,4 +1,4 @@
-use Rattle.ir_thread.specs.Instance.{thread_machine}
+use Rattle.ir_thread.specs.State.{thread_machine}
 use Rattle.ir_thread.proofs.CallerLemmas.{thread_machine_is_lawful, thread_machine_is_closing as closes}
 use Rattle.ir_flat.specs.Flat.{tables, start_flat}
 use Rattle.ir_runs.specs.Bounds.{trace}

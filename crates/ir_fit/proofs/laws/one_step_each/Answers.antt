@@ -1,4 +1,4 @@
-use Rattle.ir_thread.specs.Instance.{thread_machine}
+use Rattle.ir_thread.specs.State.{thread_machine}
 use Rattle.ir_flat.specs.Flat.{tables, start_flat}
 use Rattle.ir_runs.proofs.CallerLemmas.{maximal_if_no_thread_goes_on}
 use Rattle.ir_fit.proofs.laws.one_step_each.Goals as goal

@@ -1,6 +1,6 @@
 use Rattle.std.proofs.Common.{◌∙◌, ap, inl, inr, length, sym}
 use Rattle.std.proofs.lemmas.Bool.{cases_lt}
-use Rattle.ir_thread.specs.Instance.{thread_machine}
+use Rattle.ir_thread.specs.State.{thread_machine}
 use Rattle.ir_thread.proofs.CallerLemmas.{thread_machine_is_lawful}
 use Rattle.ir_flat.specs.Flat.{tables, start_flat}
 use Rattle.ir_flat.proofs.CallerLemmas.{guest_start_is_idle}

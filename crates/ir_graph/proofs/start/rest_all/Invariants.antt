@@ -1,5 +1,5 @@
 use Rattle.std.proofs.Common.{◌≡◌, ℕ, ◌<◌, length}
-use Rattle.ir_thread.specs.Calls.{ask_of}
+use Rattle.ir_thread.specs.State.{ask_of}
 use Rattle.ir_flat.specs.Flat.{thread_of}
 use Rattle.ir_graph.specs.Plain.{GoesPlain, Rests}
 use Rattle.ir_graph.proofs.start.rest_all.Given as goal

@@ -8,7 +8,7 @@ use Rattle.ir_flat.specs.Flat.{start_flat}
 use Rattle.ir_graph.specs.Nodes.{LookAlike}
 use Rattle.ir_graph.proofs.CallerLemmas.{like_symmetric, like_transitive}
 use Rattle.ir_record.specs.Recording.{order_of_turns}
-use Rattle.ir_thread.specs.Calls.{most_budget}
+use Rattle.ir_thread.specs.State.{most_budget}
 use Rattle.ir_thread.specs.declared.profile.Profile.TheVariants.{One}
 use Rattle.ir_outcomes.proofs.Lost.{shown_at_if_again_within}
 use Rattle.ir_outcomes.proofs.hang.lead.Goals as goal

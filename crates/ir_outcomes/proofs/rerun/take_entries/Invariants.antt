@@ -2,7 +2,7 @@ use Rattle.std.proofs.Common.{◌<◌, length}
 use Rattle.ir_flat.specs.Flat.{thread_of}
 use Rattle.ir_graph.specs.Plain.{Rests}
 use Rattle.ir_graph.specs.Turn.{GoesAlone}
-use Rattle.ir_thread.specs.Calls.{ask_of}
+use Rattle.ir_thread.specs.State.{ask_of}
 use Rattle.ir_outcomes.proofs.rerun.take_entries.Given as goal
 
 abbrev pub invariant-loop : goal.invariant-loop

@@ -7,7 +7,7 @@ use Rattle.std.proofs.lemmas.Option.{same_Some, slice_get-get_or}
 use Rattle.ir_flat.specs.Flat.{start_flat, tables}
 use Rattle.ir_graph.specs.Outcomes.{outcome_of}
 use Rattle.ir_graph.proofs.CallerLemmas.{like_symmetric, like_transitive}
-use Rattle.ir_thread.specs.Calls.{most_budget}
+use Rattle.ir_thread.specs.State.{most_budget}
 use Rattle.ir_thread.specs.declared.profile.Profile.TheVariants.{One}
 use Rattle.ir_record.specs.Recording.{order_of_turns}
 use Rattle.ir_outcomes.proofs.Showing.{shown_if_again_within}

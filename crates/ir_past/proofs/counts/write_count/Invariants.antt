@@ -1,6 +1,6 @@
 use Rattle.std.proofs.Common.{◌≡◌, ◌≤◌, ◌+◌, ◌*◌, drop}
 use Rattle.std.specs.List.{sum_by}
-use Rattle.ir_thread.specs.Calls.{most_events}
+use Rattle.ir_thread.specs.State.{most_events}
 use Rattle.ir_trace.specs.Recorded.{RecordedThread}
 use Rattle.ir_past.specs.Past.{writes_in, write_count}
 use Rattle.ir_past.proofs.counts.write_count.Given as goal

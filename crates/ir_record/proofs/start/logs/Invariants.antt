@@ -1,5 +1,5 @@
 use Rattle.std.proofs.Common.{◌≡◌, [], replicate}
-use Rattle.ir_thread.specs.Calls.{most_events}
+use Rattle.ir_thread.specs.State.{most_events}
 use Rattle.ir_record.proofs.start.logs.Given as goal
 
 abbrev pub invariant-loop-number : goal.invariant-loop-number

@@ -5,7 +5,7 @@ use Rattle.ir_log.specs.Asked.{Suits}
 use Rattle.ir_log.specs.declared.event.Event.{Event}
 use Rattle.ir_thread.specs.declared.ask.Ask.TheVariants.{Try}
 use Rattle.ir_trace.specs.Recorded.{Recorded, recorded_thread}
-use Rattle.ir_thread.specs.Calls.{ask_of}
+use Rattle.ir_thread.specs.State.{ask_of}
 use Rattle.ir_object.specs.Cell.{Cell}
 use Rattle.ir_flat.specs.Flat.{Flat, IsFlat, thread_of, cell_of, empty}
 use Rattle.ir_flat.proofs.CallerLemmas.{tried_object_is_of_state}

@@ -1,5 +1,5 @@
 use Rattle.std.proofs.Common.{◌+◌, ◌*◌, ◌≤◌, length}
-use Rattle.ir_thread.specs.Calls.{most_events}
+use Rattle.ir_thread.specs.State.{most_events}
 use Rattle.ir_trace.proofs.writer.thread_length.Given as goal
 
 abbrev pub invariant-loop-event : goal.invariant-loop-event

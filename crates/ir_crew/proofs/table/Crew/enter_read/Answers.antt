@@ -1,5 +1,5 @@
 use Rattle.std.proofs.Common.{◌≡◌, ◌+◌, ◌<◌, None, map, subst, sym, ◌∙◌, ap, arith}
-use Rattle.ir_thread.specs.Calls.{most_events}
+use Rattle.ir_thread.specs.State.{most_events}
 use Rattle.ir_runs.specs.declared.access.Access.TheVariants.{Reading}
 use Rattle.ir_crew.specs.Plays.{M, history, inside_by, did, read_entry}
 use Rattle.ir_crew.specs.declared.deed.Deed.TheVariants.{Enter}

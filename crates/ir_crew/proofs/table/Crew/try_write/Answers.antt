@@ -1,5 +1,5 @@
 use Rattle.std.proofs.Common.{◌+◌, ◌<◌, map, subst, sym, ◌∙◌, arith}
-use Rattle.ir_thread.specs.Calls.{most_events}
+use Rattle.ir_thread.specs.State.{most_events}
 use Rattle.ir_crew.specs.Plays.{M, history, did, try_entry}
 use Rattle.ir_crew.specs.declared.deed.Deed.TheVariants.{Try}
 use Rattle.ir_crew.specs.Rule.{entries, shared_of}

@@ -1,5 +1,5 @@
 use Rattle.std.proofs.Common.{◌≡◌, ◌<◌, sym, ◌∙◌, ap, subst, length}
-use Rattle.ir_thread.specs.Calls.{ask_of}
+use Rattle.ir_thread.specs.State.{ask_of}
 use Rattle.ir_flat.specs.Flat.{thread_of}
 use Rattle.ir_fit.specs.Follower.{all_ahead, IsPlaced}
 use Rattle.ir_fit.proofs.Moves.{MoveTaken, move_taken_by_result, left_object_is_of_state}

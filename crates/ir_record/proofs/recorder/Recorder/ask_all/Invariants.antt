@@ -1,5 +1,5 @@
 use Rattle.std.proofs.Common.{◌≡◌, ◌<◌, ℕ, length, get_or}
-use Rattle.ir_thread.specs.Calls.{ask_of}
+use Rattle.ir_thread.specs.State.{ask_of}
 use Rattle.ir_thread.specs.declared.ask.Ask.TheVariants.{Done}
 use Rattle.ir_flat.specs.Flat.{thread_of}
 use Rattle.ir_record.proofs.recorder.Recorder.ask_all.Given as goal

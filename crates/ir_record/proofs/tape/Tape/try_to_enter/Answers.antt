@@ -1,5 +1,5 @@
 use Rattle.std.proofs.Common.{◌≡◌, ap, ◌∙◌, refl, sym, subst, [], ◌∷◌, ◌++◌, set}
-use Rattle.ir_thread.specs.Calls.{ask_of}
+use Rattle.ir_thread.specs.State.{ask_of}
 use Rattle.ir_thread.specs.declared.ask.Ask.TheVariants.{Try}
 use Rattle.ir_runs.specs.Machine.{Refused}
 use Rattle.ir_runs.specs.Run.{Can, after}

@@ -1,5 +1,5 @@
 use Rattle.std.proofs.Common.{◌≡◌, true, sym, ap, ◌∙◌, subst}
-use Rattle.ir_thread.specs.Calls.{ask_of}
+use Rattle.ir_thread.specs.State.{ask_of}
 use Rattle.ir_record.specs.Working.{work_of, IsOutside}
 use Rattle.ir_record.proofs.WorkerSteps.{seated_on, inside_worker}
 use Rattle.ir_record.proofs.worker.Worker.run_to_end.Goals as goal
