@@ -12,7 +12,8 @@ use Rattle.ir_log.specs.Logging.{label_of}
 use Rattle.ir_log.specs.declared.event.Event.{Event}
 use Rattle.ir_trace.specs.Recorded.{Recorded, RecordedThread, absent, recorded_thread, trace_of, IsRecorded, IsEvent, IsRecordedThread}
 use Rattle.ir_trace.proofs.CallerLemmas.{recorded_threads_at_most_limit}
-use Rattle.ir_runs.specs.Verdicts.{reads, IsCoherent}
+use Rattle.ir_runs.specs.Verdicts.{reads}
+use Rattle.ir_runs.specs.Coherent.{IsCoherent}
 use Rattle.ir_coherence.specs.Counting.{MayStand, writes, reads_in, writes_in, reads_of, writes_of, cause_by, CountsMore, CountsAll, HasRoom, FirstCause, NoCause}
 use Rattle.ir_runs.specs.Run.{At}
 use Rattle.ir_coherence.specs.Breaking.{HasCause, IsBefore, IsFirstBreak}

@@ -4,7 +4,7 @@ use Rattle.std.proofs.lemmas.Bool.{cases_eq, cases_lt, and_parts, and_cases, ltb
 use Rattle.ir_runs.specs.Machine.{Label, Quiet, Answer, In, Refused, Out, Trace}
 use Rattle.ir_runs.specs.declared.access.Access.{Access}
 use Rattle.ir_runs.specs.declared.access.Access.TheVariants.{Reading, Writing}
-use Rattle.ir_runs.specs.Verdicts.{IsCoherent}
+use Rattle.ir_runs.specs.Coherent.{IsCoherent}
 use Rattle.ir_coherence.specs.Counting.{reads_in, writes_in, nobody_made, cause_by}
 use Rattle.ir_runs.specs.Run.{At}
 use Rattle.ir_coherence.specs.Breaking.{IsUnmade, IsTwice, IsMiscounted, HasCause}

@@ -1,7 +1,7 @@
 -- Laws of coherent traces.
 use Rattle.std.specs.Prelude.{◌≡◌, ℕ, ◌≤◌, []}
 use Rattle.ir_runs.specs.Machine.{Trace}
-use Rattle.ir_runs.specs.Verdicts.{IsCoherent}
+use Rattle.ir_runs.specs.Coherent.{IsCoherent}
 use Rattle.ir_coherence.specs.declared.cause.Cause.{Cause}
 use Rattle.ir_coherence.specs.Breaking.{HasCause}
 

@@ -3,7 +3,7 @@
 ghost use Rattle.std.specs.Prelude.{◌≡◌, ◌≤◌, length, IfOk, IfSome, IfNone};
 ghost use Rattle.ir_thread.specs.State.{most_events};
 ghost use Rattle.ir_trace.specs.Recorded.{trace_of};
-ghost use Rattle.ir_runs.specs.Verdicts.{IsCoherent};
+ghost use Rattle.ir_runs.specs.Coherent.{IsCoherent};
 ghost use Rattle.ir_coherence.specs.Counting.{CountsAll, AreSettled, reads_of, writes_of, FirstCause, NoCause};
 ghost use Rattle.ir_coherence.specs.Breaking.{IsFirstBreak};
 

@@ -23,7 +23,8 @@ use Rattle.ir_thread.specs.declared.profile.Profile.{Profile}
 use Rattle.ir_trace.specs.Recorded.{Recorded, RecordedThread, absent, trace_of, IsRecorded, IsRecordedThread, IsEvent, IsResult}
 use Rattle.ir_coherence.proofs.CallerLemmas.{coherent_trace_is_unbroken}
 use Rattle.ir_fit.proofs.Guests.{guest_start_is_start, guest_start_is_live}
-use Rattle.ir_coherence.specs.Breaking.{IsFirstBreak}
+use Rattle.ir_coherence.specs.Breaking.{HasCause, IsFirstBreak}
+use Rattle.ir_coherence.specs.declared.cause.Cause.{Cause}
 use Rattle.ir_fit.specs.Fit.{HasHeader, IsRunOf, HasRun, GoesFurthest, AreVerdicts, IsRefused, placed_at}
 use Rattle.ir_fit.specs.Within.{BreaksBy}
 use Rattle.ir_fit.specs.Follower.{IsFollowed, AreStanding}
@@ -32,7 +33,8 @@ use Rattle.ir_fit.specs.Growing.{Growing, grown, growing_at}
 use Rattle.ir_runs.specs.Standing.{StandsAs}
 use Rattle.ir_runs.specs.Verdicts as verdicts
 use Rattle.ir_runs.specs.Events as events
-use Rattle.ir_runs.specs.Verdicts.{IsWhole, IsCoherent}
+use Rattle.ir_runs.specs.Verdicts.{IsWhole}
+use Rattle.ir_runs.specs.Coherent.{IsCoherent}
 use Rattle.ir_runs.specs.Events.{HoldsEvents}
 use Rattle.ir_fit.specs.declared.fit_err.FitErr.{FitErr}
 use Rattle.ir_fit.specs.declared.fit_err.FitErr.TheVariants.{NoMem, Refused}
@@ -181,11 +183,12 @@ broken_coherence_refuses_trace g r header (Refused (verdict.Incoherent t i c)) b
 pub differing_thread_refuses_trace : (g : Guest) (r : Recorded) → IsRecorded r → HasHeader g r → IsCoherent (length g.entries) (trace_of r)
     → (f : Flat) (ps : List Growing) → IsFollowed g r f ps → (vs : List ThreadVerdict) → length vs ≡ length f.threads → AreStanding r f ps vs
     → (t : ℕ) (v : ThreadVerdict) → slice_get vs t ≡ Some v → v ≢ Same
-    → (HasHeader g r × IsCoherent (length g.entries) (trace_of r) × AreVerdicts g r vs) × ((run : List Step) → IsRunOf g r run → ⊥)
+    → (HasHeader g r × ((t i : ℕ) (c : Cause) → HasCause (length g.entries) (trace_of r) t i c → ⊥) × AreVerdicts g r vs)
+    × ((run : List Step) → IsRunOf g r run → ⊥)
 differing_thread_refuses_trace g r is header co f ps followed vs each stand t v at ne =
     let k = followed.follower in
     let both = standing_threads_give_verdicts g r is header co k.run k.follows vs (each ∙ k.threads) (stand g k) in
-    ((header, co, both.1), no_run_if_thread_differs g r co k.run both.0 t v (stand g k t v at) ne)
+    ((header, coherent_trace_is_unbroken (length g.entries) (trace_of r) co, both.1), no_run_if_thread_differs g r co k.run both.0 t v (stand g k t v at) ne)
 
 placed_at_of_grown : (ps : List Growing) (t : ℕ) → placed_at (map grown ps) t ≡ grown (growing_at ps t)
 placed_at_of_grown [] t = refl

@@ -4,8 +4,9 @@ use Rattle.ir_image.specs.Guest.{Guest, object_count}
 use Rattle.ir_flat.specs.Flat.{start_flat, tables, machine}
 use Rattle.ir_runs.specs.Run.{Step, trail, join_if}
 use Rattle.ir_trace.specs.Recorded.{Recorded, trace_of, recorded_thread}
-use Rattle.ir_coherence.specs.Breaking.{IsFirstBreak}
-use Rattle.ir_runs.specs.Verdicts.{IsVerdict, IsWhole, IsCoherent, Follows, IsMaximal, closing}
+use Rattle.ir_coherence.specs.Breaking.{HasCause, IsFirstBreak}
+use Rattle.ir_coherence.specs.declared.cause.Cause.{Cause}
+use Rattle.ir_runs.specs.Verdicts.{IsVerdict, IsWhole, Follows, IsMaximal, closing}
 use Rattle.ir_fit.specs.declared.header_cause.HeaderCause.{HeaderCause}
 use Rattle.ir_fit.specs.declared.header_cause.HeaderCause.TheVariants.{Threads, Objects}
 use Rattle.ir_fit.specs.declared.fit_err.FitErr.{FitErr}
@@ -112,12 +113,13 @@ abbrev pub IsOther : Guest → Recorded → HeaderCause → Type 0
 IsOther guest r Threads = length r.threads ≢ length guest.entries
 IsOther guest r Objects = (length r.threads ≡ length guest.entries) × (r.objects ≢ object_count guest)
 
--- why no run of the guest has the trace: its header isn't the guest's; or an event can't occur with the others, the first such; or the
--- trace is coherent, and these are the verdicts on its threads: not all are the same, since no run has the trace (`fits_exactly`)
+-- why no run of the guest has the trace: its header isn't the guest's; or an event breaks coherence, the first such; or none does, and
+-- these are the verdicts on its threads: not all are the same, since no run has the trace (`fits_exactly`)
 abbrev pub IsRefusal : Guest → Recorded → Verdict → Type 0
 IsRefusal guest r (Header c) = IsOther guest r c
 IsRefusal guest r (Incoherent t i c) = HasHeader guest r × IsFirstBreak (length guest.entries) (trace_of r) t i c
-IsRefusal guest r (verdict.Threads vs) = HasHeader guest r × IsCoherent (length guest.entries) (trace_of r) × AreVerdicts guest r vs.items
+IsRefusal guest r (verdict.Threads vs) = HasHeader guest r × ((t i : ℕ) (c : Cause) → HasCause (length guest.entries) (trace_of r) t i c → ⊥)
+    × AreVerdicts guest r vs.items
 
 -- out of memory; or a refusal, and no run of the guest has the trace
 abbrev pub IsRefused : Guest → Recorded → FitErr → Type 0

@@ -9,7 +9,8 @@ use Rattle.ir_runs.specs.Alike.{SameTrace, SameRun, Reaches}
 use Rattle.ir_runs.specs.Admitted.{AtCut}
 use Rattle.ir_runs.specs.declared.thread_verdict.ThreadVerdict.{ThreadVerdict}
 use Rattle.ir_runs.specs.declared.thread_verdict.ThreadVerdict.TheVariants.{Same}
-use Rattle.ir_runs.specs.Verdicts.{IsVerdict, IsWhole, IsCoherent, Follows, IsMaximal, closing, left_log}
+use Rattle.ir_runs.specs.Verdicts.{IsVerdict, IsWhole, Follows, IsMaximal, closing, left_log}
+use Rattle.ir_runs.specs.Coherent.{IsCoherent}
 use Rattle.ir_runs.specs.Events.{HoldsEvents, result_of}
 use Rattle.ir_thread.specs.State.{IsAllowed, most_budget}
 use Rattle.ir_trace.specs.Recorded.{Recorded, IsRecorded}

@@ -2,7 +2,7 @@
 
 ghost use Rattle.std.specs.Prelude.{length, IfErr, OnOk};
 ghost use Rattle.ir_trace.specs.Recorded.{trace_of};
-ghost use Rattle.ir_runs.specs.Verdicts.{IsCoherent};
+ghost use Rattle.ir_runs.specs.Coherent.{IsCoherent};
 ghost use Rattle.ir_fit.specs.Within.{BreaksBy};
 
 use crate::fit_err::FitErr;

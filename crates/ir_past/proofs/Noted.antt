@@ -6,7 +6,7 @@ use Rattle.std.proofs.lemmas.Option.{same_Some, none-some, slice_get_within}
 use Rattle.ir_runs.specs.Machine.{Label, Answer, In, Refused}
 use Rattle.ir_runs.specs.declared.access.Access.{Access}
 use Rattle.ir_runs.specs.declared.access.Access.TheVariants.{Reading, Writing}
-use Rattle.ir_runs.specs.Verdicts.{IsCoherent}
+use Rattle.ir_runs.specs.Coherent.{IsCoherent}
 use Rattle.ir_runs.specs.Run.{At}
 use Rattle.ir_log.specs.Logging.{label_of}
 use Rattle.ir_log.specs.declared.event.Event.{Event}

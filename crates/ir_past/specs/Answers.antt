@@ -2,7 +2,7 @@
 use Rattle.std.specs.Prelude.{◌≡◌, ◌⊎◌, ℕ, List, [], ◌∷◌, ◌++◌, codes, decimal, length, Some, Result, Ok, Err, false}
 use Rattle.std.specs.Io.KnownBytes.{Appends}
 use Rattle.ir_stream.specs.Answers.{AppendsPrefix}
-use Rattle.ir_runs.specs.Verdicts.{IsCoherent}
+use Rattle.ir_runs.specs.Coherent.{IsCoherent}
 use Rattle.ir_trace.specs.Recorded.{Recorded, trace_of, trace_fault_number}
 use Rattle.ir_trace.specs.declared.trace_err.TraceErr.{TraceErr}
 use Rattle.ir_coherence.specs.Breaking.{IsFirstBreak, cause_number}

@@ -2,7 +2,7 @@
 
 ghost use Rattle.std.specs.Prelude.{◌≡◌, ◌+◌, ◌<◌, length, OnOk, IfOk};
 ghost use Rattle.ir_trace.specs.Recorded.{recorded_thread, trace_of};
-ghost use Rattle.ir_runs.specs.Verdicts.{IsCoherent};
+ghost use Rattle.ir_runs.specs.Coherent.{IsCoherent};
 ghost use Rattle.ir_past.specs.Past.{AreStaleWrites};
 ghost use Rattle.ir_past.specs.Progress.{Makes, HasRows, HoldsOpen, IsPairAt};
 

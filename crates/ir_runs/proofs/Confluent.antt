@@ -16,7 +16,8 @@ use Rattle.ir_runs.proofs.Steps.{Clashes, StepUnchanged, step_unchanged_after_ot
 use Rattle.ir_runs.proofs.Swap.{Clash}
 use Rattle.ir_runs.proofs.Tally.{Tally, tally_after_step, tally_at_start, sum_below_less_if_one_less, sum_below_of_zeros, one_if_reader, readers_inside, counted_read}
 use Rattle.ir_runs.specs.Alike.{Reaches}
-use Rattle.ir_runs.specs.Verdicts.{reads_one, reads, sum_below, IsCoherent, Ending, Check, unlogged, Fits, Follows, IsMaximal}
+use Rattle.ir_runs.specs.Verdicts.{reads_one, reads, sum_below, Ending, Check, unlogged, Fits, Follows, IsMaximal}
+use Rattle.ir_runs.specs.Coherent.{IsCoherent}
 use Rattle.ir_runs.proofs.Ending.{last_step_can_be_taken}
 
 abbrev pub steps_left : (ℕ → ℕ) → Step → ℕ → ℕ

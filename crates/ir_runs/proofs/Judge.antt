@@ -18,7 +18,8 @@ use Rattle.ir_runs.proofs.Same.{BeginsRun, thread_after_step_of_other}
 use Rattle.ir_runs.specs.Alike.{Reaches}
 use Rattle.ir_runs.specs.declared.thread_verdict.ThreadVerdict.{ThreadVerdict}
 use Rattle.ir_runs.specs.declared.thread_verdict.ThreadVerdict.TheVariants.{Same, Disagrees, Starves}
-use Rattle.ir_runs.specs.Verdicts.{Suits, Agrees, Awaits, Judged, NoneTakes, IsVerdict, IsWhole, IsCoherent, Check, unlogged, Fits, Follows, IsMaximal, left_log, left_steps, ends_at, ends_now, Meets, closing}
+use Rattle.ir_runs.specs.Verdicts.{Suits, Agrees, Awaits, Judged, NoneTakes, IsVerdict, IsWhole, Check, unlogged, Fits, Follows, IsMaximal, left_log, left_steps, ends_at, ends_now, Meets, closing}
+use Rattle.ir_runs.specs.Coherent.{IsCoherent}
 use Rattle.ir_runs.specs.Events.{IsEvent, HoldsEvents, IsLive}
 
 pub done_is_decidable : (q : Ask) → (q ≡ Done) ⊎ (q ≢ Done)

@@ -14,7 +14,8 @@ use Rattle.ir_runs.proofs.Pull.{taken_entry_saw_object, taken_entry_not_past_wri
 use Rattle.ir_runs.proofs.Ratchet.{step_of_trail_was_taken, WritesOrPast, writes_or_past_is_kept, emitted_entry_is_entering, Entering}
 use Rattle.ir_runs.proofs.Same.{thread_after_step_of_other}
 use Rattle.ir_runs.proofs.Tally.{Tally, tally_after_step, tally_at_start, sum_below_of_equal_functions, sum_below_of_zeros, one_if_reader, counted_read}
-use Rattle.ir_runs.specs.Verdicts.{reads_one, reads, sum_below, IsCoherent}
+use Rattle.ir_runs.specs.Verdicts.{reads_one, reads, sum_below}
+use Rattle.ir_runs.specs.Coherent.{IsCoherent}
 
 pub record FirstStepEvent {T : Type 0} (m : Machine T) (s : State T) (e : Step) (t i : ℕ) (k : Label) : Type 0 where
   pub who : t ≡ e.0

@@ -12,7 +12,8 @@ use Rattle.ir_runs.proofs.Ending.{thread_that_steps_is_not_done}
 use Rattle.ir_runs.proofs.Judge.{verdict_exists_at_maximal_run}
 use Rattle.ir_runs.proofs.OneResult.{LastStepFollows, last_step_follows_trace, maximal_if_no_thread_goes_on}
 use Rattle.ir_runs.specs.Standing.{GoesOn, AgreesNow, StandsAs}
-use Rattle.ir_runs.specs.Verdicts.{Suits, IsVerdict, IsCoherent, unlogged, Follows, IsMaximal, closing}
+use Rattle.ir_runs.specs.Verdicts.{Suits, IsVerdict, unlogged, Follows, IsMaximal, closing}
+use Rattle.ir_runs.specs.Coherent.{IsCoherent}
 use Rattle.ir_runs.specs.Events.{HoldsEvents}
 use Rattle.ir_runs.specs.declared.thread_verdict.ThreadVerdict.{ThreadVerdict}
 use Rattle.ir_runs.specs.declared.thread_verdict.ThreadVerdict.TheVariants.{Same, Disagrees, Starves}

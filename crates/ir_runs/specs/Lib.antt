@@ -7,3 +7,4 @@ pub mod Admitted
 pub mod Lawful
 pub mod Bounds
 pub mod Events
+pub mod Coherent

@@ -1,11 +1,10 @@
--- Traces: which are coherent, which runs follow one, and what is said of each thread where such a run has gone as far as any can.
+-- Traces: which runs follow one, and what is said of each thread where such a run has gone as far as any can; read entries of a trace.
 use Rattle.std.specs.Prelude.{◌≡◌, ◌≢◌, ℕ, ◌<◌, ◌≤◌, List, ◌∷◌, Option, length, Some, None, suc, pred, [], ◌++◌, zero, ◌+◌, cond, eqb}
 use Rattle.ir_runs.specs.Machine.{Ask, Env, Enter, Try, Done, Machine, Label, Answer, In, Refused, Trace, Quiet, Out, logged}
 use Rattle.ir_runs.specs.declared.access.Access.TheVariants.{Writing, Reading}
-use Rattle.ir_runs.specs.Run.{State, Step, IsRun, IsDone, end, trail, log, count, At}
+use Rattle.ir_runs.specs.Run.{State, Step, IsRun, IsDone, end, trail, log, count}
 use Rattle.ir_runs.specs.declared.thread_verdict.ThreadVerdict.{ThreadVerdict}
 use Rattle.ir_runs.specs.declared.thread_verdict.ThreadVerdict.TheVariants.{Same, Disagrees, Starves}
-use Rattle.ir_runs.specs.declared.access.Access.{Access}
 
 -- 1 for a read entry of object o at version v, else 0
 abbrev pub reads_one : ℕ → ℕ → Label → ℕ
@@ -21,15 +20,6 @@ reads o v (k ∷ ks) = reads_one o v k + reads o v ks
 abbrev pub sum_below : ℕ → (ℕ → ℕ) → ℕ
 sum_below zero f = 0
 sum_below (suc n) f = f n + sum_below n f
-
--- no event of the n threads' logs breaks coherence
-pub record IsCoherent (n : ℕ) (tr : Trace) : Type 0 where
-  -- an entry at a later version has the write entry that made it
-  pub made : (t i o v l : ℕ) (a : Access) → At (tr.logs t) i (In o a (suc v) l) → (u j k : ℕ) × At (tr.logs u) j (In o Writing v k)
-  -- one write entry at a version
-  pub writer : (t i u j o v l k : ℕ) → At (tr.logs t) i (In o Writing v l) → At (tr.logs u) j (In o Writing v k) → (t ≡ u) × (i ≡ j)
-  -- a write entry has as many readers as there are read entries of its version in the trace
-  pub readers : (t i o v l : ℕ) → At (tr.logs t) i (In o Writing v l) → l ≡ sum_below n (λ u. reads o v (tr.logs u))
 
 -- what a step of one thread needs of the trace beside its event, as where it ends: by the thread before it and by the steps and the log
 -- that are left
