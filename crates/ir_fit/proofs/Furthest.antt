@@ -1,15 +1,12 @@
 -- Whether a recorded trace is that of a run of a guest's, by the run that follows it furthest.
-use Rattle.std.proofs.Common.{◌≡◌, ◌≢◌, ℕ, zero, suc, ◌<◌, ◌≤◌, true, List, [], ◌∷◌, ◌++◌, ◌⊎◌, length, map, Some, refl, sym, ap, ◌∙◌, subst, arith, inl, inr, get_or}
+use Rattle.std.proofs.Common.{◌≡◌, ◌≢◌, ℕ, zero, suc, ◌<◌, ◌≤◌, List, [], ◌∷◌, ◌++◌, ◌⊎◌, length, map, Some, refl, sym, ap, ◌∙◌, subst, arith, inl, inr, get_or}
 use Rattle.std.specs.Prelude.{slice_get}
 use Rattle.std.proofs.lemmas.List.{length-map}
 use Rattle.std.specs.List.{AllByRecursion}
 use Rattle.std.proofs.lemmas.Bool.{cases_lt}
-use Rattle.std.proofs.lemmas.Bool.Decides.{nat_tests}
 use Rattle.ir_image.specs.Guest.{Guest}
-use Rattle.ir_thread.specs.State.{thread_machine, is_result}
+use Rattle.ir_thread.specs.State.{thread_machine}
 use Rattle.ir_runs.specs.Machine.{Label}
-use Rattle.ir_runs.specs.declared.env_kind.EnvKind.{EnvKind}
-use Rattle.ir_runs.specs.declared.env_kind.EnvKind.TheVariants.{Clock, Random, Input}
 use Rattle.ir_thread.proofs.CallerLemmas.{thread_machine_is_lawful, thread_machine_is_closing}
 use Rattle.ir_flat.specs.Flat.{Flat, start_flat, tables}
 use Rattle.ir_runs.specs.Run.{Step, log, At}
@@ -20,7 +17,7 @@ use Rattle.ir_log.specs.Logging.{label_of}
 use Rattle.ir_log.specs.declared.event.Event.{Event}
 use Rattle.ir_log.specs.declared.event.Event.TheVariants.{Answer, Read, Write, Try}
 use Rattle.ir_thread.specs.declared.profile.Profile.{Profile}
-use Rattle.ir_trace.specs.Recorded.{Recorded, RecordedThread, absent, trace_of, IsRecorded, IsRecordedThread, IsEvent, IsResult}
+use Rattle.ir_trace.specs.Recorded.{Recorded, RecordedThread, absent, trace_of, IsRecorded, IsRecordedThread, IsEvent}
 use Rattle.ir_coherence.proofs.CallerLemmas.{coherent_trace_is_unbroken}
 use Rattle.ir_fit.proofs.Guests.{guest_start_is_start, guest_start_is_live}
 use Rattle.ir_coherence.specs.Breaking.{HasCause, IsFirstBreak}
@@ -33,7 +30,6 @@ use Rattle.ir_fit.specs.Growing.{Growing, grown, growing_at}
 use Rattle.ir_runs.specs.Standing.{StandsAs}
 use Rattle.ir_runs.specs.Verdicts as verdicts
 use Rattle.ir_runs.specs.Events as events
-use Rattle.ir_runs.specs.Verdicts.{IsWhole}
 use Rattle.ir_runs.specs.Coherent.{IsCoherent}
 use Rattle.ir_runs.specs.Events.{HoldsEvents}
 use Rattle.ir_fit.specs.declared.fit_err.FitErr.{FitErr}
@@ -44,14 +40,8 @@ use Rattle.ir_fit.specs.declared.verdict.Verdict.TheVariants as verdict
 
 -- ---- what a trace within its limits holds
 
-is_result_true_if_result : (kind : EnvKind) (value : ℕ) → IsResult kind value → is_result kind value ≡ true
-is_result_true_if_result Clock value h = grind (arith, nat_tests, h)
-is_result_true_if_result Random value h = grind (arith, nat_tests, h)
-is_result_true_if_result Input value (inl h) = grind (arith, nat_tests, h)
-is_result_true_if_result Input value (inr h) = grind (arith, nat_tests, h)
-
 event_label_is_machine_event : (code : List ℕ) (profile : Profile) (objects : ℕ) (e : Event) → IsEvent profile objects e → events.IsEvent (thread_machine code) (label_of e)
-event_label_is_machine_event code profile objects (Answer kind value) h = is_result_true_if_result kind value h
+event_label_is_machine_event code profile objects (Answer kind value) h = h
 event_label_is_machine_event code profile objects (Read object version) h = refl
 event_label_is_machine_event code profile objects (Write object version readers) h = tt
 event_label_is_machine_event code profile objects (Try object) h = tt

@@ -1,14 +1,12 @@
 -- The trace of a complete run can be recorded: what each thread logs are events within the limits, and so are its steps and its end.
-use Rattle.std.proofs.Common.{◌≡◌, ℕ, zero, suc, ◌+◌, ◌^◌, ◌<◌, ◌≤◌, true, false, Bool, List, [], ◌∷◌, ◌++◌, length, map, Option, Some, None, refl, sym, ap, ◌∙◌, subst, arith, inl, inr, ltb-true}
-use Rattle.std.specs.Prelude.{◌||◌, nat_lt, ◌==◌}
+use Rattle.std.proofs.Common.{◌≡◌, ℕ, zero, suc, ◌+◌, ◌<◌, ◌≤◌, List, [], ◌∷◌, ◌++◌, length, map, Option, Some, None, refl, sym, ap, ◌∙◌, subst, arith, inl, inr}
 use Rattle.std.specs.List.{AllByRecursion, range_with_len}
 use Rattle.std.proofs.lemmas.Bool.{cases_eq}
-use Rattle.std.proofs.lemmas.Bool.Decides.{nat_tests}
 use Rattle.std.proofs.lemmas.List.{length-map}
 use Rattle.std.proofs.lemmas.List.FromFn.{get_or-map-range_with_len, length-map-range_with_len}
 use Rattle.ir_image.specs.Guest.{Guest, object_count, IsGuest}
 use Rattle.ir_image.proofs.CallerLemmas.{guest_threads_at_most_limit, guest_objects_at_most_limit}
-use Rattle.ir_thread.specs.State.{IsAllowed, end_number, end_code, ask_of, most_budget, shared_ask, is_result, thread_machine}
+use Rattle.ir_thread.specs.State.{IsAllowed, end_number, end_code, ask_of, most_budget, shared_ask, thread_machine}
 use Rattle.ir_thread.specs.Permitted.{Permits}
 use Rattle.ir_thread.specs.State as thread
 use Rattle.ir_thread.specs.declared.ask.Ask.{Ask}
@@ -20,8 +18,6 @@ use Rattle.ir_thread.proofs.CallerLemmas.{ask_of_permitted, end_number_and_code,
 use Rattle.ir_runs.specs.Machine.{act_of, Object, Admits, emitted, Label, logged}
 use Rattle.ir_runs.specs.Run.{State, Step, Can, after, label, IsRun, end, events, log, count, IsDone}
 use Rattle.ir_runs.specs.declared.access.Access.TheVariants.{Reading, Writing}
-use Rattle.ir_runs.specs.declared.env_kind.EnvKind.{EnvKind}
-use Rattle.ir_runs.specs.declared.env_kind.EnvKind.TheVariants.{Clock, Random, Input}
 use Rattle.ir_runs.proofs.CallerLemmas.{trail_of_cons_own_thread, trail_of_cons_other_thread, prefix_of_run_is_run}
 use Rattle.ir_flat.specs.Flat.{tables, start_flat}
 use Rattle.ir_flat.specs.Laws.{Fits}
@@ -29,7 +25,7 @@ use Rattle.ir_flat.proofs.CallerLemmas.{counts_all_fit, start_thread_has_no_step
 use Rattle.ir_log.specs.Logging.{label_of}
 use Rattle.ir_log.specs.declared.event.Event.{Event}
 use Rattle.ir_log.specs.declared.event.Event.TheVariants.{Answer, Read, Write, Try}
-use Rattle.ir_trace.specs.Recorded.{IsWord, RecordedThread, Recorded, absent, recorded_thread, IsResult, IsEvent, IsRecordedThread, IsRecorded}
+use Rattle.ir_trace.specs.Recorded.{IsWord, RecordedThread, Recorded, absent, recorded_thread, IsEvent, IsRecordedThread, IsRecorded}
 use Rattle.ir_fit.specs.Fit.{IsRunOf}
 use Rattle.ir_fit.specs.Laws.{EachRunIsRecorded}
 
@@ -45,22 +41,12 @@ are_events_with_event_added : {profile : Profile} {objects : ℕ} {labels : List
     → AreEvents profile objects labels → AreEvents profile objects (label_of e ∷ labels)
 are_events_with_event_added e fits rest = record { events = e ∷ rest.events; same = ap (λ z. label_of e ∷ z) rest.same; fit = (fits, rest.fit) }
 
-result_if_is_result_true : (kind : EnvKind) (value : ℕ) → is_result kind value ≡ true → IsResult kind value
-result_if_is_result_true Clock value h = grind (arith, nat_tests, h)
-result_if_is_result_true Random value h = grind (arith, nat_tests, h)
-result_if_is_result_true Input value h = input_fits (nat_lt value (2 ^ 8)) (value == 0xFFFFFFFF) refl refl h
-  where
-    input_fits : (a b : Bool) → nat_lt value (2 ^ 8) ≡ a → (value == 0xFFFFFFFF) ≡ b → (a || b) ≡ true → IsResult Input value
-    input_fits true b p q h = inl (ltb-true value 256 p)
-    input_fits false true p q h = inr (grind (arith, nat_tests, q))
-    input_fits false false p q h = absurd cc
-
 -- what is logged of a step is an event within the limits
 logged_label_is_event_within_limits : (code : List ℕ) {profile : Profile} {objects : ℕ} {labels : List Label} (n : ℕ) (x : thread.ThreadState) (q : Ask) (r : ℕ) (b : Object)
     → Permits x q → x.profile ≡ profile → length x.held ≤ objects → Fits n b → Admits (thread_machine code) (act_of (shared_ask q) r) b
     → AreEvents profile objects labels → AreEvents profile objects (logged (emitted (act_of (shared_ask q) r) b) labels)
 logged_label_is_event_within_limits code n x ask.Private r b p same few fits can rest = rest
-logged_label_is_event_within_limits code n x (ask.Env kind) r b p same few fits can rest = are_events_with_event_added (Answer kind r) (result_if_is_result_true kind r can) rest
+logged_label_is_event_within_limits code n x (ask.Env kind) r b p same few fits can rest = are_events_with_event_added (Answer kind r) can rest
 logged_label_is_event_within_limits code n x (ask.Enter o Reading) r b p same few fits can rest =
     are_events_with_event_added (Read o b.version) (omega (arith, p.2, few), fits.version) rest
 logged_label_is_event_within_limits code n x (ask.Enter o Writing) r b p same few fits can rest =

@@ -1,8 +1,7 @@
 -- What is seen of a thread's next step, by what the thread asks.
-use Rattle.std.proofs.Common.{◌≡◌, ◌≢◌, ℕ, zero, suc, ◌<◌, ◌≤◌, ◌^◌, true, false, Bool, List, [], ◌∷◌, length, map, drop, Option, Some, None, refl, sym, ap, ◌∙◌, subst, arith, inl, inr, ◌⊎◌}
-use Rattle.std.specs.Prelude.{◌↔◌, IsTrue, slice_get, nat_lt, ◌||◌, ◌==◌}
+use Rattle.std.proofs.Common.{◌≡◌, ◌≢◌, ℕ, zero, suc, ◌<◌, ◌≤◌, true, false, Bool, List, [], ◌∷◌, length, map, drop, Option, Some, None, refl, sym, ap, ◌∙◌, subst, arith, inl, inr, ◌⊎◌}
+use Rattle.std.specs.Prelude.{◌↔◌, IsTrue, slice_get}
 use Rattle.std.specs.List.{AllByRecursion}
-use Rattle.std.proofs.lemmas.Bool.Decides.{nat_tests}
 use Rattle.ir_thread.specs.Permitted.{Permits}
 use Rattle.ir_thread.specs.State.{end_number, end_code, held_count, ask_of, after_ask, after_reply, shared_ask, reply_of, is_result, thread_machine}
 use Rattle.ir_runs.specs.Machine as machine
@@ -13,7 +12,6 @@ use Rattle.ir_runs.specs.declared.access.Access.TheVariants.{Reading, Writing}
 use Rattle.ir_thread.specs.declared.ask.Ask.{Ask}
 use Rattle.ir_thread.specs.declared.ask.Ask.TheVariants.{Private, Env, Enter, Try, Leave, Get, Put, Print, End, Done}
 use Rattle.ir_runs.specs.declared.env_kind.EnvKind.{EnvKind}
-use Rattle.ir_runs.specs.declared.env_kind.EnvKind.TheVariants.{Clock, Random, Input}
 use Rattle.ir_thread.specs.declared.ask.Reply.{Reply}
 use Rattle.ir_thread.specs.declared.end.End as end
 use Rattle.ir_thread.proofs.CallerLemmas.{ask_of_permitted, end_number_and_code}
@@ -27,7 +25,7 @@ use Rattle.ir_log.specs.Asked.{ask_of as event_ask, Suits}
 use Rattle.ir_log.proofs.CallerLemmas.{ask_of_suiting_call_event as call_asked, ask_of_suiting_entry_event as entry_asked}
 use Rattle.ir_log.specs.declared.event.Event.{Event}
 use Rattle.ir_log.specs.declared.event.Event.TheVariants.{Answer, Read, Write, Try as Refused}
-use Rattle.ir_trace.specs.Recorded.{Recorded, recorded_thread, trace_of, IsResult, IsEvent, IsRecordedThread}
+use Rattle.ir_trace.specs.Recorded.{Recorded, recorded_thread, trace_of, IsEvent, IsRecordedThread}
 use Rattle.ir_fit.specs.Ahead.{steps_ahead, log_ahead, CanFollow, IsStopped, AgreesAhead, IsOpen, IsOwn, EndsSo, IsSeen}
 use Rattle.ir_fit.specs.declared.follower.look.Look.{Look}
 use Rattle.ir_fit.specs.declared.follower.look.Look.TheVariants as look
@@ -201,17 +199,6 @@ suited_try_has_event (x ∷ xs) (suc i) o h = suited_try_has_event xs i o h
 
 -- ---- calls of the environment
 
-pub is_result_true_if_result : (kind : EnvKind) (value : ℕ) → IsResult kind value → is_result kind value ≡ true
-is_result_true_if_result Clock value h = grind (arith, nat_tests, h)
-is_result_true_if_result Random value h = grind (arith, nat_tests, h)
-is_result_true_if_result Input value (inl h) = ap (λ b. b || (value == 0xFFFFFFFF))
-    (let e : nat_lt value (2 ^ 8) ≡ true = grind (arith, nat_tests, h) in e)
-is_result_true_if_result Input value (inr h) = either (nat_lt value (2 ^ 8)) (value == 0xFFFFFFFF) (grind (arith, nat_tests, h))
-  where
-    either : (a b : Bool) → b ≡ true → (a || b) ≡ true
-    either true b h = refl
-    either false b h = h
-
 pub suited_call_can_follow : (r : Recorded) (f : Flat) (t v : ℕ) (kind j : EnvKind) → IsRecordedThread r.profile r.objects (recorded_thread r t)
     → ask_of f.code (thread_of f t) ≡ Env kind → 0 < steps_ahead r f t
     → slice_get (recorded_thread r t).events (thread_of f t).events ≡ Some (Answer j v) → Suits (Env kind) (Answer j v) → CanFollow r f t v
@@ -222,10 +209,10 @@ suited_call_can_follow r f t v kind j fits is steps next suits =
     let es : log_ahead r f t ≡ machine.Answer kind v ∷ drop (suc (thread_of f t).events) (map label_of (recorded_thread r t).events) =
     labels_ahead_start_with_event (recorded_thread r t).events (thread_of f t).events (Answer kind v)
     (subst (λ z. slice_get (recorded_thread r t).events (thread_of f t).events ≡ Some z) here next) in
-    let result : IsResult kind v = subst (λ z. IsResult z v) same
+    let result : is_result kind v ≡ true = subst (λ z. is_result z v ≡ true) same
     (found_element_of_all_by_recursion (IsEvent r.profile r.objects) (recorded_thread r t).events (thread_of f t).events (Answer j v) fits.events_fit next) in
     can_follow_if_follows_as r f t v (Env kind) is (record {
-      can = is_result_true_if_result kind v result;
+      can = result;
       steps = steps;
       logs = ap (λ z. machine.Answer kind v ∷ unlogged (machine.Answer kind v) z) es ∙ sym es;
       ends = tt;

@@ -1,6 +1,6 @@
 -- A thread that runs alone, and what it may be answered.
 use Rattle.std.specs.Prelude.{◌≡◌, ℕ, Bool, true, false, List, [], ◌∷◌}
-use Rattle.ir_runs.specs.Machine.{Act, act_of, Silent, Result, Entry, Refusal, Exit, Load, Store, Never, Machine, is_shared, Label, Quiet, Answer, Refused}
+use Rattle.ir_runs.specs.Machine.{Act, act_of, Silent, Result, Entry, Refusal, Load, Never, Machine, is_shared, Label, Quiet, Answer, Refused}
 
 -- what may be answered to a thread that runs alone
 abbrev pub MayReply : {T : Type 0} → Machine T → Act → ℕ → Type 0

@@ -15,7 +15,7 @@ use Rattle.ir_record.specs.Progress.{TookIf, IsTape, log_at, labels_at}
 use Rattle.ir_record.specs.Worlds.{answers_at, Answered}
 use Rattle.ir_record.proofs.Steps.{turn_taken_by_step, ask_not_try_enters_if_free}
 use Rattle.ir_record.proofs.Running.{hold_few_objects_if_flat}
-use Rattle.ir_record.proofs.Logs.{tape_after_event_pushed, labels_after_event_pushed, labels_of_other_thread_after_set, result_if_is_result_true}
+use Rattle.ir_record.proofs.Logs.{tape_after_event_pushed, labels_after_event_pushed, labels_of_other_thread_after_set}
 
 -- there is the step
 pub environment_call_can_step : (f : Flat) (t value : ℕ) (kind : EnvKind) → ask_of f.code (thread_of f t) ≡ Env kind → is_result kind value ≡ true
@@ -45,7 +45,7 @@ pub tape_after_answer : (f g : Flat) (logs more : List Logged) (t value : ℕ) (
     → IsTape g more
 tape_after_answer f g logs more t value kind a =
     subst (IsTape g) (sym a.logged) (tape_after_event_pushed f g logs t value (event.Answer kind value) a.new a.tape a.below a.taken a.threads a.objects
-    (ap events_added_by a.asked) (result_if_is_result_true kind value a.fits) a.pushed)
+    (ap events_added_by a.asked) a.fits a.pushed)
 
 pub turn_taken_by_answer : (f g : Flat) (logs more : List Logged) (t value : ℕ) (kind : EnvKind) → AnswerLogged f g logs more t value kind
     → (answers given : List (List Answered)) → t < length answers → given ≡ set answers t (answers_at answers t ++ (kind, value) ∷ [])

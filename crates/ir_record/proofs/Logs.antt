@@ -1,13 +1,9 @@
 -- Logs keep up with the threads.
-use Rattle.std.proofs.Common.{◌≡◌, ◌≢◌, ℕ, ◌+◌, ◌^◌, ◌<◌, true, false, Bool, List, [], ◌∷◌, ◌++◌, length, map, set, get_or, Result, Ok, Err, OnOk, OnErr, refl, sym, ap, ◌∙◌, subst, arith, inl, inr, length-append, length-set, get_or-set_same, get_or-set_other, ltb-true}
-use Rattle.std.specs.Prelude.{◌||◌, nat_lt, ◌==◌}
+use Rattle.std.proofs.Common.{◌≡◌, ◌≢◌, ℕ, ◌+◌, ◌<◌, List, [], ◌∷◌, ◌++◌, length, map, set, get_or, Result, Ok, Err, OnOk, OnErr, refl, sym, ap, ◌∙◌, subst, arith, inl, inr, length-append, length-set, get_or-set_same, get_or-set_other}
 use Rattle.std.proofs.lemmas.Bool.{cases_eq}
 use Rattle.std.proofs.lemmas.List.{get_or_default}
-use Rattle.std.proofs.lemmas.Bool.Decides.{nat_tests}
 use Rattle.std.specs.List.{AllByRecursion}
-use Rattle.ir_thread.specs.State.{ask_of, most_events, is_result}
-use Rattle.ir_runs.specs.declared.env_kind.EnvKind.{EnvKind}
-use Rattle.ir_runs.specs.declared.env_kind.EnvKind.TheVariants.{Clock, Random, Input}
+use Rattle.ir_thread.specs.State.{ask_of, most_events}
 use Rattle.ir_runs.proofs.CallerLemmas.{upd_at_own_place, upd_at_other_place}
 use Rattle.ir_flat.specs.Flat.{Flat, thread_of, tables, machine}
 use Rattle.ir_runs.specs.Run.{after}
@@ -15,7 +11,7 @@ use Rattle.ir_flat.proofs.CallerLemmas.{events_added_by, events_after_ask, moved
 use Rattle.ir_log.specs.Logged.{Logged}
 use Rattle.ir_log.specs.Logging.{label_of}
 use Rattle.ir_log.specs.declared.event.Event.{Event}
-use Rattle.ir_trace.specs.Recorded.{IsEvent, IsResult}
+use Rattle.ir_trace.specs.Recorded.{IsEvent}
 use Rattle.ir_record.specs.Progress.{IsTape, no_log, log_at, labels_at}
 use Rattle.ir_record.proofs.Profiles.{events_fit_if_limits_same, thread_profile_after_step}
 
@@ -105,17 +101,6 @@ labels_after_event_pushed logs t e new l is =
 
 pub labels_of_other_thread_after_set : (logs : List Logged) (t u : ℕ) (new : Logged) → u ≢ t → labels_at (set logs t new) u ≡ labels_at logs u
 labels_of_other_thread_after_set logs t u new ne = ap (λ z. map label_of z.events) (get_or-set_other logs t u new no_log ne)
-
--- a result of the environment is one that a log may hold
-pub result_if_is_result_true : (kind : EnvKind) (value : ℕ) → is_result kind value ≡ true → IsResult kind value
-result_if_is_result_true Clock value h = grind (arith, nat_tests, h)
-result_if_is_result_true Random value h = grind (arith, nat_tests, h)
-result_if_is_result_true Input value h = input_fits (nat_lt value (2 ^ 8)) (value == 0xFFFFFFFF) refl refl h
-  where
-    input_fits : (a b : Bool) → nat_lt value (2 ^ 8) ≡ a → (value == 0xFFFFFFFF) ≡ b → (a || b) ≡ true → IsResult Input value
-    input_fits true b p q h = inl (ltb-true value 256 p)
-    input_fits false true p q h = inr (grind (arith, nat_tests, q))
-    input_fits false false p q h = absurd cc
 
 -- there is room for an event
 pub log_has_room_for_event : (f : Flat) (logs : List Logged) (t : ℕ) (l : Logged) → IsTape f logs → t < length f.threads → l ≡ log_at logs t

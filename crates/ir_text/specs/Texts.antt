@@ -4,7 +4,7 @@ use Rattle.hex.specs.Hex.{encode_lower}
 use Rattle.ir_image.specs.Guest.{word_at_pc}
 use Rattle.ir_mach.specs.Execution.{byte_at}
 use Rattle.ir_thread.specs.State.{highest}
-use Rattle.ir_runs.specs.Machine.{Label, Quiet, Answer, In, Out, Object}
+use Rattle.ir_runs.specs.Machine.{Label, Answer, In, Object}
 use Rattle.ir_runs.specs.Machine as machine
 use Rattle.ir_thread.specs.State as thread
 use Rattle.ir_runs.specs.declared.access.Access.{Access}

@@ -1,6 +1,8 @@
 -- An event that is read is the event that was written, and what was written is read again.
-use Rattle.std.proofs.Common.{◌≡◌, ℕ, ◌<◌, inl, inr, Bool, true, false, cond, ltb, eqb, List, [], ◌∷◌, ◌++◌, Result, Ok, Err, refl, ◌∙◌, subst, arith}
-use Rattle.std.specs.Prelude.{◌||◌}
+use Rattle.std.proofs.Common.{◌≡◌, ℕ, ◌<◌, true, cond, ltb, eqb, List, [], ◌∷◌, ◌++◌, Result, Ok, Err, refl, ◌∙◌, subst, arith}
+use Rattle.std.specs.Prelude.{◌^◌}
+use Rattle.std.proofs.lemmas.Bool.Decides.{nat_tests}
+use Rattle.ir_thread.specs.State.{is_result}
 use Rattle.std.proofs.lemmas.Bool.{ltb-true, lt-ltb, eqb-true}
 use Rattle.byteorder.specs.Endian.{little_bytes}
 use Rattle.ir_bytes.specs.Reading.{number_at, field_at}
@@ -13,7 +15,7 @@ use Rattle.ir_log.specs.declared.event.Event.{Event}
 use Rattle.ir_log.specs.declared.event.Event.TheVariants.{Answer, Read, Write, Try}
 use Rattle.ir_trace.specs.declared.trace_err.TraceErr.{TraceErr}
 use Rattle.ir_trace.specs.declared.trace_err.TraceErr.TheVariants.{Short, Count, Tag, Range}
-use Rattle.ir_trace.specs.Recorded.{IsWord, input_end, IsResult, IsEvent, is_input, input_field, object_field, answer_at, input_at, read_at, write_at, try_at, try_by, event_by, event_at}
+use Rattle.ir_trace.specs.Recorded.{IsWord, IsEvent, input_field, object_field, answer_at, input_at, read_at, write_at, try_at, try_by, event_by, event_at}
 use Rattle.ir_trace.specs.Encoding.{kind_tag, event_encoding}
 
 -- what reading an event takes
@@ -34,21 +36,13 @@ object_field_of_encoding objects n rest lt = field_at_of_byte Short (object_fiel
 -- ---- the tags
 
 answer_at_takes_event : (profile : Profile) (objects : ℕ) (all rest : List ℕ) (kind : EnvKind) (x : Event × List ℕ) → Takes all (kind_tag kind ∷ []) rest
-    → ((v : ℕ) → IsWord v → IsResult kind v) → answer_at kind rest ≡ Ok x → TakesEvent profile objects all x
+    → ((v : ℕ) → IsWord v → is_result kind v ≡ true) → answer_at kind rest ≡ Ok x → TakesEvent profile objects all x
 unfolding answer_at event_encoding
 answer_at_takes_event profile objects all rest kind x prefix is e =
     two_steps_succeed (number_at Short 4 rest) (λ n. Ok (Answer kind n.0, n.1)) x e (λ n e0 e1.
     let t = number_at_takes_number Short 4 rest n prefix.rest_fits e0 in
     subst (TakesEvent profile objects all) (ok_is_injective TraceErr (Answer kind n.0, n.1) x e1)
     (takes_after_takes all (kind_tag kind ∷ []) rest (little_bytes 4 n.0) n.1 prefix t.0, is n.0 t.1))
-
-input_result_by_conditions : (v : ℕ) (low last : Bool) → ltb v 256 ≡ low → eqb v input_end ≡ last → (low || last) ≡ true → IsResult Input v
-input_result_by_conditions v true last p q h = inl (ltb-true v 256 p)
-input_result_by_conditions v false true p q h = inr (eqb-true v input_end q)
-input_result_by_conditions v false false p q h = absurd cc
-
-input_result_if_is_input : (v : ℕ) → is_input v ≡ true → IsResult Input v
-input_result_if_is_input v h = input_result_by_conditions v (ltb v 256) (eqb v input_end) refl refl h
 
 input_at_takes_event : (profile : Profile) (objects : ℕ) (all rest : List ℕ) (x : Event × List ℕ) → Takes all (3 ∷ []) rest → input_at rest ≡ Ok x
     → TakesEvent profile objects all x
@@ -57,7 +51,7 @@ input_at_takes_event profile objects all rest x prefix e =
     two_steps_succeed (field_at Short input_field rest) (λ n. Ok (Answer Input n.0, n.1)) x e (λ n e0 e1.
     let t = field_at_takes_field Short input_field rest n prefix.rest_fits e0 in
     subst (TakesEvent profile objects all) (ok_is_injective TraceErr (Answer Input n.0, n.1) x e1)
-    (takes_after_takes all (3 ∷ []) rest (little_bytes 4 n.0) n.1 prefix t.takes, input_result_if_is_input n.0 (test_true_if_no_fault (is_input n.0) Range t.passes)))
+    (takes_after_takes all (3 ∷ []) rest (little_bytes 4 n.0) n.1 prefix t.takes, test_true_if_no_fault (is_result Input n.0) Range t.passes))
 
 read_at_takes_event : (profile : Profile) (objects : ℕ) (all rest : List ℕ) (x : Event × List ℕ) → Takes all (4 ∷ []) rest → read_at objects rest ≡ Ok x
     → TakesEvent profile objects all x
@@ -118,9 +112,9 @@ event_by_takes_event profile objects all rest tag x prefix e =
     let from3 = cond (eqb tag 3) (input_at rest) from4 in
     let from2 = cond (eqb tag 2) (answer_at Random rest) from3 in
     conditional_cases (eqb tag 1) (answer_at Clock rest) from2 (Ok x) e
-    (λ t h. answer_at_takes_event profile objects all rest Clock x (takes_equal_tag all rest tag 1 prefix t) (λ v w. w) h) (λ _ e2.
+    (λ t h. answer_at_takes_event profile objects all rest Clock x (takes_equal_tag all rest tag 1 prefix t) (λ v w. lt-ltb v (2 ^ 32) w) h) (λ _ e2.
     conditional_cases (eqb tag 2) (answer_at Random rest) from3 (Ok x) e2
-    (λ t h. answer_at_takes_event profile objects all rest Random x (takes_equal_tag all rest tag 2 prefix t) (λ v w. w) h) (λ _ e3.
+    (λ t h. answer_at_takes_event profile objects all rest Random x (takes_equal_tag all rest tag 2 prefix t) (λ v w. lt-ltb v (2 ^ 32) w) h) (λ _ e3.
     conditional_cases (eqb tag 3) (input_at rest) from4 (Ok x) e3 (λ t h. input_at_takes_event profile objects all rest x (takes_equal_tag all rest tag 3 prefix t) h) (λ _ e4.
     conditional_cases (eqb tag 4) (read_at objects rest) from5 (Ok x) e4 (λ t h. read_at_takes_event profile objects all rest x (takes_equal_tag all rest tag 4 prefix t) h)
     (λ _ e5.
@@ -138,21 +132,18 @@ event_at_takes_event profile objects bytes x fits e =
 
 -- ---- and again
 
-is_input_if_input_result : (v : ℕ) → IsResult Input v → is_input v ≡ true
-is_input_if_input_result v (inl low) = rw (lt-ltb v 256 low) refl
-is_input_if_input_result v (inr last) = rw last refl
-
-input_result_is_word : (v : ℕ) → IsResult Input v → IsWord v
-input_result_is_word v (inl low) = omega arith
-input_result_is_word v (inr last) = omega arith
+result_is_word : (kind : EnvKind) (v : ℕ) → is_result kind v ≡ true → IsWord v
+result_is_word Clock v h = grind (arith, nat_tests, h)
+result_is_word Random v h = grind (arith, nat_tests, h)
+result_is_word Input v h = grind (arith, nat_tests, h)
 
 answer_at_of_encoding : (kind : EnvKind) (v : ℕ) (rest : List ℕ) → IsWord v → answer_at kind (little_bytes 4 v ++ rest) ≡ Ok (Answer kind v, rest)
 unfolding answer_at
 answer_at_of_encoding kind v rest fits = rw (number_at_of_little_bytes Short 4 v rest fits) refl
 
-input_at_of_encoding : (v : ℕ) (rest : List ℕ) → IsResult Input v → input_at (little_bytes 4 v ++ rest) ≡ Ok (Answer Input v, rest)
+input_at_of_encoding : (v : ℕ) (rest : List ℕ) → is_result Input v ≡ true → input_at (little_bytes 4 v ++ rest) ≡ Ok (Answer Input v, rest)
 unfolding input_at
-input_at_of_encoding v rest fits = rw (field_at_of_little_bytes Short input_field v rest (input_result_is_word v fits) (no_fault_if_test_true (is_input v) Range (is_input_if_input_result v fits)))
+input_at_of_encoding v rest fits = rw (field_at_of_little_bytes Short input_field v rest (result_is_word Input v fits) (no_fault_if_test_true (is_result Input v) Range fits))
     refl
 
 read_at_of_encoding : (objects o v : ℕ) (rest : List ℕ) → o < objects → IsWord v
@@ -185,8 +176,8 @@ event_at_of_tag profile objects tag bytes = rw (number_at_of_byte Short tag byte
 pub event_at_of_encoding : (profile : Profile) (objects : ℕ) (e : Event) (rest : List ℕ) → IsEvent profile objects e
     → event_at profile objects (event_encoding e ++ rest) ≡ Ok (e, rest)
 unfolding event_by event_encoding
-event_at_of_encoding profile objects (Answer Clock v) rest fits = event_at_of_tag profile objects 1 _ ∙ answer_at_of_encoding Clock v rest fits
-event_at_of_encoding profile objects (Answer Random v) rest fits = event_at_of_tag profile objects 2 _ ∙ answer_at_of_encoding Random v rest fits
+event_at_of_encoding profile objects (Answer Clock v) rest fits = event_at_of_tag profile objects 1 _ ∙ answer_at_of_encoding Clock v rest (result_is_word Clock v fits)
+event_at_of_encoding profile objects (Answer Random v) rest fits = event_at_of_tag profile objects 2 _ ∙ answer_at_of_encoding Random v rest (result_is_word Random v fits)
 event_at_of_encoding profile objects (Answer Input v) rest fits = event_at_of_tag profile objects 3 _ ∙ input_at_of_encoding v rest fits
 event_at_of_encoding profile objects (Read o v) rest fits = event_at_of_tag profile objects 4 _ ∙ read_at_of_encoding objects o v rest fits.0 fits.1
 event_at_of_encoding profile objects (Write o v r) rest fits = event_at_of_tag profile objects 5 _ ∙ write_at_of_encoding objects o v r rest fits.0 fits.1 fits.2

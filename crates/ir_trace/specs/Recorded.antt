@@ -1,11 +1,11 @@
 -- What was recorded of a run, however the code keeps it; how it is read from bytes, and its limits.
-use Rattle.std.specs.Prelude.{ℕ, List, [], map, Some, Bool, length, Option, None, Result, Ok, Err, nat_lt, ◌==◌, ◌||◌, if◌then◌else◌, ◌∷◌, ◌≡◌, ◌^◌, ◌<◌, ◌≤◌, ◌⊎◌}
+use Rattle.std.specs.Prelude.{ℕ, List, [], map, Some, Bool, length, Option, None, Result, Ok, Err, nat_lt, ◌==◌, ◌||◌, if◌then◌else◌, ◌∷◌, ◌≡◌, ◌^◌, ◌<◌, ◌≤◌}
 pub use Rattle.ir_bytes.specs.Reading.{IsWord}
 use Rattle.ir_thread.specs.declared.end.End.{End}
 use Rattle.ir_thread.specs.declared.profile.Profile.{Profile}
 use Rattle.ir_log.specs.declared.event.Event.{Event}
 use Rattle.std.specs.List.{slice_index_or, AllByRecursion}
-use Rattle.ir_thread.specs.State.{end_number, end_code, largest, end_of, most_budget, most_events}
+use Rattle.ir_thread.specs.State.{end_number, end_code, largest, end_of, most_budget, most_events, is_result}
 use Rattle.ir_runs.specs.Machine.{Trace}
 use Rattle.ir_thread.specs.declared.end.End.TheVariants.{Breakpoint}
 use Rattle.ir_log.specs.Logging.{label_of}
@@ -38,10 +38,6 @@ pub record Recorded : Type 0 where
   pub profile : Profile
   -- the threads by their numbers
   pub threads : List RecordedThread
-
--- what an input has at its end
-abbrev pub input_end : ℕ
-input_end = 0xFFFFFFFF
 
 -- a thread that is none of the guest's: it took no step and logged nothing, and counts as one that has ended
 abbrev pub absent : RecordedThread
@@ -98,12 +94,8 @@ end_field = within 1 1 14 Range
 abbrev pub events_field : Field TraceErr
 events_field = within 4 0 most_events Count
 
--- a byte, or the end of the input
-abbrev pub is_input : ℕ → Bool
-is_input n = nat_lt n 256 || n == input_end
-
 abbrev pub input_field : Field TraceErr
-input_field = tested 4 is_input Range
+input_field = tested 4 (is_result Input) Range
 
 -- the number of an object of a guest with `objects` objects
 abbrev pub object_field : ℕ → Field TraceErr
@@ -212,15 +204,9 @@ trace_fault_number Range = Some 6
 trace_fault_number Trailing = Some 7
 trace_fault_number NoMem = None
 
--- the values that a call of the environment may have: an input gives a byte, or its end
-abbrev pub IsResult : EnvKind → ℕ → Type 0
-IsResult Clock value = IsWord value
-IsResult Random value = IsWord value
-IsResult Input value = (value < 256) ⊎ (value ≡ input_end)
-
--- the limits of an event of a guest with `objects` objects; a refused try is in the second profile alone
+-- the limits of an event of a guest with `objects` objects: a result suits its call, and a refused try is in the second profile alone
 abbrev pub IsEvent : Profile → ℕ → Event → Type 0
-IsEvent profile objects (Answer kind value) = IsResult kind value
+IsEvent profile objects (Answer kind value) = is_result kind value ≡ true
 IsEvent profile objects (Read object version) = (object < objects) × IsWord version
 IsEvent profile objects (Write object version readers) = (object < objects) × IsWord version × IsWord readers
 IsEvent profile objects (Try object) = (profile ≡ Two) × (object < objects)

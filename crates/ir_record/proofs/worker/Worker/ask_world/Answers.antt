@@ -1,5 +1,4 @@
 use Rattle.std.proofs.Common.{Some, None, refl}
-use Rattle.ir_record.proofs.Logs.{result_if_is_result_true}
 use Rattle.ir_log.specs.declared.event.Event.TheVariants as event
 use Rattle.ir_thread.specs.declared.ask.Ask.TheVariants as ask
 use Rattle.ir_record.proofs.WorkerSteps.{still_works_after_step, answer_room}
@@ -12,7 +11,7 @@ pub returns-in-Ok-clause-stays : goal.returns-in-Ok-clause-stays
 returns-in-Ok-clause-stays g c = record {
   seat = refl;
   still = still_works_after_step c.requires.worker.same_code (ask.Env c.args.kind) c.in-Ok.value None (Some (event.Answer c.args.kind c.in-Ok.value))
-      c.in-Ok.ensures.fits refl (result_if_is_result_true c.args.kind c.in-Ok.value c.in-Ok.ensures.fits, tt)
+      c.in-Ok.ensures.fits refl (c.in-Ok.ensures.fits, tt)
       c.requires.asked refl c.take_asked.ensures c.push.ensures c.in-Ok.ensures.answered;
 }
 
