@@ -1,10 +1,10 @@
 -- Kept cuts, found and left out by their numbers.
 use Rattle.std.proofs.Common.{◌≡◌, ◌<◌, ◌≤◌, ◌+◌, ◌==◌, ℕ, Bool, true, false, List, [], ◌∷◌, ◌++◌, length, drop, Option, Some, None, refl, sym, ap, ◌∙◌, subst, get_or}
-use Rattle.std.specs.Prelude.{find, cond, option_map, is_some, MatchOption, IsSome, IfSome}
+use Rattle.std.specs.Prelude.{find, cond, option_map, is_some, MatchOption, IsSome, IfSome, flat_map}
 use Rattle.std.proofs.lemmas.List.{at_drop_more, at_drop_all}
 use Rattle.ir_fit.specs.Fit.{FittedTrace}
 use Rattle.ir_timeline.specs.Hand.{IsCutOf}
-use Rattle.ir_debug.specs.Machine.{Kept, kept_cut, kept_line, kept_text}
+use Rattle.ir_debug.specs.Machine.{Kept, kept_cut, kept_line}
 use Rattle.ir_debug.specs.Debugging.{AllKept}
 
 first_or_other_kept_is_cut : (f : FittedTrace) (k : Kept) (c : List ℕ) (rest : Option Kept) (b : Bool) → IsCutOf f k.cut
@@ -40,14 +40,12 @@ found_kept_cut_is_cut (Some x) value f ks n all is = kept_cut_of_number_is_cut f
 
 -- the first, which is in a text that was empty, and the others
 pub kept_text_step : (ks : List Kept) (i : ℕ) (k : Kept) (first line : List ℕ) → i < length ks → k ≡ get_or ks i k → first ≡ []
-    → line ≡ first ++ kept_line k → kept_text (drop i ks) ≡ line ++ kept_text (drop (i + 1) ks)
-unfolding kept_text
+    → line ≡ first ++ kept_line k → flat_map kept_line (drop i ks) ≡ line ++ flat_map kept_line (drop (i + 1) ks)
 kept_text_step ks i k first line some at none same =
-    let rest : List ℕ = kept_text (drop (i + 1) ks) in
-    at_drop_more kept_text ks i k some
+    let rest : List ℕ = flat_map kept_line (drop (i + 1) ks) in
+    at_drop_more (flat_map kept_line) ks i k some
     ∙ ap (λ (x : List ℕ). x ++ rest) (ap kept_line (sym at) ∙ sym (same ∙ ap (λ (x : List ℕ). x ++ kept_line k) none))
 
 -- none is left after the last
-pub kept_text_at_end : (ks : List Kept) (i : ℕ) → length ks ≤ i → kept_text (drop i ks) ≡ []
-unfolding kept_text
-kept_text_at_end ks i l = at_drop_all kept_text ks i l
+pub kept_text_at_end : (ks : List Kept) (i : ℕ) → length ks ≤ i → flat_map kept_line (drop i ks) ≡ []
+kept_text_at_end ks i l = at_drop_all (flat_map kept_line) ks i l

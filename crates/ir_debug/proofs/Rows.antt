@@ -15,7 +15,7 @@ use Rattle.ir_command.specs.declared.command.Show.TheVariants.{Registers, Memory
 use Rattle.ir_command.specs.declared.refusal.Refusal.{Refusal}
 use Rattle.ir_command.specs.declared.refusal.Refusal.TheVariants.{UnknownCommand, BadArgument, NoSuchThread, NoSuchObject, BadAddress, LineTooLong}
 use Rattle.ir_fit.specs.Fit.{FittedTrace}
-use Rattle.ir_timeline.specs.Positions.{last_cut, last_positions}
+use Rattle.ir_timeline.specs.Positions.{last_cut}
 use Rattle.ir_debug.specs.Machine.{Desk, desk_of, moved_text, refusal_of, may_lack}
 
 abbrev AskedCommand : Type 0
@@ -93,5 +93,4 @@ unfolding digits
 moves = (refl, refl, refl, refl)
 
 row_last_cut : last_cut trace_of_nine_steps ≡ 9 ∷ []
-unfolding last_positions
 row_last_cut = refl

@@ -1,5 +1,5 @@
 -- The debugger between two commands, and the texts of its answers.
-use Rattle.std.specs.Prelude.{◌≡◌, ◌≤◌, ◌<◌, ◌+◌, ℕ, ⊤, true, List, ◌++◌, length, codes, Option, None, Result}
+use Rattle.std.specs.Prelude.{◌≡◌, ◌≤◌, ◌<◌, ◌+◌, ℕ, ⊤, true, List, ◌++◌, length, codes, Option, None, Result, flat_map}
 use Rattle.std.specs.List.{AllByRecursion}
 use Rattle.ir_runs.specs.Run.{Step}
 use Rattle.ir_fit.specs.Fit.{FittedTrace, HasRun}
@@ -16,7 +16,7 @@ use Rattle.ir_debug.specs.declared.answer.Answer.{Answer}
 use Rattle.ir_debug.specs.declared.answer.Answer.TheVariants.{Moved, Continued, Position, Shown, Next, Set, Cleared, Kept, Dropped, KeptCuts, Refused, Bye}
 use Rattle.ir_text.specs.Texts.{refusal_text, number_line, positions_text}
 use Rattle.ir_debug.specs.Machine as desk
-use Rattle.ir_debug.specs.Machine.{Desk, most_kept, refusal_of, is_at_hand, shown, kept_text, moved_text, continued_text, RepliesBy}
+use Rattle.ir_debug.specs.Machine.{Desk, most_kept, refusal_of, is_at_hand, shown, kept_line, moved_text, continued_text, RepliesBy}
 
 -- all kept cuts are such
 abbrev pub AllKept : FittedTrace → List desk.Kept → Type 0
@@ -56,7 +56,7 @@ text_by text d (Shown show) = text show
 text_by text d (Next line) = line.items
 text_by text d (Kept number) = number_line (codes "kept ") number
 text_by text d (Dropped number) = number_line (codes "dropped ") number
-text_by text d KeptCuts = kept_text d.kept
+text_by text d KeptCuts = flat_map kept_line d.kept
 text_by text d (Refused refusal) = refusal_text refusal
 text_by text d Bye = codes "bye\n"
 

@@ -1,5 +1,5 @@
 -- The small machine: a recorded run of a guest and a position of each of its threads, and what it answers to each command.
-use Rattle.std.specs.Prelude.{◌==◌, ℕ, ◌+◌, not, Bool, true, false, List, [], ◌∷◌, ◌++◌, find, is_some, Option, option_map, ◌&&◌, ◌||◌, ◌*◌, ◌%◌, nat_le, nat_lt, length, Some, None, if◌then◌else◌, ◌≡◌, ◌-◌, min, take, ◌⊎◌, codes, decimal, Result, Ok, Err, ◌≢◌, unwrap_or}
+use Rattle.std.specs.Prelude.{◌==◌, ℕ, ◌+◌, not, Bool, true, false, List, [], ◌∷◌, ◌++◌, find, is_some, Option, option_map, ◌&&◌, ◌||◌, ◌*◌, ◌%◌, nat_le, nat_lt, length, Some, None, if◌then◌else◌, ◌≡◌, ◌-◌, min, take, ◌⊎◌, codes, decimal, Result, Ok, Err, ◌≢◌, unwrap_or, flat_map}
 use Rattle.std.specs.List.{filter}
 use Rattle.ir_fit.specs.Fit.{FittedTrace, HasRun, IsRefused}
 use Rattle.ir_command.specs.Commands.{most_small, command_of}
@@ -273,11 +273,6 @@ continued_text f t hit to = positions_text to ++ hit_text hit ++ stop_text (last
 abbrev pub kept_line : Kept → List ℕ
 kept_line k = decimal k.number ++ codes " " ++ positions_text k.cut ++ codes "\n"
 
--- a line for each
-unfoldable pub kept_text : List Kept → List ℕ
-kept_text [] = []
-kept_text (k ∷ ks) = kept_line k ++ kept_text ks
-
 -- this is answered, and the machine is then so
 abbrev pub Gives : List ℕ → Desk → List ℕ → Desk → Type 0
 Gives answer after text next = (text ≡ answer) × (next ≡ after)
@@ -295,7 +290,7 @@ CarriesOut run d (command.Keeping Keep) text next = Gives (number_line (codes "k
 CarriesOut run d (command.Keeping (Load n)) text next = (to : List ℕ) × (kept_cut d.kept n ≡ Some to)
     × Gives (positions_text to ++ codes "\n") (moved_to d to) text next
 CarriesOut run d (command.Keeping (Drop n)) text next = Gives (number_line (codes "dropped ") n) (without_kept d n) text next
-CarriesOut run d (command.Keeping AllKept) text next = Gives (kept_text d.kept) (spoken d) text next
+CarriesOut run d (command.Keeping AllKept) text next = Gives (flat_map kept_line d.kept) (spoken d) text next
 CarriesOut run d command.Quit text next = Gives (codes "bye\n") (spoken d) text next
 
 -- a refusal, after which the machine is where it was

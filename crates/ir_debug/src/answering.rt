@@ -1,6 +1,6 @@
 //! The texts of answers, as they are written.
 
-ghost use Rattle.std.specs.Prelude.{◌≡◌, ◌≤◌, ◌<◌, ◌+◌, ◌++◌, OnOk, OnErr, codes, true, None, length};
+ghost use Rattle.std.specs.Prelude.{◌≡◌, ◌≤◌, ◌<◌, ◌+◌, ◌++◌, OnOk, OnErr, codes, true, None, length, flat_map};
 ghost use Rattle.std.specs.List.{AllByRecursion};
 ghost use Rattle.ir_image.specs.Guest.{most_threads};
 ghost use Rattle.std.specs.Io.KnownBytes.{Appends};
@@ -9,7 +9,7 @@ ghost use Rattle.ir_stream.specs.Answers.{AppendsPrefix};
 ghost use Rattle.ir_command.specs.declared.command.Command.TheVariants as command;
 ghost use Rattle.ir_debug.specs.AtHand.{text_here};
 ghost use Rattle.ir_debug.specs.Debugging.{IsLast, IsText};
-ghost use Rattle.ir_debug.specs.Machine.{moved_text, continued_text, kept_line, kept_text, refusal_of};
+ghost use Rattle.ir_debug.specs.Machine.{moved_text, continued_text, kept_line, refusal_of};
 ghost use Rattle.ir_cut.specs.Positions.{cut_of};
 ghost use Rattle.ir_timeline.specs.Positions.{threads_of, last_of};
 ghost use Rattle.ir_text.specs.Texts.{positions_text, stop_text};
@@ -125,9 +125,9 @@ fn put_kept(text: &mut Text, kept: &KeptCut)
 // Writes a line for each kept cut.
 fn write_kept<W: Sink>(kept: &[KeptCut], writer: &mut W) -> Result<(), DeviceErr>
     requires { AllByRecursion (λ k. length k.cut ≤ most_threads) kept.now }
-    ensures ok { OnOk result (Appends (W.written writer.old) (W.written writer.new) (kept_text kept.now)) }
+    ensures ok { OnOk result (Appends (W.written writer.old) (W.written writer.new) (flat_map kept_line kept.now)) }
     ensures stays { OnOk result (W.broken writer.new ≡ W.broken writer.old) }
-    ensures prefix { OnErr result (AppendsPrefix (W.written writer.old) (W.written writer.new) (kept_text kept.now)) }
+    ensures prefix { OnErr result (AppendsPrefix (W.written writer.old) (W.written writer.new) (flat_map kept_line kept.now)) }
     ensures err { OnErr result (W.broken writer.new ≡ true) }
 {
     for i in 0..kept.len() {
@@ -140,9 +140,9 @@ fn write_kept<W: Sink>(kept: &[KeptCut], writer: &mut W) -> Result<(), DeviceErr
 
 #[tactic(auto, using(ir_image::proofs::CallerLemmas::guest_threads_at_most_limit))]
 fn write_cuts<W: Sink>(debugger: &Debugger, writer: &mut W) -> Result<(), DeviceErr>
-    ensures ok { OnOk result (Appends (W.written writer.old) (W.written writer.new) (kept_text debugger.now.desk.kept)) }
+    ensures ok { OnOk result (Appends (W.written writer.old) (W.written writer.new) (flat_map kept_line debugger.now.desk.kept)) }
     ensures stays { OnOk result (W.broken writer.new ≡ W.broken writer.old) }
-    ensures prefix { OnErr result (AppendsPrefix (W.written writer.old) (W.written writer.new) (kept_text debugger.now.desk.kept)) }
+    ensures prefix { OnErr result (AppendsPrefix (W.written writer.old) (W.written writer.new) (flat_map kept_line debugger.now.desk.kept)) }
     ensures err { OnErr result (W.broken writer.new ≡ true) }
 {
     debugger.fitted().image().entries();

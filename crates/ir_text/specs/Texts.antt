@@ -196,11 +196,8 @@ abbrev pub refusal_text : Refusal → List ℕ
 refusal_text r = codes "refused " ++ decimal (refusal_number r) ++ codes " " ++ reason_text r ++ codes "\n"
 
 -- a line has four registers
-abbrev pub after_register : ℕ → List ℕ
-after_register n = if n % 4 == 3 then codes "\n" else codes " "
-
 abbrev pub register_text : Core → ℕ → List ℕ
-register_text m n = register_name n ++ codes "=" ++ hex_word (register m n) ++ after_register n
+register_text m n = register_name n ++ codes "=" ++ hex_word (register m n) ++ (if n % 4 == 3 then codes "\n" else codes " ")
 
 -- the first n registers
 unfoldable pub registers_text : Core → ℕ → List ℕ

@@ -1,6 +1,7 @@
 -- The first and the last cut.
+use Rattle.std.specs.List.{range_with_len}
 use Rattle.std.proofs.Common.{◌≡◌, subst, ℕ, zero, suc, ◌+◌, ◌<◌, List, [], ◌∷◌, ◌++◌, length, sym, ap, ◌∙◌, arith, inl, inr, refl}
-use Rattle.std.specs.Prelude.{replicate}
+use Rattle.std.specs.Prelude.{replicate, map}
 use Rattle.std.proofs.Math.Path.{fun_ext}
 use Rattle.std.proofs.lemmas.Bool.{cases_lt}
 use Rattle.std.proofs.lemmas.List.{get_or_past}
@@ -10,7 +11,7 @@ use Rattle.ir_fit.specs.Fit.{FittedTrace, IsRunOf}
 use Rattle.ir_fit.proofs.CallerLemmas.{idle_thread_has_empty_trail, get_or_of_at}
 use Rattle.ir_cut.specs.Positions.{machine_of, start_of, cut_of, IsConsistentCut}
 use Rattle.ir_weave.specs.Standing.{Standing, StandsAt}
-use Rattle.ir_timeline.specs.Positions.{threads_of, last_of, first_cut, last_positions, last_cut}
+use Rattle.ir_timeline.specs.Positions.{threads_of, last_of, first_cut, last_cut}
 
 -- ---- the first
 
@@ -34,24 +35,24 @@ start_stands_at_first_cut f s at is h = subst (λ (p : Cut). StandsAt f p s) (fu
 
 -- ---- the last
 
+-- the last positions of n threads, from this one on
+abbrev pub last_positions : FittedTrace → ℕ → ℕ → List ℕ
+last_positions f from n = map (last_of f) (range_with_len from n)
+
 pub length_of_last_positions : (f : FittedTrace) (from n : ℕ) → length (last_positions f from n) ≡ n
-unfolding last_positions
 length_of_last_positions f from zero = refl
 length_of_last_positions f from (suc n) = ap suc (length_of_last_positions f (from + 1) n)
 
 last_position_of_thread : (f : FittedTrace) (from n t : ℕ) → t < n → cut_of (last_positions f from n) t ≡ last_of f (from + t)
-unfolding last_positions
 last_position_of_thread f from zero t l = absurd (omega (arith, l))
 last_position_of_thread f from (suc n) zero l = ap (last_of f) (let e : from ≡ from + 0 = omega arith in e)
 last_position_of_thread f from (suc n) (suc t) l =
     last_position_of_thread f (from + 1) n t (omega (arith, l)) ∙ ap (last_of f) (let e : from + 1 + t ≡ from + suc t = omega arith in e)
 
 pub no_last_positions : (f : FittedTrace) (xs : List ℕ) → xs ≡ [] → xs ≡ last_positions f 0 0
-unfolding last_positions
 no_last_positions f xs is = is
 
 last_positions_step : (f : FittedTrace) (from n : ℕ) → last_positions f from n ++ last_of f (from + n) ∷ [] ≡ last_positions f from (suc n)
-unfolding last_positions
 last_positions_step f from zero = ap (λ t. last_of f t ∷ []) (let e : from + 0 ≡ from = omega arith in e)
 last_positions_step f from (suc n) = ap (λ xs. last_of f from ∷ xs)
     (ap (λ t. last_positions f (from + 1) n ++ last_of f t ∷ []) (let e : from + suc n ≡ from + 1 + n = omega arith in e)

@@ -1,5 +1,6 @@
 -- The first and the last cut of a guest with a trace, and what a thread finds.
-use Rattle.std.specs.Prelude.{ℕ, zero, suc, ◌+◌, List, [], ◌∷◌, length, replicate, Option}
+use Rattle.std.specs.List.{range_with_len}
+use Rattle.std.specs.Prelude.{ℕ, List, length, replicate, Option, map}
 use Rattle.ir_runs.specs.Run.{Step}
 use Rattle.ir_trace.specs.Recorded.{recorded_thread}
 use Rattle.ir_fit.specs.Fit.{FittedTrace}
@@ -20,14 +21,9 @@ last_of f t = (recorded_thread f.recorded t).steps
 abbrev pub first_cut : FittedTrace → List ℕ
 first_cut f = replicate (threads_of f) 0
 
--- the last positions of n threads, from this one on
-unfoldable pub last_positions : FittedTrace → ℕ → ℕ → List ℕ
-last_positions f from zero = []
-last_positions f from (suc n) = last_of f from ∷ last_positions f (from + 1) n
-
 -- all threads at their last positions
 abbrev pub last_cut : FittedTrace → List ℕ
-last_cut f = last_positions f 0 (threads_of f)
+last_cut f = map (last_of f) (range_with_len 0 (threads_of f))
 
 -- the hit that thread t finds from a position in this direction
 abbrev pub Finds : List Step → FittedTrace → List Numbered → ℕ → ℕ → Direction → Option Hit → Type 0

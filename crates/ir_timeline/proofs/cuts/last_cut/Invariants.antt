@@ -1,5 +1,5 @@
 use Rattle.std.proofs.Common.{◌≡◌}
-use Rattle.ir_timeline.specs.Positions.{last_positions}
+use Rattle.ir_timeline.proofs.Ends.{last_positions}
 use Rattle.ir_timeline.proofs.cuts.last_cut.Given as goal
 
 abbrev pub invariant-loop-t : goal.invariant-loop-t
