@@ -176,23 +176,14 @@ body_at c bytes = do
 unfoldable pub guest_at : List ℕ → Result Guest ImageErr
 guest_at bytes = counts_at bytes >>= λ c. body_at c.0 c.1
 
--- the number that a fault goes by; running out of memory is none of the bytes' and has 0
-abbrev pub image_refusal_number : ImageErr → ℕ
-image_refusal_number Short = 1
-image_refusal_number Magic = 2
-image_refusal_number Count = 3
-image_refusal_number Entry = 4
-image_refusal_number Trailing = 5
-image_refusal_number NoMem = 0
-
--- the number of a fault of the bytes
+-- the number that a fault of the bytes goes by; running out of memory is no fault of theirs
 abbrev pub image_fault_number : ImageErr → Option ℕ
+image_fault_number Short = Some 1
+image_fault_number Magic = Some 2
+image_fault_number Count = Some 3
+image_fault_number Entry = Some 4
+image_fault_number Trailing = Some 5
 image_fault_number NoMem = None
-image_fault_number Short = Some (image_refusal_number Short)
-image_fault_number Magic = Some (image_refusal_number Magic)
-image_fault_number Count = Some (image_refusal_number Count)
-image_fault_number Entry = Some (image_refusal_number Entry)
-image_fault_number Trailing = Some (image_refusal_number Trailing)
 
 -- the address of a word in code of `words` words
 pub record IsPlace (words place : ℕ) : Type 0 where

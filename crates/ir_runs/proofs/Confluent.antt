@@ -16,7 +16,7 @@ use Rattle.ir_runs.proofs.Steps.{Clashes, StepUnchanged, step_unchanged_after_ot
 use Rattle.ir_runs.proofs.Swap.{Clash}
 use Rattle.ir_runs.proofs.Tally.{Tally, tally_after_step, tally_at_start, sum_below_less_if_one_less, sum_below_of_zeros, one_if_reader, readers_inside, counted_read}
 use Rattle.ir_runs.specs.Alike.{Reaches}
-use Rattle.ir_runs.specs.Verdicts.{reads_one, reads, sum_below, Ending, Check, unlogged, Fits, Follows, IsMaximal}
+use Rattle.ir_runs.specs.Verdicts.{reads_one, reads, sum_below, Check, unlogged, Fits, Follows, IsMaximal}
 use Rattle.ir_runs.specs.Coherent.{IsCoherent}
 use Rattle.ir_runs.proofs.Ending.{last_step_can_be_taken}
 
@@ -27,7 +27,7 @@ abbrev pub log_left : (ℕ → List Label) → Step → Label → ℕ → List L
 log_left rem e k u = cond (eqb u e.0) (unlogged k (rem u)) (rem u)
 
 -- the run follows what is left
-abbrev pub FollowsRemainder : {T : Type 0} → Ending T → Machine T → State T → (ℕ → ℕ) → (ℕ → List Label) → List Step → Type 0
+abbrev pub FollowsRemainder : {T : Type 0} → (ℕ → Check T) → Machine T → State T → (ℕ → ℕ) → (ℕ → List Label) → List Step → Type 0
 FollowsRemainder E m s ns rem run = IsRun m s run × ((t : ℕ) → Fits (E t) (ns t) (rem t) (trail m s run t))
 
 joined_step_fits : {T : Type 0} (E : Check T) (n : ℕ) (es : List Label) (b : Bool) (x : T × Label) (xs : List (T × Label)) → b ≡ true
@@ -41,13 +41,13 @@ steps_after_joined_step_fit E n es true x xs h k same = subst (λ z. Fits E (pre
 steps_after_joined_step_fit E n es false x xs h k same = h
 
 -- the first step's conditions, and the rest
-pub first_step_follows_remainder : {T : Type 0} (E : Ending T) (m : Machine T) (s : State T) (ns : ℕ → ℕ) (rem : ℕ → List Label) (e : Step) (run : List Step)
+pub first_step_follows_remainder : {T : Type 0} (E : ℕ → Check T) (m : Machine T) (s : State T) (ns : ℕ → ℕ) (rem : ℕ → List Label) (e : Step) (run : List Step)
     → FollowsRemainder E m s ns rem (e ∷ run) → (0 < ns e.0) × (logged (label m s e) (unlogged (label m s e) (rem e.0)) ≡ rem e.0)
     × E e.0 (s.now e.0) (ns e.0) (rem e.0)
 first_step_follows_remainder E m s ns rem e run h = joined_step_fits (E e.0) (ns e.0) (rem e.0) (eqb e.0 e.0) (s.now e.0, label m s e)
     (trail m (after m s e) run e.0) (eq-eqb e.0 e.0 refl) (h.1 e.0)
 
-pub later_steps_follow_remainder : {T : Type 0} (E : Ending T) (m : Machine T) (s : State T) (ns : ℕ → ℕ) (rem : ℕ → List Label) (e : Step) (run : List Step)
+pub later_steps_follow_remainder : {T : Type 0} (E : ℕ → Check T) (m : Machine T) (s : State T) (ns : ℕ → ℕ) (rem : ℕ → List Label) (e : Step) (run : List Step)
     → FollowsRemainder E m s ns rem (e ∷ run) → FollowsRemainder E m (after m s e) (steps_left ns e) (log_left rem e (label m s e)) run
 later_steps_follow_remainder E m s ns rem e run h = (
   h.0.1,
@@ -185,7 +185,7 @@ pub record StillPossible {T : Type 0} (m : Machine T) (s : State T) (run : List 
   pub label_same : label m (end m s run) e ≡ label m s e
   pub now_same : (end m s run).now e.0 ≡ s.now e.0
 
-untaken_step_stays_possible : {T : Type 0} (E : Ending T) (n : ℕ) (m : Machine T) → IsLawful m → (tr : Trace) → IsCoherent n tr
+untaken_step_stays_possible : {T : Type 0} (E : ℕ → Check T) (n : ℕ) (m : Machine T) → IsLawful m → (tr : Trace) → IsCoherent n tr
     → (s : State T) (ns : ℕ → ℕ) (rem : ℕ → List Label) → FollowingInvariant n m tr s rem → (e : Step) → Can m s e
     → logged (label m s e) (unlogged (label m s e) (rem e.0)) ≡ rem e.0
     → (run : List Step) → FollowsRemainder E m s ns rem run → trail m s run e.0 ≡ [] → StillPossible m s run e
@@ -213,7 +213,7 @@ empty_or_non_empty [] = inl refl
 empty_or_non_empty (x ∷ xs) = inr (record { head = x; rest = xs; is = refl })
 
 -- a step that stays can be taken after the run
-untaken_step_can_end_run : {T : Type 0} (E : Ending T) (m : Machine T) (s : State T) (ns : ℕ → ℕ) (rem : ℕ → List Label) (run : List Step)
+untaken_step_can_end_run : {T : Type 0} (E : ℕ → Check T) (m : Machine T) (s : State T) (ns : ℕ → ℕ) (rem : ℕ → List Label) (run : List Step)
     → FollowsRemainder E m s ns rem run → (e : Step) → trail m s run e.0 ≡ [] → StillPossible m s run e
     → (0 < ns e.0) × (logged (label m s e) (unlogged (label m s e) (rem e.0)) ≡ rem e.0) × E e.0 (s.now e.0) (ns e.0) (rem e.0)
     → FollowsRemainder E m s ns rem (run ++ e ∷ [])
@@ -243,7 +243,7 @@ join_if_fits E n es true x xs f h = let g = f refl in (g.0, g.1, g.2, h)
 join_if_fits E n es false x xs f h = h
 
 -- one that is maximal stays so when its first step is taken
-pulled_rest_is_maximal : {T : Type 0} (E : Ending T) (m : Machine T) (s : State T) (ns : ℕ → ℕ) (rem : ℕ → List Label) (run : List Step)
+pulled_rest_is_maximal : {T : Type 0} (E : ℕ → Check T) (m : Machine T) (s : State T) (ns : ℕ → ℕ) (rem : ℕ → List Label) (run : List Step)
     → IsRun m s run → (e : Step) → (0 < ns e.0) × (logged (label m s e) (unlogged (label m s e) (rem e.0)) ≡ rem e.0)
     × E e.0 (s.now e.0) (ns e.0) (rem e.0)
     → (p : PulledFirst m s run e.0 e.1) → ((x : Step) → FollowsRemainder E m s ns rem (run ++ x ∷ []) → ⊥) → (x : Step)
@@ -277,7 +277,7 @@ first_label_logs_as_next_step E m s run ok e can n es x j xs is h fits =
     (append-nil _ ∙ fits ∙ sym g.1 ∙ ap (λ z. logged z (unlogged j es)) k.emits)
 
 -- A run that follows a coherent trace is the beginning of each maximal one.
-pub following_run_begins_maximal_run : {T : Type 0} (E : Ending T) (n : ℕ) (m : Machine T) → IsLawful m → (tr : Trace) → IsCoherent n tr
+pub following_run_begins_maximal_run : {T : Type 0} (E : ℕ → Check T) (n : ℕ) (m : Machine T) → IsLawful m → (tr : Trace) → IsCoherent n tr
     → (s : State T) (ns : ℕ → ℕ) (rem : ℕ → List Label) → FollowingInvariant n m tr s rem → (run run' : List Step) → FollowsRemainder E m s ns rem run
     → FollowsRemainder E m s ns rem run'
     → ((x : Step) → FollowsRemainder E m s ns rem (run' ++ x ∷ []) → ⊥) → BeginsRun m s run run'
@@ -306,7 +306,7 @@ following_run_begins_maximal_run E n m law tr co s ns rem f (e ∷ run) run' h h
 ]
 
 -- where a maximal run stops nothing is left
-nothing_left_after_maximal_run : {T : Type 0} (E : Ending T) (m : Machine T) (s : State T) (ns : ℕ → ℕ) (rem : ℕ → List Label) (run run' : List Step) → IsRun m s run
+nothing_left_after_maximal_run : {T : Type 0} (E : ℕ → Check T) (m : Machine T) (s : State T) (ns : ℕ → ℕ) (rem : ℕ → List Label) (run run' : List Step) → IsRun m s run
     → ((t : ℕ) → Fits (E t) (ns t) (rem t) (trail m s run' t)) → ((x : Step) → FollowsRemainder E m s ns rem (run ++ x ∷ []) → ⊥)
     → (rest : List Step) → IsRun m (end m s run) rest → ((u : ℕ) → trail m s run u ++ trail m (end m s run) rest u ≡ trail m s run' u)
     → rest ≡ []
@@ -339,7 +339,7 @@ following_invariant_at_start n m tr s good st im = record {
     zero_plus n = omega arith
 
 -- Maximal runs that follow one coherent trace are the same, up to the order of the steps.
-pub maximal_followers_reach_same_end : {T : Type 0} (E : Ending T) (n : ℕ) (m : Machine T) → IsLawful m → (tr : Trace) → IsCoherent n tr → (s : State T)
+pub maximal_followers_reach_same_end : {T : Type 0} (E : ℕ → Check T) (n : ℕ) (m : Machine T) → IsLawful m → (tr : Trace) → IsCoherent n tr → (s : State T)
     → StateInvariant m s → IsStart m s → IsIdle m s n → (run run' : List Step) → Follows E m s tr run → IsMaximal E m s tr run → Follows E m s tr run'
     → IsMaximal E m s tr run' → Reaches m s run run'
 maximal_followers_reach_same_end E n m law tr co s good st im run run' h top h' top' =

@@ -8,7 +8,7 @@ use Rattle.ir_runs.proofs.Good.{StateInvariant}
 use Rattle.ir_runs.proofs.Append.{join_if_of_append, trail_append, append_of_runs_is_run}
 use Rattle.ir_runs.proofs.Same.{BeginsRun, run_with_beginning_logs_begins_run}
 use Rattle.ir_runs.specs.Alike.{Reaches}
-use Rattle.ir_runs.specs.Verdicts.{left_log, Ending, Check, unlogged, Fits, Follows, IsMaximal}
+use Rattle.ir_runs.specs.Verdicts.{left_log, Check, unlogged, Fits, Follows, IsMaximal}
 
 logged_keeps_prefix : (k : Label) (xs ys zs : List Label) → xs ++ ys ≡ zs → logged k xs ++ ys ≡ logged k zs
 logged_keeps_prefix Label.Quiet xs ys zs h = h
@@ -32,7 +32,7 @@ prefix_of_fitting_steps_fits E n es [] ys h = tt
 prefix_of_fitting_steps_fits E n es (x ∷ xs) ys h = (h.0, h.1, h.2, prefix_of_fitting_steps_fits E (pred n) (unlogged x.1 es) xs ys h.3)
 
 -- where the follower stops nothing is left
-nothing_left_after_maximal_follower : {T : Type 0} (E : Ending T) (m : Machine T) (s : State T) (run follower : List Step)
+nothing_left_after_maximal_follower : {T : Type 0} (E : ℕ → Check T) (m : Machine T) (s : State T) (run follower : List Step)
     → ((t : ℕ) → Fits (E t) (count m s run t) (log m s run t) (trail m s run t)) → IsRun m s follower
     → IsMaximal E m s (trace m s run) follower
     → (rest : List Step) → IsRun m (end m s follower) rest
@@ -52,7 +52,7 @@ nothing_left_after_maximal_follower E m s run follower own ok top (e ∷ rest) o
         ∙ sym (append_assoc (trail m s follower t) (trail m (end m s follower) (e ∷ []) t) (trail m (after m (end m s follower) e) rest t))
         ∙ ap (λ z. z ++ trail m (after m (end m s follower) e) rest t) (sym (trail_append m s follower (e ∷ []) t))
 
-pub maximal_follower_reaches_own_run : {T : Type 0} (E : Ending T) (m : Machine T) → IsLawful m → (s : State T) → StateInvariant m s → (run : List Step)
+pub maximal_follower_reaches_own_run : {T : Type 0} (E : ℕ → Check T) (m : Machine T) → IsLawful m → (s : State T) → StateInvariant m s → (run : List Step)
     → Follows E m s (trace m s run) run → (follower : List Step) → Follows E m s (trace m s run) follower
     → IsMaximal E m s (trace m s run) follower → Reaches m s follower run
 maximal_follower_reaches_own_run E m law s good run own follower f top =

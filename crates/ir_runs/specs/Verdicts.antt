@@ -26,10 +26,6 @@ sum_below (suc n) f = f n + sum_below n f
 abbrev pub Check : Type 0 → Type 1
 Check T = T → ℕ → List Label → Type 0
 
--- such a rule for each thread
-abbrev pub Ending : Type 0 → Type 1
-Ending T = ℕ → Check T
-
 -- the log that is left after the label
 abbrev pub unlogged : Label → List Label → List Label
 unlogged Quiet es = es
@@ -53,11 +49,11 @@ Fits E n es [] = Unit {0}
 Fits E n es (x ∷ xs) = (0 < n) × (logged x.1 (unlogged x.1 es) ≡ es) × E x.0 n es × Fits E (pred n) (unlogged x.1 es) xs
 
 -- each thread's steps in the run follow the trace
-abbrev pub Follows : {T : Type 0} → Ending T → Machine T → State T → Trace → List Step → Type 0
+abbrev pub Follows : {T : Type 0} → (ℕ → Check T) → Machine T → State T → Trace → List Step → Type 0
 Follows E m s tr run = IsRun m s run × ((t : ℕ) → Fits (E t) (tr.steps t) (tr.logs t) (trail m s run t))
 
 -- no thread has a further step that follows
-abbrev pub IsMaximal : {T : Type 0} → Ending T → Machine T → State T → Trace → List Step → Type 0
+abbrev pub IsMaximal : {T : Type 0} → (ℕ → Check T) → Machine T → State T → Trace → List Step → Type 0
 IsMaximal E m s tr run = (e : Step) → Follows E m s tr (run ++ e ∷ []) → ⊥
 
 -- the end and code of a thread after a step, if it had none before
@@ -75,7 +71,7 @@ Meets None fin size n es = Unit {0}
 Meets (Some e) fin size n es = (fin ≡ Some e) × (n ≡ suc size) × (es ≡ [])
 
 -- the rule on ends
-abbrev pub closing : {T : Type 0} → Machine T → Trace → Ending T
+abbrev pub closing : {T : Type 0} → Machine T → Trace → ℕ → Check T
 closing m tr t x n es = Meets (ends_now m x) (tr.ends t) (m.size x) n es
 
 -- where an event is asked for, the next one is of that kind and object
