@@ -15,7 +15,8 @@ use Rattle.ir_runs.specs.Run.{Step, Emits}
 use Rattle.ir_log.specs.Logging.{label_of}
 use Rattle.ir_log.specs.declared.event.Event.{Event}
 use Rattle.ir_trace.specs.Recorded.{recorded_thread}
-use Rattle.ir_fit.specs.Fit.{FittedTrace, HasRun, IsRunOf, placed_at, none_placed}
+use Rattle.ir_fit.specs.Fit.{FittedTrace, HasRun, IsRunOf, placed_at}
+use Rattle.ir_fit.specs.Growing.{none_placed}
 use Rattle.ir_fit.specs.declared.leave.Leave.{Leave}
 use Rattle.ir_cut.specs.Positions.{machine_of, start_of}
 

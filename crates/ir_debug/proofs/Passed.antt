@@ -15,7 +15,8 @@ use Rattle.ir_command.specs.declared.command.Point.{Point}
 use Rattle.ir_command.specs.declared.command.Point.TheVariants.{Break, Watch, WatchObject}
 use Rattle.ir_hits.specs.Watchable.{IsWatchable}
 use Rattle.ir_timeline.specs.Positions.{threads_of}
-use Rattle.ir_debug.specs.Machine.{Desk, kept_cut, most_kept, most_points, most_number, if_some, thread_named, object_named, lies_in_code, has_number, has_address, has_place, refusal_of}
+use Rattle.ir_debug.specs.Machine.{Desk, kept_cut, most_kept, most_points, if_some, thread_named, object_named, lies_in_code, has_number, has_address, has_place, refusal_of}
+use Rattle.ir_debug.specs.Debugging.{most_number}
 
 -- the tests
 pub record PassesTests (d : Desk) (c : Command) : Type 0 where

@@ -14,7 +14,8 @@ use Rattle.ir_command.specs.declared.command.Direction.{Direction}
 use Rattle.ir_command.specs.declared.command.Direction.TheVariants.{Forwards, Backwards}
 use Rattle.ir_command.specs.declared.command.Point.{Point}
 use Rattle.ir_command.specs.declared.command.Point.TheVariants.{Break, Watch, WatchObject}
-use Rattle.ir_hits.specs.Hits.{Numbered, HitBy, thread_at, steps_of}
+use Rattle.ir_hits.specs.Hits.{Numbered, HitBy, thread_at}
+use Rattle.ir_hits.specs.Seeing.{steps_of}
 use Rattle.ir_command.specs.declared.hit.Hit.{Hit}
 use Rattle.ir_debug.specs.Machine.{Desk, stop_of}
 use Rattle.ir_timeline.specs.Positions.{threads_of, last_of, Finds}

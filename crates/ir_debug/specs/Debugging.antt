@@ -1,6 +1,6 @@
 -- The debugger between two commands, and the texts of its answers.
-use Rattle.std.specs.Prelude.{◌≡◌, ◌≤◌, ◌<◌, ◌+◌, ℕ, ⊤, true, List, ◌++◌, length, codes, Option, None, Result, flat_map}
-use Rattle.std.specs.List.{AllByRecursion}
+use Rattle.std.specs.Prelude.{◌≡◌, ◌≤◌, ◌<◌, ◌+◌, ℕ, ⊤, true, List, ◌++◌, length, codes, Option, None, Result, flat_map, ◌==◌, not, nat_le, if◌then◌else◌}
+use Rattle.std.specs.List.{AllByRecursion, filter}
 use Rattle.ir_runs.specs.Run.{Step}
 use Rattle.ir_fit.specs.Fit.{FittedTrace, HasRun}
 use Rattle.ir_cut.specs.Positions.{EachRun, IsConsistentCut, cut_of}
@@ -16,7 +16,10 @@ use Rattle.ir_debug.specs.declared.answer.Answer.{Answer}
 use Rattle.ir_debug.specs.declared.answer.Answer.TheVariants.{Moved, Continued, Position, Shown, Next, Set, Cleared, Kept, Dropped, KeptCuts, Refused, Bye}
 use Rattle.ir_text.specs.Texts.{refusal_text, number_line, positions_text}
 use Rattle.ir_debug.specs.Machine as desk
-use Rattle.ir_debug.specs.Machine.{Desk, most_kept, refusal_of, is_at_hand, shown, kept_line, moved_text, continued_text, RepliesBy}
+use Rattle.ir_debug.specs.Machine.{Desk, most_kept, refusal_of, is_at_hand, shown, kept_line, moved_text, continued_text, RepliesBy, StopsAt}
+use Rattle.ir_command.specs.Commands.{most_small}
+use Rattle.ir_hits.specs.Hits.{Numbered}
+use Rattle.ir_command.specs.declared.command.Direction.TheVariants.{Forwards, Backwards}
 
 -- all kept cuts are such
 abbrev pub AllKept : FittedTrace → List desk.Kept → Type 0
@@ -80,3 +83,19 @@ pub record IsAnswer (asked : Result (Option Command) Refusal) (old new : Debuggi
   pub fitted : new.desk.fitted ≡ old.desk.fitted
   pub answers : EachRun old.desk.fitted (λ run. RepliesBy asked run old.desk (answer_text run new.desk answer) new.desk)
   pub last : IsLast new answer
+
+-- all points but that of a number
+abbrev pub points_without : List Numbered → ℕ → List Numbered
+points_without points n = filter (λ p. not (p.number == n)) points
+
+-- all kept cuts but that of a number
+abbrev pub without : List desk.Kept → ℕ → List Kept
+without kept n = filter (λ k. not (k.number == n)) kept
+
+-- the last number that a point or a kept cut may be given
+abbrev pub most_number : ℕ
+most_number = most_small
+
+-- to a position, by whether it isn't below the thread's
+abbrev pub ToPosition : List Step → FittedTrace → List ℕ → ℕ → ℕ → List ℕ → Type 0
+ToPosition steps f at t k to = StopsAt steps f at t (if nat_le (cut_of at t) k then Forwards else Backwards) k to

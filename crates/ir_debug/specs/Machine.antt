@@ -80,25 +80,17 @@ spoken d = record d { fresh = false }
 abbrev pub is_set : List Numbered → ℕ → Bool
 is_set points n = is_some (find (λ p. p.number == n) points)
 
--- all points but that of a number
-abbrev pub points_without : List Numbered → ℕ → List Numbered
-points_without points n = filter (λ p. not (p.number == n)) points
-
 -- one more point is set, by the next number
 abbrev pub with_point : Desk → Point → Desk
 with_point d point = record (spoken d) { points = d.points ++ record { number = d.last_point + 1; point = point } ∷ []; last_point = d.last_point + 1 }
 
 -- one is set no longer
 abbrev pub without_point : Desk → ℕ → Desk
-without_point d n = record (spoken d) { points = points_without d.points n }
+without_point d n = record (spoken d) { points = filter (λ p. not (p.number == n)) d.points }
 
 -- the kept cut of a number
 abbrev pub kept_cut : List Kept → ℕ → Option (List ℕ)
 kept_cut kept n = option_map (λ k. k.cut) (find (λ k. k.number == n) kept)
-
--- all kept cuts but that of a number
-abbrev pub without : List Kept → ℕ → List Kept
-without kept n = filter (λ k. not (k.number == n)) kept
 
 -- the machine's cut is kept too, by the next number
 abbrev pub with_kept : Desk → Desk
@@ -106,7 +98,7 @@ with_kept d = record (spoken d) { kept = d.kept ++ record { number = d.last_kept
 
 -- one is kept no longer
 abbrev pub without_kept : Desk → ℕ → Desk
-without_kept d n = record (spoken d) { kept = without d.kept n }
+without_kept d n = record (spoken d) { kept = filter (λ k. not (k.number == n)) d.kept }
 
 -- the most that are kept beside the start
 abbrev pub most_kept : ℕ
@@ -115,10 +107,6 @@ most_kept = 64
 -- the most points that are set
 abbrev pub most_points : ℕ
 most_points = 64
-
--- the last number that a point or a kept cut may be given
-abbrev pub most_number : ℕ
-most_number = most_small
 
 -- a test of what is named, if anything is
 abbrev pub if_some : Option ℕ → (ℕ → Bool) → Bool
@@ -157,10 +145,10 @@ has_number d (command.Keeping (Load n)) = is_some (kept_cut d.kept n)
 has_number d (command.Keeping (Drop n)) = not (n == 0) && is_some (kept_cut d.kept n)
 has_number d c = true
 
--- there is place for one more, and a number
+-- there is place for one more, and a number, of which a command can name it
 abbrev pub has_place : Desk → Command → Bool
-has_place d (command.Set point) = nat_lt (length d.points) most_points && nat_lt d.last_point most_number
-has_place d (command.Keeping Keep) = nat_lt (length d.kept) (most_kept + 1) && nat_lt d.last_kept most_number
+has_place d (command.Set point) = nat_lt (length d.points) most_points && nat_lt d.last_point most_small
+has_place d (command.Keeping Keep) = nat_lt (length d.kept) (most_kept + 1) && nat_lt d.last_kept most_small
 has_place d c = true
 
 -- width bytes from an address on lie in the code
@@ -213,15 +201,12 @@ abbrev pub StopsAt : List run.Step → FittedTrace → List ℕ → ℕ → Dire
 StopsAt steps f at t Forwards k to = ToLeast steps f at t k to
 StopsAt steps f at t Backwards k to = ToGreatest steps f at t k to
 
--- to a position, by whether it isn't below the thread's
-abbrev pub ToPosition : List run.Step → FittedTrace → List ℕ → ℕ → ℕ → List ℕ → Type 0
-ToPosition steps f at t k to = StopsAt steps f at t (if nat_le (cut_of at t) k then Forwards else Backwards) k to
-
 -- a move that isn't refused leads from this cut to that
 abbrev pub Leads : List run.Step → FittedTrace → List ℕ → Move → List ℕ → Type 0
 Leads steps f at (Step t count) to = ToLeast steps f at t (min (cut_of at t + count) (last_of f t)) to
 Leads steps f at (Back t count) to = ToGreatest steps f at t (cut_of at t - count) to
-Leads steps f at (Goto t k) to = ToPosition steps f at t (min k (last_of f t)) to
+Leads steps f at (Goto t k) to = let last = min k (last_of f t) in
+    StopsAt steps f at t (if nat_le (cut_of at t) last then Forwards else Backwards) last to
 Leads steps f at Start to = to ≡ first_cut f
 Leads steps f at End to = to ≡ last_cut f
 

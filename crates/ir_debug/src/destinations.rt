@@ -3,7 +3,8 @@
 ghost use Rattle.std.specs.Prelude.{◌≡◌, ◌<◌, ◌≤◌, true, min, nat_lt, length, IfOk};
 ghost use Rattle.ir_cut.specs.Positions.{EachRun, IsConsistentCut};
 ghost use Rattle.ir_timeline.specs.Positions.{threads_of, last_of};
-ghost use Rattle.ir_debug.specs.Machine.{if_some, thread_named, Leads, StopsAt, stop_of, ToPosition};
+ghost use Rattle.ir_debug.specs.Machine.{if_some, thread_named, Leads, StopsAt, stop_of};
+ghost use Rattle.ir_debug.specs.Debugging.{ToPosition};
 ghost use Rattle.ir_command.specs.declared.command.Command.TheVariants as command;
 
 use ir_command::{Direction, Hit, Move};

@@ -1,7 +1,8 @@
 //! Cuts that are kept, each by a number.
 
 ghost use Rattle.std.specs.Prelude.{◌≡◌, None, Some, MatchOption};
-ghost use Rattle.ir_debug.specs.Machine.{Kept, kept_cut, without};
+ghost use Rattle.ir_debug.specs.Machine.{Kept, kept_cut};
+ghost use Rattle.ir_debug.specs.Debugging.{without};
 
 use ir_cut::Cut;
 use std::marker::Model;

@@ -1,7 +1,8 @@
 //! Points that are set, each by a number.
 
 ghost use Rattle.std.specs.Prelude.{◌≡◌};
-ghost use Rattle.ir_debug.specs.Machine.{is_set, most_points, points_without};
+ghost use Rattle.ir_debug.specs.Machine.{is_set, most_points};
+ghost use Rattle.ir_debug.specs.Debugging.{points_without};
 
 use ir_hits::NumberedPoint;
 use std::alloc::{AllocError, Global};

@@ -31,14 +31,10 @@ place_if Quiet k ps = ps
 place_if (Out o a v) k ps = ps
 place_if event k ps = k ∷ ps
 
--- the positions of the steps that are logged, where the first step is at k
+-- the positions of the steps that are logged, in order, where the first step is at k: how many steps were taken before
 abbrev pub places_from : {T : Type 0} → ℕ → List (T × Label) → List ℕ
 places_from k [] = []
 places_from k (x ∷ xs) = place_if x.1 k (places_from (suc k) xs)
-
--- for each event of a thread, in order, how many steps it took before
-abbrev pub places_of : {T : Type 0} → List (T × Label) → List ℕ
-places_of steps = places_from 0 steps
 
 -- a step that is a leave, and those after it
 abbrev pub leave_if : Label → ℕ → List Leave → List Leave
@@ -50,22 +46,14 @@ abbrev pub leaves_from : {T : Type 0} → ℕ → List (T × Label) → List Lea
 leaves_from k [] = []
 leaves_from k (x ∷ xs) = leave_if x.1 k (leaves_from (suc k) xs)
 
--- the leaves of a thread, in order, each with how many steps it took before
-abbrev pub leaves_of : {T : Type 0} → List (T × Label) → List Leave
-leaves_of steps = leaves_from 0 steps
-
 -- what is kept of a thread's steps: the positions of its events, and its leaves
 pub record Placed : Type 0 where
   pub entries : List ℕ
   pub leaves : List Leave
 
--- nothing
-abbrev pub none_placed : Placed
-none_placed = record { entries = []; leaves = [] }
-
--- what is kept of thread t
+-- what is kept of thread t; nothing where there is no such thread
 abbrev pub placed_at : List Placed → ℕ → Placed
-placed_at ps t = slice_index_or ps t none_placed
+placed_at ps t = slice_index_or ps t (record { entries = []; leaves = [] })
 
 -- as many threads and objects as the guest has
 pub record HasHeader (guest : Guest) (r : Recorded) : Type 0 where
@@ -102,10 +90,10 @@ pub record HasRun (f : FittedTrace) : Type 0 where
   pub whole : IsRunOf f.guest f.recorded run
   pub each : length f.placed ≡ length f.guest.entries
   pub entries : (t : ℕ) → t < length f.guest.entries
-      → (placed_at f.placed t).entries ≡ places_of
+      → (placed_at f.placed t).entries ≡ places_from 0
       (trail (machine (start_flat f.guest f.recorded.budget f.recorded.profile)) (tables (start_flat f.guest f.recorded.budget f.recorded.profile)) run t)
   pub leaves : (t : ℕ) → t < length f.guest.entries
-      → (placed_at f.placed t).leaves ≡ leaves_of
+      → (placed_at f.placed t).leaves ≡ leaves_from 0
       (trail (machine (start_flat f.guest f.recorded.budget f.recorded.profile)) (tables (start_flat f.guest f.recorded.budget f.recorded.profile)) run t)
 
 -- the trace has another number of threads than the guest; or as many, and another number of objects

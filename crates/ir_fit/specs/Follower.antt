@@ -7,8 +7,7 @@ use Rattle.ir_runs.specs.Run.{Step, end, trail, log, count}
 use Rattle.ir_trace.specs.Recorded.{Recorded, recorded_thread, trace_of}
 use Rattle.ir_fit.specs.Ahead.{steps_ahead, IsStopped}
 use Rattle.ir_runs.specs.Verdicts.{sum_below, Follows, closing}
-use Rattle.ir_fit.specs.Fit.{places_of, leaves_of}
-use Rattle.ir_fit.specs.Growing.{Growing, growing_at}
+use Rattle.ir_fit.specs.Growing.{Growing, growing_at, places_of, leaves_of}
 use Rattle.ir_runs.specs.Standing.{StandsAs}
 use Rattle.ir_fit.specs.declared.follower.Follower.{Follower}
 use Rattle.ir_runs.specs.declared.thread_verdict.ThreadVerdict.{ThreadVerdict}

@@ -4,7 +4,8 @@ use Rattle.std.proofs.lemmas.Bool.{cases_lt}
 use Rattle.ir_runs.specs.Run.{Step}
 use Rattle.ir_trace.specs.Recorded.{recorded_thread}
 use Rattle.ir_fit.specs.Fit.{FittedTrace, IsRunOf}
-use Rattle.ir_hits.specs.Hits.{Numbered, HitByNumber, NoneWithin, IsFirstHit, IsLastHit, steps_of}
+use Rattle.ir_hits.specs.Hits.{Numbered, HitByNumber, NoneWithin, IsFirstHit, IsLastHit}
+use Rattle.ir_hits.specs.Seeing.{steps_of}
 use Rattle.ir_hits.specs.Searching.{IsNextHit, IsLastFrom, window_start}
 use Rattle.ir_command.specs.declared.hit.Hit.{Hit}
 use Rattle.ir_hits.proofs.Hitting.{hit_step_below_steps}

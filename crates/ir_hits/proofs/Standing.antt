@@ -12,7 +12,8 @@ use Rattle.ir_fit.specs.Fit.{FittedTrace, IsRunOf}
 use Rattle.ir_fit.proofs.CallerLemmas.{idle_thread_has_empty_trail, get_or_of_at}
 use Rattle.ir_cut.specs.Positions.{machine_of, start_of, cut_of, IsConsistentCut}
 use Rattle.ir_weave.specs.Standing.{Standing, StandsAt, flat_in, positions}
-use Rattle.ir_hits.specs.Hits.{thread_at, steps_of}
+use Rattle.ir_hits.specs.Hits.{thread_at}
+use Rattle.ir_hits.specs.Seeing.{steps_of}
 use Rattle.ir_hits.specs.Searching.{AreLast}
 
 -- ---- the last positions

@@ -8,6 +8,9 @@ use Rattle.ir_command.specs.declared.command.Point.TheVariants.{Break, Watch, Wa
 use Rattle.ir_hits.specs.declared.before.Before.{Before}
 use Rattle.ir_hits.specs.declared.before.Before.TheVariants.{Nothing, Word, Inside}
 use Rattle.ir_hits.specs.Hits.{Numbered}
+use Rattle.ir_runs.specs.Run.{Step, count}
+use Rattle.ir_fit.specs.Fit.{FittedTrace}
+use Rattle.ir_cut.specs.Positions.{machine_of, start_of}
 
 -- whether the point may hit thread t
 abbrev pub Concerns : ℕ → Point → Type 0
@@ -59,3 +62,7 @@ abbrev pub IsLowestOf : ℕ → ℕ → ThreadState → List Before → List Num
 IsLowestOf t last y notes points n None = (i : ℕ) (p : Numbered) → i < n → SeesHitAt t last y notes points i p → ⊥
 IsLowestOf t last y notes points n (Some m) = ((i : ℕ) × (p : Numbered) × SeesHitAt t last y notes points i p × (p.number ≡ m))
     × ((i : ℕ) (p : Numbered) → i < n → SeesHitAt t last y notes points i p → m ≤ p.number)
+
+-- how many steps it takes
+abbrev pub steps_of : FittedTrace → List Step → ℕ → ℕ
+steps_of f run t = count (machine_of f) (start_of f) run t

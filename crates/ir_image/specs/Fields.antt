@@ -1,9 +1,11 @@
 -- The fields of an image in their order.
-use Rattle.std.specs.Prelude.{ℕ, ◌*◌, List, Option}
+use Rattle.std.specs.Prelude.{ℕ, ◌*◌, List, Option, ◌==◌}
 use Rattle.ir_bytes.specs.Format.{Format, finished, next, before, repeated, first_refused, plain}
 use Rattle.ir_image.specs.declared.image_err.ImageErr.{ImageErr}
-use Rattle.ir_image.specs.declared.image_err.ImageErr.TheVariants.{Short, Trailing}
-use Rattle.ir_image.specs.Guest.{limits_of, form_of, image_magic_field, image_threads_field, image_objects_field, words_field, bytes_field, entry_field}
+use Rattle.ir_image.specs.declared.image_err.ImageErr.TheVariants.{Short, Trailing, Magic, Count, Entry}
+use Rattle.ir_image.specs.Guest.{limits_of, form_of, most_code_words, is_place, magic_number, memory_size}
+use Rattle.ir_image.specs.declared.form.ImageForm.{ImageForm}
+use Rattle.ir_bytes.specs.Reading.{Field, tested, within}
 
 -- the magic, which names the form; how many threads, objects, words of code and bytes of data; the entries; the code; the data; the
 -- objects' first words
@@ -16,3 +18,24 @@ image_fields =
 -- the first fault of bytes that are no image
 abbrev pub image_fault : List ℕ → Option ImageErr
 image_fault = first_refused Short Trailing image_fields
+
+-- a form's magic
+abbrev pub image_magic_field : Field ImageErr
+image_magic_field = tested 4 (λ n. n == magic_number (form_of n)) Magic
+
+abbrev pub image_threads_field : ImageForm → Field ImageErr
+image_threads_field form = within 1 1 (limits_of form).threads Count
+
+abbrev pub image_objects_field : ImageForm → Field ImageErr
+image_objects_field form = within 1 0 (limits_of form).objects Count
+
+-- the number of words of code
+abbrev pub words_field : Field ImageErr
+words_field = within 4 0 most_code_words Count
+
+-- the number of bytes of data
+abbrev pub bytes_field : Field ImageErr
+bytes_field = within 4 0 memory_size Count
+
+abbrev pub entry_field : ℕ → Field ImageErr
+entry_field words = tested 4 (is_place words) Entry

@@ -9,7 +9,7 @@ use Rattle.ir_isa.specs.declared.inst.Inst.{Inst}
 use Rattle.ir_isa.specs.Decoded.{instruction_of}
 use Rattle.ir_image.specs.declared.fetched.Fetched.{Fetched}
 use Rattle.ir_image.specs.declared.fetched.Fetched.TheVariants.{Outside, Illegal, Found}
-use Rattle.ir_bytes.specs.Reading.{◌>>=◌, Reader, Field, tested, within, number_at, field_at, bytes_at, fields_at}
+use Rattle.ir_bytes.specs.Reading.{◌>>=◌, Reader, tested, within, number_at, field_at, bytes_at, fields_at}
 use Rattle.ir_image.specs.declared.counts.Counts.{Counts}
 use Rattle.ir_image.specs.declared.image_err.ImageErr.{ImageErr}
 use Rattle.ir_image.specs.declared.image_err.ImageErr.TheVariants.{Short, Magic, Count, Entry, Trailing, NoMem}
@@ -113,32 +113,9 @@ fetched code pc = fetched_word (word_at_pc code pc)
 
 -- ---- reading from the left: each field is read whole and then tested, and the first fault is named
 
--- a form's magic
-abbrev pub image_magic_field : Field ImageErr
-image_magic_field = tested 4 (λ n. n == magic_number (form_of n)) Magic
-
-abbrev pub image_threads_field : ImageForm → Field ImageErr
-image_threads_field form = within 1 1 (limits_of form).threads Count
-
-abbrev pub image_objects_field : ImageForm → Field ImageErr
-image_objects_field form = within 1 0 (limits_of form).objects Count
-
--- the number of words of code
-abbrev pub words_field : Field ImageErr
-words_field = within 4 0 most_code_words Count
-
--- the number of bytes of data
-abbrev pub bytes_field : Field ImageErr
-bytes_field = within 4 0 memory_size Count
-
 -- whether n is the address of a word in code of `words` words
 abbrev pub is_place : ℕ → ℕ → Bool
 is_place words n = (n % 4 == 0) && (nat_le code_start n && nat_lt n (code_start + 4 * words))
-
-abbrev pub entry_field : ℕ → Field ImageErr
-entry_field words = tested 4 (is_place words) Entry
-
--- ---- the parts
 
 -- a word, and the bytes after it
 abbrev pub word_at : Reader ℕ ImageErr
@@ -146,20 +123,20 @@ word_at = number_at Short 4
 
 -- an entry into code of `words` words, and the bytes after it
 abbrev pub entry_at : ℕ → Reader ℕ ImageErr
-entry_at words = field_at Short (entry_field words)
+entry_at words = field_at Short (tested 4 (is_place words) Entry)
 
 -- the form that the magic names, and the bytes after it
 unfoldable pub form_at : Reader ImageForm ImageErr
-form_at bytes = field_at Short image_magic_field bytes >>= λ n. Ok (form_of n.0, n.1)
+form_at bytes = field_at Short (tested 4 (λ n. n == magic_number (form_of n)) Magic) bytes >>= λ n. Ok (form_of n.0, n.1)
 
--- the form, and how many there are of each
+-- the form, and how many threads, objects, words of code and bytes of data there are
 unfoldable pub counts_at : Reader Counts ImageErr
 counts_at bytes = do
   form ← form_at bytes
-  threads ← field_at Short (image_threads_field form.0) form.1
-  objects ← field_at Short (image_objects_field form.0) threads.1
-  words ← field_at Short words_field objects.1
-  bytes ← field_at Short bytes_field words.1
+  threads ← field_at Short (within 1 1 (limits_of form.0).threads Count) form.1
+  objects ← field_at Short (within 1 0 (limits_of form.0).objects Count) threads.1
+  words ← field_at Short (within 4 0 most_code_words Count) objects.1
+  bytes ← field_at Short (within 4 0 memory_size Count) words.1
   Ok (record { form = form.0; threads = threads.0; objects = objects.0; words = words.0; bytes = bytes.0 }, bytes.1)
 
 -- the entries, the code, the data, the objects' first words, and nothing after them

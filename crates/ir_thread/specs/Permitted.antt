@@ -1,7 +1,7 @@
 -- Replies that suit what a thread asks, and steps that are permitted.
 use Rattle.std.specs.Prelude.{◌≡◌, ◌⊎◌, ℕ, zero, suc, ◌+◌, ◌≢◌, ◌<◌, ◌≤◌, true, List, length, Some, None, ⊤}
 use Rattle.ir_image.specs.Guest.{most_objects, most_object_words}
-use Rattle.ir_thread.specs.State.{held_at, highest, is_above, ThreadState, most_output, most_events, most_budget, next_output, after_reply}
+use Rattle.ir_thread.specs.State.{held_at, highest, is_above, ThreadState, most_output, most_events, most_budget, after_reply, call_output, call_at}
 use Rattle.ir_runs.specs.declared.access.Access.TheVariants.{Writing}
 use Rattle.ir_thread.specs.declared.ask.Ask.{Ask}
 use Rattle.ir_thread.specs.declared.ask.Ask.TheVariants as ask
@@ -68,3 +68,7 @@ step_of code s = after_reply code s Go
 unfoldable pub run_of : List ℕ → ℕ → ThreadState → ThreadState
 run_of code zero s = s
 run_of code (suc k) s = step_of code (run_of code k s)
+
+-- what the call that the thread makes prints
+abbrev pub next_output : ThreadState → List ℕ
+next_output s = call_output (call_at s) s

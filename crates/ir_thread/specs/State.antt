@@ -208,10 +208,6 @@ call_output (Some call.PutByte) s = byte_text s
 call_output (Some call.PutNumber) s = number_text s
 call_output _ s = []
 
--- what the call that the thread makes prints
-abbrev pub next_output : ThreadState → List ℕ
-next_output s = call_output (call_at s) s
-
 -- printing `count` bytes, if there is room for them
 abbrev pub print_ask : ThreadState → ℕ → Ask
 print_ask s count = if nat_le (length s.output + count) most_output then ask.Print else ask.End OutputFull
@@ -333,7 +329,7 @@ after_ask code s (ask.Leave object access) reply =
     record s { core = core_left s.ended s.core; steps = s.steps + 1; held = slice_set s.held object None }
 after_ask code s (ask.Get object index) reply = record s { core = past_call s.core (answer_of reply); steps = s.steps + 1 }
 after_ask code s (ask.Put object index value) reply = record s { core = past_call s.core None; steps = s.steps + 1 }
-after_ask code s ask.Print reply = record s { core = past_call s.core None; steps = s.steps + 1; output = s.output ++ next_output s }
+after_ask code s ask.Print reply = record s { core = past_call s.core None; steps = s.steps + 1; output = s.output ++ call_output (call_at s) s }
 after_ask code s (ask.End e) reply = record s { steps = s.steps + 1; ended = Some e }
 after_ask code s ask.Done reply = s
 

@@ -3,9 +3,13 @@ use Rattle.std.specs.Prelude.{ℕ, List, Option, ◌==◌, if◌then◌else◌}
 use Rattle.ir_bytes.specs.Format.{Format, finished, next, before, repeated, first_refused, plain}
 use Rattle.ir_thread.specs.declared.profile.Profile.{Profile}
 use Rattle.ir_trace.specs.declared.trace_err.TraceErr.{TraceErr}
-use Rattle.ir_trace.specs.declared.trace_err.TraceErr.TheVariants.{Short, Trailing}
-use Rattle.ir_trace.specs.Recorded.{trace_magic_field, profile_of, trace_threads_field, trace_objects_field, reserved_field, budget_field, end_field, events_field, input_field, object_field}
+use Rattle.ir_trace.specs.declared.trace_err.TraceErr.TheVariants.{Short, Trailing, Magic, Count, Reserved, Range}
+use Rattle.ir_trace.specs.Recorded.{profile_of, object_field, is_magic}
 use Rattle.ir_trace.specs.Results.{code_field, tag_field}
+use Rattle.ir_thread.specs.State.{largest, most_budget, most_events, is_result}
+use Rattle.ir_bytes.specs.Reading.{Field, tested, within, fixed}
+use Rattle.ir_image.specs.Guest.{limits_of}
+use Rattle.ir_runs.specs.declared.env_kind.EnvKind.TheVariants.{Input}
 
 -- after the tag: an input's value; an entry's object and version, and, if it is for writing, its readers; a refused try's object;
 -- another answer's value
@@ -35,3 +39,30 @@ trace_fields =
 -- the first fault of bytes that are no trace
 abbrev pub trace_fault : List ℕ → Option TraceErr
 trace_fault = first_refused Short Trailing trace_fields
+
+abbrev pub trace_magic_field : Field TraceErr
+trace_magic_field = tested 4 is_magic Magic
+
+abbrev pub trace_threads_field : Profile → Field TraceErr
+trace_threads_field profile = within 1 1 (limits_of (largest profile)).threads Count
+
+abbrev pub trace_objects_field : Profile → Field TraceErr
+trace_objects_field profile = within 1 0 (limits_of (largest profile)).objects Count
+
+-- the two bytes that are reserved
+abbrev pub reserved_field : Field TraceErr
+reserved_field = fixed 2 0 Reserved
+
+abbrev pub budget_field : Field TraceErr
+budget_field = within 8 0 most_budget Count
+
+-- the number of an end
+abbrev pub end_field : Field TraceErr
+end_field = within 1 1 14 Range
+
+-- the number of events
+abbrev pub events_field : Field TraceErr
+events_field = within 4 0 most_events Count
+
+abbrev pub input_field : Field TraceErr
+input_field = tested 4 (is_result Input) Range

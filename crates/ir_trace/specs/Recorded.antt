@@ -66,55 +66,26 @@ trace_magic Two = 0x49 ∷ 0x52 ∷ 0x54 ∷ 0x32 ∷ []
 abbrev pub is_magic : ℕ → Bool
 is_magic n = n == little_number 4 (trace_magic One) || n == little_number 4 (trace_magic Two)
 
-abbrev pub trace_magic_field : Field TraceErr
-trace_magic_field = tested 4 is_magic Magic
-
 -- the profile of a magic
 abbrev pub profile_of : ℕ → Profile
 profile_of n = if n == little_number 4 (trace_magic One) then One else Two
-
-abbrev pub trace_threads_field : Profile → Field TraceErr
-trace_threads_field profile = within 1 1 (limits_of (largest profile)).threads Count
-
-abbrev pub trace_objects_field : Profile → Field TraceErr
-trace_objects_field profile = within 1 0 (limits_of (largest profile)).objects Count
-
--- the two bytes that are reserved
-abbrev pub reserved_field : Field TraceErr
-reserved_field = fixed 2 0 Reserved
-
-abbrev pub budget_field : Field TraceErr
-budget_field = within 8 0 most_budget Count
-
--- the number of an end
-abbrev pub end_field : Field TraceErr
-end_field = within 1 1 14 Range
-
--- the number of events
-abbrev pub events_field : Field TraceErr
-events_field = within 4 0 most_events Count
-
-abbrev pub input_field : Field TraceErr
-input_field = tested 4 (is_result Input) Range
 
 -- the number of an object of a guest with `objects` objects
 abbrev pub object_field : ℕ → Field TraceErr
 object_field objects = tested 1 (λ n. nat_lt n objects) Count
 
--- ---- the parts
-
 -- the profile, by the magic
 unfoldable pub profile_at : Reader Profile TraceErr
-profile_at bytes = field_at Short trace_magic_field bytes >>= λ n. Ok (profile_of n.0, n.1)
+profile_at bytes = field_at Short (tested 4 is_magic Magic) bytes >>= λ n. Ok (profile_of n.0, n.1)
 
 -- what comes before the threads
 unfoldable pub header_at : Reader Header TraceErr
 header_at bytes = do
   profile ← profile_at bytes
-  threads ← field_at Short (trace_threads_field profile.0) profile.1
-  objects ← field_at Short (trace_objects_field profile.0) threads.1
-  reserved ← field_at Short reserved_field objects.1
-  budget ← field_at Short budget_field reserved.1
+  threads ← field_at Short (within 1 1 (limits_of (largest profile.0)).threads Count) profile.1
+  objects ← field_at Short (within 1 0 (limits_of (largest profile.0)).objects Count) threads.1
+  reserved ← field_at Short (fixed 2 0 Reserved) objects.1
+  budget ← field_at Short (within 8 0 most_budget Count) reserved.1
   Ok (record { profile = profile.0; threads = threads.0; objects = objects.0; budget = budget.0 }, budget.1)
 
 -- an end that was found by its number and its code
@@ -125,7 +96,7 @@ end_by None rest = Err Range
 -- an end: its number, and then its code
 unfoldable pub end_at : Reader End TraceErr
 end_at bytes = do
-  end ← field_at Short end_field bytes
+  end ← field_at Short (within 1 1 14 Range) bytes
   code ← number_at Short 4 end.1
   end_by (end_of end.0 code.0) code.1
 
@@ -133,9 +104,9 @@ end_at bytes = do
 unfoldable pub answer_at : EnvKind → Reader Event TraceErr
 answer_at kind bytes = number_at Short 4 bytes >>= λ n. Ok (Answer kind n.0, n.1)
 
--- the result of an input
+-- the result of an input: a byte, or the input's end
 unfoldable pub input_at : Reader Event TraceErr
-input_at bytes = field_at Short input_field bytes >>= λ n. Ok (Answer Input n.0, n.1)
+input_at bytes = field_at Short (tested 4 (is_result Input) Range) bytes >>= λ n. Ok (Answer Input n.0, n.1)
 
 -- an entry for reading: the object, and its version
 unfoldable pub read_at : ℕ → Reader Event TraceErr
@@ -180,7 +151,7 @@ unfoldable pub thread_part_at : Profile → ℕ → Reader RecordedThread TraceE
 thread_part_at profile objects bytes = do
   steps ← number_at Short 8 bytes
   end ← end_at steps.1
-  count ← field_at Short events_field end.1
+  count ← field_at Short (within 4 0 most_events Count) end.1
   events ← fields_at (event_at profile objects) count.0 count.1
   Ok (record { steps = steps.0; end = end.0; events = events.0 }, events.1)
 

@@ -30,8 +30,8 @@ impl Reply {
 }
 
 impl Thread {
-    ghost use Rattle.ir_thread.specs.Permitted.{Suits, Permits, IsRunning};
-    ghost use Rattle.ir_thread.specs.State.{held_at, answer_of, next_output, ask_of, core_after, core_left, held_after_try, after_ask, after_reply, most_output};
+    ghost use Rattle.ir_thread.specs.Permitted.{Suits, Permits, IsRunning, next_output};
+    ghost use Rattle.ir_thread.specs.State.{held_at, answer_of, ask_of, core_after, core_left, held_after_try, after_ask, after_reply, most_output};
     ghost use Rattle.ir_mach.specs.Execution.{outcome_of, past_call};
 
     // A private step: an instruction, or the call that answers the thread's number.

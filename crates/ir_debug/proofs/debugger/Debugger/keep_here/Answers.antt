@@ -1,8 +1,8 @@
 use Rattle.std.proofs.Common.{◌≡◌, ◌<◌, ◌≤◌, ◌+◌, ◌++◌, [], ◌∷◌, List, length, length-append, refl, sym, ap, ◌∙◌, subst, arith}
 use Rattle.ir_timeline.specs.Hand.{IsCutOf}
 use Rattle.ir_timeline.specs.Replaying.{Replaying}
-use Rattle.ir_debug.specs.Debugging.{Debugging, AllKept}
-use Rattle.ir_debug.specs.Machine.{Kept, most_kept, most_number}
+use Rattle.ir_debug.specs.Debugging.{Debugging, AllKept, most_number}
+use Rattle.ir_debug.specs.Machine.{Kept, most_kept}
 use Rattle.ir_debug.proofs.Desks.{desk_of_equal_trace, spoke}
 use Rattle.ir_debug.proofs.Chosen.{all_more}
 use Rattle.ir_debug.proofs.Passed.{kept_room}

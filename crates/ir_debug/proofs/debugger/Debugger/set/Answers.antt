@@ -1,8 +1,8 @@
 use Rattle.std.proofs.Common.{◌<◌, List, length, sym, ap, subst, arith}
 use Rattle.ir_hits.specs.Hits.{Numbered}
 use Rattle.ir_hits.specs.Watchable.{AreWatchable, IsWatchable}
-use Rattle.ir_debug.specs.Debugging.{Debugging}
-use Rattle.ir_debug.specs.Machine.{most_points, most_number}
+use Rattle.ir_debug.specs.Debugging.{Debugging, most_number}
+use Rattle.ir_debug.specs.Machine.{most_points}
 use Rattle.ir_debug.proofs.Chosen.{all_more}
 use Rattle.ir_debug.proofs.Passed.{point_room, permitted_point_is_watchable}
 use Rattle.ir_debug.proofs.debugger.Debugger.set.Goals as goal

@@ -1,6 +1,6 @@
 use Rattle.std.proofs.Common.{rules, ap, ◌∙◌}
 use Rattle.std.proofs.lemmas.Fn.{filter_same}
-use Rattle.ir_debug.specs.Machine.{points_without}
+use Rattle.ir_debug.specs.Debugging.{points_without}
 use Rattle.ir_debug.proofs.points.Points.clear.Goals as goal
 
 pub returns : goal.returns
