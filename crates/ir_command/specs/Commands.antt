@@ -32,10 +32,6 @@ most_position = 2 ^ 64 - 1
 abbrev pub most_bytes : ℕ
 most_bytes = 256
 
--- n, if one command may show n bytes
-abbrev pub byte_count : ℕ → Option ℕ
-byte_count n = if nat_le 1 n && nat_le n most_bytes then Some n else None
-
 -- the most digits of a number
 abbrev pub most_decimal : ℕ
 most_decimal = 20
@@ -47,12 +43,10 @@ most_hexadecimal = 16
 abbrev pub is_digit : ℕ → ℕ → Bool
 is_digit radix c = nat_lt (digit_value c) radix
 
--- from one digit of the radix to the most
-abbrev pub is_numeral : ℕ → ℕ → List ℕ → Bool
-is_numeral radix most digits = (nat_le 1 (length digits) && nat_le (length digits) most) && list_all (is_digit radix) digits
-
+-- the number of one digit of the radix to the most; none of other bytes
 unfoldable pub numeral : ℕ → ℕ → List ℕ → Option ℕ
-numeral radix most digits = if is_numeral radix most digits then Some (digits_value radix digits) else None
+numeral radix most digits =
+    if (nat_le 1 (length digits) && nat_le (length digits) most) && list_all (is_digit radix) digits then Some (digits_value radix digits) else None
 
 -- `0x`
 abbrev pub starts_hexadecimal : List ℕ → Bool
@@ -71,7 +65,7 @@ number_up_to limit word = option_and_then (λ n. if nat_le n limit then Some n e
 abbrev pub argument : Kind → List ℕ → Option ℕ
 argument Small word = number_up_to most_small word
 argument Position word = number_up_to most_position word
-argument Bytes word = option_and_then byte_count (number_of word)
+argument Bytes word = option_and_then (λ n. if nat_le 1 n && nat_le n most_bytes then Some n else None) (number_of word)
 
 -- the numbers that the words write, if there is a word of each kind and no other
 abbrev pub arguments : List Kind → List (List ℕ) → Option (List ℕ)
@@ -124,10 +118,6 @@ table =
     row (codes "quit") [] (λ ns. command.Quit) ∷
     []
 
--- the row of a name
-abbrev pub row_of : List ℕ → Option Row
-row_of name = find (λ r. bytes_eq name r.name) table
-
 abbrev pub made_by : Row → Option (List ℕ) → Result Command Refusal
 made_by r (Some ns) = Ok (r.makes ns)
 made_by r None = Err BadArgument
@@ -139,7 +129,7 @@ made_of None words = Err UnknownCommand
 
 -- the command of this name with these arguments
 unfoldable pub command_named : List ℕ → List (List ℕ) → Result Command Refusal
-command_named name words = made_of (row_of name) words
+command_named name words = made_of (find (λ r. bytes_eq name r.name) table) words
 
 abbrev pub some_command : Result Command Refusal → Result (Option Command) Refusal
 some_command (Ok command) = Ok (Some command)

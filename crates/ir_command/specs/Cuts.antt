@@ -1,6 +1,7 @@
--- Where the first word of a line begins and ends.
-use Rattle.std.specs.Prelude.{ℕ, suc, List, [], ◌∷◌, if◌then◌else◌}
-use Rattle.ir_command.specs.Commands.{is_blank}
+-- Where the first word of a line begins and ends, and tests of numbers.
+use Rattle.std.specs.Prelude.{ℕ, suc, List, [], ◌∷◌, if◌then◌else◌, length, Option, Some, None, Bool, ◌&&◌, nat_le}
+use Rattle.ir_command.specs.Commands.{is_blank, most_bytes, is_digit}
+use Rattle.std.specs.List.{list_all}
 
 -- the bytes from the first that is no blank
 unfoldable pub skip_blanks : List ℕ → List ℕ
@@ -11,3 +12,11 @@ skip_blanks (b ∷ bytes) = if is_blank b then skip_blanks bytes else b ∷ byte
 unfoldable pub word_end : List ℕ → ℕ
 word_end [] = 0
 word_end (b ∷ bytes) = if is_blank b then 0 else suc (word_end bytes)
+
+-- n, if one command may show n bytes
+abbrev pub byte_count : ℕ → Option ℕ
+byte_count n = if nat_le 1 n && nat_le n most_bytes then Some n else None
+
+-- from one digit of the radix to the most
+abbrev pub is_numeral : ℕ → ℕ → List ℕ → Bool
+is_numeral radix most digits = (nat_le 1 (length digits) && nat_le (length digits) most) && list_all (is_digit radix) digits

@@ -121,7 +121,8 @@ impl Model for ByteCount {
 
 impl ByteCount {
     ghost use Rattle.std.specs.Prelude.{◌≡◌, ◌≤◌, Some, None, nat_le, if◌then◌else◌};
-    ghost use Rattle.ir_command.specs.Commands.{most_bytes, byte_count};
+    ghost use Rattle.ir_command.specs.Commands.{most_bytes};
+    ghost use Rattle.ir_command.specs.Cuts.{byte_count};
 
     /// The most bytes that one command shows.
     pub const MOST: u128 = 256;

@@ -11,10 +11,10 @@ use Rattle.ir_thread.specs.State.{most_events, thread_machine}
 use Rattle.ir_runs.specs.Machine.{Act, Silent, Result, Entry, Refusal, Exit, Load, Store, Never, Machine, Object, target, Admits, acted, emitted}
 use Rattle.ir_runs.specs.declared.access.Access.{Access}
 use Rattle.ir_runs.specs.declared.access.Access.TheVariants.{Reading, Writing}
-use Rattle.ir_object.specs.Cell.{one_if_reading, readers, has_writer, bit_of}
+use Rattle.ir_object.specs.Cell.{one_if_reading, readers, has_writer}
 use Rattle.ir_object.specs.Layout.{word_place}
 use Rattle.ir_object.specs.Order.{Shared, keep_if, of_thread, objects_then, objects_after, order_labels, Uses, IsStep, IsLegal, inside_after}
-use Rattle.ir_object.specs.Word.{fields_of, entered, left_by}
+use Rattle.ir_object.specs.Word.{fields_of, entered, left_by, bit_of}
 use Rattle.ir_object.specs.declared.fields.Fields.{Fields}
 use Rattle.ir_object.proofs.CallerLemmas.{objects_then_at_target, objects_then_at_other_object, writer_alone_after_act, WriterIsAlone, inside_of_thread_after_order, counts_after_entry, counts_after_leave, inside_thread_can_leave, writer_admitted_if_nobody_inside}
 use Rattle.ir_runs.proofs.CallerLemmas.{upd_at_own_place, upd_at_other_place, upd_by_cases}

@@ -1,5 +1,5 @@
 -- The debugger between two commands, and the texts of its answers.
-use Rattle.std.specs.Prelude.{◌≡◌, ◌≤◌, ◌<◌, ◌+◌, ℕ, ⊤, true, List, ◌++◌, length, codes, Option, None, Result, flat_map, ◌==◌, not, nat_le, if◌then◌else◌}
+use Rattle.std.specs.Prelude.{◌≡◌, ◌≤◌, ◌<◌, ◌+◌, ℕ, ⊤, true, List, ◌++◌, length, codes, Option, None, Result, flat_map, ◌==◌, not, nat_le, if◌then◌else◌, Bool, find, is_some}
 use Rattle.std.specs.List.{AllByRecursion, filter}
 use Rattle.ir_runs.specs.Run.{Step}
 use Rattle.ir_fit.specs.Fit.{FittedTrace, HasRun}
@@ -99,3 +99,7 @@ most_number = most_small
 -- to a position, by whether it isn't below the thread's
 abbrev pub ToPosition : List Step → FittedTrace → List ℕ → ℕ → ℕ → List ℕ → Type 0
 ToPosition steps f at t k to = StopsAt steps f at t (if nat_le (cut_of at t) k then Forwards else Backwards) k to
+
+-- whether a point of this number is set
+abbrev pub is_set : List Numbered → ℕ → Bool
+is_set points n = is_some (find (λ p. p.number == n) points)

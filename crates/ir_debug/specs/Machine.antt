@@ -76,10 +76,6 @@ moved_to d at = record d { at = at; fresh = true }
 abbrev pub spoken : Desk → Desk
 spoken d = record d { fresh = false }
 
--- whether a point of this number is set
-abbrev pub is_set : List Numbered → ℕ → Bool
-is_set points n = is_some (find (λ p. p.number == n) points)
-
 -- one more point is set, by the next number
 abbrev pub with_point : Desk → Point → Desk
 with_point d point = record (spoken d) { points = d.points ++ record { number = d.last_point + 1; point = point } ∷ []; last_point = d.last_point + 1 }
@@ -140,7 +136,7 @@ object_named c = None
 
 -- a point is set, or a cut kept, by the number; the start isn't dropped
 abbrev pub has_number : Desk → Command → Bool
-has_number d (command.Clear n) = is_set d.points n
+has_number d (command.Clear n) = is_some (find (λ p. p.number == n) d.points)
 has_number d (command.Keeping (Load n)) = is_some (kept_cut d.kept n)
 has_number d (command.Keeping (Drop n)) = not (n == 0) && is_some (kept_cut d.kept n)
 has_number d c = true

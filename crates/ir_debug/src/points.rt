@@ -1,8 +1,8 @@
 //! Points that are set, each by a number.
 
 ghost use Rattle.std.specs.Prelude.{◌≡◌};
-ghost use Rattle.ir_debug.specs.Machine.{is_set, most_points};
-ghost use Rattle.ir_debug.specs.Debugging.{points_without};
+ghost use Rattle.ir_debug.specs.Machine.{most_points};
+ghost use Rattle.ir_debug.specs.Debugging.{points_without, is_set};
 
 use ir_hits::NumberedPoint;
 use std::alloc::{AllocError, Global};

@@ -9,7 +9,8 @@ use Rattle.ir_chaos.specs.Conditions.{Condition, as_condition, fulfils}
 use Rattle.ir_chaos.specs.declared.condition.Condition as declared
 use Rattle.ir_explore.proofs.CallerLemmas.{place_of_element_is_below_length}
 use Rattle.ir_flat.proofs.CallerLemmas.{length_of_start_threads, length_of_start_cells}
-use Rattle.ir_flat.specs.Flat.{Flat, IsFlat, idle, empty, thread_of, cell_of, tables}
+use Rattle.ir_flat.specs.Flat.{Flat, IsFlat, idle, thread_of, cell_of, tables}
+use Rattle.ir_flat.specs.Room.{empty}
 use Rattle.ir_graph.specs.Outcomes.{outcome_of}
 use Rattle.ir_graph.specs.Reached.{IsReached}
 use Rattle.ir_image.specs.Guest.{Guest, most_object_words, object_count}

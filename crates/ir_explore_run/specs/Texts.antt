@@ -8,7 +8,8 @@ use Rattle.ir_explore.specs.declared.stop.Stop.{Stop}
 use Rattle.ir_explore.specs.declared.stop.Stop.TheVariants.{Memory}
 use Rattle.ir_files.specs.declared.exit_status.ExitStatus.{ExitStatus}
 use Rattle.ir_files.specs.declared.exit_status.ExitStatus.TheVariants as status
-use Rattle.ir_flat.specs.Flat.{Flat, idle, start_cells, empty}
+use Rattle.ir_flat.specs.Flat.{Flat, idle, start_cells}
+use Rattle.ir_flat.specs.Room.{empty}
 use Rattle.ir_graph.specs.Reached.{AllReached}
 use Rattle.ir_graph.specs.Stops.{IsStop, MayStop}
 use Rattle.ir_image.specs.Guest.{Guest, object_count, object_words}

@@ -5,13 +5,13 @@ use Rattle.std.proofs.lemmas.List.{get_or_default, length-map}
 use Rattle.std.proofs.lemmas.List.Folds.{sum_by-replicate}
 use Rattle.std.proofs.Math.Seq.{drop-append_seam}
 use Rattle.ir_image.specs.Guest.{Guest, object_count}
-use Rattle.ir_thread.specs.State.{held_count, one_if_held, ask_of, after_ask, shared_ask, reply_of, thread_machine}
+use Rattle.ir_thread.specs.State.{one_if_held, ask_of, after_ask, shared_ask, reply_of, thread_machine}
 use Rattle.ir_thread.proofs.CallerLemmas.{ask_of_permitted, held_count_after_leave}
 use Rattle.ir_runs.proofs.CallerLemmas.{upd_at_own_place, upd_at_other_place, upd_by_cases, trail_append, end_append, trail_of_cons_own_thread, trail_of_cons_other_thread, last_step_can_be_taken, events_then_left_log_is_log, follows_with_last_step_added, done_is_decidable, agrees_is_decidable, last_step_fits, sum_below_is_monotone, sum_below_less_if_one_less}
 use Rattle.ir_runs.specs.Machine as machine
 use Rattle.ir_runs.specs.Machine.{Machine, act_of, target, emitted, reply, Admits, Label, logged, Trace}
 use Rattle.ir_thread.specs.State as thread
-use Rattle.ir_thread.specs.Permitted.{Permits}
+use Rattle.ir_thread.specs.Permitted.{Permits, held_count}
 use Rattle.ir_runs.specs.declared.access.Access.{Access}
 use Rattle.ir_thread.specs.declared.ask.Ask.TheVariants.{Private, Done, Leave as Leaves}
 use Rattle.ir_flat.specs.Alone.{WentAlone}

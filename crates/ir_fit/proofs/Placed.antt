@@ -1,8 +1,8 @@
 -- Positions of events and leaves along the steps of a thread.
 use Rattle.std.proofs.Common.{◌≡◌, ℕ, zero, suc, ◌+◌, ◌<◌, ◌≤◌, Bool, true, false, List, [], ◌∷◌, ◌++◌, length, length-append, set, Option, Some, None, refl, sym, ap, ◌∙◌, arith, append-nil}
 use Rattle.std.proofs.lemmas.List.Sums.{sum_by-set}
-use Rattle.ir_thread.specs.Permitted.{Permits}
-use Rattle.ir_thread.specs.State.{held_at, held_count, one_if_held, after_ask, shared_ask}
+use Rattle.ir_thread.specs.Permitted.{Permits, held_count}
+use Rattle.ir_thread.specs.State.{held_at, one_if_held, after_ask, shared_ask}
 use Rattle.ir_thread.specs.State as thread
 use Rattle.ir_runs.specs.declared.access.Access.{Access}
 use Rattle.ir_runs.specs.declared.access.Access.TheVariants.{Reading, Writing}

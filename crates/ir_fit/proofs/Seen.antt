@@ -2,8 +2,8 @@
 use Rattle.std.proofs.Common.{◌≡◌, ◌≢◌, ℕ, zero, suc, ◌<◌, ◌≤◌, true, false, Bool, List, [], ◌∷◌, length, map, drop, Option, Some, None, refl, sym, ap, ◌∙◌, subst, arith, inl, inr, ◌⊎◌}
 use Rattle.std.specs.Prelude.{◌↔◌, IsTrue, slice_get}
 use Rattle.std.specs.List.{AllByRecursion}
-use Rattle.ir_thread.specs.Permitted.{Permits}
-use Rattle.ir_thread.specs.State.{end_number, end_code, held_count, ask_of, after_ask, after_reply, shared_ask, reply_of, is_result, thread_machine}
+use Rattle.ir_thread.specs.Permitted.{Permits, held_count}
+use Rattle.ir_thread.specs.State.{end_number, end_code, ask_of, after_ask, after_reply, shared_ask, reply_of, is_result, thread_machine}
 use Rattle.ir_runs.specs.Machine as machine
 use Rattle.ir_runs.specs.Machine.{act_of, target, Admits, emitted, Label, logged}
 use Rattle.ir_thread.specs.State as thread

@@ -1,6 +1,7 @@
 -- What a trace leaves to the threads of a guest, and their next steps beside it.
 use Rattle.std.specs.Prelude.{◌≡◌, ◌≢◌, ℕ, suc, ◌-◌, ◌<◌, ◌≤◌, List, length, map, drop, slice_get, Some, ⊤}
-use Rattle.ir_thread.specs.State.{end_number, end_code, held_count, ask_of, shared_ask}
+use Rattle.ir_thread.specs.State.{end_number, end_code, ask_of, shared_ask}
+use Rattle.ir_thread.specs.Permitted.{held_count}
 use Rattle.ir_runs.specs.Machine.{Machine, Label, logged, Trace}
 use Rattle.ir_runs.specs.declared.access.Access.TheVariants.{Reading, Writing}
 use Rattle.ir_thread.specs.declared.ask.Ask as ask

@@ -6,8 +6,8 @@ use Rattle.std.proofs.lemmas.List.{get_or_past, length-replicate}
 use Rattle.ir_image.specs.Guest.{Guest, IsWord, object_count, object_words, IsGuest}
 use Rattle.ir_image.proofs.CallerLemmas.{guest_threads_at_most_limit, element_of_padded}
 use Rattle.ir_mach.proofs.CallerLemmas.{property_at_place_or_default, all_of_take, all_of_drop, HasWords, start_core_has_words}
-use Rattle.ir_thread.specs.Permitted.{IsRunning, Permits}
-use Rattle.ir_thread.specs.State.{end_code, held_count, ask_of, after_ask, after_reply, most_events, shared_ask, reply_of, is_result, thread_machine}
+use Rattle.ir_thread.specs.Permitted.{IsRunning, Permits, held_count}
+use Rattle.ir_thread.specs.State.{end_code, ask_of, after_ask, after_reply, most_events, shared_ask, reply_of, is_result, thread_machine}
 use Rattle.ir_thread.specs.State as thread
 use Rattle.ir_thread.specs.declared.ask.Ask.{Ask}
 use Rattle.ir_thread.specs.declared.ask.Ask.TheVariants.{Private, Env, Enter, Try, Leave, Get, Put, Print, End, Done}
@@ -21,7 +21,8 @@ use Rattle.ir_runs.specs.declared.env_kind.EnvKind.{EnvKind}
 use Rattle.ir_runs.specs.declared.env_kind.EnvKind.TheVariants.{Clock, Random, Input}
 use Rattle.ir_runs.specs.Run.{State, Step, act, Can, after, IsRun, end}
 use Rattle.ir_runs.proofs.CallerLemmas.{upd_by_cases}
-use Rattle.ir_flat.specs.Flat.{idle, empty, thread_of, tables, start_threads, start_cells, start_flat}
+use Rattle.ir_flat.specs.Flat.{idle, thread_of, tables, start_threads, start_cells, start_flat}
+use Rattle.ir_flat.specs.Room.{empty}
 use Rattle.ir_flat.proofs.Kept.{events_after_ask, events_within_most_after_ask, length_of_held_after_ask}
 use Rattle.ir_flat.proofs.Fresh.{length_of_start_threads, length_of_start_cells, start_cell_has_first_words}
 

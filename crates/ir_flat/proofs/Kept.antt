@@ -12,7 +12,8 @@ use Rattle.ir_thread.specs.declared.ask.Ask.TheVariants.{Private, Env, Enter, Tr
 use Rattle.ir_thread.specs.declared.ask.Reply.{Reply}
 use Rattle.ir_thread.specs.declared.ask.Reply.TheVariants.{Go, Value}
 use Rattle.ir_thread.proofs.CallerLemmas.{ask_of_permitted, thread_machine_is_lawful, nothing_held_above_highest, held_after_other_try_answer}
-use Rattle.ir_object.specs.Cell.{has_writer, one_if_reading, is_writing, bit_of}
+use Rattle.ir_object.specs.Cell.{has_writer, one_if_reading, is_writing}
+use Rattle.ir_object.specs.Word.{bit_of}
 use Rattle.ir_runs.proofs.CallerLemmas.{upd_at_own_place, upd_at_other_place, upd_by_cases, StateInvariant, state_invariant_after_step}
 use Rattle.ir_object.proofs.CallerLemmas.{readers_after_change, no_writer_if_nobody_writes, has_writer_if_writer, has_writer_after_equal_change}
 use Rattle.ir_flat.specs.Flat.{IsKept, events_below, entries_seen}

@@ -9,7 +9,7 @@ use Rattle.ir_runs.specs.declared.access.Access.{Access}
 use Rattle.ir_thread.specs.declared.end.End.TheVariants.{Breakpoint}
 use Rattle.ir_thread.specs.declared.profile.Profile.{Profile}
 use Rattle.ir_thread.specs.declared.profile.Profile.TheVariants.{One}
-use Rattle.ir_object.specs.Cell.{Cell, Counts, readers, has_writer, bit_of}
+use Rattle.ir_object.specs.Cell.{Cell, Counts, readers, has_writer}
 use Rattle.ir_runs.specs.Run as run
 use Rattle.ir_thread.specs.State as thread
 use Rattle.ir_runs.specs.declared.access.Access.TheVariants.{Writing}
@@ -22,7 +22,7 @@ events_below (suc n) now = events_below n now + (now n).events
 
 -- how many entries an object has seen at least
 abbrev pub entries_seen : ℕ → Object → ℕ
-entries_seen n b = b.version + b.left + readers n b.inside + bit_of (has_writer n b.inside)
+entries_seen n b = b.version + b.left + readers n b.inside + (if has_writer n b.inside then 1 else 0)
 
 -- of n threads: who is inside an object holds it, a writer is alone inside, each entry was logged, and no thread logged more than it may
 pub record IsKept (n : ℕ) (s : State thread.ThreadState) : Type 0 where
@@ -54,17 +54,13 @@ idle = record {
   ended = Some Breakpoint;
 }
 
--- an object that is none of the guest's
-abbrev pub empty : Cell
-empty = record { fields = record { version = 0; left = 0; inside = 0; writer = false }; words = [] }
-
 -- the thread of a number
 abbrev pub thread_of : Flat → ℕ → ThreadState
 thread_of f t = slice_index_or f.threads t idle
 
 -- the object of a number, as the code keeps it
 abbrev pub cell_of : Flat → ℕ → Cell
-cell_of f o = slice_index_or f.objects o empty
+cell_of f o = slice_index_or f.objects o (start_cell [])
 
 -- who is inside an object: who holds it
 abbrev pub inside_of : Flat → ℕ → ℕ → Option Access

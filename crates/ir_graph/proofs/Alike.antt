@@ -5,7 +5,8 @@ use Rattle.std.specs.List.{slice_index_or}
 use Rattle.std.proofs.lemmas.Bool.{cases_lt}
 use Rattle.ir_thread.specs.State.{ThreadState}
 use Rattle.ir_object.specs.Cell.{Cell}
-use Rattle.ir_flat.specs.Flat.{Flat, thread_of, cell_of, idle, empty}
+use Rattle.ir_flat.specs.Flat.{Flat, thread_of, cell_of, idle}
+use Rattle.ir_flat.specs.Room.{empty}
 use Rattle.ir_seen.specs.Seen.{view, Same}
 use Rattle.ir_seen.proofs.CallerLemmas.{look_same}
 use Rattle.ir_graph.specs.Nodes.{told, LookAlike}

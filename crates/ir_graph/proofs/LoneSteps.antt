@@ -12,7 +12,8 @@ use Rattle.ir_thread.specs.State.{ThreadState, held_at, ask_of, after_reply, aft
 use Rattle.ir_thread.specs.declared.ask.Ask.{Ask}
 use Rattle.ir_thread.specs.declared.ask.Ask.TheVariants as ask
 use Rattle.ir_thread.specs.declared.ask.Reply.TheVariants.{Go}
-use Rattle.ir_flat.specs.Flat.{Flat, IsFlat, thread_of, cell_of, tables, machine, idle, empty}
+use Rattle.ir_flat.specs.Flat.{Flat, IsFlat, thread_of, cell_of, tables, machine, idle}
+use Rattle.ir_flat.specs.Room.{empty}
 use Rattle.ir_flat.specs.Next.{with_thread, with_object, next, MayStep}
 use Rattle.ir_flat.proofs.CallerLemmas.{next_is_flat, tables_of_next_are_after, may_step_is_can_for_ask, next_keeps_thread_count, next_keeps_object_count, entered_fields_fit, left_fields_fit, flat_inside_thread_can_leave}
 use Rattle.ir_thread.proofs.CallerLemmas.{ask_of_permitted}

@@ -2,7 +2,8 @@
 use Rattle.std.proofs.Common.{◌≡◌, ℕ, suc, ◌<◌, List, [], ◌∷◌, inl, inr, length, refl, sym, ap, ◌∙◌, arith}
 use Rattle.std.specs.Prelude.{slice_index}
 use Rattle.std.proofs.lemmas.Bool.{cases_lt}
-use Rattle.ir_flat.specs.Flat.{Flat, IsFlat, tables, thread_of, cell_of, empty}
+use Rattle.ir_flat.specs.Flat.{Flat, IsFlat, tables, thread_of, cell_of}
+use Rattle.ir_flat.specs.Room.{empty}
 use Rattle.ir_graph.specs.Outcomes.{EndAlike, outcome_of}
 use Rattle.ir_graph.specs.Plain.{IsLike}
 use Rattle.ir_graph.proofs.Alike.{index_past_length_is_default}

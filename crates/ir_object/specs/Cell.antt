@@ -1,5 +1,5 @@
 -- An object as the code keeps it, and the objects that it represents.
-use Rattle.std.specs.Prelude.{◌≡◌, ◌+◌, ◌≤◌, ℕ, zero, suc, Bool, true, false, ◌||◌, List, Option, Some, None, if◌then◌else◌}
+use Rattle.std.specs.Prelude.{◌≡◌, ◌+◌, ◌≤◌, ℕ, zero, suc, Bool, true, false, ◌||◌, List, Option, Some, None}
 use Rattle.ir_runs.specs.declared.access.Access.{Access}
 use Rattle.ir_runs.specs.declared.access.Access.TheVariants.{Reading, Writing}
 use Rattle.ir_object.specs.declared.fields.Fields.{Fields}
@@ -35,7 +35,3 @@ pub record Counts (n : ℕ) (f : Fields) (inside : ℕ → Option Access) : Type
   pub readers : f.inside ≡ readers n inside
   pub writer : f.writer ≡ has_writer n inside
   pub others : (t : ℕ) → n ≤ t → inside t ≡ None
-
--- 1 where a writer is inside
-abbrev pub bit_of : Bool → ℕ
-bit_of writer = if writer then 1 else 0

@@ -1,9 +1,8 @@
 -- The word of an object.
-use Rattle.std.specs.Prelude.{◌≡◌, ◌==◌, ℕ, ◌+◌, ◌-◌, ◌*◌, ◌/◌, ◌%◌, ◌^◌, ◌<◌, true, false}
+use Rattle.std.specs.Prelude.{◌≡◌, ◌==◌, ℕ, ◌+◌, ◌-◌, ◌*◌, ◌/◌, ◌%◌, ◌^◌, ◌<◌, true, false, Bool, if◌then◌else◌}
 use Rattle.ir_runs.specs.declared.access.Access.{Access}
 use Rattle.ir_runs.specs.declared.access.Access.TheVariants.{Reading, Writing}
 use Rattle.ir_object.specs.declared.fields.Fields.{Fields}
-use Rattle.ir_object.specs.Cell.{bit_of}
 
 -- what each adds to the word: a reader who is inside, one who has left, and a version; a writer who is inside adds 1
 abbrev pub reader_unit : ℕ
@@ -66,3 +65,7 @@ pub record StepsOfWords : Type 0 where
   pub read_left : (f : Fields) → 0 < f.inside → word_of (left_by Reading f) ≡ word_of f + reader_leaves
   pub written : (f : Fields) → f.writer ≡ false → word_of (entered Writing f) ≡ word_of f + 1
   pub write_left : (f : Fields) → word_of (left_by Writing f) ≡ (f.version + 1) * version_unit
+
+-- 1 where a writer is inside
+abbrev pub bit_of : Bool → ℕ
+bit_of writer = if writer then 1 else 0

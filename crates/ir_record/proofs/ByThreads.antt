@@ -22,7 +22,8 @@ use Rattle.ir_image.proofs.CallerLemmas.{element_of_padded}
 use Rattle.ir_crew.specs.Ends.{AreTracks, IsEnd}
 use Rattle.ir_crew.specs.Plays.{M}
 use Rattle.ir_crew.specs.Rule.{View, IsTrack, start_objects}
-use Rattle.ir_flat.specs.Flat.{Flat, thread_of, cell_of, tables, idle, empty, start_flat, start_threads, start_cells}
+use Rattle.ir_flat.specs.Flat.{Flat, thread_of, cell_of, tables, idle, start_flat, start_threads, start_cells}
+use Rattle.ir_flat.specs.Room.{empty}
 use Rattle.ir_runs.specs.Run.{State, Step, events, log}
 use Rattle.ir_flat.specs.Splice.{shared_steps, splice}
 use Rattle.ir_flat.specs.Lone.{MayRun, alone_after, alone_trail}

@@ -2,8 +2,8 @@
 use Rattle.std.proofs.Common.{◌≡◌, ◌≢◌, ℕ, zero, suc, ◌+◌, ◌-◌, ◌<◌, ◌≤◌, List, length, Option, Some, None, refl, ap, ◌∙◌, arith, inl, inr}
 use Rattle.std.proofs.lemmas.Bool.{cases_eq}
 use Rattle.ir_image.specs.Guest.{most_objects}
-use Rattle.ir_thread.specs.Permitted.{most_closing, Permits}
-use Rattle.ir_thread.specs.State.{held_at, held_count, after_ask}
+use Rattle.ir_thread.specs.Permitted.{most_closing, Permits, held_count}
+use Rattle.ir_thread.specs.State.{held_at, after_ask}
 use Rattle.ir_runs.specs.Machine.{upd}
 use Rattle.ir_thread.specs.State as thread
 use Rattle.ir_thread.specs.declared.ask.Ask.{Ask}

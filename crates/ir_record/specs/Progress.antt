@@ -1,8 +1,8 @@
 -- A recording in progress.
 use Rattle.std.specs.Prelude.{◌≡◌, ◌<◌, ◌≤◌, ◌+◌, ◌-◌, ℕ, zero, suc, List, [], ◌++◌, length, map, Option, Some, None, Bool, true, false, ⊤}
 use Rattle.std.specs.List.{slice_index_or, AllByRecursion}
-use Rattle.ir_thread.specs.Permitted.{most_closing}
-use Rattle.ir_thread.specs.State.{held_count, most_events}
+use Rattle.ir_thread.specs.Permitted.{most_closing, held_count}
+use Rattle.ir_thread.specs.State.{most_events}
 use Rattle.ir_runs.specs.Machine.{Label}
 use Rattle.ir_thread.specs.State as thread
 use Rattle.ir_thread.specs.declared.end.End.{End}

@@ -4,7 +4,8 @@ use Rattle.std.specs.Prelude.{Bool, true, false, if◌then◌else◌, Option, So
 use Rattle.std.specs.List.{slice_index_or}
 use Rattle.std.proofs.lemmas.Bool.{cases_lt, true≢false}
 use Rattle.ir_thread.specs.State as thread
-use Rattle.ir_flat.specs.Flat.{idle, empty}
+use Rattle.ir_flat.specs.Flat.{idle}
+use Rattle.ir_flat.specs.Room.{empty}
 use Rattle.ir_fit.specs.Fit.{FittedTrace, HasRun}
 use Rattle.ir_weave.specs.Ahead.{thread_at}
 use Rattle.ir_weave.specs.Standing.{Standing, StandsAt, flat_in, positions}

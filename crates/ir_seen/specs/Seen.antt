@@ -1,7 +1,8 @@
 -- A thread without a count of its steps and events, and without a budget.
 use Rattle.std.specs.Prelude.{◌≡◌, ℕ, List, ◌⊎◌, Some, option_map}
 use Rattle.ir_runs.specs.Machine.{Machine, Done}
-use Rattle.ir_thread.specs.State.{end_number, end_code, ThreadState, held_at, held_count, ask_of, after_reply, shared_ask, reply_of, is_result, thread_machine}
+use Rattle.ir_thread.specs.State.{end_number, end_code, ThreadState, held_at, ask_of, after_reply, shared_ask, reply_of, is_result, thread_machine}
+use Rattle.ir_thread.specs.Permitted.{held_count}
 use Rattle.ir_thread.specs.declared.profile.Profile.{Profile}
 use Rattle.ir_image.specs.Guest.{Guest}
 use Rattle.ir_runs.specs.Run as run

@@ -7,7 +7,8 @@ use Rattle.ir_mach.specs.Core.{memory_size}
 use Rattle.ir_freeze.specs.Frozen.{frozen, is_over}
 use Rattle.ir_freeze.specs.Twins.{TellsApart, IsBounded}
 use Rattle.ir_thread.specs.State.{ThreadState}
-use Rattle.ir_flat.specs.Flat.{empty, idle}
+use Rattle.ir_flat.specs.Flat.{idle}
+use Rattle.ir_flat.specs.Room.{empty}
 use Rattle.ir_store.specs.declared.spot.Spot.{Spot}
 use Rattle.ir_store.specs.Nodes.{LookSame, cell_in}
 use Rattle.ir_store.specs.Table.{AreLooks, all_over, threads_at}

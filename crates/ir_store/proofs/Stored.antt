@@ -6,7 +6,8 @@ use Rattle.std.specs.Option.{option_map}
 use Rattle.std.proofs.lemmas.List.{map-set}
 use Rattle.std.proofs.lemmas.Option.{same_Some, slice_get-map, slice_get-get_or}
 use Rattle.ir_thread.specs.State.{ThreadState}
-use Rattle.ir_flat.specs.Flat.{Flat, IsFlat, idle, empty, thread_of, cell_of}
+use Rattle.ir_flat.specs.Flat.{Flat, IsFlat, idle, thread_of, cell_of}
+use Rattle.ir_flat.specs.Room.{empty}
 use Rattle.ir_flat.specs.Next.{with_thread, with_object}
 use Rattle.ir_store.specs.declared.spot.Spot.{Spot}
 use Rattle.ir_store.specs.Nodes.{Shared, Node, cell_in, flat_in, IsWithin, IsNode, AreKept}

@@ -2,7 +2,8 @@
 
 ghost use Rattle.std.specs.Prelude.{◌≡◌, ℕ, ◌<◌, List, true, length};
 ghost use Rattle.std.specs.List.{slice_index_or};
-ghost use Rattle.ir_flat.specs.Flat.{empty, idle};
+ghost use Rattle.ir_flat.specs.Flat.{idle};
+ghost use Rattle.ir_flat.specs.Room.{empty};
 ghost use Rattle.ir_store.specs.Nodes.{LookSame, cells_at, AreSameLooks, flat_in};
 ghost use Rattle.ir_store.specs.Table.{AreIn, threads_at};
 

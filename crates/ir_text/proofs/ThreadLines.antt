@@ -3,7 +3,8 @@ use Rattle.std.proofs.Common.{◌≡◌, ◌<◌, ◌+◌, ℕ, zero, suc, List,
 use Rattle.std.proofs.lemmas.List.{at_drop_more}
 use Rattle.std.specs.Prelude.{slice_index_or}
 use Rattle.ir_runs.specs.declared.thread_verdict.ThreadVerdict.{ThreadVerdict}
-use Rattle.ir_text.specs.Texts.{thread_line, threads_text}
+use Rattle.ir_text.specs.Texts.{threads_text}
+use Rattle.ir_text.specs.Parts.{thread_line}
 
 -- the first line and the others
 threads_text_by_first_line : (t : ℕ) (vs : List ThreadVerdict) (d : ThreadVerdict) → t < length vs

@@ -1,3 +1,4 @@
 pub mod Texts
 pub mod Buffered
 pub mod Held
+pub mod Parts

@@ -3,7 +3,8 @@
 ghost use Rattle.std.specs.Prelude.{◌≡◌, ◌≤◌, ◌+◌, ◌++◌, OnOk, OnErr, length, codes, decimal, true, unwrap_or};
 ghost use Rattle.std.specs.Io.KnownBytes.{Appends};
 ghost use Rattle.arrayvec.specs.ArrayVec.{array_vec_len};
-ghost use Rattle.ir_text.specs.Texts.{thread_verdict_text, thread_line, header_text, incoherent_text, threads_text, verdict_text};
+ghost use Rattle.ir_text.specs.Texts.{thread_verdict_text, threads_text, verdict_text};
+ghost use Rattle.ir_text.specs.Parts.{thread_line, header_text, incoherent_text};
 ghost use Rattle.ir_stream.specs.Answers.{AppendsPrefix};
 
 use crate::text::{Text, put_number};

@@ -2,7 +2,8 @@
 use Rattle.std.proofs.Common.{◌≡◌, ◌≢◌, ℕ, zero, suc, ◌+◌, ◌<◌, ◌≤◌, List, [], ◌∷◌, length, get_or, set, take, Option, Some, None, refl, ap, ◌∙◌, subst, arith, true}
 use Rattle.std.proofs.lemmas.Bool.Decides.{nat_tests}
 use Rattle.std.proofs.lemmas.List.Sums.{sum_by-set, sum_by-cons}
-use Rattle.ir_thread.specs.State.{held_at, higher_of, highest, is_above, one_if_held, held_count}
+use Rattle.ir_thread.specs.State.{held_at, higher_of, highest, is_above, one_if_held}
+use Rattle.ir_thread.specs.Permitted.{held_count}
 use Rattle.ir_runs.specs.declared.access.Access.{Access}
 
 -- the greatest once one more place is looked at

@@ -2,8 +2,8 @@
 use Rattle.std.proofs.Common.{◌≡◌, ◌≢◌, ℕ, zero, suc, ◌<◌, List, length, get_or, set, Option, Some, None, refl, sym, ap, ◌∙◌, subst, inl, inr, eqb, cond, eq-eqb, ne_eqb, get_or-set_same, get_or-set_other, arith}
 use Rattle.std.proofs.lemmas.Bool.{cases_eq}
 use Rattle.std.specs.Prelude.{option_map}
-use Rattle.ir_thread.specs.Permitted.{Permits}
-use Rattle.ir_thread.specs.State.{end_number, end_code, ThreadState, held_at, held_count, ask_of, held_after_try, after_ask, after_reply, shared_ask, reply_of, thread_machine}
+use Rattle.ir_thread.specs.Permitted.{Permits, held_count}
+use Rattle.ir_thread.specs.State.{end_number, end_code, ThreadState, held_at, ask_of, held_after_try, after_ask, after_reply, shared_ask, reply_of, thread_machine}
 use Rattle.ir_runs.specs.Machine.{Machine, act_of, upd}
 use Rattle.ir_runs.specs.Lawful.{held_after, Holds, IsLawful, IsClosing}
 use Rattle.ir_runs.specs.Machine as machine

@@ -1,7 +1,7 @@
 -- Replies that suit what a thread asks, and steps that are permitted.
-use Rattle.std.specs.Prelude.{◌≡◌, ◌⊎◌, ℕ, zero, suc, ◌+◌, ◌≢◌, ◌<◌, ◌≤◌, true, List, length, Some, None, ⊤}
+use Rattle.std.specs.Prelude.{◌≡◌, ◌⊎◌, ℕ, zero, suc, ◌+◌, ◌≢◌, ◌<◌, ◌≤◌, true, List, length, Some, None, ⊤, Option, nat_le, if◌then◌else◌}
 use Rattle.ir_image.specs.Guest.{most_objects, most_object_words}
-use Rattle.ir_thread.specs.State.{held_at, highest, is_above, ThreadState, most_output, most_events, most_budget, after_reply, call_output, call_at}
+use Rattle.ir_thread.specs.State.{held_at, highest, is_above, ThreadState, most_output, most_events, most_budget, after_reply, call_output, call_at, outcome_ask, one_if_held}
 use Rattle.ir_runs.specs.declared.access.Access.TheVariants.{Writing}
 use Rattle.ir_thread.specs.declared.ask.Ask.{Ask}
 use Rattle.ir_thread.specs.declared.ask.Ask.TheVariants as ask
@@ -9,6 +9,11 @@ use Rattle.ir_thread.specs.declared.ask.Reply.{Reply}
 use Rattle.ir_thread.specs.declared.ask.Reply.TheVariants.{Go, Value}
 use Rattle.ir_thread.specs.declared.end.End.{End}
 use Rattle.ir_thread.specs.declared.profile.Profile.TheVariants.{Two}
+use Rattle.ir_mach.specs.Core.{register}
+use Rattle.ir_runs.specs.declared.access.Access.{Access}
+use Rattle.ir_thread.specs.declared.end.End.TheVariants.{BudgetSpent}
+use Rattle.std.specs.List.{sum_by}
+use Rattle.ir_mach.specs.Execution.{outcome_of}
 
 -- the most steps that a thread takes once its budget is spent: its end, and a leave for each object
 abbrev pub most_closing : ℕ
@@ -72,3 +77,15 @@ run_of code (suc k) s = step_of code (run_of code k s)
 -- what the call that the thread makes prints
 abbrev pub next_output : ThreadState → List ℕ
 next_output s = call_output (call_at s) s
+
+-- how many objects are held
+abbrev pub held_count : List (Option Access) → ℕ
+held_count held = sum_by one_if_held held
+
+-- the register that holds a call's number
+abbrev pub a7 : ThreadState → ℕ
+a7 s = register s.core 17
+
+-- what a thread that hasn't ended asks: the budget is tested first
+abbrev pub running_ask : List ℕ → ThreadState → Ask
+running_ask code s = if nat_le s.budget s.steps then ask.End BudgetSpent else outcome_ask (outcome_of code s.core) s

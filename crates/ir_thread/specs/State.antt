@@ -127,10 +127,6 @@ abbrev pub one_if_held : Option Access → ℕ
 one_if_held None = 0
 one_if_held (Some access) = 1
 
--- how many objects are held
-abbrev pub held_count : List (Option Access) → ℕ
-held_count held = sum_by one_if_held held
-
 -- the form of images that has as many threads and objects as the profile's traces may have
 abbrev pub largest : Profile → ImageForm
 largest One = Small
@@ -162,10 +158,6 @@ call_of profile number =
     if number == 12 then Some call.OwnNumber else
     if number == 13 then try_call profile else None
 
--- the register that holds a call's number
-abbrev pub a7 : ThreadState → ℕ
-a7 s = register s.core 17
-
 -- the first argument of a call
 abbrev pub a0 : ThreadState → ℕ
 a0 s = register s.core 10
@@ -178,9 +170,9 @@ a1 s = register s.core 11
 abbrev pub a2 : ThreadState → ℕ
 a2 s = register s.core 12
 
--- the call that the thread makes if it is at one
+-- the call that the thread makes if it is at one; x17, which is a7, holds its number
 abbrev pub call_at : ThreadState → Option Call
-call_at s = call_of s.profile (a7 s)
+call_at s = call_of s.profile (register s.core 17)
 
 -- the most bytes that a thread may print
 abbrev pub most_output : ℕ
@@ -278,19 +270,15 @@ outcome_ask (Goes core) s = ask.Private
 outcome_ask (Ends fault) s = ask.End (end_of_fault fault)
 outcome_ask Calls s = call_ask (call_at s) s
 
--- what a thread that hasn't ended asks: the budget is tested first
-abbrev pub running_ask : List ℕ → ThreadState → Ask
-running_ask code s = if nat_le s.budget s.steps then ask.End BudgetSpent else outcome_ask (outcome_of code s.core) s
-
 -- after its end a thread leaves what it holds, the greatest object first
 abbrev pub release_ask : Option (ℕ × Access) → Ask
 release_ask None = ask.Done
 release_ask (Some top) = ask.Leave top.0 top.1
 
--- what is asked by whether the thread has ended
+-- what is asked by whether the thread has ended; while it hasn't, the budget is tested first
 abbrev pub ask_by : List ℕ → Option End → ThreadState → Ask
 ask_by code (Some e) s = release_ask (highest s.held)
-ask_by code None s = running_ask code s
+ask_by code None s = if nat_le s.budget s.steps then ask.End BudgetSpent else outcome_ask (outcome_of code s.core) s
 
 -- what a thread asks
 abbrev pub ask_of : List ℕ → ThreadState → Ask
@@ -369,5 +357,5 @@ thread_machine code = record {
   held = λ s. held_at s.held;
   fits = is_result;
   ended = λ s. option_map (λ e. (end_number e, end_code e)) s.ended;
-  size = λ s. held_count s.held;
+  size = λ s. sum_by one_if_held s.held;
 }

@@ -3,7 +3,8 @@
 ghost use Rattle.std.specs.Prelude.{◌≡◌, ◌+◌, ◌<◌, ◌≤◌, length, MatchOption};
 ghost use Rattle.ir_image.specs.Guest.{most_objects};
 ghost use Rattle.ir_thread.specs.Frames.{ThreadFrame};
-ghost use Rattle.ir_thread.specs.State.{held_count, most_budget, most_events, most_output};
+ghost use Rattle.ir_thread.specs.State.{most_budget, most_events, most_output};
+ghost use Rattle.ir_thread.specs.Permitted.{held_count};
 
 use crate::end::End;
 use crate::profile::Profile;

@@ -2,8 +2,8 @@
 
 ghost use Rattle.std.specs.Prelude.{◌≡◌, ◌≢◌, ℕ, ◌+◌, ◌<◌, ◌≤◌, ◌^◌, ◌%◌, List, length, IfOk, MatchOption, vec_capacity, slice_index};
 ghost use Rattle.ir_image.specs.Guest.{most_objects, object_count};
-ghost use Rattle.ir_thread.specs.Permitted.{most_steps};
-ghost use Rattle.ir_thread.specs.State.{held_count, ThreadState, start_state, most_budget, most_events, most_output};
+ghost use Rattle.ir_thread.specs.Permitted.{most_steps, held_count};
+ghost use Rattle.ir_thread.specs.State.{ThreadState, start_state, most_budget, most_events, most_output};
 
 use crate::end::End;
 use crate::limits::MOST_OUTPUT;

@@ -1,15 +1,17 @@
 -- The fields of a trace in their order.
-use Rattle.std.specs.Prelude.{ℕ, List, Option, ◌==◌, if◌then◌else◌}
+use Rattle.std.specs.Prelude.{ℕ, List, Option, ◌==◌, if◌then◌else◌, Bool, ◌||◌}
 use Rattle.ir_bytes.specs.Format.{Format, finished, next, before, repeated, first_refused, plain}
 use Rattle.ir_thread.specs.declared.profile.Profile.{Profile}
 use Rattle.ir_trace.specs.declared.trace_err.TraceErr.{TraceErr}
 use Rattle.ir_trace.specs.declared.trace_err.TraceErr.TheVariants.{Short, Trailing, Magic, Count, Reserved, Range}
-use Rattle.ir_trace.specs.Recorded.{profile_of, object_field, is_magic}
+use Rattle.ir_trace.specs.Recorded.{profile_of, object_field, trace_magic}
 use Rattle.ir_trace.specs.Results.{code_field, tag_field}
 use Rattle.ir_thread.specs.State.{largest, most_budget, most_events, is_result}
 use Rattle.ir_bytes.specs.Reading.{Field, tested, within, fixed}
 use Rattle.ir_image.specs.Guest.{limits_of}
 use Rattle.ir_runs.specs.declared.env_kind.EnvKind.TheVariants.{Input}
+use Rattle.byteorder.specs.Endian.{little_number}
+use Rattle.ir_thread.specs.declared.profile.Profile.TheVariants.{One, Two}
 
 -- after the tag: an input's value; an entry's object and version, and, if it is for writing, its readers; a refused try's object;
 -- another answer's value
@@ -66,3 +68,7 @@ events_field = within 4 0 most_events Count
 
 abbrev pub input_field : Field TraceErr
 input_field = tested 4 (is_result Input) Range
+
+-- whether a number is the magic of a profile
+abbrev pub is_magic : ℕ → Bool
+is_magic n = n == little_number 4 (trace_magic One) || n == little_number 4 (trace_magic Two)

@@ -1,5 +1,5 @@
 -- What was recorded of a run, however the code keeps it; how it is read from bytes, and its limits.
-use Rattle.std.specs.Prelude.{ℕ, List, [], map, Some, Bool, length, Option, None, Result, Ok, Err, nat_lt, ◌==◌, ◌||◌, if◌then◌else◌, ◌∷◌, ◌≡◌, ◌^◌, ◌<◌, ◌≤◌}
+use Rattle.std.specs.Prelude.{ℕ, List, [], map, Some, length, Option, None, Result, Ok, Err, nat_lt, ◌==◌, ◌||◌, if◌then◌else◌, ◌∷◌, ◌≡◌, ◌^◌, ◌<◌, ◌≤◌}
 pub use Rattle.ir_bytes.specs.Reading.{IsWord}
 use Rattle.ir_thread.specs.declared.end.End.{End}
 use Rattle.ir_thread.specs.declared.profile.Profile.{Profile}
@@ -62,10 +62,6 @@ abbrev pub trace_magic : Profile → List ℕ
 trace_magic One = 0x49 ∷ 0x52 ∷ 0x54 ∷ 0x31 ∷ []
 trace_magic Two = 0x49 ∷ 0x52 ∷ 0x54 ∷ 0x32 ∷ []
 
--- whether a number is the magic of a profile
-abbrev pub is_magic : ℕ → Bool
-is_magic n = n == little_number 4 (trace_magic One) || n == little_number 4 (trace_magic Two)
-
 -- the profile of a magic
 abbrev pub profile_of : ℕ → Profile
 profile_of n = if n == little_number 4 (trace_magic One) then One else Two
@@ -76,7 +72,8 @@ object_field objects = tested 1 (λ n. nat_lt n objects) Count
 
 -- the profile, by the magic
 unfoldable pub profile_at : Reader Profile TraceErr
-profile_at bytes = field_at Short (tested 4 is_magic Magic) bytes >>= λ n. Ok (profile_of n.0, n.1)
+profile_at bytes = field_at Short (tested 4 (λ n. n == little_number 4 (trace_magic One) || n == little_number 4 (trace_magic Two)) Magic) bytes
+    >>= λ n. Ok (profile_of n.0, n.1)
 
 -- what comes before the threads
 unfoldable pub header_at : Reader Header TraceErr

@@ -8,7 +8,7 @@ use Rattle.ir_runs.specs.declared.access.Access.{Access}
 use Rattle.ir_runs.specs.declared.access.Access.TheVariants.{Reading, Writing}
 use Rattle.ir_runs.specs.Run.{Step, Emits}
 use Rattle.ir_runs.proofs.CallerLemmas.{upd_at_own_place}
-use Rattle.ir_flat.specs.Flat.{empty}
+use Rattle.ir_flat.specs.Room.{empty}
 use Rattle.ir_thread.specs.State as thread
 use Rattle.ir_fit.specs.Fit.{FittedTrace, IsRunOf}
 use Rattle.ir_cut.specs.Positions.{EachRun, machine_of, start_of}

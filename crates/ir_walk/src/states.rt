@@ -2,7 +2,8 @@
 
 ghost use Rattle.std.specs.Prelude.{◌≡◌, ◌<◌, length, slice_index, IfOk};
 ghost use Rattle.std.specs.List.{slice_index_or};
-ghost use Rattle.ir_flat.specs.Flat.{idle, empty};
+ghost use Rattle.ir_flat.specs.Flat.{idle};
+ghost use Rattle.ir_flat.specs.Room.{empty};
 
 use ir_replay::State;
 use ir_thread::Thread;

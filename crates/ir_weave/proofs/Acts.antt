@@ -17,10 +17,10 @@ use Rattle.ir_runs.specs.declared.access.Access.TheVariants.{Reading, Writing}
 use Rattle.ir_thread.specs.declared.ask.Ask.{Ask}
 use Rattle.ir_thread.specs.declared.ask.Ask.TheVariants.{Enter, Try, Leave, Get, Put}
 use Rattle.ir_thread.specs.declared.ask.Reply.TheVariants.{Value}
-use Rattle.ir_object.specs.Cell.{Cell, bit_of}
+use Rattle.ir_object.specs.Cell.{Cell}
 use Rattle.ir_object.specs.Standing.{Admitted as Enters}
 use Rattle.ir_object.specs.declared.fields.Fields.{Fields}
-use Rattle.ir_object.specs.Word.{reader_unit, left_unit, version_unit, inside_limit, left_limit, reader_leaves, IsFields, word_of, fields_of, entered, left_by}
+use Rattle.ir_object.specs.Word.{reader_unit, left_unit, version_unit, inside_limit, left_limit, reader_leaves, IsFields, word_of, fields_of, entered, left_by, bit_of}
 use Rattle.ir_flat.specs.Flat.{Flat, IsFlat, idle, thread_of, cell_of, inside_of, tables}
 use Rattle.ir_flat.specs.Next.{next}
 use Rattle.ir_runs.specs.Run.{count, label, end, trail, At, Emits, part}

@@ -15,7 +15,8 @@ use Rattle.ir_thread.specs.State as thread
 use Rattle.ir_thread.specs.declared.profile.Profile.{Profile}
 use Rattle.ir_object.specs.Cell.{Cell}
 use Rattle.ir_object.specs.Word.{word_of, fields_of}
-use Rattle.ir_flat.specs.Flat.{Flat, IsFlat, idle, empty, start_flat}
+use Rattle.ir_flat.specs.Flat.{Flat, IsFlat, idle, start_flat}
+use Rattle.ir_flat.specs.Room.{empty}
 use Rattle.ir_weave.proofs.Onward.{start_is_state_at_zero}
 use Rattle.ir_weave.proofs.Numbers.{state_thread_is_ahead_at_position}
 use Rattle.ir_weave.specs.Ahead.{IsAhead}

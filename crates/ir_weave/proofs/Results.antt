@@ -1,7 +1,8 @@
 -- The result with which a thread takes its next step, by what it asks.
 use Rattle.std.proofs.Common.{◌≡◌, ℕ, ◌<◌, List, length, None, Some, refl, sym, ap, ◌∙◌, subst}
 use Rattle.std.specs.Prelude.{slice_get}
-use Rattle.ir_thread.specs.State.{held_count, ask_of}
+use Rattle.ir_thread.specs.State.{ask_of}
+use Rattle.ir_thread.specs.Permitted.{held_count}
 use Rattle.ir_runs.specs.declared.access.Access.{Access}
 use Rattle.ir_thread.specs.declared.ask.Ask.{Ask}
 use Rattle.ir_thread.specs.declared.ask.Ask.TheVariants.{Env, Enter, Try}
@@ -9,7 +10,8 @@ use Rattle.ir_runs.specs.declared.env_kind.EnvKind.{EnvKind}
 use Rattle.std.specs.List.{slice_index_or}
 use Rattle.std.proofs.lemmas.List.{get_or_default}
 use Rattle.ir_object.specs.Cell.{Cell}
-use Rattle.ir_flat.specs.Flat.{Flat, thread_of, cell_of, empty, IsFlat}
+use Rattle.ir_flat.specs.Flat.{Flat, thread_of, cell_of, IsFlat}
+use Rattle.ir_flat.specs.Room.{empty}
 use Rattle.ir_flat.proofs.CallerLemmas.{entered_object_is_of_state}
 use Rattle.ir_log.specs.Asked.{Suits}
 use Rattle.ir_log.specs.declared.event.Event.{Event}

@@ -2,7 +2,8 @@
 
 ghost use Rattle.std.specs.Prelude.{◌≡◌, ◌<◌, ◌≤◌, ◌↔◌, length, slice_get, Some, IsTrue, IfOk, OnErr};
 ghost use Rattle.ir_image.specs.Guest.{most_objects};
-ghost use Rattle.ir_thread.specs.State.{held_count, ask_of};
+ghost use Rattle.ir_thread.specs.State.{ask_of};
+ghost use Rattle.ir_thread.specs.Permitted.{held_count};
 ghost use Rattle.ir_thread.specs.declared.ask.Ask.TheVariants as ask;
 ghost use Rattle.ir_flat.specs.Flat.{thread_of, IsFlat};
 ghost use Rattle.ir_log.specs.Asked.{Suits};

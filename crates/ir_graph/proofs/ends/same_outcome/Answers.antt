@@ -1,6 +1,7 @@
 use Rattle.std.proofs.Common.{◌≡◌, ℕ, sym, subst}
 use Rattle.std.specs.List.{slice_index_or}
-use Rattle.ir_flat.specs.Flat.{empty, idle}
+use Rattle.ir_flat.specs.Flat.{idle}
+use Rattle.ir_flat.specs.Room.{empty}
 use Rattle.ir_graph.specs.Outcomes.{EndAlike}
 use Rattle.ir_graph.proofs.OneOutcome.{ends_alike_of_same_outcome, words_equal_of_same_outcome}
 use Rattle.ir_graph.proofs.ends.same_outcome.Goals as goal

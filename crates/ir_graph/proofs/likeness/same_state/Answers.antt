@@ -1,6 +1,6 @@
 use Rattle.std.proofs.Common.{◌≡◌, ℕ, ap, subst, arith, length}
 use Rattle.std.specs.List.{slice_index_or}
-use Rattle.ir_flat.specs.Flat.{empty}
+use Rattle.ir_flat.specs.Room.{empty}
 use Rattle.ir_graph.proofs.Alike.{look_alike_by_threads_and_words}
 use Rattle.ir_graph.proofs.likeness.same_state.Goals as goal
 

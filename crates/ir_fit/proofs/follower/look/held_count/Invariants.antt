@@ -1,5 +1,5 @@
 use Rattle.std.proofs.Common.{◌≡◌, ◌≤◌, take}
-use Rattle.ir_thread.specs.State.{held_count}
+use Rattle.ir_thread.specs.Permitted.{held_count}
 use Rattle.ir_fit.proofs.follower.look.held_count.Given as goal
 
 abbrev pub invariant-loop-place : goal.invariant-loop-place
