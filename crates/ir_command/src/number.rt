@@ -4,7 +4,7 @@ ghost use Rattle.std.specs.Prelude.{◌≡◌, ◌≤◌, length, ℕ, Option, M
 ghost use Rattle.std.specs.List.{list_all};
 ghost use Rattle.std.specs.Str.Parse.{digits_value};
 ghost use Rattle.ir_command.specs.Commands.{most_small, most_position, is_digit, numeral, number_of, number_up_to};
-ghost use Rattle.ir_command.specs.Commands as commands;
+ghost use Rattle.ir_command.specs.Cuts as cuts;
 
 use crate::command::ByteCount;
 
@@ -78,7 +78,7 @@ pub fn parse_u64(word: &[u8]) -> Option<u64>
 
 /// The number of bytes that a word writes, if one command may show as many.
 pub fn byte_count(word: &[u8]) -> Option<ByteCount>
-    ensures { result ≡ option_and_then commands.byte_count (number_of word.now) }
+    ensures { result ≡ option_and_then cuts.byte_count (number_of word.now) }
 {
     ByteCount::new(number(word)?)
 }
