@@ -10,13 +10,11 @@ use Rattle.ir_thread.specs.declared.end.End.TheVariants.{Breakpoint}
 use Rattle.ir_thread.specs.declared.profile.Profile.{Profile}
 use Rattle.ir_thread.specs.declared.profile.Profile.TheVariants.{One}
 use Rattle.ir_object.specs.Cell.{Cell, Counts, readers, has_writer}
-use Rattle.ir_runs.specs.Run as run
-use Rattle.ir_thread.specs.State as thread
 use Rattle.ir_runs.specs.declared.access.Access.TheVariants.{Writing}
 use Rattle.ir_runs.specs.Run.{State}
 
 -- how many events the first n threads have logged
-abbrev pub events_below : ℕ → (ℕ → thread.ThreadState) → ℕ
+abbrev pub events_below : ℕ → (ℕ → ThreadState) → ℕ
 events_below zero now = 0
 events_below (suc n) now = events_below n now + (now n).events
 
@@ -25,7 +23,7 @@ abbrev pub entries_seen : ℕ → Object → ℕ
 entries_seen n b = b.version + b.left + readers n b.inside + (if has_writer n b.inside then 1 else 0)
 
 -- of n threads: who is inside an object holds it, a writer is alone inside, each entry was logged, and no thread logged more than it may
-pub record IsKept (n : ℕ) (s : State thread.ThreadState) : Type 0 where
+pub record IsKept (n : ℕ) (s : State ThreadState) : Type 0 where
   pub linked : (t o : ℕ) → (s.objects o).inside t ≡ held_at (s.now t).held o
   pub exclusive : (o t u : ℕ) → t ≢ u → (s.objects o).inside t ≡ Some Writing → (s.objects o).inside u ≡ None
   pub others : (t o : ℕ) → n ≤ t → (s.objects o).inside t ≡ None
@@ -71,7 +69,7 @@ abbrev pub object_with : Cell → (ℕ → Option Access) → Object
 object_with c inside = record { version = c.fields.version; left = c.fields.left; inside = inside; words = slice_index c.words }
 
 -- the threads and objects as tables
-abbrev pub tables : Flat → run.State ThreadState
+abbrev pub tables : Flat → State ThreadState
 tables f = record { now = thread_of f; objects = λ o. object_with (cell_of f o) (inside_of f o) }
 
 -- the machine of each of its threads

@@ -1,12 +1,11 @@
 -- The label that an event denotes.
-use Rattle.ir_runs.specs.Machine.{Label}
 use Rattle.ir_runs.specs.Machine as machine
 use Rattle.ir_runs.specs.declared.access.Access.TheVariants.{Reading, Writing}
 use Rattle.ir_log.specs.declared.event.Event.{Event}
 use Rattle.ir_log.specs.declared.event.Event.TheVariants.{Answer, Read, Write, Try}
 
 -- the label of the step that the event is logged of; at an entry for reading its count of leaves is 0
-abbrev pub label_of : Event → Label
+abbrev pub label_of : Event → machine.Label
 label_of (Answer kind value) = machine.Answer kind value
 label_of (Read object version) = machine.In object Reading version 0
 label_of (Write object version readers) = machine.In object Writing version readers

@@ -3,10 +3,8 @@ use Rattle.std.specs.Prelude.{◌==◌, ℕ, zero, suc, ◌+◌, ◌/◌, List, 
 use Rattle.hex.specs.Hex.{encode_lower}
 use Rattle.ir_image.specs.Guest.{word_at_pc}
 use Rattle.ir_mach.specs.Execution.{byte_at}
-use Rattle.ir_thread.specs.State.{highest}
-use Rattle.ir_runs.specs.Machine.{Label, Answer, In, Object}
-use Rattle.ir_runs.specs.Machine as machine
-use Rattle.ir_thread.specs.State as thread
+use Rattle.ir_thread.specs.State.{highest, ThreadState}
+use Rattle.ir_runs.specs.Machine.{Label, Answer, In, Refused, Object}
 use Rattle.ir_runs.specs.declared.access.Access.{Access}
 use Rattle.ir_runs.specs.declared.access.Access.TheVariants.{Reading, Writing}
 use Rattle.ir_runs.specs.declared.env_kind.EnvKind.{EnvKind}
@@ -123,7 +121,7 @@ event_text (Answer kind value) = kind_text kind ++ codes " " ++ decimal value
 event_text (In object Reading version left) = codes "read " ++ decimal object ++ codes " version " ++ decimal version
 event_text (In object Writing version left) = codes "write " ++ decimal object ++ codes " version " ++ decimal version ++ codes " readers "
     ++ decimal left
-event_text (machine.Refused object) = codes "try " ++ decimal object
+event_text (Refused object) = codes "try " ++ decimal object
 event_text other = []
 
 -- the events from a number on
@@ -145,12 +143,12 @@ abbrev pub released : Option (ℕ × Access) → List ℕ
 released (Some top) = number_line (codes "next give back ") top.0
 released None = codes "next done\n"
 
-abbrev pub next_by : Option End → List ℕ → thread.ThreadState → List ℕ
+abbrev pub next_by : Option End → List ℕ → ThreadState → List ℕ
 next_by None code s = codes "next " ++ hex_word s.core.pc ++ codes " " ++ disassembled s.core.pc (word_at_pc code s.core.pc) ++ codes "\n"
 next_by (Some e) code s = released (highest s.held)
 
 -- the word at a thread's pc, which its next step carries out unless its budget is spent; or what it releases after its end
-abbrev pub next_text : List ℕ → thread.ThreadState → List ℕ
+abbrev pub next_text : List ℕ → ThreadState → List ℕ
 next_text code s = next_by s.ended code s
 
 abbrev pub thread_verdict_text : ThreadVerdict → List ℕ

@@ -22,7 +22,6 @@ use Rattle.ir_thread.specs.declared.ask.Reply.{Reply}
 use Rattle.ir_thread.specs.declared.ask.Reply.TheVariants.{Go, Value}
 use Rattle.ir_thread.specs.declared.call.Call.{Call}
 use Rattle.ir_thread.specs.declared.call.Call.TheVariants as call
-use Rattle.ir_runs.specs.Machine.{Machine}
 use Rattle.ir_runs.specs.Machine as machine
 use Rattle.ir_runs.specs.declared.env_kind.EnvKind.{EnvKind}
 
@@ -350,7 +349,7 @@ is_result Random value = nat_lt value (2 ^ 32)
 is_result Input value = nat_lt value (2 ^ 8) || (value == 0xFFFFFFFF)
 
 -- a thread that runs this code
-abbrev pub thread_machine : List ℕ → Machine ThreadState
+abbrev pub thread_machine : List ℕ → machine.Machine ThreadState
 thread_machine code = record {
   ask = λ s. shared_ask (ask_of code s);
   take = λ s value. after_reply code s (reply_of (ask_of code s) value);
