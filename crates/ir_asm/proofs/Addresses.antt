@@ -14,7 +14,8 @@ use Rattle.ir_isa.specs.declared.inst.Register.{Register}
 use Rattle.ir_isa.specs.declared.inst.Immediate.{Immediate}
 use Rattle.ir_asm.specs.declared.form.Form.TheVariants.{Loads, JumpsTo, Stores}
 use Rattle.ir_asm.specs.declared.item.Operand.TheVariants.{Index, Offset}
-use Rattle.ir_disasm.specs.Printed.{load_name, store_name, instruction_text, address}
+use Rattle.ir_disasm.specs.Printed.{instruction_text, address}
+use Rattle.ir_disasm.specs.Names.{load_name, store_name}
 use Rattle.ir_asm.specs.Forms.{form_named}
 use Rattle.ir_asm.specs.Operands.{operands_of, at_address, address as address_of}
 use Rattle.ir_asm.specs.Items.{instruction}

@@ -23,7 +23,8 @@ use Rattle.ir_asm.specs.declared.item.Operand.{Operand}
 use Rattle.ir_asm.specs.declared.item.Operand.TheVariants.{Index, Integer}
 use Rattle.ir_asm.specs.declared.item.Item.TheVariants.{Code}
 use Rattle.ir_asm.specs.Text.{before, trim, trim_end, is_blank, is_nil}
-use Rattle.ir_disasm.specs.Printed.{branch_name, immediate_name, operation_name, three, instruction_text}
+use Rattle.ir_disasm.specs.Printed.{three, instruction_text}
+use Rattle.ir_disasm.specs.Names.{branch_name, immediate_name, operation_name}
 use Rattle.ir_image.specs.declared.form.ImageForm.TheVariants.{Small}
 use Rattle.ir_asm.specs.Forms.{form_named, in_image, stands_in}
 use Rattle.ir_asm.specs.Operands.{operands_of, int_le}

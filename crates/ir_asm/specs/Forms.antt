@@ -9,7 +9,7 @@ use Rattle.ir_asm.specs.declared.form.Form.{Form}
 use Rattle.ir_asm.specs.declared.form.Form.TheVariants.{Registers, Immediates, Shifts, Loads, JumpsTo, Stores, Branches, Jumps, LoadsUpper, AddsUpper, Fences, Calls, Breaks, DoesNothing, LoadsValue, Enlarges, Sections, Words, Bytes, Space, Thread, Objects, Object}
 use Rattle.ir_asm.specs.declared.form.Kind.{Kind}
 use Rattle.ir_asm.specs.declared.form.Kind.TheVariants.{Register, Number, Address, Target, Value, Label}
-use Rattle.ir_disasm.specs.Printed.{branch_name, load_name, store_name, immediate_name, shift_name, operation_name}
+use Rattle.ir_disasm.specs.Names.{branch_name, load_name, store_name, immediate_name, shift_name, operation_name}
 use Rattle.ir_asm.specs.Names.{named, branch_ops, load_ops, store_ops, immediate_ops, shift_ops, base_operations, multiply_operations}
 
 -- the operations on two registers of the base

@@ -1,7 +1,7 @@
 //! The names of instructions.
 
 ghost use Rattle.std.specs.Prelude.{◌≡◌};
-ghost use Rattle.ir_disasm.specs.Printed.{branch_name, load_name, store_name, immediate_name, shift_name, operation_name};
+ghost use Rattle.ir_disasm.specs.Names.{branch_name, load_name, store_name, immediate_name, shift_name, operation_name};
 
 use ir_isa::{BranchOp, ImmediateOp, LoadOp, RegisterOp, ShiftOp, StoreOp};
 

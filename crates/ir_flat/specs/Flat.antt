@@ -56,6 +56,10 @@ idle = record {
 abbrev pub thread_of : Flat → ℕ → ThreadState
 thread_of f t = slice_index_or f.threads t idle
 
+-- an object that no thread has entered
+abbrev pub start_cell : List ℕ → Cell
+start_cell words = record { fields = record { version = 0; left = 0; inside = 0; writer = false }; words = words }
+
 -- the object of a number, as the code keeps it
 abbrev pub cell_of : Flat → ℕ → Cell
 cell_of f o = slice_index_or f.objects o (start_cell [])
@@ -80,10 +84,6 @@ machine f = thread_machine f.code
 abbrev pub start_threads : Guest → ℕ → Profile → ℕ → ℕ → List ThreadState
 start_threads guest budget profile from zero = []
 start_threads guest budget profile from (suc n) = start_state guest from budget profile ∷ start_threads guest budget profile (suc from) n
-
--- an object that no thread has entered
-abbrev pub start_cell : List ℕ → Cell
-start_cell words = record { fields = record { version = 0; left = 0; inside = 0; writer = false }; words = words }
 
 -- n objects of a guest from a number on, with their words
 abbrev pub start_cells : Guest → ℕ → ℕ → List Cell

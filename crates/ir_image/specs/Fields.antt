@@ -7,6 +7,27 @@ use Rattle.ir_image.specs.Guest.{limits_of, form_of, most_code_words, is_place, 
 use Rattle.ir_image.specs.declared.form.ImageForm.{ImageForm}
 use Rattle.ir_bytes.specs.Reading.{Field, tested, within}
 
+abbrev pub image_objects_field : ImageForm → Field ImageErr
+image_objects_field form = within 1 0 (limits_of form).objects Count
+
+-- the number of bytes of data
+abbrev pub bytes_field : Field ImageErr
+bytes_field = within 4 0 memory_size Count
+
+-- the number of words of code
+abbrev pub words_field : Field ImageErr
+words_field = within 4 0 most_code_words Count
+
+abbrev pub image_threads_field : ImageForm → Field ImageErr
+image_threads_field form = within 1 1 (limits_of form).threads Count
+
+abbrev pub entry_field : ℕ → Field ImageErr
+entry_field words = tested 4 (is_place words) Entry
+
+-- a form's magic
+abbrev pub image_magic_field : Field ImageErr
+image_magic_field = tested 4 (λ n. n == magic_number (form_of n)) Magic
+
 -- the magic, which names the form; how many threads, objects, words of code and bytes of data; the entries; the code; the data; the
 -- objects' first words
 abbrev pub image_fields : Format ImageErr
@@ -18,24 +39,3 @@ image_fields =
 -- the first fault of bytes that are no image
 abbrev pub image_fault : List ℕ → Option ImageErr
 image_fault = first_refused Short Trailing image_fields
-
--- a form's magic
-abbrev pub image_magic_field : Field ImageErr
-image_magic_field = tested 4 (λ n. n == magic_number (form_of n)) Magic
-
-abbrev pub image_threads_field : ImageForm → Field ImageErr
-image_threads_field form = within 1 1 (limits_of form).threads Count
-
-abbrev pub image_objects_field : ImageForm → Field ImageErr
-image_objects_field form = within 1 0 (limits_of form).objects Count
-
--- the number of words of code
-abbrev pub words_field : Field ImageErr
-words_field = within 4 0 most_code_words Count
-
--- the number of bytes of data
-abbrev pub bytes_field : Field ImageErr
-bytes_field = within 4 0 memory_size Count
-
-abbrev pub entry_field : ℕ → Field ImageErr
-entry_field words = tested 4 (is_place words) Entry

@@ -3,8 +3,8 @@ use Rattle.std.proofs.Common.{◌≡◌, ℕ, Bool, true, false, cond, eqb, List
 use Rattle.std.specs.Prelude.{find, ◌&&◌}
 use Rattle.std.proofs.lemmas.Bool.{and_parts, eqb-true}
 use Rattle.std.proofs.lemmas.Option.{same_Some}
-use Rattle.ir_isa.specs.Code.{branch_funct, load_funct, store_funct, imm_funct, shift_functs, reg_functs}
-use Rattle.ir_isa.specs.Rows.{branch_op_of, load_op_of, store_op_of, imm_op_of, shift_op_of, reg_op_of}
+use Rattle.ir_isa.specs.Code.{shift_functs, reg_functs}
+use Rattle.ir_isa.specs.Rows.{branch_op_of, load_op_of, store_op_of, imm_op_of, shift_op_of, reg_op_of, branch_funct, load_funct, store_funct, imm_funct}
 use Rattle.ir_isa.specs.declared.inst.BranchOp.{BranchOp}
 use Rattle.ir_isa.specs.declared.inst.BranchOp.TheVariants.{Beq, Bne, Blt, Bge, Bltu, Bgeu}
 use Rattle.ir_isa.specs.declared.inst.LoadOp.{LoadOp}

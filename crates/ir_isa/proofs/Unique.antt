@@ -3,7 +3,8 @@ use Rattle.std.proofs.Common.{◌≡◌, ℕ, refl, sym, ◌∙◌, arith}
 use Rattle.std.proofs.Common.{◌<◌, ◌^◌, ◌+◌, ◌*◌}
 use Rattle.std.proofs.lemmas.Int.{ints}
 use Rattle.ir_isa.specs.Fields.{bits, sign_extended}
-use Rattle.ir_isa.specs.Code.{IsCode, shift_functs, imm_funct}
+use Rattle.ir_isa.specs.Code.{IsCode, shift_functs}
+use Rattle.ir_isa.specs.Rows.{imm_funct}
 use Rattle.ir_isa.specs.declared.inst.Inst.{Inst}
 use Rattle.ir_isa.specs.declared.inst.Inst.TheVariants.{Lui, Auipc, Jal, Jalr, Branch, Load, Store, OpImm, Shift, Op, Fence, Ecall, Ebreak}
 use Rattle.ir_isa.specs.declared.inst.ImmediateOp.{ImmediateOp}

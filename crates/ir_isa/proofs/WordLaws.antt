@@ -4,7 +4,8 @@ use Rattle.std.specs.Prelude.{ℤ, pos, negsuc, ◌≤ℤ◌}
 use Rattle.std.proofs.lemmas.Int.{ints}
 use Rattle.ir_isa.specs.Fields.{bits, sign_extended, low_bits}
 use Rattle.ir_isa.specs.Even.{IsEven}
-use Rattle.ir_isa.specs.Code.{IsCode, branch_funct, load_funct, store_funct, imm_funct, shift_functs, reg_functs}
+use Rattle.ir_isa.specs.Code.{IsCode, shift_functs, reg_functs}
+use Rattle.ir_isa.specs.Rows.{branch_funct, load_funct, store_funct, imm_funct}
 use Rattle.ir_isa.specs.Words.{word_of}
 use Rattle.ir_isa.specs.Decoded.{field_s, fits_s, field_b, fits_b, fits_i, field_j, fits_j}
 use Rattle.ir_isa.specs.declared.inst.Inst.{Inst}

@@ -1,5 +1,5 @@
 -- The code table of RV32I 2.1 and M 2.0 (RISC-V Unprivileged ISA, document 20191213): which words are the code of which instruction.
-use Rattle.std.specs.Prelude.{◌≡◌, ℕ, ℤ}
+use Rattle.std.specs.Prelude.{◌≡◌, ℕ, ℤ, List, codes}
 use Rattle.ir_isa.specs.Fields.{bits, imm_i, imm_s, imm_b, imm_u, imm_j}
 use Rattle.ir_isa.specs.declared.inst.Inst.{Inst}
 use Rattle.ir_isa.specs.declared.inst.Inst.TheVariants.{Lui, Auipc, Jal, Jalr, Branch, Load, Store, OpImm, Shift, Op, Fence, Ecall, Ebreak}
@@ -16,73 +16,74 @@ use Rattle.ir_isa.specs.declared.inst.ShiftOp.TheVariants.{Slli, Srli, Srai}
 use Rattle.ir_isa.specs.declared.inst.RegisterOp.{RegisterOp}
 use Rattle.ir_isa.specs.declared.inst.RegisterOp.TheVariants.{Add, Sub, Sll, Slt, Sltu, Xor, Srl, Sra, Or, And, Mul, Mulh, Mulhsu, Mulhu, Div, Divu, Rem, Remu}
 
--- the funct7 and funct3 of a row that has both
+-- the name, the funct7 and the funct3 of an operation that has both
 pub record Functs : Type 0 where
+  pub name : List ℕ
   pub seven : ℕ
   pub three : ℕ
 
--- a row's funct7 and funct3
-abbrev pub functs : ℕ → ℕ → Functs
-functs a b = record { seven = a; three = b }
+-- these
+abbrev pub functs : List ℕ → ℕ → ℕ → Functs
+functs name a b = record { name = name; seven = a; three = b }
 
--- the funct3 of a branch
-abbrev pub branch_funct : BranchOp → ℕ
-branch_funct Beq = 0b000
-branch_funct Bne = 0b001
-branch_funct Blt = 0b100
-branch_funct Bge = 0b101
-branch_funct Bltu = 0b110
-branch_funct Bgeu = 0b111
+-- the name and the funct3 of a branch
+abbrev pub branch_row : BranchOp → List ℕ × ℕ
+branch_row Beq = (codes "beq", 0b000)
+branch_row Bne = (codes "bne", 0b001)
+branch_row Blt = (codes "blt", 0b100)
+branch_row Bge = (codes "bge", 0b101)
+branch_row Bltu = (codes "bltu", 0b110)
+branch_row Bgeu = (codes "bgeu", 0b111)
 
--- the funct3 of a load
-abbrev pub load_funct : LoadOp → ℕ
-load_funct Lb = 0b000
-load_funct Lh = 0b001
-load_funct Lw = 0b010
-load_funct Lbu = 0b100
-load_funct Lhu = 0b101
+-- the name and the funct3 of a load
+abbrev pub load_row : LoadOp → List ℕ × ℕ
+load_row Lb = (codes "lb", 0b000)
+load_row Lh = (codes "lh", 0b001)
+load_row Lw = (codes "lw", 0b010)
+load_row Lbu = (codes "lbu", 0b100)
+load_row Lhu = (codes "lhu", 0b101)
 
--- the funct3 of a store
-abbrev pub store_funct : StoreOp → ℕ
-store_funct Sb = 0b000
-store_funct Sh = 0b001
-store_funct Sw = 0b010
+-- the name and the funct3 of a store
+abbrev pub store_row : StoreOp → List ℕ × ℕ
+store_row Sb = (codes "sb", 0b000)
+store_row Sh = (codes "sh", 0b001)
+store_row Sw = (codes "sw", 0b010)
 
--- the funct3 of an operation with an immediate
-abbrev pub imm_funct : ImmediateOp → ℕ
-imm_funct Addi = 0b000
-imm_funct Slti = 0b010
-imm_funct Sltiu = 0b011
-imm_funct Xori = 0b100
-imm_funct Ori = 0b110
-imm_funct Andi = 0b111
+-- the name and the funct3 of an operation with an immediate
+abbrev pub imm_row : ImmediateOp → List ℕ × ℕ
+imm_row Addi = (codes "addi", 0b000)
+imm_row Slti = (codes "slti", 0b010)
+imm_row Sltiu = (codes "sltiu", 0b011)
+imm_row Xori = (codes "xori", 0b100)
+imm_row Ori = (codes "ori", 0b110)
+imm_row Andi = (codes "andi", 0b111)
 
--- the funct7 and funct3 of a shift by an immediate
+-- a shift by an immediate
 abbrev pub shift_functs : ShiftOp → Functs
-shift_functs Slli = functs 0b0000000 0b001
-shift_functs Srli = functs 0b0000000 0b101
-shift_functs Srai = functs 0b0100000 0b101
+shift_functs Slli = functs (codes "slli") 0b0000000 0b001
+shift_functs Srli = functs (codes "srli") 0b0000000 0b101
+shift_functs Srai = functs (codes "srai") 0b0100000 0b101
 
--- the funct7 and funct3 of an operation on two registers
+-- an operation on two registers
 abbrev pub reg_functs : RegisterOp → Functs
-reg_functs Add = functs 0b0000000 0b000
-reg_functs Sub = functs 0b0100000 0b000
-reg_functs Sll = functs 0b0000000 0b001
-reg_functs Slt = functs 0b0000000 0b010
-reg_functs Sltu = functs 0b0000000 0b011
-reg_functs Xor = functs 0b0000000 0b100
-reg_functs Srl = functs 0b0000000 0b101
-reg_functs Sra = functs 0b0100000 0b101
-reg_functs Or = functs 0b0000000 0b110
-reg_functs And = functs 0b0000000 0b111
-reg_functs Mul = functs 0b0000001 0b000
-reg_functs Mulh = functs 0b0000001 0b001
-reg_functs Mulhsu = functs 0b0000001 0b010
-reg_functs Mulhu = functs 0b0000001 0b011
-reg_functs Div = functs 0b0000001 0b100
-reg_functs Divu = functs 0b0000001 0b101
-reg_functs Rem = functs 0b0000001 0b110
-reg_functs Remu = functs 0b0000001 0b111
+reg_functs Add = functs (codes "add") 0b0000000 0b000
+reg_functs Sub = functs (codes "sub") 0b0100000 0b000
+reg_functs Sll = functs (codes "sll") 0b0000000 0b001
+reg_functs Slt = functs (codes "slt") 0b0000000 0b010
+reg_functs Sltu = functs (codes "sltu") 0b0000000 0b011
+reg_functs Xor = functs (codes "xor") 0b0000000 0b100
+reg_functs Srl = functs (codes "srl") 0b0000000 0b101
+reg_functs Sra = functs (codes "sra") 0b0100000 0b101
+reg_functs Or = functs (codes "or") 0b0000000 0b110
+reg_functs And = functs (codes "and") 0b0000000 0b111
+reg_functs Mul = functs (codes "mul") 0b0000001 0b000
+reg_functs Mulh = functs (codes "mulh") 0b0000001 0b001
+reg_functs Mulhsu = functs (codes "mulhsu") 0b0000001 0b010
+reg_functs Mulhu = functs (codes "mulhu") 0b0000001 0b011
+reg_functs Div = functs (codes "div") 0b0000001 0b100
+reg_functs Divu = functs (codes "divu") 0b0000001 0b101
+reg_functs Rem = functs (codes "rem") 0b0000001 0b110
+reg_functs Remu = functs (codes "remu") 0b0000001 0b111
 
 -- ---- formats
 
@@ -137,10 +138,10 @@ IsCode word (Lui rd imm) = IsU word imm.value rd.number 0b0110111
 IsCode word (Auipc rd imm) = IsU word imm.value rd.number 0b0010111
 IsCode word (Jal rd offset) = IsJ word offset.value rd.number 0b1101111
 IsCode word (Jalr rd rs1 imm) = IsI word imm.value rs1.number 0b000 rd.number 0b1100111
-IsCode word (Branch op rs1 rs2 offset) = IsB word offset.value rs2.number rs1.number (branch_funct op) 0b1100011
-IsCode word (Load op rd rs1 imm) = IsI word imm.value rs1.number (load_funct op) rd.number 0b0000011
-IsCode word (Store op rs1 rs2 imm) = IsS word imm.value rs2.number rs1.number (store_funct op) 0b0100011
-IsCode word (OpImm op rd rs1 imm) = IsI word imm.value rs1.number (imm_funct op) rd.number 0b0010011
+IsCode word (Branch op rs1 rs2 offset) = IsB word offset.value rs2.number rs1.number (branch_row op).1 0b1100011
+IsCode word (Load op rd rs1 imm) = IsI word imm.value rs1.number (load_row op).1 rd.number 0b0000011
+IsCode word (Store op rs1 rs2 imm) = IsS word imm.value rs2.number rs1.number (store_row op).1 0b0100011
+IsCode word (OpImm op rd rs1 imm) = IsI word imm.value rs1.number (imm_row op).1 rd.number 0b0010011
 IsCode word (Shift op rd rs1 amount) = IsR word (shift_functs op).seven amount.bits rs1.number (shift_functs op).three rd.number 0b0010011
 IsCode word (Op op rd rs1 rs2) = IsR word (reg_functs op).seven rs2.number rs1.number (reg_functs op).three rd.number 0b0110011
 IsCode word (Fence rd rs1 imm) = IsI word imm.value rs1.number 0b000 rd.number 0b0001111

@@ -1,7 +1,8 @@
 -- The word of an instruction, as the sum of its fields.
 use Rattle.std.specs.Prelude.{ℕ, ◌+◌, ◌*◌, ◌/◌, ◌^◌, ℤ}
 use Rattle.ir_isa.specs.Fields.{bits, low_bits}
-use Rattle.ir_isa.specs.Code.{branch_funct, load_funct, store_funct, imm_funct, shift_functs, reg_functs}
+use Rattle.ir_isa.specs.Code.{shift_functs, reg_functs}
+use Rattle.ir_isa.specs.Rows.{branch_funct, load_funct, store_funct, imm_funct}
 use Rattle.ir_isa.specs.declared.inst.Inst.{Inst}
 use Rattle.ir_isa.specs.declared.inst.Inst.TheVariants.{Lui, Auipc, Jal, Jalr, Branch, Load, Store, OpImm, Shift, Op, Fence, Ecall, Ebreak}
 

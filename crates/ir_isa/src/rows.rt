@@ -1,8 +1,8 @@
 //! The funct3 and the funct7 of the rows.
 
 ghost use Rattle.std.specs.Prelude.{◌≡◌};
-ghost use Rattle.ir_isa.specs.Code.{branch_funct, load_funct, store_funct, imm_funct, shift_functs, reg_functs};
-ghost use Rattle.ir_isa.specs.Rows.{branch_op_of, load_op_of, store_op_of, imm_op_of, shift_op_of, reg_op_of};
+ghost use Rattle.ir_isa.specs.Code.{shift_functs, reg_functs};
+ghost use Rattle.ir_isa.specs.Rows.{branch_op_of, load_op_of, store_op_of, imm_op_of, shift_op_of, reg_op_of, branch_funct, load_funct, store_funct, imm_funct};
 
 use crate::inst::{BranchOp, ImmediateOp, LoadOp, RegisterOp, ShiftOp, StoreOp};
 

@@ -31,6 +31,10 @@ pub record IsFields (f : Fields) : Type 0 where
   pub left : f.left < left_limit
   pub inside : f.inside < inside_limit
 
+-- 1 where a writer is inside
+abbrev pub bit_of : Bool → ℕ
+bit_of writer = if writer then 1 else 0
+
 -- the word that says so
 abbrev pub word_of : Fields → ℕ
 word_of f = f.version * version_unit + f.left * left_unit + f.inside * reader_unit + bit_of f.writer
@@ -65,7 +69,3 @@ pub record StepsOfWords : Type 0 where
   pub read_left : (f : Fields) → 0 < f.inside → word_of (left_by Reading f) ≡ word_of f + reader_leaves
   pub written : (f : Fields) → f.writer ≡ false → word_of (entered Writing f) ≡ word_of f + 1
   pub write_left : (f : Fields) → word_of (left_by Writing f) ≡ (f.version + 1) * version_unit
-
--- 1 where a writer is inside
-abbrev pub bit_of : Bool → ℕ
-bit_of writer = if writer then 1 else 0

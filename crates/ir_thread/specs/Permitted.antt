@@ -34,6 +34,10 @@ pub record IsRunning (s : ThreadState) : Type 0 where
 abbrev pub CanLog : ThreadState → Type 0
 CanLog s = s.events < most_events
 
+-- what the call that the thread makes prints
+abbrev pub next_output : ThreadState → List ℕ
+next_output s = call_output (call_at s) s
+
 -- where a thread asks so: what it holds and has room for, and that its profile has the call
 abbrev pub Permits : ThreadState → Ask → Type 0
 Permits s ask.Private = IsRunning s
@@ -73,10 +77,6 @@ step_of code s = after_reply code s Go
 unfoldable pub run_of : List ℕ → ℕ → ThreadState → ThreadState
 run_of code zero s = s
 run_of code (suc k) s = step_of code (run_of code k s)
-
--- what the call that the thread makes prints
-abbrev pub next_output : ThreadState → List ℕ
-next_output s = call_output (call_at s) s
 
 -- how many objects are held
 abbrev pub held_count : List (Option Access) → ℕ

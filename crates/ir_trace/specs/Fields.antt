@@ -13,6 +13,9 @@ use Rattle.ir_runs.specs.declared.env_kind.EnvKind.TheVariants.{Input}
 use Rattle.byteorder.specs.Endian.{little_number}
 use Rattle.ir_thread.specs.declared.profile.Profile.TheVariants.{One, Two}
 
+abbrev pub input_field : Field TraceErr
+input_field = tested 4 (is_result Input) Range
+
 -- after the tag: an input's value; an entry's object and version, and, if it is for writing, its readers; a refused try's object;
 -- another answer's value
 abbrev pub tagged_fields : ℕ → ℕ → Format TraceErr → Format TraceErr
@@ -26,11 +29,39 @@ tagged_fields objects tag rest =
 abbrev pub event_fields : Profile → ℕ → Format TraceErr → Format TraceErr
 event_fields profile objects rest = next (tag_field profile) λ tag. tagged_fields objects tag rest
 
+-- the number of an end
+abbrev pub end_field : Field TraceErr
+end_field = within 1 1 14 Range
+
+-- the number of events
+abbrev pub events_field : Field TraceErr
+events_field = within 4 0 most_events Count
+
 -- a thread: its steps, its end and the code of that, how many events it has, and these
 abbrev pub thread_fields : Profile → ℕ → Format TraceErr → Format TraceErr
 thread_fields profile objects rest =
     before (plain 8) (next end_field λ end. before (code_field end)
     (next events_field λ count. repeated count (event_fields profile objects) rest))
+
+abbrev pub trace_threads_field : Profile → Field TraceErr
+trace_threads_field profile = within 1 1 (limits_of (largest profile)).threads Count
+
+-- whether a number is the magic of a profile
+abbrev pub is_magic : ℕ → Bool
+is_magic n = n == little_number 4 (trace_magic One) || n == little_number 4 (trace_magic Two)
+
+abbrev pub trace_magic_field : Field TraceErr
+trace_magic_field = tested 4 is_magic Magic
+
+abbrev pub trace_objects_field : Profile → Field TraceErr
+trace_objects_field profile = within 1 0 (limits_of (largest profile)).objects Count
+
+abbrev pub budget_field : Field TraceErr
+budget_field = within 8 0 most_budget Count
+
+-- the two bytes that are reserved
+abbrev pub reserved_field : Field TraceErr
+reserved_field = fixed 2 0 Reserved
 
 -- the magic, which says the profile; how many threads and objects; what is reserved; the budget; the threads
 abbrev pub trace_fields : Format TraceErr
@@ -41,34 +72,3 @@ trace_fields =
 -- the first fault of bytes that are no trace
 abbrev pub trace_fault : List ℕ → Option TraceErr
 trace_fault = first_refused Short Trailing trace_fields
-
-abbrev pub trace_magic_field : Field TraceErr
-trace_magic_field = tested 4 is_magic Magic
-
-abbrev pub trace_threads_field : Profile → Field TraceErr
-trace_threads_field profile = within 1 1 (limits_of (largest profile)).threads Count
-
-abbrev pub trace_objects_field : Profile → Field TraceErr
-trace_objects_field profile = within 1 0 (limits_of (largest profile)).objects Count
-
--- the two bytes that are reserved
-abbrev pub reserved_field : Field TraceErr
-reserved_field = fixed 2 0 Reserved
-
-abbrev pub budget_field : Field TraceErr
-budget_field = within 8 0 most_budget Count
-
--- the number of an end
-abbrev pub end_field : Field TraceErr
-end_field = within 1 1 14 Range
-
--- the number of events
-abbrev pub events_field : Field TraceErr
-events_field = within 4 0 most_events Count
-
-abbrev pub input_field : Field TraceErr
-input_field = tested 4 (is_result Input) Range
-
--- whether a number is the magic of a profile
-abbrev pub is_magic : ℕ → Bool
-is_magic n = n == little_number 4 (trace_magic One) || n == little_number 4 (trace_magic Two)
