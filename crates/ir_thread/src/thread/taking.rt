@@ -17,7 +17,6 @@ const A0: u8 = 10;
 const LINE_FEED: u8 = 10;
 
 impl Reply {
-
     // What goes into a0.
     fn answer(self) -> Option<u32>
         ensures { result ≡ answer_of self }
