@@ -18,8 +18,8 @@ use Rattle.ir_asm.specs.declared.form.Form.TheVariants.{Shifts, Branches, Words}
 use Rattle.ir_asm.specs.declared.item.Operand.TheVariants.{Index, Integer}
 use Rattle.ir_asm.specs.declared.item.Item.TheVariants.{Code}
 use Rattle.ir_asm.specs.Text.{trim, trim_end}
-use Rattle.ir_disasm.specs.Printed.{one, far, distance, hex, instruction_text}
-use Rattle.ir_disasm.specs.Names.{branch_name, shift_name}
+use Rattle.ir_disasm.specs.Printed.{far, distance, hex, instruction_text}
+use Rattle.ir_disasm.specs.Names.{branch_name, shift_name, one}
 use Rattle.ir_asm.specs.Forms.{form_named}
 use Rattle.ir_asm.specs.Operands.{operands_of, int_le, is_even, distance_in, distance_text}
 use Rattle.ir_asm.specs.Items.{instruction}

@@ -1,7 +1,7 @@
 -- A format as its fields in their order, and the first fault of bytes that aren't of it.
-use Rattle.std.specs.Prelude.{ℕ, zero, suc, List, length, drop, Option, Some, None, Result, Ok, Err, nat_lt, ◌==◌, if◌then◌else◌, ◌≡◌}
+use Rattle.std.specs.Prelude.{ℕ, zero, suc, List, length, drop, Option, Some, None, Result, Ok, Err, nat_lt, ◌==◌, if◌then◌else◌, ◌≡◌, Bool}
 use Rattle.byteorder.specs.Endian.{little_number}
-use Rattle.ir_bytes.specs.Reading.{Field}
+use Rattle.ir_bytes.specs.Reading.{Field, tested}
 
 -- nothing more, or a field and what follows it, which may depend on the number that the field holds
 pub data Format (E : Type 0) : Type 0 where
@@ -43,3 +43,11 @@ IsRead view (Err e) read = read ≡ Err e
 -- a field that may hold any number
 abbrev pub plain : {E : Type 0} → ℕ → Field E
 plain size = record { size = size; fault = λ _. None }
+
+-- the fault of a number that doesn't pass
+abbrev pub unless : {E : Type 0} → (ℕ → Bool) → E → ℕ → Option E
+unless passes other n = if passes n then None else Some other
+
+-- a field that holds one number
+abbrev pub fixed : {E : Type 0} → ℕ → ℕ → E → Field E
+fixed size number = tested size (λ n. n == number)

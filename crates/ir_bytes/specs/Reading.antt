@@ -1,5 +1,5 @@
 -- Reading fields from the left: each is read whole and then tested, and the first fault is named. Faults are of any type.
-use Rattle.std.specs.Prelude.{ℕ, zero, suc, Bool, List, [], ◌∷◌, length, take, drop, Option, Some, None, Result, Ok, Err, nat_lt, nat_le, ◌==◌, ◌&&◌, if◌then◌else◌, ◌^◌, ◌<◌}
+use Rattle.std.specs.Prelude.{ℕ, zero, suc, Bool, List, [], ◌∷◌, length, take, drop, Option, Some, None, Result, Ok, Err, nat_lt, nat_le, ◌&&◌, if◌then◌else◌, ◌^◌, ◌<◌}
 use Rattle.byteorder.specs.Endian.{little_number}
 
 -- a number of four bytes
@@ -26,21 +26,13 @@ pub record Field (E : Type 0) : Type 0 where
   pub size : ℕ
   pub fault : ℕ → Option E
 
--- the fault of a number that doesn't pass
-abbrev pub unless : {E : Type 0} → (ℕ → Bool) → E → ℕ → Option E
-unless passes other n = if passes n then None else Some other
-
 -- a field that may hold the numbers that pass
 abbrev pub tested : {E : Type 0} → ℕ → (ℕ → Bool) → E → Field E
-tested size passes other = record { size = size; fault = unless passes other }
+tested size passes other = record { size = size; fault = λ n. if passes n then None else Some other }
 
 -- a field from one number to another
 abbrev pub within : {E : Type 0} → ℕ → ℕ → ℕ → E → Field E
 within size low high = tested size (λ n. nat_le low n && nat_le n high)
-
--- a field that holds one number
-abbrev pub fixed : {E : Type 0} → ℕ → ℕ → E → Field E
-fixed size number = tested size (λ n. n == number)
 
 -- ---- reading
 

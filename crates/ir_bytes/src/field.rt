@@ -1,8 +1,8 @@
 //! Fields at the prefix of bytes, over any type of errors. Each call gives what the field holds, and the bytes after it.
 
 ghost use Rattle.std.specs.Prelude.{◌≡◌, ◌≤◌, ◌+◌, length, IfOk};
-ghost use Rattle.ir_bytes.specs.Reading.{number_at, bytes_at, field_at, fixed, within};
-ghost use Rattle.ir_bytes.specs.Format.{IsRead};
+ghost use Rattle.ir_bytes.specs.Reading.{number_at, bytes_at, field_at, within};
+ghost use Rattle.ir_bytes.specs.Format.{IsRead, fixed};
 
 use byteorder::{ByteOrder, LittleEndian};
 

@@ -16,7 +16,8 @@ use Rattle.ir_runs.specs.Verdicts.{reads}
 use Rattle.ir_runs.specs.Coherent.{IsCoherent}
 use Rattle.ir_coherence.specs.Counting.{MayStand, writes, reads_in, writes_in, reads_of, writes_of, cause_by, CountsMore, CountsAll, HasRoom, FirstCause, NoCause}
 use Rattle.ir_runs.specs.Run.{At}
-use Rattle.ir_coherence.specs.Breaking.{HasCause, IsBefore, IsFirstBreak}
+use Rattle.ir_coherence.specs.Breaking.{HasCause, IsFirstBreak}
+use Rattle.ir_coherence.specs.Before.{IsBefore}
 use Rattle.ir_coherence.specs.declared.cause.Cause.{Cause}
 use Rattle.ir_coherence.specs.declared.cause.Cause.TheVariants.{Unmade, Twice, Readers}
 use Rattle.ir_coherence.specs.declared.entry_counts.EntryCounts.{EntryCounts}

@@ -44,14 +44,10 @@ HasCause n tr t i Unmade = IsUnmade tr t i
 HasCause n tr t i Twice = (IsUnmade tr t i → ⊥) × IsTwice tr t i
 HasCause n tr t i Readers = (IsUnmade tr t i → ⊥) × (IsTwice tr t i → ⊥) × IsMiscounted n tr t i
 
--- event j of thread u comes before event i of thread t
-abbrev pub IsBefore : ℕ → ℕ → ℕ → ℕ → Type 0
-IsBefore u j t i = (u < t) ⊎ ((u ≡ t) × (j < i))
-
--- event i of thread t breaks coherence for this cause, and none before it breaks it
+-- event i of thread t breaks coherence for this cause, and none before it does: of a thread before, or of this one
 pub record IsFirstBreak (n : ℕ) (tr : Trace) (t i : ℕ) (c : Cause) : Type 0 where
   pub breaks : HasCause n tr t i c
-  pub first : (u j : ℕ) (d : Cause) → IsBefore u j t i → HasCause n tr u j d → ⊥
+  pub first : (u j : ℕ) (d : Cause) → (u < t) ⊎ ((u ≡ t) × (j < i)) → HasCause n tr u j d → ⊥
 
 -- why an event breaks coherence
 abbrev pub cause_number : Cause → ℕ

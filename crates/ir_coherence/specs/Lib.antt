@@ -1,3 +1,4 @@
 pub mod Breaking
 pub mod Counting
 pub mod Laws
+pub mod Before

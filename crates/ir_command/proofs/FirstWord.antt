@@ -2,8 +2,8 @@
 use Rattle.std.proofs.Common.{◌≡◌, ℕ, Bool, true, false, List, [], ◌∷◌, take, drop, refl, sym, ap, ◌∙◌}
 use Rattle.std.specs.Prelude.{filter, not}
 use Rattle.std.specs.List.{slice_split}
-use Rattle.ir_command.specs.Commands.{is_blank, is_empty, words_of}
-use Rattle.ir_command.specs.Cuts.{skip_blanks, word_end}
+use Rattle.ir_command.specs.Commands.{is_empty, words_of}
+use Rattle.ir_command.specs.Cuts.{skip_blanks, word_end, is_blank}
 
 abbrev is_nonempty : List ℕ → Bool
 is_nonempty word = not (is_empty word)

@@ -39,14 +39,10 @@ most_decimal = 20
 abbrev pub most_hexadecimal : ℕ
 most_hexadecimal = 16
 
--- whether the byte is a digit of the radix
-abbrev pub is_digit : ℕ → ℕ → Bool
-is_digit radix c = nat_lt (digit_value c) radix
-
 -- the number of one digit of the radix to the most; none of other bytes
 unfoldable pub numeral : ℕ → ℕ → List ℕ → Option ℕ
 numeral radix most digits =
-    if (nat_le 1 (length digits) && nat_le (length digits) most) && list_all (is_digit radix) digits then Some (digits_value radix digits) else None
+    if (nat_le 1 (length digits) && nat_le (length digits) most) && list_all (λ c. nat_lt (digit_value c) radix) digits then Some (digits_value radix digits) else None
 
 -- `0x`
 abbrev pub starts_hexadecimal : List ℕ → Bool
@@ -144,17 +140,13 @@ command_of_words (name ∷ words) = some_command (command_named name words)
 abbrev pub without_return : List ℕ → List ℕ
 without_return line = if slice_index line (length line - 1) == 13 then take (length line - 1) line else line
 
--- a space or a tab
-abbrev pub is_blank : ℕ → Bool
-is_blank b = (b == 32) || (b == 9)
-
 abbrev pub is_empty : List ℕ → Bool
 is_empty [] = true
 is_empty (b ∷ bytes) = false
 
--- the words of a line, parted by blanks
+-- the words of a line, parted by spaces and tabs
 unfoldable pub words_of : List ℕ → List (List ℕ)
-words_of line = filter (λ word. not (is_empty word)) (slice_split is_blank line)
+words_of line = filter (λ word. not (is_empty word)) (slice_split (λ b. (b == 32) || (b == 9)) line)
 
 -- the most bytes of a line, a carriage return among them
 abbrev pub most_line : ℕ

@@ -3,7 +3,8 @@
 ghost use Rattle.std.specs.Prelude.{◌≡◌, ◌≤◌, length, ℕ, Option, MatchOption, option_and_then, true, false};
 ghost use Rattle.std.specs.List.{list_all};
 ghost use Rattle.std.specs.Str.Parse.{digits_value};
-ghost use Rattle.ir_command.specs.Commands.{most_small, most_position, is_digit, numeral, number_of, number_up_to};
+ghost use Rattle.ir_command.specs.Commands.{most_small, most_position, numeral, number_of, number_up_to};
+ghost use Rattle.ir_command.specs.Cuts.{is_digit};
 ghost use Rattle.ir_command.specs.Cuts as cuts;
 
 use crate::command::ByteCount;

@@ -1,8 +1,8 @@
 //! Lines cut into words.
 
 ghost use Rattle.std.specs.Prelude.{◌≡◌, ◌≤◌, [], ◌∷◌, length, MatchOption};
-ghost use Rattle.ir_command.specs.Commands.{is_blank, without_return, words_of};
-ghost use Rattle.ir_command.specs.Cuts.{skip_blanks, word_end};
+ghost use Rattle.ir_command.specs.Commands.{without_return, words_of};
+ghost use Rattle.ir_command.specs.Cuts.{skip_blanks, word_end, is_blank};
 
 fn is_blank(byte: u8) -> bool
     ensures { result ≡ is_blank byte }

@@ -19,10 +19,10 @@ use Rattle.ir_command.specs.declared.refusal.Refusal.TheVariants.{NoSuchThread}
 use Rattle.ir_debug.specs.declared.answer.Answer.{Answer}
 use Rattle.ir_debug.specs.declared.answer.Answer.TheVariants as answer
 use Rattle.ir_timeline.specs.Positions.{threads_of}
-use Rattle.ir_debug.specs.Machine.{Desk, moved_to, spoken, with_point, without_point, if_some, thread_named, refusal_of, is_at_hand, shown, Answers, AnswersBy}
+use Rattle.ir_debug.specs.Machine.{Desk, moved_to, spoken, if_some, thread_named, refusal_of, is_at_hand, shown, Answers, AnswersBy}
 use Rattle.ir_command.specs.declared.command.Point.{Point}
 use Rattle.ir_text.specs.Texts.{number_line, next_text}
-use Rattle.ir_debug.specs.Debugging.{Debugging, IsThere, answer_text}
+use Rattle.ir_debug.specs.Debugging.{Debugging, IsThere, answer_text, with_point, without_point}
 
 -- the machine at d may give this answer and be at next then, and the command isn't refused otherwise
 abbrev AnswersInEachRun : Desk → Command → Answer → Desk → Type 0

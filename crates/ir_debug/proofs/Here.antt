@@ -4,8 +4,7 @@ use Rattle.std.specs.List.{slice_index_or}
 use Rattle.std.proofs.lemmas.List.{get_or_default}
 use Rattle.ir_image.specs.Guest.{object_words}
 use Rattle.ir_object.specs.Cell.{Cell}
-use Rattle.ir_flat.specs.Flat.{object_with}
-use Rattle.ir_flat.specs.Room.{empty}
+use Rattle.ir_flat.specs.Room.{empty, object_with}
 use Rattle.ir_runs.specs.Machine.{Label, Object}
 use Rattle.ir_runs.specs.Run.{Step, object_at}
 use Rattle.ir_thread.specs.State as thread

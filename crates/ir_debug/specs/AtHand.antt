@@ -3,7 +3,8 @@ use Rattle.std.specs.Prelude.{◌≡◌, ◌<◌, ℕ, List, take, map, length, 
 use Rattle.ir_image.specs.Guest.{object_words}
 use Rattle.ir_thread.specs.State as thread
 use Rattle.ir_runs.specs.Machine as machine
-use Rattle.ir_flat.specs.Flat.{thread_of, cell_of, object_with}
+use Rattle.ir_flat.specs.Flat.{thread_of, cell_of}
+use Rattle.ir_flat.specs.Room.{object_with}
 use Rattle.ir_log.specs.Logging.{label_of}
 use Rattle.ir_log.specs.declared.event.Event.{Event}
 use Rattle.ir_trace.specs.Recorded.{recorded_thread}

@@ -1,5 +1,5 @@
 -- The debugger between two commands, and the texts of its answers.
-use Rattle.std.specs.Prelude.{◌≡◌, ◌≤◌, ◌<◌, ◌+◌, ℕ, ⊤, true, List, ◌++◌, length, codes, Option, None, Result, flat_map, ◌==◌, not, nat_le, if◌then◌else◌, Bool, find, is_some}
+use Rattle.std.specs.Prelude.{◌≡◌, ◌≤◌, ◌<◌, ◌+◌, ℕ, ⊤, true, List, ◌++◌, length, codes, Option, None, Result, flat_map, ◌==◌, not, nat_le, if◌then◌else◌, Bool, find, is_some, [], ◌∷◌}
 use Rattle.std.specs.List.{AllByRecursion, filter}
 use Rattle.ir_runs.specs.Run.{Step}
 use Rattle.ir_fit.specs.Fit.{FittedTrace, HasRun}
@@ -16,10 +16,11 @@ use Rattle.ir_debug.specs.declared.answer.Answer.{Answer}
 use Rattle.ir_debug.specs.declared.answer.Answer.TheVariants.{Moved, Continued, Position, Shown, Next, Set, Cleared, Kept, Dropped, KeptCuts, Refused, Bye}
 use Rattle.ir_text.specs.Texts.{refusal_text, number_line, positions_text}
 use Rattle.ir_debug.specs.Machine as desk
-use Rattle.ir_debug.specs.Machine.{Desk, most_kept, refusal_of, is_at_hand, shown, kept_line, moved_text, continued_text, RepliesBy, StopsAt}
+use Rattle.ir_debug.specs.Machine.{Desk, most_kept, refusal_of, is_at_hand, shown, kept_line, moved_text, continued_text, RepliesBy, StopsAt, spoken}
 use Rattle.ir_command.specs.Commands.{most_small}
 use Rattle.ir_hits.specs.Hits.{Numbered}
 use Rattle.ir_command.specs.declared.command.Direction.TheVariants.{Forwards, Backwards}
+use Rattle.ir_command.specs.declared.command.Point.{Point}
 
 -- all kept cuts are such
 abbrev pub AllKept : FittedTrace → List desk.Kept → Type 0
@@ -103,3 +104,19 @@ ToPosition steps f at t k to = StopsAt steps f at t (if nat_le (cut_of at t) k t
 -- whether a point of this number is set
 abbrev pub is_set : List Numbered → ℕ → Bool
 is_set points n = is_some (find (λ p. p.number == n) points)
+
+-- one more point is set, by the next number
+abbrev pub with_point : Desk → Point → Desk
+with_point d point = record (spoken d) { points = d.points ++ record { number = d.last_point + 1; point = point } ∷ []; last_point = d.last_point + 1 }
+
+-- one is set no longer
+abbrev pub without_point : Desk → ℕ → Desk
+without_point d n = record (spoken d) { points = filter (λ p. not (p.number == n)) d.points }
+
+-- the machine's cut is kept too, by the next number
+abbrev pub with_kept : Desk → Desk
+with_kept d = record (spoken d) { kept = d.kept ++ record { number = d.last_kept + 1; cut = d.at } ∷ []; last_kept = d.last_kept + 1 }
+
+-- one is kept no longer
+abbrev pub without_kept : Desk → ℕ → Desk
+without_kept d n = record (spoken d) { kept = filter (λ k. not (k.number == n)) d.kept }

@@ -3,7 +3,6 @@ use Rattle.std.specs.Prelude.{◌==◌, ℕ, ◌+◌, not, Bool, true, false, Li
 use Rattle.std.specs.List.{filter}
 use Rattle.ir_fit.specs.Fit.{FittedTrace, HasRun, IsRefused}
 use Rattle.ir_command.specs.Commands.{most_small, command_of}
-use Rattle.ir_command.specs.declared.command.Point.{Point}
 use Rattle.ir_hits.specs.Hits.{Numbered, thread_at}
 use Rattle.ir_timeline.specs.Positions.{first_cut, threads_of, last_of, last_cut, Finds}
 use Rattle.ir_image.specs.Guest.{Guest, code_start, object_count, object_words, guest_at, image_fault_number}
@@ -76,25 +75,9 @@ moved_to d at = record d { at = at; fresh = true }
 abbrev pub spoken : Desk → Desk
 spoken d = record d { fresh = false }
 
--- one more point is set, by the next number
-abbrev pub with_point : Desk → Point → Desk
-with_point d point = record (spoken d) { points = d.points ++ record { number = d.last_point + 1; point = point } ∷ []; last_point = d.last_point + 1 }
-
--- one is set no longer
-abbrev pub without_point : Desk → ℕ → Desk
-without_point d n = record (spoken d) { points = filter (λ p. not (p.number == n)) d.points }
-
 -- the kept cut of a number
 abbrev pub kept_cut : List Kept → ℕ → Option (List ℕ)
 kept_cut kept n = option_map (λ k. k.cut) (find (λ k. k.number == n) kept)
-
--- the machine's cut is kept too, by the next number
-abbrev pub with_kept : Desk → Desk
-with_kept d = record (spoken d) { kept = d.kept ++ record { number = d.last_kept + 1; cut = d.at } ∷ []; last_kept = d.last_kept + 1 }
-
--- one is kept no longer
-abbrev pub without_kept : Desk → ℕ → Desk
-without_kept d n = record (spoken d) { kept = filter (λ k. not (k.number == n)) d.kept }
 
 -- the most that are kept beside the start
 abbrev pub most_kept : ℕ
@@ -263,14 +246,18 @@ abbrev pub CarriesOut : List run.Step → Desk → Command → List ℕ → Desk
 CarriesOut run d (command.Move move) text next = (to : List ℕ) × Leads run d.fitted d.at move to × Gives (moved_text d.fitted move to) (moved_to d to) text next
 CarriesOut run d (command.Continue t direction) text next = (to : List ℕ) × (hit : Option Hit) × Continues run d t direction hit to
     × Gives (continued_text d.fitted t hit to) (moved_to d to) text next
-CarriesOut run d (command.Set point) text next = Gives (number_line (codes "point ") (d.last_point + 1)) (with_point d point) text next
-CarriesOut run d (command.Clear n) text next = Gives (number_line (codes "cleared ") n) (without_point d n) text next
+CarriesOut run d (command.Set point) text next = Gives (number_line (codes "point ") (d.last_point + 1))
+    (record (spoken d) { points = d.points ++ record { number = d.last_point + 1; point = point } ∷ []; last_point = d.last_point + 1 }) text next
+CarriesOut run d (command.Clear n) text next = Gives (number_line (codes "cleared ") n)
+    (record (spoken d) { points = filter (λ p. not (p.number == n)) d.points }) text next
 CarriesOut run d command.Position text next = Gives (positions_text d.at ++ codes "\n") (spoken d) text next
 CarriesOut run d (command.Show show) text next = Gives (shown run d show) (spoken d) text next
-CarriesOut run d (command.Keeping Keep) text next = Gives (number_line (codes "kept ") (d.last_kept + 1)) (with_kept d) text next
+CarriesOut run d (command.Keeping Keep) text next = Gives (number_line (codes "kept ") (d.last_kept + 1))
+    (record (spoken d) { kept = d.kept ++ record { number = d.last_kept + 1; cut = d.at } ∷ []; last_kept = d.last_kept + 1 }) text next
 CarriesOut run d (command.Keeping (Load n)) text next = (to : List ℕ) × (kept_cut d.kept n ≡ Some to)
     × Gives (positions_text to ++ codes "\n") (moved_to d to) text next
-CarriesOut run d (command.Keeping (Drop n)) text next = Gives (number_line (codes "dropped ") n) (without_kept d n) text next
+CarriesOut run d (command.Keeping (Drop n)) text next = Gives (number_line (codes "dropped ") n)
+    (record (spoken d) { kept = filter (λ k. not (k.number == n)) d.kept }) text next
 CarriesOut run d (command.Keeping AllKept) text next = Gives (flat_map kept_line d.kept) (spoken d) text next
 CarriesOut run d command.Quit text next = Gives (codes "bye\n") (spoken d) text next
 

@@ -74,8 +74,8 @@ impl Debugger {
     ghost use Rattle.ir_command.specs.declared.command.Show.TheVariants as show;
     ghost use Rattle.ir_debug.specs.declared.answer.Answer.TheVariants as answer;
     ghost use Rattle.ir_timeline.specs.Positions.{threads_of};
-    ghost use Rattle.ir_debug.specs.Machine.{desk_of, spoken, with_point, without_point, refusal_of, shown, Answers, AnswersBy};
-    ghost use Rattle.ir_debug.specs.Debugging.{IsDesk, IsLast, IsThere, answer_text};
+    ghost use Rattle.ir_debug.specs.Machine.{desk_of, spoken, refusal_of, shown, Answers, AnswersBy};
+    ghost use Rattle.ir_debug.specs.Debugging.{IsDesk, IsLast, IsThere, answer_text, with_point, without_point};
 
     /// A debugger with all threads at 0.
     ///

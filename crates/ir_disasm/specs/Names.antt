@@ -1,5 +1,5 @@
 -- The names of the operations of each kind.
-use Rattle.std.specs.Prelude.{ℕ, List}
+use Rattle.std.specs.Prelude.{ℕ, List, ◌∷◌, ◌++◌}
 use Rattle.ir_isa.specs.Code.{branch_row, load_row, store_row, imm_row, shift_functs, reg_functs}
 use Rattle.ir_isa.specs.declared.inst.BranchOp.{BranchOp}
 use Rattle.ir_isa.specs.declared.inst.LoadOp.{LoadOp}
@@ -31,3 +31,7 @@ shift_name op = (shift_functs op).name
 -- the name of each of the operations on two registers
 abbrev pub operation_name : RegisterOp → List ℕ
 operation_name op = (reg_functs op).name
+
+-- a name and an operand
+abbrev pub one : List ℕ → List ℕ → List ℕ
+one name a = name ++ 32 ∷ a

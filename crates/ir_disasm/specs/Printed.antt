@@ -13,10 +13,6 @@ abbrev pub hex : ℕ → ℕ → List ℕ
 hex zero n = []
 hex (suc k) n = digit_char (n / 16 ^ k % 16) ∷ hex k n
 
--- a name and an operand
-abbrev pub one : List ℕ → List ℕ → List ℕ
-one name a = name ++ 32 ∷ a
-
 -- a name and two operands
 abbrev pub two : List ℕ → List ℕ → List ℕ → List ℕ
 two name a b = name ++ 32 ∷ (a ++ 44 ∷ 32 ∷ b)
@@ -57,7 +53,7 @@ instruction_text pc Ebreak = codes "ebreak"
 -- the text of a word that is the code of this instruction, or of none
 abbrev pub text_by : ℕ → ℕ → Option Inst → List ℕ
 text_by pc word (Some i) = instruction_text pc i
-text_by pc word None = one (codes ".word") (codes "0x" ++ hex 8 word)
+text_by pc word None = codes ".word" ++ 32 ∷ (codes "0x" ++ hex 8 word)
 
 -- the text of a word at pc
 abbrev pub text_of : ℕ → ℕ → List ℕ

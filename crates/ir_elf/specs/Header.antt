@@ -1,6 +1,7 @@
 -- The header of a file, and the headers of its segments, field by field.
 use Rattle.std.specs.Prelude.{ℕ, List, Result, Ok}
-use Rattle.ir_bytes.specs.Reading.{◌>>=◌, Reader, Field, fixed, within, number_at, field_at, bytes_at}
+use Rattle.ir_bytes.specs.Reading.{◌>>=◌, Reader, Field, within, number_at, field_at, bytes_at}
+use Rattle.ir_bytes.specs.Format.{fixed}
 use Rattle.ir_elf.specs.declared.refusal.Refusal.{Refusal}
 use Rattle.ir_elf.specs.declared.refusal.Refusal.TheVariants.{Short, Magic, Class, Kind, Flags, Headers}
 use Rattle.ir_elf.specs.declared.header.HeadersPlace.{HeadersPlace}

@@ -1,8 +1,8 @@
 //! The header of a file, and the headers of its segments.
 
 ghost use Rattle.std.specs.Prelude.{◌≡◌};
-ghost use Rattle.ir_bytes.specs.Reading.{fixed, field_at};
-ghost use Rattle.ir_bytes.specs.Format.{IsRead};
+ghost use Rattle.ir_bytes.specs.Reading.{field_at};
+ghost use Rattle.ir_bytes.specs.Format.{IsRead, fixed};
 ghost use Rattle.ir_elf.specs.declared.refusal.Refusal.TheVariants.{Short};
 ghost use Rattle.ir_elf.specs.Header.{identified, kind_known, headers_found, headers_place_at, header_at, number_field};
 

@@ -13,8 +13,8 @@ use Rattle.ir_log.specs.declared.event.Event.{Event}
 use Rattle.ir_log.specs.declared.event.Event.TheVariants.{Answer, Read, Write, Try}
 use Rattle.ir_trace.specs.Recorded.{recorded_thread}
 use Rattle.ir_fit.proofs.Listed.{at_place_of_get_or, get_or_of_at, emitting_thread_is_guest_thread, entries_as_many_as_events, step_of_entry_emits_event, entry_step_is_of_event, step_of_leave_emits_leave, leave_step_is_kept}
-use Rattle.ir_fit.specs.Fit.{FittedTrace, placed_at, Visit, left_by, entered_by, of_threads, all_left, all_entered, same_access, picked, Listing, listed, IsListing}
-use Rattle.ir_fit.specs.Listed.{EmitsIn, OnlyLeaves, AllLeaves, OnlyEntries, AllEntries}
+use Rattle.ir_fit.specs.Fit.{FittedTrace, placed_at, Visit, entered_by, of_threads, all_left, all_entered, same_access, picked, Listing, listed, IsListing}
+use Rattle.ir_fit.specs.Listed.{EmitsIn, OnlyLeaves, AllLeaves, OnlyEntries, AllEntries, left_by}
 use Rattle.ir_fit.specs.declared.leave.Leave.{Leave}
 use Rattle.ir_fit.specs.declared.place.Place.{Place}
 

@@ -123,10 +123,6 @@ header_cause_number Objects = 2
 abbrev pub Visit : Type 0
 Visit = ℕ × Access × Place
 
--- the leaves of thread t
-abbrev pub left_by : ℕ → List Leave → List Visit
-left_by t ls = map (λ l. (l.object, l.access, record { position = l.position; version = l.version; thread = t })) ls
-
 -- an event of thread t that is logged at position k, and the entries after it
 abbrev pub enter_if : ℕ → Event → ℕ → List Visit → List Visit
 enter_if t (Read object version) k vs = (object, Reading, record { position = k; version = version; thread = t }) ∷ vs
@@ -146,7 +142,8 @@ of_threads (suc n) f = of_threads n f ++ f n
 
 -- all leaves
 abbrev pub all_left : List Placed → List Visit
-all_left ps = of_threads (length ps) (λ t. left_by t (placed_at ps t).leaves)
+all_left ps = of_threads (length ps) (λ t.
+    map (λ l. (l.object, l.access, record { position = l.position; version = l.version; thread = t })) (placed_at ps t).leaves)
 
 -- all entries
 abbrev pub all_entered : Recorded → List Placed → List Visit

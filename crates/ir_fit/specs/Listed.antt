@@ -1,5 +1,5 @@
 -- What lists of steps hold, by object, access and version.
-use Rattle.std.specs.Prelude.{◌≡◌, ℕ, eqb, List, [], ◌++◌}
+use Rattle.std.specs.Prelude.{◌≡◌, ℕ, eqb, List, [], ◌++◌, map}
 use Rattle.std.specs.List.{Contains, slice_index_or}
 use Rattle.std.specs.List.Sorted.{IsPermutation, IsNonDecreasingBy}
 use Rattle.ir_runs.specs.Machine.{Label, In, Out}
@@ -8,6 +8,7 @@ use Rattle.ir_flat.specs.Flat.{start_flat, tables, machine}
 use Rattle.ir_runs.specs.Run.{join_if, Emits}
 use Rattle.ir_fit.specs.Fit.{FittedTrace, HasRun, Listing, Visit, picked, listed}
 use Rattle.ir_fit.specs.declared.place.Place.{Place}
+use Rattle.ir_fit.specs.declared.leave.Leave.{Leave}
 
 -- step k of thread t emits this in the run that is kept
 abbrev pub EmitsIn : (f : FittedTrace) → HasRun f → ℕ → ℕ → Label → Type 0
@@ -56,3 +57,7 @@ none_listed = record { reading = []; writing = [] }
 -- these visits are listed after those that were
 abbrev pub AddsAll : Listing → Listing → List Visit → Type 0
 AddsAll old new vs = (o : ℕ) (a : Access) → listed new o a ≡ listed old o a ++ picked o a vs
+
+-- the leaves of thread t
+abbrev pub left_by : ℕ → List Leave → List Visit
+left_by t ls = map (λ l. (l.object, l.access, record { position = l.position; version = l.version; thread = t })) ls

@@ -68,13 +68,12 @@ cell_of f o = slice_index_or f.objects o (start_cell [])
 abbrev pub inside_of : Flat → ℕ → ℕ → Option Access
 inside_of f o t = held_at (thread_of f t).held o
 
--- the object whose word and contents these are, with these threads inside
-abbrev pub object_with : Cell → (ℕ → Option Access) → Object
-object_with c inside = record { version = c.fields.version; left = c.fields.left; inside = inside; words = slice_index c.words }
-
 -- the threads and objects as tables
 abbrev pub tables : Flat → State ThreadState
-tables f = record { now = thread_of f; objects = λ o. object_with (cell_of f o) (inside_of f o) }
+tables f = record {
+  now = thread_of f;
+  objects = λ o. let c = cell_of f o in record { version = c.fields.version; left = c.fields.left; inside = inside_of f o; words = slice_index c.words };
+}
 
 -- the machine of each of its threads
 abbrev pub machine : Flat → Machine ThreadState

@@ -1,9 +1,11 @@
 -- Threads with a place for each object, and an object that is none of the guest's.
-use Rattle.std.specs.Prelude.{◌≡◌, ◌<◌, ℕ, List, length, [], false}
+use Rattle.std.specs.Prelude.{◌≡◌, ◌<◌, ℕ, List, length, [], false, slice_index, Option}
 use Rattle.std.specs.List.{slice_index_or}
 use Rattle.ir_thread.specs.State.{ThreadState}
 use Rattle.ir_flat.specs.Flat.{idle}
 use Rattle.ir_object.specs.Cell.{Cell}
+use Rattle.ir_runs.specs.Machine.{Object}
+use Rattle.ir_runs.specs.declared.access.Access.{Access}
 
 -- each of these threads has a place for each of this many objects
 abbrev pub HaveRoom : List ThreadState → ℕ → Type 0
@@ -12,3 +14,7 @@ HaveRoom threads objects = (t : ℕ) → t < length threads → length (slice_in
 -- an object that is none of the guest's
 abbrev pub empty : Cell
 empty = record { fields = record { version = 0; left = 0; inside = 0; writer = false }; words = [] }
+
+-- the object whose word and contents these are, with these threads inside
+abbrev pub object_with : Cell → (ℕ → Option Access) → Object
+object_with c inside = record { version = c.fields.version; left = c.fields.left; inside = inside; words = slice_index c.words }

@@ -3,7 +3,8 @@ use Rattle.std.specs.Prelude.{ℕ, zero, suc, ◌+◌, ◌-◌, ◌/◌, ◌%◌
 use Rattle.hex.specs.Hex.{encode_lower}
 use Rattle.ir_image.specs.Guest.{object_words, object_count}
 use Rattle.ir_mach.specs.Core.{Core}
-use Rattle.ir_mach.specs.Execution.{byte_at, byte_of}
+use Rattle.ir_mach.specs.Execution.{byte_at}
+use Rattle.ir_mach.specs.Within.{byte_of}
 use Rattle.ir_thread.specs.State as thread
 use Rattle.ir_runs.specs.Run.{Step, object_at}
 use Rattle.ir_cut.specs.Positions.{machine_of, start_of, cut_of}

@@ -11,8 +11,8 @@ use Rattle.ir_thread.specs.State.{ThreadState}
 use Rattle.ir_fit.specs.Fit.{FittedTrace, IsRunOf}
 use Rattle.ir_command.specs.declared.command.Point.{Point}
 use Rattle.ir_command.specs.declared.command.Point.TheVariants.{Break, Watch, WatchObject}
-use Rattle.ir_hits.specs.Hits.{Numbered, thread_at, HitBy, HitByNumber, Changes, LeavesWritten, IsLowest}
-use Rattle.ir_hits.specs.Seeing.{Concerns, SomeConcerns, IsNoted, AllNoted, SeesHit, SeesHitAt, IsLowestOf, steps_of}
+use Rattle.ir_hits.specs.Hits.{Numbered, thread_at, HitBy, HitByNumber, IsLowest}
+use Rattle.ir_hits.specs.Seeing.{Concerns, SomeConcerns, IsNoted, AllNoted, SeesHit, SeesHitAt, IsLowestOf, steps_of, Changes, LeavesWritten}
 use Rattle.ir_hits.specs.declared.before.Before.{Before}
 use Rattle.ir_hits.specs.declared.before.Before.TheVariants.{Nothing, Word, Inside}
 use Rattle.ir_hits.proofs.Leaves.{emitting_step_below_steps, thread_same_after_last_step, held_for_writing_before_leave, leaves_written_if_write_hold_lost}

@@ -15,8 +15,8 @@ use Rattle.ir_fit.specs.Fit.{FittedTrace, IsRunOf}
 use Rattle.ir_fit.proofs.CallerLemmas.{at_place_of_get_or, get_or_of_at}
 use Rattle.ir_cut.specs.Positions.{machine_of, start_of}
 use Rattle.ir_weave.proofs.CallerLemmas.{StepOf, emitting_step_is_step_of, guest_machine_is_lawful}
-use Rattle.ir_hits.specs.Hits.{thread_at, LeavesWritten}
-use Rattle.ir_hits.specs.Seeing.{steps_of}
+use Rattle.ir_hits.specs.Hits.{thread_at}
+use Rattle.ir_hits.specs.Seeing.{steps_of, LeavesWritten}
 
 -- ---- one step
 

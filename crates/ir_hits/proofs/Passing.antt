@@ -17,9 +17,9 @@ use Rattle.ir_weave.specs.Standing.{positions}
 use Rattle.ir_weave.specs.Stepping.{HasGone}
 use Rattle.ir_command.specs.declared.command.Point.{Point}
 use Rattle.ir_command.specs.declared.command.Point.TheVariants.{Break, Watch, WatchObject}
-use Rattle.ir_hits.specs.Hits.{Numbered, thread_at, HitBy, Changes, LeavesWritten, NoneWithin}
+use Rattle.ir_hits.specs.Hits.{Numbered, thread_at, HitBy, NoneWithin}
 use Rattle.ir_hits.specs.Passing.{Watches, IsCovered, AreCovered, HasPassed}
-use Rattle.ir_hits.specs.Seeing.{IsNoted, AllNoted, steps_of}
+use Rattle.ir_hits.specs.Seeing.{IsNoted, AllNoted, steps_of, Changes, LeavesWritten}
 use Rattle.ir_hits.specs.declared.before.Before.{Before}
 use Rattle.ir_hits.specs.declared.before.Before.TheVariants.{Nothing, Word, Inside}
 use Rattle.ir_hits.proofs.Leaves.{held_for_writing_before_leave}

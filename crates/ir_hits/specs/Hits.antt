@@ -20,21 +20,14 @@ pub record Numbered : Type 0 where
 abbrev pub thread_at : FittedTrace → List Step → ℕ → ℕ → thread.ThreadState
 thread_at f run t k = th (machine_of f) (start_of f) run t k
 
--- the watched word of thread t before step j isn't what it is after it
-abbrev pub Changes : FittedTrace → List Step → ℕ → ℕ → ℕ → Type 0
-Changes f run t address j = memory_word (thread_at f run t j).core.memory address
-    ≢ memory_word (thread_at f run t (suc j)).core.memory address
-
--- step j of thread t leaves the object after writing
-abbrev pub LeavesWritten : FittedTrace → List Step → ℕ → ℕ → ℕ → Type 0
-LeavesWritten f run t object j = (version : ℕ) × Emits (machine_of f) (start_of f) run t j (Out object Writing version)
-
 -- the point hits thread t at position k: its pc is there, and it has a step left; or the step to k changed the word; or it left the
 -- object after writing
 abbrev pub HitBy : FittedTrace → List Step → ℕ → ℕ → Point → Type 0
 HitBy f run t k (Break u address) = (u ≡ t) × ((thread_at f run t k).core.pc ≡ address) × (k < count (machine_of f) (start_of f) run t)
-HitBy f run t k (Watch u address) = (u ≡ t) × ((j : ℕ) × (k ≡ suc j) × Changes f run t address j)
-HitBy f run t k (WatchObject object) = (j : ℕ) × (k ≡ suc j) × LeavesWritten f run t object j
+HitBy f run t k (Watch u address) = (u ≡ t) × ((j : ℕ) × (k ≡ suc j)
+    × (memory_word (thread_at f run t j).core.memory address ≢ memory_word (thread_at f run t (suc j)).core.memory address))
+HitBy f run t k (WatchObject object) = (j : ℕ) × (k ≡ suc j)
+    × ((version : ℕ) × Emits (machine_of f) (start_of f) run t j (Out object Writing version))
 
 -- a point of this number hits
 abbrev pub HitByNumber : FittedTrace → List Step → List Numbered → ℕ → ℕ → ℕ → Type 0

@@ -1,5 +1,5 @@
 -- What points see of a thread before and after one of its steps.
-use Rattle.std.specs.Prelude.{◌≡◌, ◌≢◌, ℕ, ◌<◌, ◌≤◌, ⊤, List, length, slice_get, min, Option, Some, None}
+use Rattle.std.specs.Prelude.{◌≡◌, ◌≢◌, ℕ, ◌<◌, ◌≤◌, ⊤, List, length, slice_get, min, Option, Some, None, suc}
 use Rattle.ir_mach.specs.Execution.{memory_word}
 use Rattle.ir_runs.specs.declared.access.Access.TheVariants.{Writing}
 use Rattle.ir_thread.specs.State.{held_at, ThreadState}
@@ -7,10 +7,11 @@ use Rattle.ir_command.specs.declared.command.Point.{Point}
 use Rattle.ir_command.specs.declared.command.Point.TheVariants.{Break, Watch, WatchObject}
 use Rattle.ir_hits.specs.declared.before.Before.{Before}
 use Rattle.ir_hits.specs.declared.before.Before.TheVariants.{Nothing, Word, Inside}
-use Rattle.ir_hits.specs.Hits.{Numbered}
-use Rattle.ir_runs.specs.Run.{Step, count}
+use Rattle.ir_hits.specs.Hits.{Numbered, thread_at}
+use Rattle.ir_runs.specs.Run.{Step, count, Emits}
 use Rattle.ir_fit.specs.Fit.{FittedTrace}
 use Rattle.ir_cut.specs.Positions.{machine_of, start_of}
+use Rattle.ir_runs.specs.Machine.{Out}
 
 -- whether the point may hit thread t
 abbrev pub Concerns : ℕ → Point → Type 0
@@ -66,3 +67,12 @@ IsLowestOf t last y notes points n (Some m) = ((i : ℕ) × (p : Numbered) × Se
 -- how many steps it takes
 abbrev pub steps_of : FittedTrace → List Step → ℕ → ℕ
 steps_of f run t = count (machine_of f) (start_of f) run t
+
+-- the watched word of thread t before step j isn't what it is after it
+abbrev pub Changes : FittedTrace → List Step → ℕ → ℕ → ℕ → Type 0
+Changes f run t address j = memory_word (thread_at f run t j).core.memory address
+    ≢ memory_word (thread_at f run t (suc j)).core.memory address
+
+-- step j of thread t leaves the object after writing
+abbrev pub LeavesWritten : FittedTrace → List Step → ℕ → ℕ → ℕ → Type 0
+LeavesWritten f run t object j = (version : ℕ) × Emits (machine_of f) (start_of f) run t j (Out object Writing version)

@@ -5,7 +5,7 @@ use Rattle.ir_image.specs.declared.image_err.ImageErr.{ImageErr}
 use Rattle.ir_image.specs.declared.image_err.ImageErr.TheVariants.{Short, Trailing, Magic, Count, Entry}
 use Rattle.ir_image.specs.Guest.{limits_of, form_of, most_code_words, is_place, magic_number, memory_size}
 use Rattle.ir_image.specs.declared.form.ImageForm.{ImageForm}
-use Rattle.ir_bytes.specs.Reading.{Field, tested, within}
+use Rattle.ir_bytes.specs.Reading.{Field, tested, within, Reader, field_at}
 
 abbrev pub image_objects_field : ImageForm → Field ImageErr
 image_objects_field form = within 1 0 (limits_of form).objects Count
@@ -39,3 +39,7 @@ image_fields =
 -- the first fault of bytes that are no image
 abbrev pub image_fault : List ℕ → Option ImageErr
 image_fault = first_refused Short Trailing image_fields
+
+-- an entry into code of `words` words, and the bytes after it
+abbrev pub entry_at : ℕ → Reader ℕ ImageErr
+entry_at words = field_at Short (tested 4 (is_place words) Entry)

@@ -121,10 +121,6 @@ is_place words n = (n % 4 == 0) && (nat_le code_start n && nat_lt n (code_start 
 abbrev pub word_at : Reader ℕ ImageErr
 word_at = number_at Short 4
 
--- an entry into code of `words` words, and the bytes after it
-abbrev pub entry_at : ℕ → Reader ℕ ImageErr
-entry_at words = field_at Short (tested 4 (is_place words) Entry)
-
 -- the form that the magic names, and the bytes after it
 unfoldable pub form_at : Reader ImageForm ImageErr
 form_at bytes = field_at Short (tested 4 (λ n. n == magic_number (form_of n)) Magic) bytes >>= λ n. Ok (form_of n.0, n.1)
@@ -142,7 +138,7 @@ counts_at bytes = do
 -- the entries, the code, the data, the objects' first words, and nothing after them
 unfoldable pub body_at : Counts → List ℕ → Result Guest ImageErr
 body_at c bytes = do
-  entries ← fields_at (entry_at c.words) c.threads bytes
+  entries ← fields_at (field_at Short (tested 4 (is_place c.words) Entry)) c.threads bytes
   code ← fields_at word_at c.words entries.1
   initial ← bytes_at Short c.bytes code.1
   words ← fields_at word_at ((limits_of c.form).words * c.objects) initial.1

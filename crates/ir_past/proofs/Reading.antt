@@ -5,7 +5,7 @@ use Rattle.std.proofs.lemmas.Option.{same_Some, none-some, slice_get_within}
 use Rattle.ir_log.specs.declared.event.Event.{Event}
 use Rattle.ir_log.specs.declared.event.Event.TheVariants as variant
 use Rattle.ir_trace.specs.Recorded.{Recorded, recorded_thread}
-use Rattle.ir_coherence.specs.Breaking.{IsBefore}
+use Rattle.ir_coherence.specs.Before.{IsBefore}
 use Rattle.ir_past.specs.Past.{event_at, IsReadAt, HasPlace, AreReaders}
 use Rattle.ir_past.specs.Progress.{ReadBefore}
 use Rattle.ir_past.specs.declared.place.Place.{Place}

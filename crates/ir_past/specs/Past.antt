@@ -4,7 +4,7 @@ use Rattle.std.specs.List.{slice_get, sum_by}
 use Rattle.ir_log.specs.declared.event.Event.{Event}
 use Rattle.ir_log.specs.declared.event.Event.TheVariants.{Answer, Read, Write, Try}
 use Rattle.ir_trace.specs.Recorded.{Recorded, RecordedThread, recorded_thread}
-use Rattle.ir_coherence.specs.Breaking.{IsBefore}
+use Rattle.ir_coherence.specs.Before.{IsBefore}
 use Rattle.ir_past.specs.declared.place.Place.{Place}
 use Rattle.ir_past.specs.declared.stale_write.StaleWrite.{StaleWrite}
 

@@ -4,7 +4,7 @@ use Rattle.std.specs.List.{slice_get}
 use Rattle.ir_log.specs.declared.event.Event.{Event}
 use Rattle.ir_log.specs.declared.event.Event.TheVariants.{Read}
 use Rattle.ir_trace.specs.Recorded.{Recorded}
-use Rattle.ir_coherence.specs.Breaking.{IsBefore}
+use Rattle.ir_coherence.specs.Before.{IsBefore}
 use Rattle.ir_past.specs.Past.{IsReadAt, IsWriteAt, IsStale, IsStaleIn, IsRow, HasRow, IsRising, HasPlace, AreRising, entered}
 use Rattle.ir_past.specs.Tables.{maker_in, read_in, last_read}
 use Rattle.ir_past.specs.declared.stale_write.StaleWrite.{StaleWrite}

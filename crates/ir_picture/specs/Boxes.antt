@@ -4,7 +4,7 @@ use Rattle.std.specs.List.{slice_get}
 use Rattle.ir_log.specs.declared.event.Event.{Event}
 use Rattle.ir_log.specs.declared.event.Event.TheVariants.{Read, Try}
 use Rattle.ir_trace.specs.Recorded.{Recorded, recorded_thread}
-use Rattle.ir_coherence.specs.Breaking.{IsBefore}
+use Rattle.ir_coherence.specs.Before.{IsBefore}
 use Rattle.ir_past.specs.Past.{entered}
 use Rattle.ir_picture.specs.declared.event_box.EventBox.{EventBox}
 

@@ -5,7 +5,7 @@ use Rattle.ir_thread.specs.State.{most_events}
 use Rattle.ir_log.specs.declared.event.Event.{Event}
 use Rattle.ir_log.specs.declared.event.Event.TheVariants.{Try}
 use Rattle.ir_trace.specs.Recorded.{Recorded, recorded_thread}
-use Rattle.ir_coherence.specs.Breaking.{IsBefore}
+use Rattle.ir_coherence.specs.Before.{IsBefore}
 use Rattle.ir_past.specs.Progress.{IsOpen}
 use Rattle.ir_picture.specs.Boxes.{ReadsAgain, TriesAgain, AreFolded, IsInBox, HasBox, IsBox}
 use Rattle.ir_picture.specs.declared.event_box.EventBox.{EventBox}

@@ -11,7 +11,7 @@ use Rattle.ir_files.specs.declared.exit_status.ExitStatus.TheVariants.{Done}
 use Rattle.ir_past.specs.Past.{event_at, entered}
 use Rattle.ir_past.specs.declared.stale_write.StaleWrite.{StaleWrite}
 use Rattle.ir_picture.specs.Needs.{IsEntryAt, IsMakerOf}
-use Rattle.ir_coherence.specs.Breaking.{IsBefore}
+use Rattle.ir_coherence.specs.Before.{IsBefore}
 use Rattle.ir_picture.specs.Numbers.{events_in}
 use Rattle.ir_picture.specs.declared.placed_box.PlacedBox.{PlacedBox}
 use Rattle.ir_picture.specs.declared.picture.Picture.{Picture}

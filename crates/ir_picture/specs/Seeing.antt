@@ -4,7 +4,7 @@ use Rattle.std.specs.List.{slice_get, slice_index_or}
 use Rattle.ir_log.specs.declared.event.Event.{Event}
 use Rattle.ir_log.specs.declared.event.Event.TheVariants.{Read, Write}
 use Rattle.ir_trace.specs.Recorded.{Recorded}
-use Rattle.ir_coherence.specs.Breaking.{IsBefore}
+use Rattle.ir_coherence.specs.Before.{IsBefore}
 use Rattle.ir_past.specs.Past.{event_at, entered}
 use Rattle.ir_picture.specs.Needs.{IsEntryAt}
 use Rattle.ir_picture.specs.Chrome.{IsSight}

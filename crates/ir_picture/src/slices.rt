@@ -3,7 +3,7 @@
 ghost use Rattle.std.specs.Prelude.{◌≡◌, ◌-◌, ◌<◌, ◌≤◌, ℕ, [], ◌∷◌, ◌++◌, codes, decimal, length, slice_get, Some, OnOk};
 ghost use Rattle.ir_log.specs.Logging.{label_of};
 ghost use Rattle.ir_text.specs.Texts.{event_text};
-ghost use Rattle.ir_coherence.specs.Breaking.{IsBefore};
+ghost use Rattle.ir_coherence.specs.Before.{IsBefore};
 ghost use Rattle.ir_past.specs.Past.{IsRising};
 ghost use Rattle.ir_past.specs.declared.stale_write.StaleWrite.{StaleWrite};
 ghost use Rattle.ir_picture.specs.Boxes.{IsBox};

@@ -14,7 +14,8 @@ use Rattle.ir_thread.specs.State as thread
 use Rattle.ir_thread.proofs.CallerLemmas.{ask_of_permitted}
 use Rattle.ir_runs.specs.Machine.{Admits, target}
 use Rattle.ir_flat.specs.Flat.{Flat, thread_of, tables, machine, idle, start_flat, start_threads}
-use Rattle.ir_runs.specs.Run.{State, Step, asked, Can, IsRun, end, log, IsDone, HasNone, rounds}
+use Rattle.ir_runs.specs.Run.{State, Step, asked, Can, IsRun, end, log, IsDone, rounds}
+use Rattle.ir_runs.specs.Bounds.{HasNone}
 use Rattle.ir_flat.proofs.CallerLemmas.{start_thread_is_fresh, length_of_start_threads, length_of_start_cells, nothing_is_stuck, guest_start_is_idle, shared_done_is_done}
 use Rattle.ir_runs.proofs.CallerLemmas.{idle_after_run, turns_are_run}
 use Rattle.ir_log.specs.Logged.{Logged}

@@ -5,7 +5,8 @@ use Rattle.std.proofs.lemmas.List.Concat.{flat_map-append}
 use Rattle.ir_thread.specs.State.{ask_of, shared_ask}
 use Rattle.ir_runs.specs.Machine.{act_of, target, Admits}
 use Rattle.ir_flat.specs.Flat.{Flat, tables, machine, idle}
-use Rattle.ir_runs.specs.Run.{end, HasNone, InTurn}
+use Rattle.ir_runs.specs.Run.{end, InTurn}
+use Rattle.ir_runs.specs.Bounds.{HasNone}
 use Rattle.ir_record.specs.Progress.{Progress, Took, TookIf}
 use Rattle.ir_record.specs.Recording.{order_of_turns}
 use Rattle.ir_record.specs.declared.turns.Turns.{Turns}

@@ -3,7 +3,8 @@ use Rattle.std.proofs.Common.{◌≡◌, ℕ, zero, suc, ◌+◌, ◌<◌, ◌�
 use Rattle.std.proofs.lemmas.Bool.{cases_eq}
 use Rattle.std.specs.List.{range_with_len}
 use Rattle.ir_runs.specs.Machine.{Machine}
-use Rattle.ir_runs.specs.Run.{State, HasNone, InTurn, rounds}
+use Rattle.ir_runs.specs.Run.{State, InTurn, rounds}
+use Rattle.ir_runs.specs.Bounds.{HasNone}
 use Rattle.ir_record.specs.Progress.{Progress, Took, IsReady, IsTape}
 
 pub append_non_empty_by_first : {X : Type 0} (xs ys : List X) → 0 < length xs → 0 < length (xs ++ ys)

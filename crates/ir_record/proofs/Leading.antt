@@ -4,7 +4,8 @@ use Rattle.std.proofs.Math.Path.{fun_ext}
 use Rattle.std.proofs.lemmas.Bool.{cases_eq}
 use Rattle.ir_runs.specs.Machine.{Machine, Private, act_of, upd, Object, target, Admits, acted, reply, emitted, Quiet}
 use Rattle.ir_runs.proofs.CallerLemmas.{upd_at_own_place, upd_at_other_place, upd_with_old_value}
-use Rattle.ir_runs.specs.Run.{State, Can, after, label, end, HasNone, EntersIfFree}
+use Rattle.ir_runs.specs.Run.{State, Can, after, label, end, EntersIfFree}
+use Rattle.ir_runs.specs.Bounds.{HasNone}
 use Rattle.ir_record.specs.Ahead.{alone, lead, IsAhead}
 
 -- ---- a private step

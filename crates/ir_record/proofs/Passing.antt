@@ -6,7 +6,8 @@ use Rattle.std.specs.List.{range_with_len}
 use Rattle.ir_thread.specs.State as thread
 use Rattle.ir_thread.specs.State.{thread_machine}
 use Rattle.ir_flat.specs.Flat.{Flat, tables, machine}
-use Rattle.ir_runs.specs.Run.{State, HasNone}
+use Rattle.ir_runs.specs.Run.{State}
+use Rattle.ir_runs.specs.Bounds.{HasNone}
 use Rattle.ir_record.specs.Ahead.{lead, CanSkip, WentIf}
 use Rattle.ir_record.specs.Noting.{has_moved, Noted}
 use Rattle.ir_record.specs.Progress.{Progress}

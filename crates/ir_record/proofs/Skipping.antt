@@ -6,7 +6,8 @@ use Rattle.std.specs.List.{range_with_len}
 use Rattle.ir_thread.specs.State as thread
 use Rattle.ir_flat.specs.Flat.{tables, machine}
 use Rattle.ir_runs.specs.Machine.{Machine}
-use Rattle.ir_runs.specs.Run.{State, HasNone, rounds}
+use Rattle.ir_runs.specs.Run.{State, rounds}
+use Rattle.ir_runs.specs.Bounds.{HasNone}
 use Rattle.ir_record.specs.Ahead.{lead, IsAhead, CanSkip, all_ahead, Went}
 use Rattle.ir_record.specs.Progress.{Progress, all_left}
 use Rattle.ir_record.proofs.Going.{range_from_zero_with_last, went_without_turns, went_through_both_orders, turn_of_thread_ahead_is_spent, turn_of_thread_without_step, ahead_of_reached_state, reached, Rounding, OneMoreRound, round_more, fewer_left}

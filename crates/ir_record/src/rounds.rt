@@ -4,7 +4,8 @@ ghost use Rattle.std.specs.Prelude.{◌≡◌, ◌≢◌, ◌<◌, ◌≤◌, �
 ghost use Rattle.std.specs.List.{range_with_len};
 ghost use Rattle.ir_thread.specs.State as thread;
 ghost use Rattle.ir_flat.specs.Flat.{tables, machine};
-ghost use Rattle.ir_runs.specs.Run.{State, HasNone, rounds};
+ghost use Rattle.ir_runs.specs.Run.{State, rounds};
+ghost use Rattle.ir_runs.specs.Bounds.{HasNone};
 ghost use Rattle.ir_record.specs.Ahead.{lead, IsAhead, CanSkip, AreAsks, WentIf};
 ghost use Rattle.ir_record.specs.Noting.{has_moved};
 ghost use Rattle.ir_record.specs.Progress.{Took};

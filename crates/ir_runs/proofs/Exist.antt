@@ -4,7 +4,8 @@ use Rattle.std.proofs.lemmas.Bool.{cases_eq, eqb-true, cases_lt}
 use Rattle.ir_runs.specs.Machine.{Machine, Label, In, Out}
 use Rattle.ir_runs.specs.Lawful.{IsLawful}
 use Rattle.ir_runs.specs.declared.access.Access.TheVariants.{Reading, Writing}
-use Rattle.ir_runs.specs.Run.{act, State, Step, after, label, IsRun, count, IsLeast, Emits, IsNeededBy, Cut, IsCut, Consistent, lower}
+use Rattle.ir_runs.specs.Run.{act, State, Step, after, label, IsRun, count, IsLeast, Emits, IsNeededBy, Cut, IsCut, Consistent}
+use Rattle.ir_runs.specs.Bounds.{lower}
 use Rattle.ir_runs.proofs.Good.{StateInvariant, state_invariant_after_step}
 use Rattle.ir_runs.proofs.Determined.{count_of_cons}
 use Rattle.ir_runs.proofs.Early.{emits_of_cons_cases, needed_step_is_not_later}

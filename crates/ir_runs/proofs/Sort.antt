@@ -3,7 +3,8 @@ use Rattle.std.proofs.Common.{◌≡◌, ℕ, suc, zero, pred, ◌<◌, Bool, tr
 use Rattle.std.proofs.lemmas.Bool.{eqb-true, cases_lt, lt-ltb, le-ltb}
 use Rattle.ir_runs.specs.Machine.{Machine, Label}
 use Rattle.ir_runs.specs.Lawful.{IsLawful}
-use Rattle.ir_runs.specs.Run.{State, Step, Can, after, label, IsRun, join_if, trail, At, Emits, Cut, Consistent, lower, part}
+use Rattle.ir_runs.specs.Run.{State, Step, Can, after, label, IsRun, join_if, trail, At, Emits, Cut, Consistent, part}
+use Rattle.ir_runs.specs.Bounds.{lower}
 use Rattle.ir_runs.proofs.Good.{StateInvariant, state_invariant_after_step}
 use Rattle.ir_runs.proofs.Back.{RunWithoutStep, run_without_unneeded_step}
 

@@ -1,8 +1,8 @@
 -- Where runs begin and end, and of how many threads they are.
-use Rattle.std.specs.Prelude.{◌≡◌, ℕ, ◌<◌, ◌≤◌, List, None}
+use Rattle.std.specs.Prelude.{◌≡◌, ℕ, ◌<◌, ◌≤◌, List, None, eqb, pred, cond}
 use Rattle.ir_runs.specs.Machine.{Done, Enter, Machine, Trace}
 use Rattle.ir_runs.specs.declared.access.Access.{Access}
-use Rattle.ir_runs.specs.Run.{State, Step, asked, IsRun, end, log, count, IsDone}
+use Rattle.ir_runs.specs.Run.{State, Step, asked, IsRun, end, log, count, IsDone, Cut, Can}
 
 -- the trace of the run
 abbrev pub trace : {T : Type 0} → Machine T → State T → List Step → Trace
@@ -26,3 +26,11 @@ IsIdle m s n = (t : ℕ) → n ≤ t → asked m s t ≡ Done
 -- the threads enter objects below the count
 abbrev pub IsBounded : {T : Type 0} → Machine T → State T → ℕ → Type 0
 IsBounded m s count = (t o : ℕ) (a : Access) → asked m s t ≡ Enter o a → o < count
+
+-- the positions that are left after a step of thread t
+abbrev pub lower : Cut → ℕ → Cut
+lower p t u = cond (eqb u t) (pred (p u)) (p u)
+
+-- thread t has no step now: it is done, or it must wait
+abbrev pub HasNone : {T : Type 0} → Machine T → State T → ℕ → Type 0
+HasNone m s t = (r : ℕ) → Can m s (t, r) → ⊥

@@ -117,14 +117,10 @@ IsCut m s run p = (t : ℕ) → p t ≤ count m s run t
 abbrev pub Consistent : {T : Type 0} → Machine T → State T → List Step → Cut → Type 0
 Consistent m s run p = (t k u j : ℕ) (a b : Label) → Emits m s run t k a → Emits m s run u j b → IsNeededBy b a → k < p t → j < p u
 
--- the positions that are left after a step of thread t
-abbrev pub lower : Cut → ℕ → Cut
-lower p t u = cond (eqb u t) (pred (p u)) (p u)
-
 -- the steps of the run that are in the cut, in the run's order
 abbrev pub part : List Step → Cut → List Step
 part [] p = []
-part (e ∷ run) p = join_if (ltb 0 (p e.0)) e (part run (lower p e.0))
+part (e ∷ run) p = join_if (ltb 0 (p e.0)) e (part run (λ u. cond (eqb u e.0) (pred (p u)) (p u)))
 
 -- the object at the cut
 abbrev pub object_at : {T : Type 0} → Machine T → State T → List Step → Cut → ℕ → Object
@@ -146,19 +142,15 @@ pub record IsGreatest {T : Type 0} (m : Machine T) (s : State T) (run : List Ste
   pub reaches : q t ≤ k
   pub greatest : (c : Cut) → IsCut m s run c → Consistent m s run c → ((u : ℕ) → c u ≤ p u) → c t ≤ k → (u : ℕ) → c u ≤ q u
 
--- thread t has no step now: it is done, or it must wait
-abbrev pub HasNone : {T : Type 0} → Machine T → State T → ℕ → Type 0
-HasNone m s t = (r : ℕ) → Can m s (t, r) → ⊥
-
 -- a try enters if no thread is inside
 abbrev pub EntersIfFree : {T : Type 0} → Machine T → State T → Step → Type 0
 EntersIfFree m s e = (o : ℕ) → asked m s e.0 ≡ Try o → Can m s (e.0, 1) → e.1 ≡ 1
 
--- each entry of the order takes one step of its thread, or none where that thread has none; a try enters where it can
+-- each entry of the order takes one step of its thread, or none where that thread is done or must wait; a try enters where it can
 abbrev pub InTurn : {T : Type 0} → Machine T → State T → List ℕ → List Step → Type 0
 InTurn m s [] run = run ≡ []
 InTurn m s (t ∷ order) run =
-    (HasNone m s t × InTurn m s order run)
+    (((r : ℕ) → Can m s (t, r) → ⊥) × InTurn m s order run)
     ⊎ ((r : ℕ) × (rest : List Step) × (run ≡ (t, r) ∷ rest) × Can m s (t, r) × EntersIfFree m s (t, r)
     × InTurn m (after m s (t, r)) order rest)
 

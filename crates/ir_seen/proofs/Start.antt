@@ -5,7 +5,8 @@ use Rattle.std.specs.List.{slice_index_or}
 use Rattle.ir_image.specs.Guest.{Guest}
 use Rattle.ir_thread.specs.State.{held_at}
 use Rattle.ir_thread.specs.declared.profile.Profile.{Profile}
-use Rattle.ir_flat.specs.Flat.{start_flat, start_threads, tables, thread_of, idle, cell_of, object_with}
+use Rattle.ir_flat.specs.Flat.{start_flat, start_threads, tables, thread_of, idle, cell_of}
+use Rattle.ir_flat.specs.Room.{object_with}
 use Rattle.ir_states.specs.Views.{viewed}
 use Rattle.ir_seen.specs.Seen.{view}
 

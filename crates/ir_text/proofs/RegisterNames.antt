@@ -5,7 +5,8 @@ use Rattle.std.specs.List.{list_all}
 use Rattle.std.proofs.lemmas.Bool.{and_parts, leb-true}
 use Rattle.ir_isa.specs.Fields.{register_name, register_names}
 use Rattle.ir_mach.specs.Core.{Core}
-use Rattle.ir_text.specs.Texts.{registers_text, register_text}
+use Rattle.ir_text.specs.Texts.{registers_text}
+use Rattle.ir_text.specs.Parts.{register_text}
 
 listed_name_is_short : (names : List (List ℕ)) (i : ℕ) → list_all (λ name. leb (length name) 4) names ≡ true → length (slice_index_or names i []) ≤ 4
 listed_name_is_short [] i e = omega arith

@@ -182,14 +182,11 @@ reason_text Full = codes "full"
 abbrev pub refusal_text : Refusal → List ℕ
 refusal_text r = codes "refused " ++ decimal (refusal_number r) ++ codes " " ++ reason_text r ++ codes "\n"
 
--- a line has four registers
-abbrev pub register_text : Core → ℕ → List ℕ
-register_text m n = register_name n ++ codes "=" ++ hex_word (register m n) ++ (if n % 4 == 3 then codes "\n" else codes " ")
-
--- the first n registers
+-- the first n registers, four in a line
 unfoldable pub registers_text : Core → ℕ → List ℕ
 registers_text m zero = []
-registers_text m (suc n) = registers_text m n ++ register_text m n
+registers_text m (suc n) = registers_text m n
+    ++ (register_name n ++ codes "=" ++ hex_word (register m n) ++ (if n % 4 == 3 then codes "\n" else codes " "))
 
 -- pc and all registers
 abbrev pub machine_text : Core → List ℕ

@@ -7,8 +7,8 @@ use Rattle.ir_image.specs.Guest.{limits_of, most_object_words}
 use Rattle.ir_image.proofs.CallerLemmas.{words_of_form_at_most_limit}
 use Rattle.ir_mach.specs.Core.{Outcome, Goes, Calls, Ends}
 use Rattle.ir_mach.specs.Execution.{outcome_of}
-use Rattle.ir_thread.specs.Permitted.{IsRunning, CanLog, Permits, next_output, a7}
-use Rattle.ir_thread.specs.State.{held_at, highest, is_above, ThreadState, a0, a1, a2, call_of, call_at, byte_text, number_text, call_output, print_ask, logged_ask, is_object, has_word, entry_ask, leave_ask, leave_held, get_ask, get_held, put_ask, put_held, call_ask, outcome_ask, release_ask, ask_by, ask_of, most_output, most_events}
+use Rattle.ir_thread.specs.Permitted.{IsRunning, CanLog, Permits, next_output, a7, leave_ask, get_ask, put_ask}
+use Rattle.ir_thread.specs.State.{held_at, highest, is_above, ThreadState, a0, a1, a2, call_of, call_at, byte_text, number_text, call_output, print_ask, logged_ask, is_object, has_word, entry_ask, leave_held, get_held, put_held, call_ask, outcome_ask, release_ask, ask_by, ask_of, most_output, most_events}
 use Rattle.ir_runs.specs.declared.access.Access.{Access}
 use Rattle.ir_runs.specs.declared.access.Access.TheVariants.{Reading, Writing}
 use Rattle.ir_thread.specs.declared.ask.Ask.{Ask}

@@ -1,7 +1,7 @@
 -- Replies that suit what a thread asks, and steps that are permitted.
 use Rattle.std.specs.Prelude.{◌≡◌, ◌⊎◌, ℕ, zero, suc, ◌+◌, ◌≢◌, ◌<◌, ◌≤◌, true, List, length, Some, None, ⊤, Option, nat_le, if◌then◌else◌}
 use Rattle.ir_image.specs.Guest.{most_objects, most_object_words}
-use Rattle.ir_thread.specs.State.{held_at, highest, is_above, ThreadState, most_output, most_events, most_budget, after_reply, call_output, call_at, outcome_ask, one_if_held}
+use Rattle.ir_thread.specs.State.{held_at, highest, is_above, ThreadState, most_output, most_events, most_budget, after_reply, call_output, call_at, outcome_ask, one_if_held, a1, a0, leave_held, has_word, a2, put_held, is_object, get_held}
 use Rattle.ir_runs.specs.declared.access.Access.TheVariants.{Writing}
 use Rattle.ir_thread.specs.declared.ask.Ask.{Ask}
 use Rattle.ir_thread.specs.declared.ask.Ask.TheVariants as ask
@@ -11,7 +11,7 @@ use Rattle.ir_thread.specs.declared.end.End.{End}
 use Rattle.ir_thread.specs.declared.profile.Profile.TheVariants.{Two}
 use Rattle.ir_mach.specs.Core.{register}
 use Rattle.ir_runs.specs.declared.access.Access.{Access}
-use Rattle.ir_thread.specs.declared.end.End.TheVariants.{BudgetSpent}
+use Rattle.ir_thread.specs.declared.end.End.TheVariants.{BudgetSpent, NoSuchObject}
 use Rattle.std.specs.List.{sum_by}
 use Rattle.ir_mach.specs.Execution.{outcome_of}
 
@@ -89,3 +89,15 @@ a7 s = register s.core 17
 -- what a thread that hasn't ended asks: the budget is tested first
 abbrev pub running_ask : List ℕ → ThreadState → Ask
 running_ask code s = if nat_le s.budget s.steps then ask.End BudgetSpent else outcome_ask (outcome_of code s.core) s
+
+-- leaving an object that is held
+abbrev pub leave_ask : ThreadState → Ask
+leave_ask s = if is_object s (a0 s) then leave_held (a0 s) (held_at s.held (a0 s)) else ask.End NoSuchObject
+
+-- reading a word of an object that is held
+abbrev pub get_ask : ThreadState → Ask
+get_ask s = if has_word s then get_held (a0 s) (a1 s) (held_at s.held (a0 s)) else ask.End NoSuchObject
+
+-- writing a word of an object that is held for writing
+abbrev pub put_ask : ThreadState → Ask
+put_ask s = if has_word s then put_held (a0 s) (a1 s) (a2 s) (held_at s.held (a0 s)) else ask.End NoSuchObject

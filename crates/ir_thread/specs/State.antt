@@ -223,10 +223,6 @@ abbrev pub leave_held : ℕ → Option Access → Ask
 leave_held object None = ask.End NotHeld
 leave_held object (Some access) = ask.Leave object access
 
--- leaving an object that is held
-abbrev pub leave_ask : ThreadState → Ask
-leave_ask s = if is_object s (a0 s) then leave_held (a0 s) (held_at s.held (a0 s)) else ask.End NoSuchObject
-
 -- whether object a0 has a word a1
 abbrev pub has_word : ThreadState → Bool
 has_word s = is_object s (a0 s) && nat_lt (a1 s) (limits_of s.form).words
@@ -236,18 +232,10 @@ abbrev pub get_held : ℕ → ℕ → Option Access → Ask
 get_held object index None = ask.End NotHeld
 get_held object index (Some access) = ask.Get object index
 
--- reading a word of an object that is held
-abbrev pub get_ask : ThreadState → Ask
-get_ask s = if has_word s then get_held (a0 s) (a1 s) (held_at s.held (a0 s)) else ask.End NoSuchObject
-
 -- writing, by how the object is held
 abbrev pub put_held : ℕ → ℕ → ℕ → Option Access → Ask
 put_held object index value (Some Writing) = ask.Put object index value
 put_held object index value held = ask.End NotHeld
-
--- writing a word of an object that is held for writing
-abbrev pub put_ask : ThreadState → Ask
-put_ask s = if has_word s then put_held (a0 s) (a1 s) (a2 s) (held_at s.held (a0 s)) else ask.End NoSuchObject
 
 -- what a system call asks
 abbrev pub call_ask : Option Call → ThreadState → Ask
@@ -257,9 +245,9 @@ call_ask (Some call.PutByte) s = print_ask s (length (byte_text s))
 call_ask (Some call.PutNumber) s = print_ask s (length (number_text s))
 call_ask (Some (call.Env kind)) s = logged_ask s (ask.Env kind)
 call_ask (Some (call.Enter access)) s = entry_ask s (ask.Enter (a0 s) access)
-call_ask (Some call.Leave) s = leave_ask s
-call_ask (Some call.Get) s = get_ask s
-call_ask (Some call.Put) s = put_ask s
+call_ask (Some call.Leave) s = if is_object s (a0 s) then leave_held (a0 s) (held_at s.held (a0 s)) else ask.End NoSuchObject
+call_ask (Some call.Get) s = if has_word s then get_held (a0 s) (a1 s) (held_at s.held (a0 s)) else ask.End NoSuchObject
+call_ask (Some call.Put) s = if has_word s then put_held (a0 s) (a1 s) (a2 s) (held_at s.held (a0 s)) else ask.End NoSuchObject
 call_ask (Some call.OwnNumber) s = ask.Private
 call_ask (Some call.TryWrite) s = entry_ask s (ask.Try (a0 s))
 

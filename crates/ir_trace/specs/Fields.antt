@@ -1,13 +1,13 @@
 -- The fields of a trace in their order.
 use Rattle.std.specs.Prelude.{ℕ, List, Option, ◌==◌, if◌then◌else◌, Bool, ◌||◌}
-use Rattle.ir_bytes.specs.Format.{Format, finished, next, before, repeated, first_refused, plain}
+use Rattle.ir_bytes.specs.Format.{Format, finished, next, before, repeated, first_refused, plain, fixed}
 use Rattle.ir_thread.specs.declared.profile.Profile.{Profile}
 use Rattle.ir_trace.specs.declared.trace_err.TraceErr.{TraceErr}
 use Rattle.ir_trace.specs.declared.trace_err.TraceErr.TheVariants.{Short, Trailing, Magic, Count, Reserved, Range}
 use Rattle.ir_trace.specs.Recorded.{profile_of, object_field, trace_magic}
 use Rattle.ir_trace.specs.Results.{code_field, tag_field}
 use Rattle.ir_thread.specs.State.{largest, most_budget, most_events, is_result}
-use Rattle.ir_bytes.specs.Reading.{Field, tested, within, fixed}
+use Rattle.ir_bytes.specs.Reading.{Field, tested, within}
 use Rattle.ir_image.specs.Guest.{limits_of}
 use Rattle.ir_runs.specs.declared.env_kind.EnvKind.TheVariants.{Input}
 use Rattle.byteorder.specs.Endian.{little_number}

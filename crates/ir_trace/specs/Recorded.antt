@@ -10,7 +10,7 @@ use Rattle.ir_runs.specs.Machine.{Trace}
 use Rattle.ir_thread.specs.declared.end.End.TheVariants.{Breakpoint}
 use Rattle.ir_log.specs.Logging.{label_of}
 use Rattle.byteorder.specs.Endian.{little_number}
-use Rattle.ir_bytes.specs.Reading.{◌>>=◌, Reader, Field, tested, within, fixed, number_at, field_at, fields_at}
+use Rattle.ir_bytes.specs.Reading.{◌>>=◌, Reader, Field, tested, within, number_at, field_at, fields_at}
 use Rattle.ir_image.specs.Guest.{limits_of}
 use Rattle.ir_runs.specs.declared.env_kind.EnvKind.{EnvKind}
 use Rattle.ir_runs.specs.declared.env_kind.EnvKind.TheVariants.{Clock, Random, Input}
@@ -81,7 +81,7 @@ header_at bytes = do
   profile ← profile_at bytes
   threads ← field_at Short (within 1 1 (limits_of (largest profile.0)).threads Count) profile.1
   objects ← field_at Short (within 1 0 (limits_of (largest profile.0)).objects Count) threads.1
-  reserved ← field_at Short (fixed 2 0 Reserved) objects.1
+  reserved ← field_at Short (tested 2 (λ n. n == 0) Reserved) objects.1
   budget ← field_at Short (within 8 0 most_budget Count) reserved.1
   Ok (record { profile = profile.0; threads = threads.0; objects = objects.0; budget = budget.0 }, budget.1)
 

@@ -1,7 +1,7 @@
 -- Why a thread waited, link by link.
 use Rattle.std.specs.Prelude.{◌≡◌, ◌<◌, ◌≤◌, ◌-◌, ◌⊎◌, ℕ, List, [], ◌∷◌}
 use Rattle.ir_trace.specs.Recorded.{Recorded}
-use Rattle.ir_coherence.specs.Breaking.{IsBefore}
+use Rattle.ir_coherence.specs.Before.{IsBefore}
 use Rattle.ir_past.specs.declared.place.Place.{Place}
 use Rattle.ir_picture.specs.Shown.{StartsAt}
 use Rattle.ir_picture.specs.declared.placed_box.PlacedBox.{PlacedBox}

@@ -1,7 +1,7 @@
 //! Why a thread waited, link by link.
 
 ghost use Rattle.std.specs.Prelude.{◌≡◌, ◌<◌, ◌≤◌, ◌⊎◌, ℕ, true, false, [], length, MatchOption, IfOk, Some};
-ghost use Rattle.ir_coherence.specs.Breaking.{IsBefore};
+ghost use Rattle.ir_coherence.specs.Before.{IsBefore};
 ghost use Rattle.ir_trace.specs.Recorded.{recorded_thread};
 ghost use Rattle.ir_past.specs.Answers.{AreCoherent};
 ghost use Rattle.ir_past.specs.declared.place.Place as place;

@@ -7,7 +7,8 @@ use Rattle.std.proofs.Math.ListN.{get_or-append}
 use Rattle.std.proofs.Math.Seq.{get_or-append_seam}
 use Rattle.ir_image.specs.Guest.{object_count, first_words}
 use Rattle.ir_runs.specs.Machine.{Object}
-use Rattle.ir_runs.specs.Run.{Step, join_if, end, Cut, part, lower}
+use Rattle.ir_runs.specs.Run.{Step, join_if, end, Cut, part}
+use Rattle.ir_runs.specs.Bounds.{lower}
 use Rattle.ir_flat.specs.Room.{empty}
 use Rattle.ir_flat.proofs.CallerLemmas.{start_cell_has_first_words}
 use Rattle.ir_fit.specs.Fit.{FittedTrace, HasRun}

@@ -4,8 +4,8 @@ ghost use Rattle.std.specs.Prelude.{◌≡◌, ◌+◌, List, ℕ, None, Some, I
 ghost use Rattle.ir_cut.specs.Positions.{EachRun};
 ghost use Rattle.ir_command.specs.declared.command.Command.TheVariants as command;
 ghost use Rattle.ir_command.specs.declared.command.Keeping.TheVariants as keeping;
-ghost use Rattle.ir_debug.specs.Machine.{moved_to, spoken, with_kept, without_kept, kept_cut, refusal_of, AnswersBy};
-ghost use Rattle.ir_debug.specs.Debugging.{IsLast, answer_text};
+ghost use Rattle.ir_debug.specs.Machine.{moved_to, spoken, kept_cut, refusal_of, AnswersBy};
+ghost use Rattle.ir_debug.specs.Debugging.{IsLast, answer_text, with_kept, without_kept};
 
 use crate::answer::Answer;
 use crate::debugger::Debugger;

@@ -3,7 +3,8 @@
 ghost use Rattle.std.specs.Prelude.{◌≡◌, ◌≤◌, ◌<◌, ◌*◌, ◌+◌, Some, slice_index, length, min};
 ghost use Rattle.ir_image.specs.Guest.{most_object_words, word_at_pc};
 ghost use Rattle.ir_mach.specs.Core.{memory_size};
-ghost use Rattle.ir_mach.specs.Execution.{byte_at, byte_of};
+ghost use Rattle.ir_mach.specs.Execution.{byte_at};
+ghost use Rattle.ir_mach.specs.Within.{byte_of};
 ghost use Rattle.ir_cut.specs.Positions.{EachRun};
 ghost use Rattle.ir_gdb.specs.Reads.{word_byte, object_byte, byte_seen, bytes_there, most_bytes};
 ghost use Rattle.ir_gdb.specs.Serving.{IsThere};

@@ -24,8 +24,8 @@ const A2: u8 = 12;
 const A7: u8 = 17;
 
 impl Thread {
-    ghost use Rattle.ir_thread.specs.Permitted.{Permits, running_ask};
-    ghost use Rattle.ir_thread.specs.State.{held_at, highest, a0, a1, call_at, number_text, print_ask, logged_ask, is_object, has_word, entry_ask, leave_ask, get_ask, put_ask, call_ask, ask_of, release_ask};
+    ghost use Rattle.ir_thread.specs.Permitted.{Permits, running_ask, leave_ask, get_ask, put_ask};
+    ghost use Rattle.ir_thread.specs.State.{held_at, highest, a0, a1, call_at, number_text, print_ask, logged_ask, is_object, has_word, entry_ask, call_ask, ask_of, release_ask};
     ghost use Rattle.ir_mach.specs.Execution.{outcome_of};
     ghost use Rattle.ir_mach.specs.Steps.{ran_of};
 

@@ -1,6 +1,5 @@
 use Rattle.std.proofs.Common.{take}
-use Rattle.ir_fit.specs.Fit.{left_by}
-use Rattle.ir_fit.specs.Listed.{AddsAll}
+use Rattle.ir_fit.specs.Listed.{AddsAll, left_by}
 use Rattle.ir_fit.proofs.visiting.add_leaves.Given as goal
 
 abbrev pub invariant-loop-leave : goal.invariant-loop-leave

@@ -1,5 +1,5 @@
-use Rattle.ir_fit.specs.Fit.{placed_at, of_threads, left_by}
-use Rattle.ir_fit.specs.Listed.{AddsAll, none_listed}
+use Rattle.ir_fit.specs.Fit.{placed_at, of_threads}
+use Rattle.ir_fit.specs.Listed.{AddsAll, none_listed, left_by}
 use Rattle.ir_fit.proofs.visiting.left.Given as goal
 
 abbrev pub invariant-loop-t : goal.invariant-loop-t

@@ -1,6 +1,6 @@
 use Rattle.std.proofs.lemmas.Result.{err_from_is_err_and}
 use Rattle.ir_bytes.specs.Reading.{fields_at}
-use Rattle.ir_image.specs.Guest.{entry_at}
+use Rattle.ir_image.specs.Fields.{entry_at}
 use Rattle.ir_bytes.proofs.CallerLemmas.{fields_at_after_read_field, fields_at_after_all_fields}
 use Rattle.ir_image.proofs.Loop.{fields_fail_if_field_fails}
 use Rattle.ir_image.proofs.reading.entries.Goals as goal

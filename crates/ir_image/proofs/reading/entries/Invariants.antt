@@ -1,6 +1,6 @@
 use Rattle.std.proofs.Common.{◌≡◌, ◌-◌}
 use Rattle.ir_bytes.specs.Reading.{fields_at}
-use Rattle.ir_image.specs.Guest.{entry_at}
+use Rattle.ir_image.specs.Fields.{entry_at}
 use Rattle.ir_bytes.proofs.CallerLemmas.{with_prefix}
 use Rattle.ir_image.proofs.reading.entries.Given as goal
 

@@ -1,6 +1,7 @@
 use Rattle.std.proofs.Common.{◌++◌, List, ℕ, sym, ap, ◌∙◌, append_assoc, arith}
 use Rattle.std.proofs.lemmas.List.{append-nil}
-use Rattle.ir_text.specs.Texts.{registers_text, register_text}
+use Rattle.ir_text.specs.Texts.{registers_text}
+use Rattle.ir_text.specs.Parts.{register_text}
 use Rattle.ir_text.proofs.RegisterNames.{registers_text_step, registers_text_of_none}
 use Rattle.ir_text.proofs.text.put_registers.Goals as goal
 
