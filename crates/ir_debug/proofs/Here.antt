@@ -18,12 +18,12 @@ use Rattle.ir_command.specs.declared.command.Command.TheVariants as command
 use Rattle.ir_debug.specs.declared.answer.Answer.{Answer}
 use Rattle.ir_debug.specs.declared.answer.Answer.TheVariants.{Shown}
 use Rattle.ir_debug.specs.declared.answer.Answer.TheVariants as answer
-use Rattle.ir_debug.specs.Debugging.{Debugging, IsThere, IsLast, IsText, answer_text, IsDesk}
+use Rattle.ir_debug.specs.Debugging.{Debugging, IsThere, IsLast, IsText, answer_text, IsDesk, logged_so_far}
 use Rattle.ir_debug.proofs.Passed.{named_thread_exists, named_object_exists}
 use Rattle.ir_text.specs.Held.{held_by}
 use Rattle.ir_debug.specs.AtHand.{thread_here, object_here, events_of, shown_here, text_here, ShowsHere}
 use Rattle.ir_timeline.specs.Positions.{threads_of}
-use Rattle.ir_debug.specs.Machine.{thread_named, shown, current, logged_so_far}
+use Rattle.ir_debug.specs.Machine.{thread_named, shown, current}
 
 -- a thread in hand is the run's at its position
 thread_in_hand_is_run_thread : (d : Debugging) (run : List Step) → IsAt d.desk.fitted (cut_of d.desk.at) (flat_in d.desk.fitted d.state) run → (t : ℕ)

@@ -16,7 +16,8 @@ use Rattle.ir_command.specs.declared.refusal.Refusal.{Refusal}
 use Rattle.ir_command.specs.declared.refusal.Refusal.TheVariants.{UnknownCommand, BadArgument, NoSuchThread, NoSuchObject, BadAddress, LineTooLong}
 use Rattle.ir_fit.specs.Fit.{FittedTrace}
 use Rattle.ir_timeline.specs.Positions.{last_cut}
-use Rattle.ir_debug.specs.Machine.{Desk, desk_of, moved_text, refusal_of, may_lack}
+use Rattle.ir_debug.specs.Machine.{Desk, desk_of, refusal_of, may_lack}
+use Rattle.ir_debug.specs.Debugging.{moved_text}
 
 abbrev AskedCommand : Type 0
 AskedCommand = Result (Option Command) Refusal

@@ -1,12 +1,12 @@
 -- The debugger between two commands, and the texts of its answers.
-use Rattle.std.specs.Prelude.{◌≡◌, ◌≤◌, ◌<◌, ◌+◌, ℕ, ⊤, true, List, ◌++◌, length, codes, Option, None, Result, flat_map, ◌==◌, not, nat_le, if◌then◌else◌, Bool, find, is_some, [], ◌∷◌}
+use Rattle.std.specs.Prelude.{◌≡◌, ◌≤◌, ◌<◌, ◌+◌, ℕ, ⊤, true, List, ◌++◌, length, codes, Option, None, Result, flat_map, ◌==◌, not, nat_le, if◌then◌else◌, Bool, find, is_some, [], ◌∷◌, take}
 use Rattle.std.specs.List.{AllByRecursion, filter}
 use Rattle.ir_runs.specs.Run.{Step}
 use Rattle.ir_fit.specs.Fit.{FittedTrace, HasRun}
-use Rattle.ir_cut.specs.Positions.{EachRun, IsConsistentCut, cut_of}
+use Rattle.ir_cut.specs.Positions.{EachRun, IsConsistentCut, cut_of, machine_of, start_of}
 use Rattle.ir_hits.specs.Watchable.{AreWatchable}
 use Rattle.ir_weave.specs.Standing.{Standing, StandsAt}
-use Rattle.ir_timeline.specs.Positions.{threads_of}
+use Rattle.ir_timeline.specs.Positions.{threads_of, last_of}
 use Rattle.ir_timeline.specs.Hand.{IsCutOf}
 use Rattle.ir_command.specs.declared.command.Command.{Command}
 use Rattle.ir_command.specs.declared.command.Command.TheVariants as command
@@ -14,13 +14,17 @@ use Rattle.ir_command.specs.declared.command.Show.{Show}
 use Rattle.ir_command.specs.declared.refusal.Refusal.{Refusal}
 use Rattle.ir_debug.specs.declared.answer.Answer.{Answer}
 use Rattle.ir_debug.specs.declared.answer.Answer.TheVariants.{Moved, Continued, Position, Shown, Next, Set, Cleared, Kept, Dropped, KeptCuts, Refused, Bye}
-use Rattle.ir_text.specs.Texts.{refusal_text, number_line, positions_text}
+use Rattle.ir_text.specs.Texts.{refusal_text, number_line, positions_text, hit_text, stop_text}
 use Rattle.ir_debug.specs.Machine as desk
-use Rattle.ir_debug.specs.Machine.{Desk, most_kept, refusal_of, is_at_hand, shown, kept_line, moved_text, continued_text, RepliesBy, StopsAt, spoken}
+use Rattle.ir_debug.specs.Machine.{Desk, most_kept, refusal_of, is_at_hand, shown, kept_line, RepliesBy, StopsAt, spoken, stopped_text, thread_named}
 use Rattle.ir_command.specs.Commands.{most_small}
 use Rattle.ir_hits.specs.Hits.{Numbered}
 use Rattle.ir_command.specs.declared.command.Direction.TheVariants.{Forwards, Backwards}
 use Rattle.ir_command.specs.declared.command.Point.{Point}
+use Rattle.ir_runs.specs.Run as run
+use Rattle.ir_command.specs.declared.command.Move.{Move}
+use Rattle.ir_command.specs.declared.hit.Hit.{Hit}
+use Rattle.ir_runs.specs.Machine.{Label}
 
 -- all kept cuts are such
 abbrev pub AllKept : FittedTrace → List desk.Kept → Type 0
@@ -48,6 +52,14 @@ pub record IsDebugging (d : Debugging) : Type 0 where
   pub desk : IsDesk d.desk
   -- before the first answer, and after a move
   pub fresh : d.desk.fresh ≡ true → IsThere d
+
+-- the answer to a move that led to this cut
+abbrev pub moved_text : FittedTrace → Move → List ℕ → List ℕ
+moved_text f move to = positions_text to ++ stopped_text f (thread_named (command.Move move)) to ++ codes "\n"
+
+-- the answer to a thread that was continued, and came to this cut
+abbrev pub continued_text : FittedTrace → ℕ → Option Hit → List ℕ → List ℕ
+continued_text f t hit to = positions_text to ++ hit_text hit ++ stop_text (last_of f t) (cut_of to t) ++ codes "\n"
 
 -- the text of an answer that the small machine gave and is then so, by the text of each show
 abbrev pub text_by : (Show → List ℕ) → Desk → Answer → List ℕ
@@ -120,3 +132,7 @@ with_kept d = record (spoken d) { kept = d.kept ++ record { number = d.last_kept
 -- one is kept no longer
 abbrev pub without_kept : Desk → ℕ → Desk
 without_kept d n = record (spoken d) { kept = filter (λ k. not (k.number == n)) d.kept }
+
+-- what thread t logged so far: of its first steps, as many as its position says
+abbrev pub logged_so_far : List run.Step → Desk → ℕ → List Label
+logged_so_far steps d t = run.events (take (cut_of d.at t) (run.trail (machine_of d.fitted) (start_of d.fitted) steps t))

@@ -22,7 +22,6 @@ use Rattle.ir_command.specs.declared.command.Direction.{Direction}
 use Rattle.ir_command.specs.declared.command.Direction.TheVariants.{Forwards, Backwards}
 use Rattle.ir_command.specs.declared.command.Move.{Move}
 use Rattle.ir_command.specs.declared.hit.Hit.{Hit}
-use Rattle.ir_runs.specs.Machine.{Label}
 use Rattle.ir_thread.specs.State.{ThreadState}
 use Rattle.ir_text.specs.Texts.{machine_text, memory_text, output_text, object_text, log_text, next_text, bytes_from, refusal_text, number_line, positions_text, hit_text, stop_text, verdict_text}
 use Rattle.ir_image.specs.declared.image_err.ImageErr.{ImageErr}
@@ -62,8 +61,7 @@ desk_of f = record {
   fresh = true;
   points = [];
   last_point = 0;
-  kept =
-      record { number = 0; cut = first_cut f } ∷ [];
+  kept = record { number = 0; cut = first_cut f } ∷ [];
   last_kept = 0;
 }
 
@@ -206,10 +204,6 @@ Continues steps d t direction hit to = Finds steps d.fitted d.points t (cut_of d
 abbrev pub current : List run.Step → Desk → ℕ → ThreadState
 current steps d t = thread_at d.fitted steps t (cut_of d.at t)
 
--- what thread t logged so far: of its first steps, as many as its position says
-abbrev pub logged_so_far : List run.Step → Desk → ℕ → List Label
-logged_so_far steps d t = run.events (take (cut_of d.at t) (run.trail (machine_of d.fitted) (start_of d.fitted) steps t))
-
 -- the answer to a show that isn't refused
 unfoldable pub shown : List run.Step → Desk → Show → List ℕ
 shown steps d (Registers t) = machine_text (current steps d t).core
@@ -217,21 +211,14 @@ shown steps d (Memory t address size) = memory_text address (bytes_from d.fitted
 shown steps d (Object o) = object_text (threads_of d.fitted) (object_words d.fitted.guest)
     (run.object_at (machine_of d.fitted) (start_of d.fitted) steps (cut_of d.at) o)
 shown steps d (Output t) = output_text (current steps d t).output
-shown steps d (Log t) = log_text (logged_so_far steps d t) (length (run.log (machine_of d.fitted) (start_of d.fitted) steps t))
+shown steps d (Log t) = log_text (run.events (take (cut_of d.at t) (run.trail (machine_of d.fitted) (start_of d.fitted) steps t)))
+    (length (run.log (machine_of d.fitted) (start_of d.fitted) steps t))
 shown steps d (Next t) = next_text d.fitted.guest.code (current steps d t)
 
 -- where the thread that a move names has stopped
 abbrev pub stopped_text : FittedTrace → Option ℕ → List ℕ → List ℕ
 stopped_text f (Some t) at = stop_text (last_of f t) (cut_of at t)
 stopped_text f None at = []
-
--- the answer to a move that led to this cut
-abbrev pub moved_text : FittedTrace → Move → List ℕ → List ℕ
-moved_text f move to = positions_text to ++ stopped_text f (thread_named (command.Move move)) to ++ codes "\n"
-
--- the answer to a thread that was continued, and came to this cut
-abbrev pub continued_text : FittedTrace → ℕ → Option Hit → List ℕ → List ℕ
-continued_text f t hit to = positions_text to ++ hit_text hit ++ stop_text (last_of f t) (cut_of to t) ++ codes "\n"
 
 -- a kept cut: its number, and the positions
 abbrev pub kept_line : Kept → List ℕ
@@ -243,9 +230,10 @@ Gives answer after text next = (text ≡ answer) × (next ≡ after)
 
 -- a command that isn't refused is answered so
 abbrev pub CarriesOut : List run.Step → Desk → Command → List ℕ → Desk → Type 0
-CarriesOut run d (command.Move move) text next = (to : List ℕ) × Leads run d.fitted d.at move to × Gives (moved_text d.fitted move to) (moved_to d to) text next
+CarriesOut run d (command.Move move) text next = (to : List ℕ) × Leads run d.fitted d.at move to
+    × Gives (positions_text to ++ stopped_text d.fitted (thread_named (command.Move move)) to ++ codes "\n") (moved_to d to) text next
 CarriesOut run d (command.Continue t direction) text next = (to : List ℕ) × (hit : Option Hit) × Continues run d t direction hit to
-    × Gives (continued_text d.fitted t hit to) (moved_to d to) text next
+    × Gives (positions_text to ++ hit_text hit ++ stop_text (last_of d.fitted t) (cut_of to t) ++ codes "\n") (moved_to d to) text next
 CarriesOut run d (command.Set point) text next = Gives (number_line (codes "point ") (d.last_point + 1))
     (record (spoken d) { points = d.points ++ record { number = d.last_point + 1; point = point } ∷ []; last_point = d.last_point + 1 }) text next
 CarriesOut run d (command.Clear n) text next = Gives (number_line (codes "cleared ") n)

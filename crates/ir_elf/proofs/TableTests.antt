@@ -4,7 +4,8 @@ use Rattle.std.specs.Prelude.{◌&&◌}
 use Rattle.ir_bytes.specs.Reading.{◌>>=◌, bytes_at, field_at, fields_at}
 use Rattle.ir_bytes.specs.Format.{fault_of}
 use Rattle.ir_image.specs.declared.form.ImageForm.{ImageForm}
-use Rattle.ir_image.specs.Guest.{limits_of, Guest, is_place}
+use Rattle.ir_image.specs.Guest.{limits_of, Guest}
+use Rattle.ir_image.specs.Fields.{is_place}
 use Rattle.ir_elf.specs.declared.refusal.Refusal.{Refusal}
 use Rattle.ir_elf.specs.declared.refusal.Refusal.TheVariants as refusal
 use Rattle.ir_elf.specs.declared.header.HeadersPlace.{HeadersPlace}

@@ -4,7 +4,8 @@ use Rattle.byteorder.specs.Endian.{little_bytes}
 use Rattle.ir_bytes.specs.Reading.{◌>>=◌, Reader, Field, tested, within, field_at, fields_at}
 use Rattle.ir_image.specs.declared.form.ImageForm.{ImageForm}
 use Rattle.ir_image.specs.declared.form.ImageForm.TheVariants.{Small, Large}
-use Rattle.ir_image.specs.Guest.{limits_of, Guest, is_place}
+use Rattle.ir_image.specs.Guest.{limits_of, Guest}
+use Rattle.ir_image.specs.Fields.{is_place}
 use Rattle.ir_image.specs.Encoding.{words_encoding}
 use Rattle.ir_elf.specs.declared.refusal.Refusal.{Refusal}
 use Rattle.ir_elf.specs.declared.refusal.Refusal.TheVariants.{Table, Entry}

@@ -2,7 +2,8 @@
 use Rattle.std.specs.Prelude.{◌≡◌, ℕ, zero, suc, ◌+◌, ◌-◌, ◌*◌, Bool, true, false, not, nat_le, nat_lt, ◌==◌, ◌&&◌, if◌then◌else◌, List, [], ◌∷◌, length, take, drop, Option, Some, None}
 use Rattle.byteorder.specs.Endian.{little_number}
 use Rattle.ir_image.specs.declared.form.ImageForm.{ImageForm}
-use Rattle.ir_image.specs.Guest.{limits_of, is_place}
+use Rattle.ir_image.specs.Guest.{limits_of}
+use Rattle.ir_image.specs.Fields.{is_place}
 use Rattle.ir_elf.specs.declared.part.Part.{Part}
 use Rattle.ir_elf.specs.declared.part.Part.TheVariants.{Code, Memory, Table}
 use Rattle.ir_elf.specs.declared.refusal.Refusal.{Refusal}

@@ -89,12 +89,10 @@ pub record HasRun (f : FittedTrace) : Type 0 where
   pub run : List Step
   pub whole : IsRunOf f.guest f.recorded run
   pub each : length f.placed ≡ length f.guest.entries
-  pub entries : (t : ℕ) → t < length f.guest.entries
-      → (placed_at f.placed t).entries ≡ places_from 0
-      (trail (machine (start_flat f.guest f.recorded.budget f.recorded.profile)) (tables (start_flat f.guest f.recorded.budget f.recorded.profile)) run t)
-  pub leaves : (t : ℕ) → t < length f.guest.entries
-      → (placed_at f.placed t).leaves ≡ leaves_from 0
-      (trail (machine (start_flat f.guest f.recorded.budget f.recorded.profile)) (tables (start_flat f.guest f.recorded.budget f.recorded.profile)) run t)
+  pub entries : (t : ℕ) → t < length f.guest.entries → let g = start_flat f.guest f.recorded.budget f.recorded.profile in
+      (placed_at f.placed t).entries ≡ places_from 0 (trail (machine g) (tables g) run t)
+  pub leaves : (t : ℕ) → t < length f.guest.entries → let g = start_flat f.guest f.recorded.budget f.recorded.profile in
+      (placed_at f.placed t).leaves ≡ leaves_from 0 (trail (machine g) (tables g) run t)
 
 -- the trace has another number of threads than the guest; or as many, and another number of objects
 abbrev pub IsOther : Guest → Recorded → HeaderCause → Type 0

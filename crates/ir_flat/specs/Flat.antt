@@ -47,8 +47,7 @@ idle = record {
   form = Small;
   steps = 0;
   events = 0;
-  output =
-      [];
+  output = [];
   ended = Some Breakpoint;
 }
 

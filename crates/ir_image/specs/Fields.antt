@@ -1,9 +1,9 @@
 -- The fields of an image in their order.
-use Rattle.std.specs.Prelude.{ℕ, ◌*◌, List, Option, ◌==◌}
+use Rattle.std.specs.Prelude.{ℕ, ◌*◌, List, Option, ◌==◌, ◌+◌, nat_le, ◌%◌, Bool, nat_lt, ◌&&◌}
 use Rattle.ir_bytes.specs.Format.{Format, finished, next, before, repeated, first_refused, plain}
 use Rattle.ir_image.specs.declared.image_err.ImageErr.{ImageErr}
 use Rattle.ir_image.specs.declared.image_err.ImageErr.TheVariants.{Short, Trailing, Magic, Count, Entry}
-use Rattle.ir_image.specs.Guest.{limits_of, form_of, most_code_words, is_place, magic_number, memory_size}
+use Rattle.ir_image.specs.Guest.{limits_of, form_of, most_code_words, magic_number, memory_size, code_start}
 use Rattle.ir_image.specs.declared.form.ImageForm.{ImageForm}
 use Rattle.ir_bytes.specs.Reading.{Field, tested, within, Reader, field_at}
 
@@ -20,6 +20,10 @@ words_field = within 4 0 most_code_words Count
 
 abbrev pub image_threads_field : ImageForm → Field ImageErr
 image_threads_field form = within 1 1 (limits_of form).threads Count
+
+-- whether n is the address of a word in code of `words` words
+abbrev pub is_place : ℕ → ℕ → Bool
+is_place words n = (n % 4 == 0) && (nat_le code_start n && nat_lt n (code_start + 4 * words))
 
 abbrev pub entry_field : ℕ → Field ImageErr
 entry_field words = tested 4 (is_place words) Entry

@@ -1,5 +1,5 @@
 -- A guest: what an image holds, however the code keeps it; how it is read from bytes, and its limits.
-use Rattle.std.specs.Prelude.{ℕ, ◌+◌, ◌-◌, ◌*◌, ◌/◌, List, length, ◌++◌, take, drop, replicate, ◌==◌, [], ◌∷◌, if◌then◌else◌, slice_get, nat_le, Option, Some, None, ◌%◌, Bool, Result, Ok, Err, nat_lt, ◌&&◌, ◌≡◌, ◌<◌, ◌≤◌}
+use Rattle.std.specs.Prelude.{ℕ, ◌+◌, ◌-◌, ◌*◌, ◌/◌, List, length, ◌++◌, take, drop, replicate, ◌==◌, [], ◌∷◌, if◌then◌else◌, slice_get, nat_le, Option, Some, None, ◌%◌, Result, Ok, Err, nat_lt, ◌&&◌, ◌≡◌, ◌<◌, ◌≤◌}
 pub use Rattle.ir_bytes.specs.Reading.{IsWord, IsByte}
 use Rattle.ir_image.specs.declared.form.ImageForm.{ImageForm}
 use Rattle.byteorder.specs.Endian.{little_number}
@@ -113,10 +113,6 @@ fetched code pc = fetched_word (word_at_pc code pc)
 
 -- ---- reading from the left: each field is read whole and then tested, and the first fault is named
 
--- whether n is the address of a word in code of `words` words
-abbrev pub is_place : ℕ → ℕ → Bool
-is_place words n = (n % 4 == 0) && (nat_le code_start n && nat_lt n (code_start + 4 * words))
-
 -- a word, and the bytes after it
 abbrev pub word_at : Reader ℕ ImageErr
 word_at = number_at Short 4
@@ -138,7 +134,7 @@ counts_at bytes = do
 -- the entries, the code, the data, the objects' first words, and nothing after them
 unfoldable pub body_at : Counts → List ℕ → Result Guest ImageErr
 body_at c bytes = do
-  entries ← fields_at (field_at Short (tested 4 (is_place c.words) Entry)) c.threads bytes
+  entries ← fields_at (field_at Short (tested 4 (λ n. (n % 4 == 0) && (nat_le code_start n && nat_lt n (code_start + 4 * c.words))) Entry)) c.threads bytes
   code ← fields_at word_at c.words entries.1
   initial ← bytes_at Short c.bytes code.1
   words ← fields_at word_at ((limits_of c.form).words * c.objects) initial.1

@@ -1,6 +1,6 @@
 -- The code table of RV32I 2.1 and M 2.0 (RISC-V Unprivileged ISA, document 20191213): which words are the code of which instruction.
-use Rattle.std.specs.Prelude.{◌≡◌, ℕ, ℤ, List, codes}
-use Rattle.ir_isa.specs.Fields.{bits, imm_i, imm_s, imm_b, imm_u, imm_j}
+use Rattle.std.specs.Prelude.{◌≡◌, ℕ, ◌+◌, ◌*◌, ◌^◌, ℤ, List, codes}
+use Rattle.ir_isa.specs.Fields.{bits, sign_extended}
 use Rattle.ir_isa.specs.declared.inst.Inst.{Inst}
 use Rattle.ir_isa.specs.declared.inst.Inst.TheVariants.{Lui, Auipc, Jal, Jalr, Branch, Load, Store, OpImm, Shift, Op, Fence, Ecall, Ebreak}
 use Rattle.ir_isa.specs.declared.inst.BranchOp.{BranchOp}
@@ -85,23 +85,23 @@ reg_functs Divu = functs (codes "divu") 0b0000001 0b101
 reg_functs Rem = functs (codes "rem") 0b0000001 0b110
 reg_functs Remu = functs (codes "remu") 0b0000001 0b111
 
--- ---- formats
+-- ---- formats, each immediate from its highest bit down
 
 -- the fields of a word with an upper immediate
 pub record IsU (word imm rd opcode : ℕ) : Type 0 where
-  pub imm_field : imm_u word ≡ imm
+  pub imm_field : 2 ^ 12 * bits 31 12 word ≡ imm
   pub rd_field : bits 11 7 word ≡ rd
   pub opcode_field : bits 6 0 word ≡ opcode
 
 -- the fields of a jump's word
 pub record IsJ (word : ℕ) (imm : ℤ) (rd opcode : ℕ) : Type 0 where
-  pub imm_field : imm_j word ≡ imm
+  pub imm_field : sign_extended 21 (2 ^ 20 * bits 31 31 word + 2 ^ 12 * bits 19 12 word + 2 ^ 11 * bits 20 20 word + 2 * bits 30 21 word) ≡ imm
   pub rd_field : bits 11 7 word ≡ rd
   pub opcode_field : bits 6 0 word ≡ opcode
 
 -- the fields of a word with a register and an immediate of twelve bits
 pub record IsI (word : ℕ) (imm : ℤ) (rs1 three rd opcode : ℕ) : Type 0 where
-  pub imm_field : imm_i word ≡ imm
+  pub imm_field : sign_extended 12 (bits 31 20 word) ≡ imm
   pub rs1_field : bits 19 15 word ≡ rs1
   pub three_field : bits 14 12 word ≡ three
   pub rd_field : bits 11 7 word ≡ rd
@@ -109,7 +109,7 @@ pub record IsI (word : ℕ) (imm : ℤ) (rs1 three rd opcode : ℕ) : Type 0 whe
 
 -- the fields of a store's word
 pub record IsS (word : ℕ) (imm : ℤ) (rs2 rs1 three opcode : ℕ) : Type 0 where
-  pub imm_field : imm_s word ≡ imm
+  pub imm_field : sign_extended 12 (2 ^ 5 * bits 31 25 word + bits 11 7 word) ≡ imm
   pub rs2_field : bits 24 20 word ≡ rs2
   pub rs1_field : bits 19 15 word ≡ rs1
   pub three_field : bits 14 12 word ≡ three
@@ -117,7 +117,7 @@ pub record IsS (word : ℕ) (imm : ℤ) (rs2 rs1 three opcode : ℕ) : Type 0 wh
 
 -- the fields of a branch's word
 pub record IsB (word : ℕ) (imm : ℤ) (rs2 rs1 three opcode : ℕ) : Type 0 where
-  pub imm_field : imm_b word ≡ imm
+  pub imm_field : sign_extended 13 (2 ^ 12 * bits 31 31 word + 2 ^ 11 * bits 7 7 word + 2 ^ 5 * bits 30 25 word + 2 * bits 11 8 word) ≡ imm
   pub rs2_field : bits 24 20 word ≡ rs2
   pub rs1_field : bits 19 15 word ≡ rs1
   pub three_field : bits 14 12 word ≡ three

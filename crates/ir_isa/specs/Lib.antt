@@ -4,3 +4,4 @@ pub mod Rows
 pub mod Decoded
 pub mod Words
 pub mod Even
+pub mod Immediates

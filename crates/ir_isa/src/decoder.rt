@@ -2,7 +2,8 @@
 
 ghost use Rattle.std.specs.Prelude.{◌≡◌, ◌<◌, ◌/◌, ◌%◌, ◌^◌, IfOk, IfErr, Ok};
 ghost use Rattle.std.specs.Result.{result_ok};
-ghost use Rattle.ir_isa.specs.Fields.{bits, sign_extended, imm_i, imm_s, imm_b, imm_u, imm_j};
+ghost use Rattle.ir_isa.specs.Fields.{bits, sign_extended};
+ghost use Rattle.ir_isa.specs.Immediates.{imm_i, imm_s, imm_b, imm_u, imm_j};
 ghost use Rattle.ir_isa.specs.Decoded.{instruction_of};
 ghost use Rattle.ir_isa.specs.Code.{IsCode};
 ghost use Rattle.ir_isa.specs.declared.inst.Inst.{Inst};

@@ -1,7 +1,8 @@
 //! What the arithmetic instructions compute.
 
 ghost use Rattle.std.specs.Prelude.{◌≡◌, ◌<◌, ◌+ℤ◌, ◌-ℤ◌, ◌*ℤ◌, ◌%◌, ◌^◌, pos, int_lt, nat_lt, if◌then◌else◌, IsTrue};
-ghost use Rattle.ir_mach.specs.Execution.{signed, low_32, high_32, truth, shifted_left, shifted_right, shifted_right_signed, quotient, quotient_unsigned, remainder, remainder_unsigned, immediate_result, shift_result, register_result, is_taken};
+ghost use Rattle.ir_mach.specs.Execution.{signed, low_32, high_32, truth, shifted_left, shifted_right, shifted_right_signed, immediate_result, shift_result, register_result, is_taken};
+ghost use Rattle.ir_mach.specs.Effects.{quotient, quotient_unsigned, remainder, remainder_unsigned};
 
 use ir_isa::{BranchOp, ImmediateOp, RegisterOp, ShiftOp};
 

@@ -2,10 +2,10 @@
 
 ghost use Rattle.std.specs.Prelude.{◌≡◌, ◌≤◌, ◌<◌, ◌+◌, ◌%◌, ◌^◌, length};
 ghost use Rattle.ir_isa.specs.Fields.{sign_extended};
-ghost use Rattle.ir_mach.specs.Execution.{low_32, memory_number, extended, loaded, overwritten, store_width};
+ghost use Rattle.ir_mach.specs.Execution.{low_32, memory_number, extended, loaded, store_width};
 ghost use Rattle.ir_image.specs.Guest.{word_at_pc};
 ghost use Rattle.ir_mach.specs.Core.{memory_start, memory_size};
-ghost use Rattle.ir_mach.specs.Effects.{offset_in_memory};
+ghost use Rattle.ir_mach.specs.Effects.{offset_in_memory, overwritten};
 
 use byteorder::{ByteOrder, LittleEndian};
 use ir_image::{CODE_START, Code, MEMORY_SIZE, MEMORY_START};

@@ -1,6 +1,7 @@
 -- Lines of bytes that are joined.
 use Rattle.std.proofs.Common.{◌≡◌, ℕ, suc, zero, Bool, true, false, cond, eqb, List, [], ◌∷◌, ◌++◌, take, refl, ap, ◌∙◌}
-use Rattle.ir_stream.specs.Answers.{SplitBytes, split_of, onto, split_lines}
+use Rattle.ir_stream.specs.Answers.{SplitBytes, onto, split_lines}
+use Rattle.ir_stream.specs.Written.{split_of}
 
 abbrev split_by_feed_test : Bool → ℕ → SplitBytes → SplitBytes
 split_by_feed_test t x k = cond t (split_of ([] ∷ k.whole) k.rest) (onto x k.whole k.rest)

@@ -47,18 +47,16 @@ pub record SplitBytes : Type 0 where
   pub whole : List (List ℕ)
   pub rest : List ℕ
 
-abbrev pub split_of : List (List ℕ) → List ℕ → SplitBytes
-split_of lines bytes = record { whole = lines; rest = bytes }
-
 -- a byte put before the first line
 abbrev pub onto : ℕ → List (List ℕ) → List ℕ → SplitBytes
-onto b [] r = split_of [] (b ∷ r)
-onto b (l ∷ ls) r = split_of ((b ∷ l) ∷ ls) r
+onto b [] r = record { whole = []; rest = b ∷ r }
+onto b (l ∷ ls) r = record { whole = (b ∷ l) ∷ ls; rest = r }
 
 -- the whole lines of the bytes, and what comes after the last line feed
 unfoldable pub split_lines : List ℕ → SplitBytes
-split_lines [] = split_of [] []
-split_lines (b ∷ bytes) = if b == 10 then split_of ([] ∷ (split_lines bytes).whole) (split_lines bytes).rest else onto b (split_lines bytes).whole (split_lines bytes).rest
+split_lines [] = record { whole = []; rest = [] }
+split_lines (b ∷ bytes) =
+    if b == 10 then record { whole = [] ∷ (split_lines bytes).whole; rest = (split_lines bytes).rest } else onto b (split_lines bytes).whole (split_lines bytes).rest
 
 -- what an input ends in is a line if it isn't empty
 abbrev pub last_line : List ℕ → List (List ℕ)

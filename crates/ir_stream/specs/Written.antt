@@ -2,7 +2,7 @@
 use Rattle.std.specs.Prelude.{◌≡◌, ℕ, List, [], ◌∷◌, ◌++◌}
 use Rattle.std.specs.declared.option.Option.{Option}
 use Rattle.std.specs.Io.KnownBytes.{Appends}
-use Rattle.ir_stream.specs.Answers.{RepliedPrefix, Replying, LinesAnswered}
+use Rattle.ir_stream.specs.Answers.{RepliedPrefix, Replying, LinesAnswered, SplitBytes}
 
 -- the machine answered the lines, and the writer took the answers
 pub record Wrote {S : Type 0} (R : Replying S) (s : S) (lines : List (List ℕ)) (old new : Option (List ℕ)) : Type 0 where
@@ -29,3 +29,6 @@ pub record WroteInPart {S : Type 0} (R : Replying S) (s : S) (lines : List (List
 -- how many bytes of a line are kept: one more than the longest line that is answered as one
 abbrev pub most_kept_bytes : ℕ
 most_kept_bytes = 1025
+
+abbrev pub split_of : List (List ℕ) → List ℕ → SplitBytes
+split_of lines bytes = record { whole = lines; rest = bytes }

@@ -16,9 +16,9 @@ use Rattle.ir_log.specs.declared.event.Event.TheVariants.{Answer, Read, Write, T
 use Rattle.ir_trace.specs.declared.header.Header.{Header}
 use Rattle.ir_trace.specs.declared.trace_err.TraceErr.{TraceErr}
 use Rattle.ir_trace.specs.declared.trace_err.TraceErr.TheVariants.{Short, Range, Trailing}
-use Rattle.ir_trace.specs.Recorded.{RecordedThread, Recorded, profile_of, object_field, profile_at, header_at, end_by, end_at, answer_at, input_at, read_at, write_at, try_at, try_by, event_by, event_at, thread_part_at, recorded_at}
+use Rattle.ir_trace.specs.Recorded.{RecordedThread, Recorded, profile_at, header_at, end_by, end_at, answer_at, input_at, read_at, write_at, try_at, try_by, event_by, event_at, thread_part_at, recorded_at}
 use Rattle.ir_trace.specs.Results.{code_field, tag_field, last_tag}
-use Rattle.ir_trace.specs.Fields.{tagged_fields, event_fields, thread_fields, trace_fault, trace_magic_field, trace_threads_field, trace_objects_field, reserved_field, budget_field, end_field, events_field, input_field}
+use Rattle.ir_trace.specs.Fields.{tagged_fields, event_fields, thread_fields, trace_fault, trace_magic_field, trace_threads_field, trace_objects_field, reserved_field, budget_field, end_field, events_field, input_field, profile_of, object_field}
 
 -- ---- what comes before the threads
 

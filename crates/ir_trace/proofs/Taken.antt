@@ -12,8 +12,8 @@ use Rattle.ir_thread.specs.declared.profile.Profile.{Profile}
 use Rattle.ir_thread.specs.declared.profile.Profile.TheVariants.{One, Two}
 use Rattle.ir_trace.specs.declared.trace_err.TraceErr.{TraceErr}
 use Rattle.ir_trace.specs.declared.trace_err.TraceErr.TheVariants.{Short, Magic, Reserved}
-use Rattle.ir_trace.specs.Recorded.{IsWord, trace_magic, profile_of, profile_at, end_by, end_at}
-use Rattle.ir_trace.specs.Fields.{trace_magic_field, reserved_field, end_field, is_magic}
+use Rattle.ir_trace.specs.Recorded.{IsWord, trace_magic, profile_at, end_by, end_at}
+use Rattle.ir_trace.specs.Fields.{trace_magic_field, reserved_field, end_field, is_magic, profile_of}
 use Rattle.ir_trace.specs.Encoding.{end_encoding}
 
 magic_bytes_by_profile_tests : (n : ℕ) (one two : Bool) → eqb n 0x31545249 ≡ one → eqb n 0x32545249 ≡ two → (one || two) ≡ true

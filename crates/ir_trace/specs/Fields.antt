@@ -1,10 +1,10 @@
 -- The fields of a trace in their order.
-use Rattle.std.specs.Prelude.{ℕ, List, Option, ◌==◌, if◌then◌else◌, Bool, ◌||◌}
+use Rattle.std.specs.Prelude.{ℕ, List, Option, ◌==◌, if◌then◌else◌, Bool, ◌||◌, nat_lt}
 use Rattle.ir_bytes.specs.Format.{Format, finished, next, before, repeated, first_refused, plain, fixed}
 use Rattle.ir_thread.specs.declared.profile.Profile.{Profile}
 use Rattle.ir_trace.specs.declared.trace_err.TraceErr.{TraceErr}
 use Rattle.ir_trace.specs.declared.trace_err.TraceErr.TheVariants.{Short, Trailing, Magic, Count, Reserved, Range}
-use Rattle.ir_trace.specs.Recorded.{profile_of, object_field, trace_magic}
+use Rattle.ir_trace.specs.Recorded.{trace_magic}
 use Rattle.ir_trace.specs.Results.{code_field, tag_field}
 use Rattle.ir_thread.specs.State.{largest, most_budget, most_events, is_result}
 use Rattle.ir_bytes.specs.Reading.{Field, tested, within}
@@ -15,6 +15,10 @@ use Rattle.ir_thread.specs.declared.profile.Profile.TheVariants.{One, Two}
 
 abbrev pub input_field : Field TraceErr
 input_field = tested 4 (is_result Input) Range
+
+-- the number of an object of a guest with `objects` objects
+abbrev pub object_field : ℕ → Field TraceErr
+object_field objects = tested 1 (λ n. nat_lt n objects) Count
 
 -- after the tag: an input's value; an entry's object and version, and, if it is for writing, its readers; a refused try's object;
 -- another answer's value
@@ -62,6 +66,10 @@ budget_field = within 8 0 most_budget Count
 -- the two bytes that are reserved
 abbrev pub reserved_field : Field TraceErr
 reserved_field = fixed 2 0 Reserved
+
+-- the profile of a magic
+abbrev pub profile_of : ℕ → Profile
+profile_of n = if n == little_number 4 (trace_magic One) then One else Two
 
 -- the magic, which says the profile; how many threads and objects; what is reserved; the budget; the threads
 abbrev pub trace_fields : Format TraceErr

@@ -10,7 +10,7 @@ use Rattle.ir_runs.specs.Machine.{Trace}
 use Rattle.ir_thread.specs.declared.end.End.TheVariants.{Breakpoint}
 use Rattle.ir_log.specs.Logging.{label_of}
 use Rattle.byteorder.specs.Endian.{little_number}
-use Rattle.ir_bytes.specs.Reading.{◌>>=◌, Reader, Field, tested, within, number_at, field_at, fields_at}
+use Rattle.ir_bytes.specs.Reading.{◌>>=◌, Reader, tested, within, number_at, field_at, fields_at}
 use Rattle.ir_image.specs.Guest.{limits_of}
 use Rattle.ir_runs.specs.declared.env_kind.EnvKind.{EnvKind}
 use Rattle.ir_runs.specs.declared.env_kind.EnvKind.TheVariants.{Clock, Random, Input}
@@ -62,18 +62,10 @@ abbrev pub trace_magic : Profile → List ℕ
 trace_magic One = 0x49 ∷ 0x52 ∷ 0x54 ∷ 0x31 ∷ []
 trace_magic Two = 0x49 ∷ 0x52 ∷ 0x54 ∷ 0x32 ∷ []
 
--- the profile of a magic
-abbrev pub profile_of : ℕ → Profile
-profile_of n = if n == little_number 4 (trace_magic One) then One else Two
-
--- the number of an object of a guest with `objects` objects
-abbrev pub object_field : ℕ → Field TraceErr
-object_field objects = tested 1 (λ n. nat_lt n objects) Count
-
 -- the profile, by the magic
 unfoldable pub profile_at : Reader Profile TraceErr
 profile_at bytes = field_at Short (tested 4 (λ n. n == little_number 4 (trace_magic One) || n == little_number 4 (trace_magic Two)) Magic) bytes
-    >>= λ n. Ok (profile_of n.0, n.1)
+    >>= λ n. Ok (if n.0 == little_number 4 (trace_magic One) then One else Two, n.1)
 
 -- what comes before the threads
 unfoldable pub header_at : Reader Header TraceErr
@@ -108,21 +100,21 @@ input_at bytes = field_at Short (tested 4 (is_result Input) Range) bytes >>= λ 
 -- an entry for reading: the object, and its version
 unfoldable pub read_at : ℕ → Reader Event TraceErr
 read_at objects bytes = do
-  object ← field_at Short (object_field objects) bytes
+  object ← field_at Short (tested 1 (λ n. nat_lt n objects) Count) bytes
   version ← number_at Short 4 object.1
   Ok (Read object.0 version.0, version.1)
 
 -- an entry for writing: the object, its version, and how many readers had left it
 unfoldable pub write_at : ℕ → Reader Event TraceErr
 write_at objects bytes = do
-  object ← field_at Short (object_field objects) bytes
+  object ← field_at Short (tested 1 (λ n. nat_lt n objects) Count) bytes
   version ← number_at Short 4 object.1
   readers ← number_at Short 4 version.1
   Ok (Write object.0 version.0 readers.0, readers.1)
 
 -- a refused try: the object
 unfoldable pub try_at : ℕ → Reader Event TraceErr
-try_at objects bytes = field_at Short (object_field objects) bytes >>= λ object. Ok (Try object.0, object.1)
+try_at objects bytes = field_at Short (tested 1 (λ n. nat_lt n objects) Count) bytes >>= λ object. Ok (Try object.0, object.1)
 
 -- a refused try, in the second profile
 unfoldable pub try_by : Profile → ℕ → Reader Event TraceErr

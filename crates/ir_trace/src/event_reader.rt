@@ -3,7 +3,8 @@
 ghost use Rattle.std.specs.Prelude.{◌≡◌, ◌≤◌, ◌+◌, length, IfOk};
 ghost use Rattle.ir_bytes.specs.Reading.{field_at, fields_at};
 ghost use Rattle.ir_trace.specs.declared.trace_err.TraceErr.TheVariants.{Short};
-ghost use Rattle.ir_trace.specs.Recorded.{object_field, answer_at, input_at, read_at, write_at, try_at, try_by, event_by, event_at};
+ghost use Rattle.ir_trace.specs.Recorded.{answer_at, input_at, read_at, write_at, try_at, try_by, event_by, event_at};
+ghost use Rattle.ir_trace.specs.Fields.{object_field};
 ghost use Rattle.ir_trace.specs.Results.{Gives, shortest};
 ghost use Rattle.ir_thread.specs.State.{most_events};
 
