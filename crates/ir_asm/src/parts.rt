@@ -1,7 +1,8 @@
 //! A guest that is put together.
 
 ghost use Rattle.std.specs.Prelude.{◌≡◌, ◌+◌, ◌*◌, ◌≤◌, ◌++◌, [], ◌∷◌, length, take, drop, replicate, IfOk, OnOk};
-ghost use Rattle.ir_image.specs.Guest.{limits_of, most_object_words, object_words, padded, padded_to};
+ghost use Rattle.ir_image.specs.Guest.{limits_of, most_object_words, object_words, padded_to};
+ghost use Rattle.ir_image.specs.Padded.{padded};
 ghost use Rattle.ir_asm.specs.Passes.{with_code, with_object, with_entry};
 
 use ir_image::{CODE_START, ImageForm, MOST_OBJECT_WORDS};

@@ -32,13 +32,6 @@ most_position = 2 ^ 64 - 1
 abbrev pub most_bytes : ℕ
 most_bytes = 256
 
--- the most digits of a number
-abbrev pub most_decimal : ℕ
-most_decimal = 20
-
-abbrev pub most_hexadecimal : ℕ
-most_hexadecimal = 16
-
 -- the number of one digit of the radix to the most; none of other bytes
 unfoldable pub numeral : ℕ → ℕ → List ℕ → Option ℕ
 numeral radix most digits =
@@ -51,7 +44,7 @@ starts_hexadecimal digits = false
 
 -- 1 to 20 decimal digits, or `0x` and 1 to 16 hexadecimal digits of either case
 unfoldable pub number_of : List ℕ → Option ℕ
-number_of word = if starts_hexadecimal word then numeral 16 most_hexadecimal (drop 2 word) else numeral 10 most_decimal word
+number_of word = if starts_hexadecimal word then numeral 16 16 (drop 2 word) else numeral 10 20 word
 
 -- a number that may not pass the limit
 abbrev pub number_up_to : ℕ → List ℕ → Option ℕ

@@ -11,8 +11,8 @@ use Rattle.ir_command.specs.declared.command.Direction.TheVariants.{Forwards, Ba
 use Rattle.ir_command.specs.declared.command.Move.{Move}
 use Rattle.ir_command.specs.declared.command.Move.TheVariants.{Step, Back}
 use Rattle.ir_timeline.specs.Positions.{last_of}
-use Rattle.ir_debug.specs.Machine.{Leads, ToLeast, ToGreatest, StopsAt}
-use Rattle.ir_debug.specs.Debugging.{ToPosition}
+use Rattle.ir_debug.specs.Machine.{Leads, StopsAt}
+use Rattle.ir_debug.specs.Debugging.{ToPosition, ToLeast, ToGreatest}
 
 least_cut_leads_up : (f : FittedTrace) (at to : List ℕ) (t k j : ℕ) → IsLeastCut f at t k to → k ≡ j
     → EachRun f (λ run. ToLeast run f at t j to)

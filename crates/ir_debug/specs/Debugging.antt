@@ -136,3 +136,11 @@ without_kept d n = record (spoken d) { kept = filter (λ k. not (k.number == n))
 -- what thread t logged so far: of its first steps, as many as its position says
 abbrev pub logged_so_far : List run.Step → Desk → ℕ → List Label
 logged_so_far steps d t = run.events (take (cut_of d.at t) (run.trail (machine_of d.fitted) (start_of d.fitted) steps t))
+
+-- the least cut at or above this one with thread t at k or more
+abbrev pub ToLeast : List run.Step → FittedTrace → List ℕ → ℕ → ℕ → List ℕ → Type 0
+ToLeast steps f at t k to = (length to ≡ threads_of f) × run.IsLeast (machine_of f) (start_of f) steps (cut_of at) t k (cut_of to)
+
+-- the greatest cut at or below this one with thread t at k or less
+abbrev pub ToGreatest : List run.Step → FittedTrace → List ℕ → ℕ → ℕ → List ℕ → Type 0
+ToGreatest steps f at t k to = (length to ≡ threads_of f) × run.IsGreatest (machine_of f) (start_of f) steps (cut_of at) t k (cut_of to)

@@ -165,23 +165,15 @@ may_lack d (command.Keeping Keep) = true
 may_lack d (command.Keeping (Load n)) = true
 may_lack d c = false
 
--- the least cut at or above this one with thread t at k or more
-abbrev pub ToLeast : List run.Step → FittedTrace → List ℕ → ℕ → ℕ → List ℕ → Type 0
-ToLeast steps f at t k to = (length to ≡ threads_of f) × run.IsLeast (machine_of f) (start_of f) steps (cut_of at) t k (cut_of to)
-
--- the greatest cut at or below this one with thread t at k or less
-abbrev pub ToGreatest : List run.Step → FittedTrace → List ℕ → ℕ → ℕ → List ℕ → Type 0
-ToGreatest steps f at t k to = (length to ≡ threads_of f) × run.IsGreatest (machine_of f) (start_of f) steps (cut_of at) t k (cut_of to)
-
--- the cut at which a thread that moves in this direction is at a position
+-- the least cut at or above this one with thread t at k or more, or the greatest at or below it with t at k or less
 abbrev pub StopsAt : List run.Step → FittedTrace → List ℕ → ℕ → Direction → ℕ → List ℕ → Type 0
-StopsAt steps f at t Forwards k to = ToLeast steps f at t k to
-StopsAt steps f at t Backwards k to = ToGreatest steps f at t k to
+StopsAt steps f at t Forwards k to = (length to ≡ threads_of f) × run.IsLeast (machine_of f) (start_of f) steps (cut_of at) t k (cut_of to)
+StopsAt steps f at t Backwards k to = (length to ≡ threads_of f) × run.IsGreatest (machine_of f) (start_of f) steps (cut_of at) t k (cut_of to)
 
 -- a move that isn't refused leads from this cut to that
 abbrev pub Leads : List run.Step → FittedTrace → List ℕ → Move → List ℕ → Type 0
-Leads steps f at (Step t count) to = ToLeast steps f at t (min (cut_of at t + count) (last_of f t)) to
-Leads steps f at (Back t count) to = ToGreatest steps f at t (cut_of at t - count) to
+Leads steps f at (Step t count) to = StopsAt steps f at t Forwards (min (cut_of at t + count) (last_of f t)) to
+Leads steps f at (Back t count) to = StopsAt steps f at t Backwards (cut_of at t - count) to
 Leads steps f at (Goto t k) to = let last = min k (last_of f t) in
     StopsAt steps f at t (if nat_le (cut_of at t) last then Forwards else Backwards) last to
 Leads steps f at Start to = to ≡ first_cut f

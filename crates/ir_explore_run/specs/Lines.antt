@@ -3,7 +3,8 @@ use Rattle.std.specs.Prelude.{ℕ, zero, suc, ◌*◌, List, [], ◌∷◌, ◌+
 use Rattle.hex.specs.Hex.{encode_lower}
 use Rattle.ir_thread.specs.State.{end_number, end_code, ThreadState}
 use Rattle.ir_thread.specs.declared.end.End.{End}
-use Rattle.ir_text.specs.Texts.{hex_word, lines_for}
+use Rattle.ir_text.specs.Texts.{hex_word}
+use Rattle.ir_text.specs.Parts.{lines_for}
 use Rattle.ir_explore.specs.declared.search.Ended.{Ended}
 use Rattle.ir_explore.specs.declared.search.Ended.TheVariants.{Finished, Covered, Stopped}
 use Rattle.ir_explore.specs.declared.stop.Stop.{Stop}

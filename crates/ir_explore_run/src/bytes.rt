@@ -1,7 +1,8 @@
 //! Bytes and words in hexadecimal digits.
 
 ghost use Rattle.std.specs.Prelude.{◌≡◌, ◌<◌, ◌*◌, ◌++◌, length, take, drop, OnOk};
-ghost use Rattle.ir_text.specs.Texts.{hex_word, lines_for};
+ghost use Rattle.ir_text.specs.Texts.{hex_word};
+ghost use Rattle.ir_text.specs.Parts.{lines_for};
 ghost use Rattle.ir_explore_run.specs.Lines.{byte_line, byte_lines, words_text};
 
 use std::alloc::{AllocError, Global};

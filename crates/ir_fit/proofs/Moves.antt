@@ -19,7 +19,8 @@ use Rattle.ir_flat.specs.Flat.{Flat, thread_of, tables, machine as machine_of, s
 use Rattle.ir_runs.specs.Run.{State, Step, act, asked, Can, after, label, end, trail, events, log, count}
 use Rattle.ir_flat.proofs.CallerLemmas.{tallies_along_run, shared_done_is_done, moved_thread, threads_after_step, start_thread_is_fresh, start_thread_has_no_steps, length_of_start_threads, length_of_start_cells}
 use Rattle.ir_log.specs.Logging.{label_of}
-use Rattle.ir_trace.specs.Recorded.{Recorded, RecordedThread, recorded_thread, absent, trace_of}
+use Rattle.ir_trace.specs.Recorded.{Recorded, RecordedThread, recorded_thread, trace_of}
+use Rattle.ir_trace.specs.Absent.{absent}
 use Rattle.ir_fit.specs.Ahead.{steps_ahead, log_ahead, StepFollows, CanFollow, IsStopped, AgreesAhead, IsMove}
 use Rattle.ir_fit.specs.Follower.{IsFollower, IsFollowed, IsPlaced, GoesOn, all_ahead}
 use Rattle.ir_fit.specs.Fit.{place_if, leave_if}

@@ -25,7 +25,8 @@ use Rattle.ir_flat.proofs.CallerLemmas.{counts_all_fit, start_thread_has_no_step
 use Rattle.ir_log.specs.Logging.{label_of}
 use Rattle.ir_log.specs.declared.event.Event.{Event}
 use Rattle.ir_log.specs.declared.event.Event.TheVariants.{Answer, Read, Write, Try}
-use Rattle.ir_trace.specs.Recorded.{IsWord, RecordedThread, Recorded, absent, recorded_thread, IsEvent, IsRecordedThread, IsRecorded}
+use Rattle.ir_trace.specs.Recorded.{IsWord, RecordedThread, Recorded, recorded_thread, IsEvent, IsRecordedThread, IsRecorded}
+use Rattle.ir_trace.specs.Absent.{absent}
 use Rattle.ir_fit.specs.Fit.{IsRunOf}
 use Rattle.ir_fit.specs.Laws.{EachRunIsRecorded}
 

@@ -11,7 +11,8 @@ use Rattle.ir_runs.specs.Verdicts.{reads, sum_below}
 use Rattle.ir_runs.proofs.CallerLemmas.{own_trace_is_coherent}
 use Rattle.ir_flat.proofs.CallerLemmas.{guest_start_is_idle}
 use Rattle.ir_log.specs.Logging.{label_of}
-use Rattle.ir_trace.specs.Recorded.{RecordedThread, trace_of, absent}
+use Rattle.ir_trace.specs.Recorded.{RecordedThread, trace_of}
+use Rattle.ir_trace.specs.Absent.{absent}
 use Rattle.ir_fit.specs.Fit.{FittedTrace, HasRun}
 use Rattle.ir_fit.proofs.CallerLemmas.{guest_start_is_start}
 use Rattle.ir_cut.specs.Positions.{machine_of, start_of}

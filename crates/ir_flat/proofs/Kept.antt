@@ -16,7 +16,8 @@ use Rattle.ir_object.specs.Cell.{has_writer, one_if_reading, is_writing}
 use Rattle.ir_object.specs.Word.{bit_of}
 use Rattle.ir_runs.proofs.CallerLemmas.{upd_at_own_place, upd_at_other_place, upd_by_cases, StateInvariant, state_invariant_after_step}
 use Rattle.ir_object.proofs.CallerLemmas.{readers_after_change, no_writer_if_nobody_writes, has_writer_if_writer, has_writer_after_equal_change}
-use Rattle.ir_flat.specs.Flat.{IsKept, events_below, entries_seen}
+use Rattle.ir_flat.specs.Flat.{IsKept, events_below}
+use Rattle.ir_flat.specs.Room.{entries_seen}
 use Rattle.ir_runs.specs.Run.{State, Step, act, Can, after}
 
 -- how many events a step adds

@@ -4,7 +4,7 @@ use Rattle.std.specs.List.{slice_index_or}
 use Rattle.ir_image.specs.Guest.{Guest, most_threads, most_objects, most_object_words, object_count, first_words}
 use Rattle.ir_image.specs.declared.form.ImageForm.TheVariants.{Small}
 use Rattle.ir_thread.specs.State.{held_at, ThreadState, start_state, thread_machine, most_events}
-use Rattle.ir_runs.specs.Machine.{Machine, Object}
+use Rattle.ir_runs.specs.Machine.{Machine}
 use Rattle.ir_runs.specs.declared.access.Access.{Access}
 use Rattle.ir_thread.specs.declared.end.End.TheVariants.{Breakpoint}
 use Rattle.ir_thread.specs.declared.profile.Profile.{Profile}
@@ -18,16 +18,13 @@ abbrev pub events_below : ℕ → (ℕ → ThreadState) → ℕ
 events_below zero now = 0
 events_below (suc n) now = events_below n now + (now n).events
 
--- how many entries an object has seen at least
-abbrev pub entries_seen : ℕ → Object → ℕ
-entries_seen n b = b.version + b.left + readers n b.inside + (if has_writer n b.inside then 1 else 0)
-
 -- of n threads: who is inside an object holds it, a writer is alone inside, each entry was logged, and no thread logged more than it may
 pub record IsKept (n : ℕ) (s : State ThreadState) : Type 0 where
   pub linked : (t o : ℕ) → (s.objects o).inside t ≡ held_at (s.now t).held o
   pub exclusive : (o t u : ℕ) → t ≢ u → (s.objects o).inside t ≡ Some Writing → (s.objects o).inside u ≡ None
   pub others : (t o : ℕ) → n ≤ t → (s.objects o).inside t ≡ None
-  pub logged : (o : ℕ) → entries_seen n (s.objects o) ≤ events_below n s.now
+  pub logged : (o : ℕ) → let b = s.objects o in
+      b.version + b.left + readers n b.inside + (if has_writer n b.inside then 1 else 0) ≤ events_below n s.now
   pub events : (t : ℕ) → t < n → (s.now t).events ≤ most_events
 
 -- the lists that the code keeps

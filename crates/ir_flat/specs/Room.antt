@@ -1,9 +1,9 @@
 -- Threads with a place for each object, and an object that is none of the guest's.
-use Rattle.std.specs.Prelude.{◌≡◌, ◌<◌, ℕ, List, length, [], false, slice_index, Option}
+use Rattle.std.specs.Prelude.{◌≡◌, ◌<◌, ℕ, List, length, [], false, slice_index, Option, ◌+◌}
 use Rattle.std.specs.List.{slice_index_or}
 use Rattle.ir_thread.specs.State.{ThreadState}
 use Rattle.ir_flat.specs.Flat.{idle}
-use Rattle.ir_object.specs.Cell.{Cell}
+use Rattle.ir_object.specs.Cell.{Cell, readers, has_writer}
 use Rattle.ir_runs.specs.Machine.{Object}
 use Rattle.ir_runs.specs.declared.access.Access.{Access}
 
@@ -18,3 +18,7 @@ empty = record { fields = record { version = 0; left = 0; inside = 0; writer = f
 -- the object whose word and contents these are, with these threads inside
 abbrev pub object_with : Cell → (ℕ → Option Access) → Object
 object_with c inside = record { version = c.fields.version; left = c.fields.left; inside = inside; words = slice_index c.words }
+
+-- how many entries an object has seen at least
+abbrev pub entries_seen : ℕ → Object → ℕ
+entries_seen n b = b.version + b.left + readers n b.inside + (if has_writer n b.inside then 1 else 0)

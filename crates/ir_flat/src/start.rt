@@ -1,6 +1,7 @@
 //! The threads and objects of a guest at its start.
 
-ghost use Rattle.ir_image.specs.Guest.{most_object_words, object_count, padded, first_words};
+ghost use Rattle.ir_image.specs.Guest.{most_object_words, object_count, first_words};
+ghost use Rattle.ir_image.specs.Padded.{padded};
 ghost use Rattle.ir_thread.specs.State.{most_budget};
 ghost use Rattle.ir_flat.specs.Flat.{start_threads, start_cells};
 ghost use Rattle.ir_flat.specs.Room.{HaveRoom};

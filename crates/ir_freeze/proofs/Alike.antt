@@ -6,11 +6,11 @@ use Rattle.ir_image.specs.Guest.{IsWord}
 use Rattle.ir_mach.specs.Core.{memory_size}
 use Rattle.ir_runs.specs.Machine as machine
 use Rattle.ir_runs.specs.declared.access.Access.{Access}
-use Rattle.ir_thread.specs.Permitted.{Permits}
+use Rattle.ir_thread.specs.Permitted.{Permits, ends_with}
 use Rattle.ir_thread.specs.declared.ask.Ask.{Ask}
 use Rattle.ir_thread.specs.declared.ask.Ask.TheVariants as ask
 use Rattle.ir_thread.proofs.CallerLemmas.{ask_of_permitted}
-use Rattle.ir_thread.specs.State.{end_number, end_code, end_of, ends_with, ThreadState, highest, ask_of, ask_by, release_ask, shared_ask}
+use Rattle.ir_thread.specs.State.{end_number, end_code, end_of, ThreadState, highest, ask_of, ask_by, release_ask, shared_ask}
 use Rattle.ir_thread.specs.declared.end.End.{End}
 use Rattle.ir_thread.specs.declared.end.End.TheVariants as end
 use Rattle.ir_seen.specs.Seen.{Same, view}

@@ -7,7 +7,7 @@ use Rattle.ir_cut.specs.Laws.{LeastExact, GreatestExact}
 use Rattle.ir_cut.specs.Positions.{EachRun, IsConsistentCut, cut_of}
 use Rattle.ir_hits.specs.Hits.{thread_at}
 use Rattle.ir_weave.specs.Standing.{StandsAt}
-use Rattle.ir_debug.specs.Machine.{ToLeast, ToGreatest}
+use Rattle.ir_debug.specs.Debugging.{ToLeast, ToGreatest}
 use Rattle.ir_timeline.specs.Positions.{threads_of, last_of}
 use Rattle.ir_gdb.specs.Serving.{Serving}
 

@@ -8,7 +8,7 @@ use Rattle.ir_image.specs.declared.image_err.ImageErr.TheVariants.{Short}
 use Rattle.ir_bytes.specs.Reading.{number_at, bytes_at, fields_at}
 use Rattle.ir_bytes.proofs.CallerLemmas.{bytes_at_gives_parts, bytes_at_fails_if_short}
 use Rattle.ir_image.specs.declared.image_err.ImageErr.{ImageErr}
-use Rattle.ir_image.specs.Guest.{word_at}
+use Rattle.ir_image.specs.Fields.{word_at}
 use Rattle.ir_image.specs.Results.{Fails}
 
 word_at_of_four_bytes : (a b c d : ℕ) (rest : List ℕ) → word_at (a ∷ b ∷ c ∷ d ∷ rest) ≡ Ok (little_number 4 (a ∷ b ∷ c ∷ d ∷ []), rest)

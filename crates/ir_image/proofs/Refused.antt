@@ -8,8 +8,8 @@ use Rattle.ir_image.specs.declared.counts.Counts.{Counts}
 use Rattle.ir_image.specs.declared.image_err.ImageErr.{ImageErr}
 use Rattle.ir_image.specs.declared.image_err.ImageErr.TheVariants.{Short, Trailing}
 use Rattle.ir_image.specs.declared.form.ImageForm.{ImageForm}
-use Rattle.ir_image.specs.Guest.{limits_of, form_of, Guest, word_at, form_at, counts_at, body_at, guest_at}
-use Rattle.ir_image.specs.Fields.{image_fault, image_magic_field, image_threads_field, image_objects_field, words_field, bytes_field, entry_field, entry_at}
+use Rattle.ir_image.specs.Guest.{limits_of, form_of, Guest, form_at, counts_at, body_at, guest_at}
+use Rattle.ir_image.specs.Fields.{image_fault, image_magic_field, image_threads_field, image_objects_field, words_field, bytes_field, entry_field, entry_at, word_at}
 
 abbrev counts_by : ImageForm → ℕ → ℕ → ℕ → ℕ → Counts
 counts_by f n m c d = record { form = f; threads = n; objects = m; words = c; bytes = d }

@@ -5,7 +5,7 @@ use Rattle.ir_image.specs.declared.image_err.ImageErr.{ImageErr}
 use Rattle.ir_image.specs.declared.image_err.ImageErr.TheVariants.{Short, Trailing, Magic, Count, Entry}
 use Rattle.ir_image.specs.Guest.{limits_of, form_of, most_code_words, magic_number, memory_size, code_start}
 use Rattle.ir_image.specs.declared.form.ImageForm.{ImageForm}
-use Rattle.ir_bytes.specs.Reading.{Field, tested, within, Reader, field_at}
+use Rattle.ir_bytes.specs.Reading.{Field, tested, within, Reader, field_at, number_at}
 
 abbrev pub image_objects_field : ImageForm → Field ImageErr
 image_objects_field form = within 1 0 (limits_of form).objects Count
@@ -47,3 +47,7 @@ image_fault = first_refused Short Trailing image_fields
 -- an entry into code of `words` words, and the bytes after it
 abbrev pub entry_at : ℕ → Reader ℕ ImageErr
 entry_at words = field_at Short (tested 4 (is_place words) Entry)
+
+-- a word, and the bytes after it
+abbrev pub word_at : Reader ℕ ImageErr
+word_at = number_at Short 4

@@ -64,13 +64,9 @@ padded_to count words = words ++ replicate (count - length words) 0
 abbrev pub most_object_words : ℕ
 most_object_words = 16
 
--- up to the most words of an object of any form
-abbrev pub padded : List ℕ → List ℕ
-padded words = padded_to most_object_words words
-
 -- what an object's words are at the start: its first words, and 0 after them
 abbrev pub first_words : Guest → ℕ → List ℕ
-first_words g o = padded (take (object_words g) (drop (object_words g * o) g.words))
+first_words g o = padded_to most_object_words (take (object_words g) (drop (object_words g * o) g.words))
 
 -- the most threads of any form
 abbrev pub most_threads : ℕ
@@ -113,10 +109,6 @@ fetched code pc = fetched_word (word_at_pc code pc)
 
 -- ---- reading from the left: each field is read whole and then tested, and the first fault is named
 
--- a word, and the bytes after it
-abbrev pub word_at : Reader ℕ ImageErr
-word_at = number_at Short 4
-
 -- the form that the magic names, and the bytes after it
 unfoldable pub form_at : Reader ImageForm ImageErr
 form_at bytes = field_at Short (tested 4 (λ n. n == magic_number (form_of n)) Magic) bytes >>= λ n. Ok (form_of n.0, n.1)
@@ -135,9 +127,9 @@ counts_at bytes = do
 unfoldable pub body_at : Counts → List ℕ → Result Guest ImageErr
 body_at c bytes = do
   entries ← fields_at (field_at Short (tested 4 (λ n. (n % 4 == 0) && (nat_le code_start n && nat_lt n (code_start + 4 * c.words))) Entry)) c.threads bytes
-  code ← fields_at word_at c.words entries.1
+  code ← fields_at (number_at Short 4) c.words entries.1
   initial ← bytes_at Short c.bytes code.1
-  words ← fields_at word_at ((limits_of c.form).words * c.objects) initial.1
+  words ← fields_at (number_at Short 4) ((limits_of c.form).words * c.objects) initial.1
   if length words.1 == 0 then Ok
       (record { form = c.form; entries = entries.0; code = code.0; bytes = initial.0; words = words.0 }) else Err Trailing
 

@@ -3,3 +3,4 @@ pub mod Lowering
 pub mod Encoding
 pub mod Fields
 pub mod Results
+pub mod Padded

@@ -13,7 +13,8 @@ use Rattle.ir_thread.specs.State.{end_number, end_code, end_of}
 use Rattle.ir_thread.specs.declared.end.End.{End}
 use Rattle.ir_thread.specs.declared.end.End.TheVariants.{Exit, Breakpoint, IllegalWord, TargetMisaligned, OutsideCode, BadLoad, BadStore, UnknownCall, NoSuchObject, EntryOutOfOrder, NotHeld, OutputFull, BudgetSpent, LogFull}
 use Rattle.ir_thread.specs.declared.profile.Profile.{Profile}
-use Rattle.ir_trace.specs.Recorded.{RecordedThread, Recorded, absent, recorded_thread}
+use Rattle.ir_trace.specs.Recorded.{RecordedThread, Recorded, recorded_thread}
+use Rattle.ir_trace.specs.Absent.{absent}
 use Rattle.ir_record.specs.Recording.{IsTraceOf, AreOutputs}
 use Rattle.ir_order.specs.Recording.{IsOfRun}
 

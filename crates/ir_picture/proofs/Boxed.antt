@@ -5,7 +5,8 @@ use Rattle.std.proofs.lemmas.Bool.{cases_eq, cases_lt}
 use Rattle.std.proofs.lemmas.List.{get_or_past}
 use Rattle.std.proofs.lemmas.Option.{same_Some, none-some, slice_get_within, slice_get_read}
 use Rattle.ir_thread.specs.State.{most_events}
-use Rattle.ir_trace.specs.Recorded.{Recorded, RecordedThread, absent, recorded_thread}
+use Rattle.ir_trace.specs.Recorded.{Recorded, RecordedThread, recorded_thread}
+use Rattle.ir_trace.specs.Absent.{absent}
 use Rattle.ir_coherence.specs.Before.{IsBefore}
 use Rattle.ir_picture.specs.Boxes.{AreFolded, IsInBox, HasBox, IsBox, AreBoxes}
 use Rattle.ir_picture.specs.Boxing.{IsFold, EndsBy, HasLast, BoxedBefore}

@@ -7,7 +7,8 @@ use Rattle.std.proofs.lemmas.Nat.{mul-le}
 use Rattle.std.proofs.lemmas.Option.{same_Some, none-some, slice_get_within}
 use Rattle.ir_log.specs.declared.event.Event.{Event}
 use Rattle.ir_thread.specs.State.{most_events}
-use Rattle.ir_trace.specs.Recorded.{Recorded, RecordedThread, absent, recorded_thread}
+use Rattle.ir_trace.specs.Recorded.{Recorded, RecordedThread, recorded_thread}
+use Rattle.ir_trace.specs.Absent.{absent}
 use Rattle.ir_past.specs.Past.{event_at}
 use Rattle.ir_past.specs.Answers.{AreCoherent}
 use Rattle.ir_picture.specs.Needs.{placed, CanFollow, HasNoCircle, IsCircleAt}

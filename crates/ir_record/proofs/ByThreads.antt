@@ -30,7 +30,8 @@ use Rattle.ir_flat.specs.Lone.{MayRun, alone_after, alone_trail}
 use Rattle.ir_flat.proofs.CallerLemmas.{length_of_start_cells, start_cell_has_zero_fields, start_cell_has_first_words, no_thread_inside_at_start, guest_start_is_idle, splice_is_run_with_trails}
 use Rattle.ir_log.specs.Logged.{Logged}
 use Rattle.ir_log.specs.Logging as logging
-use Rattle.ir_trace.specs.Recorded.{Recorded, absent}
+use Rattle.ir_trace.specs.Recorded.{Recorded}
+use Rattle.ir_trace.specs.Absent.{absent}
 use Rattle.ir_record.specs.Gathered.{IsThreadTrace}
 use Rattle.ir_record.specs.Progress.{no_log}
 use Rattle.ir_record.specs.Worlds.{answers_at, Answered, answers_in}

@@ -13,7 +13,8 @@ use Rattle.ir_thread.specs.declared.ask.Ask.TheVariants as ask
 use Rattle.ir_thread.proofs.CallerLemmas.{ask_of_permitted}
 use Rattle.ir_crew.specs.Plays.{M}
 use Rattle.ir_log.specs.Logged.{Logged}
-use Rattle.ir_trace.specs.Recorded.{RecordedThread, absent}
+use Rattle.ir_trace.specs.Recorded.{RecordedThread}
+use Rattle.ir_trace.specs.Absent.{absent}
 use Rattle.ir_record.specs.Gathered.{IsThreadTrace}
 use Rattle.ir_record.specs.Worlds.{answers_at, Answered, answers_in, NoneFailed, AreSameWorlds}
 use Rattle.ir_record.specs.Recording.{WentOn, EachWentOn}

@@ -6,7 +6,8 @@ use Rattle.std.proofs.Math.Seq.{get_or-append_seam}
 use Rattle.ir_thread.specs.State as thread
 use Rattle.ir_flat.specs.Flat.{Flat, thread_of, idle}
 use Rattle.ir_log.specs.Logged.{Logged}
-use Rattle.ir_trace.specs.Recorded.{RecordedThread, absent}
+use Rattle.ir_trace.specs.Recorded.{RecordedThread}
+use Rattle.ir_trace.specs.Absent.{absent}
 use Rattle.ir_record.specs.Gathered.{IsThreadTrace, AreThreadTraces}
 use Rattle.ir_record.proofs.Logs.{map_of_append_item}
 use Rattle.ir_record.specs.Progress.{log_at, no_log}

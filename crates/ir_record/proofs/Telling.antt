@@ -12,7 +12,8 @@ use Rattle.ir_runs.specs.Run.{Step, IsRun, IsDone, end, log, count}
 use Rattle.ir_flat.proofs.CallerLemmas.{tallies_along_run, start_thread_has_no_steps}
 use Rattle.ir_log.specs.Logged.{Logged}
 use Rattle.ir_log.specs.Logging.{label_of}
-use Rattle.ir_trace.specs.Recorded.{Recorded, RecordedThread, absent}
+use Rattle.ir_trace.specs.Recorded.{Recorded, RecordedThread}
+use Rattle.ir_trace.specs.Absent.{absent}
 use Rattle.ir_record.specs.Gathered.{IsThreadTrace}
 use Rattle.ir_record.specs.Worlds.{answers_at, Answered, answers_in}
 use Rattle.ir_record.specs.Recording.{IsTraceOf, AreOutputs, AreAnswers}

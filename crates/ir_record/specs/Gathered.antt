@@ -4,7 +4,8 @@ use Rattle.std.specs.List.{slice_index_or}
 use Rattle.ir_thread.specs.State as thread
 use Rattle.ir_flat.specs.Flat.{Flat, thread_of}
 use Rattle.ir_log.specs.Logged.{Logged}
-use Rattle.ir_trace.specs.Recorded.{RecordedThread, absent}
+use Rattle.ir_trace.specs.Recorded.{RecordedThread}
+use Rattle.ir_trace.specs.Absent.{absent}
 use Rattle.ir_record.specs.Progress.{log_at}
 
 -- what was recorded of a thread: its steps, its end and its events

@@ -3,6 +3,7 @@ use Rattle.std.specs.Prelude.{◌≡◌, ℕ, ◌<◌, ◌≤◌, List, None, eq
 use Rattle.ir_runs.specs.Machine.{Done, Enter, Machine, Trace}
 use Rattle.ir_runs.specs.declared.access.Access.{Access}
 use Rattle.ir_runs.specs.Run.{State, Step, asked, IsRun, end, log, count, IsDone, Cut, Can}
+use Rattle.ir_runs.specs.Verdicts.{closing, Follows}
 
 -- the trace of the run
 abbrev pub trace : {T : Type 0} → Machine T → State T → List Step → Trace
@@ -34,3 +35,7 @@ lower p t u = cond (eqb u t) (pred (p u)) (p u)
 -- thread t has no step now: it is done, or it must wait
 abbrev pub HasNone : {T : Type 0} → Machine T → State T → ℕ → Type 0
 HasNone m s t = (r : ℕ) → Can m s (t, r) → ⊥
+
+-- no run that follows the trace takes thread t further than k steps
+abbrev pub NoneTakes : {T : Type 0} → Machine T → State T → Trace → ℕ → ℕ → Type 0
+NoneTakes m s tr t k = (run : List Step) → Follows (closing m tr) m s tr run → count m s run t ≤ k

@@ -103,13 +103,10 @@ Judged m fin stuck x n es i k Same = m.ask x ≡ Done
 Judged m fin stuck x n es i k (Disagrees j h) = (m.ask x ≢ Done) × (Agrees m fin x n es → ⊥) × (j ≡ i) × (h ≡ k)
 Judged m fin stuck x n es i k (Starves j) = (m.ask x ≢ Done) × Agrees m fin x n es × Awaits (m.ask x) es × stuck × (j ≡ i)
 
--- no run that follows the trace takes thread t further than k steps
-abbrev pub NoneTakes : {T : Type 0} → Machine T → State T → Trace → ℕ → ℕ → Type 0
-NoneTakes m s tr t k = (run : List Step) → Follows (closing m tr) m s tr run → count m s run t ≤ k
-
--- the verdict on thread t at the end of this run, which follows the trace so far that no step more does
+-- the verdict on thread t at the end of this run, which follows the trace so far that no step more does; where it starves, no run takes it on
 abbrev pub IsVerdict : {T : Type 0} → Machine T → State T → Trace → List Step → ℕ → ThreadVerdict → Type 0
-IsVerdict m s tr run t v = Judged m (tr.ends t) (NoneTakes m s tr t (count m s run t)) ((end m s run).now t)
+IsVerdict m s tr run t v = Judged m (tr.ends t)
+    ((further : List Step) → Follows (closing m tr) m s tr further → count m s further t ≤ count m s run t) ((end m s run).now t)
     (left_steps (trail m s run t) (tr.steps t)) (left_log (trail m s run t) (tr.logs t)) (length (log m s run t)) (count m s run t) v
 
 -- a complete run of n threads with this trace

@@ -4,7 +4,8 @@ use Rattle.std.specs.Prelude.{codes, decimal}
 use Rattle.std.specs.List.{slice_index_or}
 use Rattle.std.proofs.lemmas.List.{length-drop, take_min, drop_min, append-nil, at_drop_more, at_drop_all}
 use Rattle.hex.specs.Hex.{encode_lower}
-use Rattle.ir_text.specs.Texts.{hex_word, lines_for, memory_lines, memory_text, output_lines, event_text, event_lines}
+use Rattle.ir_text.specs.Texts.{hex_word, memory_lines, memory_text, output_lines, event_text, event_lines}
+use Rattle.ir_text.specs.Parts.{lines_for}
 use Rattle.ir_log.specs.Logging.{label_of}
 use Rattle.ir_log.specs.declared.event.Event.{Event}
 

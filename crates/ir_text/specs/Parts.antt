@@ -1,5 +1,5 @@
 -- Parts of the texts of verdicts.
-use Rattle.std.specs.Prelude.{ℕ, List, ◌++◌, codes, decimal, ◌==◌, if◌then◌else◌, ◌%◌}
+use Rattle.std.specs.Prelude.{ℕ, List, ◌++◌, codes, decimal, ◌==◌, if◌then◌else◌, ◌%◌, zero, suc, ◌+◌, ◌/◌}
 use Rattle.ir_coherence.specs.Breaking.{cause_number}
 use Rattle.ir_coherence.specs.declared.cause.Cause.{Cause}
 use Rattle.ir_fit.specs.Fit.{header_cause_number}
@@ -22,3 +22,8 @@ incoherent_text thread event cause = codes "incoherent thread " ++ decimal threa
 -- a line has four registers
 abbrev pub register_text : Core → ℕ → List ℕ
 register_text m n = register_name n ++ codes "=" ++ hex_word (register m n) ++ (if n % 4 == 3 then codes "\n" else codes " ")
+
+-- how many lines of width bytes hold count bytes
+abbrev pub lines_for : ℕ → ℕ → ℕ
+lines_for zero count = 0
+lines_for (suc width) count = (count + width) / suc width

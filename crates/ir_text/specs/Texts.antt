@@ -46,11 +46,6 @@ stop_text last at = if at == last then codes " end" else if at == 0 then codes "
 
 -- ---- bytes
 
--- how many lines of width bytes hold count bytes
-abbrev pub lines_for : ℕ → ℕ → ℕ
-lines_for zero count = 0
-lines_for (suc width) count = (count + width) / suc width
-
 -- a word in eight lower-case hexadecimal digits, the highest first
 abbrev pub hex_word : ℕ → List ℕ
 hex_word n = encode_lower (bytes_high_first 4 n)
@@ -63,7 +58,7 @@ memory_lines (suc n) address bytes = hex_word address ++ codes ": " ++ encode_lo
 
 -- the bytes from an address on
 abbrev pub memory_text : ℕ → List ℕ → List ℕ
-memory_text address bytes = memory_lines (lines_for 16 (length bytes)) address bytes
+memory_text address bytes = memory_lines ((length bytes + 15) / 16) address bytes
 
 -- n lines of 32 bytes
 unfoldable pub output_lines : ℕ → List ℕ → List ℕ
@@ -72,7 +67,7 @@ output_lines (suc n) bytes = encode_lower (take 32 bytes) ++ codes "\n" ++ outpu
 
 -- what was printed
 abbrev pub output_text : List ℕ → List ℕ
-output_text bytes = number_line (codes "out ") (length bytes) ++ output_lines (lines_for 32 (length bytes)) bytes
+output_text bytes = number_line (codes "out ") (length bytes) ++ output_lines ((length bytes + 31) / 32) bytes
 
 -- n bytes from an address on, of code or private memory
 unfoldable pub bytes_from : List ℕ → List ℕ → ℕ → ℕ → List ℕ

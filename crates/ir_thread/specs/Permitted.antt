@@ -1,5 +1,5 @@
 -- Replies that suit what a thread asks, and steps that are permitted.
-use Rattle.std.specs.Prelude.{◌≡◌, ◌⊎◌, ℕ, zero, suc, ◌+◌, ◌≢◌, ◌<◌, ◌≤◌, true, List, length, Some, None, ⊤, Option, nat_le, if◌then◌else◌}
+use Rattle.std.specs.Prelude.{◌≡◌, ◌⊎◌, ℕ, zero, suc, ◌+◌, ◌≢◌, ◌<◌, ◌≤◌, true, List, length, Some, None, ⊤, Option, nat_le, if◌then◌else◌, [], ◌∷◌}
 use Rattle.ir_image.specs.Guest.{most_objects, most_object_words}
 use Rattle.ir_thread.specs.State.{held_at, highest, is_above, ThreadState, most_output, most_events, most_budget, after_reply, call_output, call_at, outcome_ask, one_if_held, a1, a0, leave_held, has_word, a2, put_held, is_object, get_held}
 use Rattle.ir_runs.specs.declared.access.Access.TheVariants.{Writing}
@@ -11,7 +11,7 @@ use Rattle.ir_thread.specs.declared.end.End.{End}
 use Rattle.ir_thread.specs.declared.profile.Profile.TheVariants.{Two}
 use Rattle.ir_mach.specs.Core.{register}
 use Rattle.ir_runs.specs.declared.access.Access.{Access}
-use Rattle.ir_thread.specs.declared.end.End.TheVariants.{BudgetSpent, NoSuchObject}
+use Rattle.ir_thread.specs.declared.end.End.TheVariants.{BudgetSpent, NoSuchObject, Exit, Breakpoint, IllegalWord, TargetMisaligned, OutsideCode, BadLoad, BadStore, UnknownCall, EntryOutOfOrder, NotHeld, OutputFull, LogFull}
 use Rattle.std.specs.List.{sum_by}
 use Rattle.ir_mach.specs.Execution.{outcome_of}
 
@@ -101,3 +101,8 @@ get_ask s = if has_word s then get_held (a0 s) (a1 s) (held_at s.held (a0 s)) el
 -- writing a word of an object that is held for writing
 abbrev pub put_ask : ThreadState → Ask
 put_ask s = if has_word s then put_held (a0 s) (a1 s) (a2 s) (held_at s.held (a0 s)) else ask.End NoSuchObject
+
+-- the ends that a code may go with
+abbrev pub ends_with : ℕ → List End
+ends_with code = Exit code ∷ Breakpoint ∷ IllegalWord ∷ TargetMisaligned ∷ OutsideCode ∷ BadLoad ∷ BadStore ∷ UnknownCall ∷ NoSuchObject
+    ∷ EntryOutOfOrder ∷ NotHeld ∷ OutputFull ∷ BudgetSpent ∷ LogFull ∷ []

@@ -83,14 +83,11 @@ abbrev pub end_code : End → ℕ
 end_code (Exit code) = code
 end_code end = 0
 
--- the ends that a code may go with
-abbrev pub ends_with : ℕ → List End
-ends_with code = Exit code ∷ Breakpoint ∷ IllegalWord ∷ TargetMisaligned ∷ OutsideCode ∷ BadLoad ∷ BadStore ∷ UnknownCall ∷ NoSuchObject
-    ∷ EntryOutOfOrder ∷ NotHeld ∷ OutputFull ∷ BudgetSpent ∷ LogFull ∷ []
-
 -- the end of a number and a code, if there is one
 abbrev pub end_of : ℕ → ℕ → Option End
-end_of number code = find (λ end. (end_number end == number) && (end_code end == code)) (ends_with code)
+end_of number code = find (λ end. (end_number end == number) && (end_code end == code))
+    (Exit code ∷ Breakpoint ∷ IllegalWord ∷ TargetMisaligned ∷ OutsideCode ∷ BadLoad ∷ BadStore ∷ UnknownCall ∷ NoSuchObject
+    ∷ EntryOutOfOrder ∷ NotHeld ∷ OutputFull ∷ BudgetSpent ∷ LogFull ∷ [])
 
 -- the end that a fault of an instruction is
 abbrev pub end_of_fault : Fault → End

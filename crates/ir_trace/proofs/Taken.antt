@@ -5,7 +5,8 @@ use Rattle.std.proofs.lemmas.Bool.{eqb-true, eq-eqb, and_parts}
 use Rattle.byteorder.specs.Endian.{little_bytes}
 use Rattle.ir_bytes.specs.Reading.{number_at, field_at}
 use Rattle.ir_bytes.proofs.CallerLemmas.{two_steps_succeed, three_steps_succeed, ok_is_injective, test_true_if_no_fault, no_fault_if_test_true, number_equal_if_no_fault, no_fault_of_fixed_number, IsBytes, Takes, takes_after_takes, number_at_takes_number, number_at_of_little_bytes, field_at_takes_field, field_at_of_little_bytes, number_of_one_byte_takes_byte, field_at_of_byte}
-use Rattle.ir_thread.specs.State.{end_number, end_code, end_of, ends_with}
+use Rattle.ir_thread.specs.State.{end_number, end_code, end_of}
+use Rattle.ir_thread.specs.Permitted.{ends_with}
 use Rattle.ir_thread.specs.declared.end.End.{End}
 use Rattle.ir_thread.specs.declared.end.End.TheVariants as end
 use Rattle.ir_thread.specs.declared.profile.Profile.{Profile}

@@ -6,7 +6,8 @@ use Rattle.ir_thread.specs.declared.end.End.{End}
 use Rattle.ir_runs.specs.Machine.{Label, Trace}
 use Rattle.ir_log.specs.Logging.{label_of}
 use Rattle.ir_log.specs.declared.event.Event.{Event}
-use Rattle.ir_trace.specs.Recorded.{RecordedThread, Recorded, absent, trace_of}
+use Rattle.ir_trace.specs.Recorded.{RecordedThread, Recorded, trace_of}
+use Rattle.ir_trace.specs.Absent.{absent}
 use Rattle.ir_trace.proofs.Taken.{end_of_number_and_code}
 
 -- different events are different labels

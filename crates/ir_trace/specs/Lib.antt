@@ -2,3 +2,4 @@ pub mod Recorded
 pub mod Encoding
 pub mod Fields
 pub mod Results
+pub mod Absent

@@ -39,13 +39,9 @@ pub record Recorded : Type 0 where
   -- the threads by their numbers
   pub threads : List RecordedThread
 
--- a thread that is none of the guest's: it took no step and logged nothing, and counts as one that has ended
-abbrev pub absent : RecordedThread
-absent = record { steps = 0; end = Breakpoint; events = [] }
-
--- the thread of a number
+-- the thread of a number; one that is none of the guest's took no step and logged nothing, and counts as one that has ended
 abbrev pub recorded_thread : Recorded → ℕ → RecordedThread
-recorded_thread r t = slice_index_or r.threads t absent
+recorded_thread r t = slice_index_or r.threads t (record { steps = 0; end = Breakpoint; events = [] })
 
 -- what was recorded, as a trace: in tables by the numbers of the threads
 abbrev pub trace_of : Recorded → Trace

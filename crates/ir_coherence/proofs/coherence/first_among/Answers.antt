@@ -1,6 +1,7 @@
 use Rattle.std.proofs.Common.{◌≡◌, ◌<◌, ◌∙◌, List, length, get_or, ap, subst, arith}
 use Rattle.std.proofs.lemmas.List.{get_or_read}
-use Rattle.ir_trace.specs.Recorded.{RecordedThread, absent, recorded_thread}
+use Rattle.ir_trace.specs.Recorded.{RecordedThread, recorded_thread}
+use Rattle.ir_trace.specs.Absent.{absent}
 use Rattle.ir_coherence.specs.Counting.{reads_of, writes_of, FirstCause}
 use Rattle.ir_coherence.proofs.Breaks.{coherent_if_no_log_has_cause, first_break_if_first_cause}
 use Rattle.ir_coherence.proofs.coherence.first_among.Goals as goal

@@ -1,6 +1,7 @@
 use Rattle.std.proofs.Common.{◌≡◌, ◌<◌, ◌∙◌, length, get_or, vec_len, sym, ap, subst, arith}
 use Rattle.std.proofs.lemmas.List.{get_or_read}
-use Rattle.ir_trace.specs.Recorded.{RecordedThread, absent, recorded_thread}
+use Rattle.ir_trace.specs.Recorded.{RecordedThread, recorded_thread}
+use Rattle.ir_trace.specs.Absent.{absent}
 use Rattle.std.specs.List.{AllByRecursion}
 use Rattle.ir_coherence.specs.Counting.{MayStand, HasRoom}
 use Rattle.ir_coherence.proofs.Breaks.{counts_have_room_for_thread, thread_events_may_stand_in_counts}

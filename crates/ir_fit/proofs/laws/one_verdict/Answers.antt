@@ -5,7 +5,8 @@ use Rattle.ir_flat.specs.Flat.{tables, start_flat}
 use Rattle.ir_runs.specs.Run.{end, trail, log, count}
 use Rattle.ir_runs.proofs.CallerLemmas.{state_invariant_at_start, maximal_followers_reach_same_end, verdict_exists_at_maximal_run, judged_verdict_is_unique, runs_reaching_same_share_verdict}
 use Rattle.ir_flat.proofs.CallerLemmas.{guest_start_is_idle}
-use Rattle.ir_runs.specs.Verdicts.{NoneTakes, closing, left_log, left_steps}
+use Rattle.ir_runs.specs.Verdicts.{closing, left_log, left_steps}
+use Rattle.ir_runs.specs.Bounds.{NoneTakes}
 use Rattle.ir_fit.proofs.Guests.{guest_start_is_start}
 use Rattle.ir_fit.proofs.laws.one_verdict.Goals as goal
 

@@ -1,6 +1,7 @@
 use Rattle.std.proofs.Common.{◌≡◌, ◌∙◌, ◌<◌, ℕ, List, length, get_or, ap, subst, arith}
 use Rattle.std.proofs.lemmas.List.{get_or_read}
-use Rattle.ir_trace.specs.Recorded.{Recorded, RecordedThread, absent, recorded_thread}
+use Rattle.ir_trace.specs.Recorded.{Recorded, RecordedThread, recorded_thread}
+use Rattle.ir_trace.specs.Absent.{absent}
 use Rattle.ir_fit.specs.Fit.{Placed, placed_at, Visit, of_threads, entered_by, all_entered}
 use Rattle.ir_fit.specs.Growing.{none_placed}
 use Rattle.ir_fit.specs.Listed.{AddsAll, none_listed}

@@ -1,7 +1,8 @@
 use Rattle.std.proofs.Common.{◌≡◌, ◌<◌, ◌∙◌, List, length, get_or, sym, ap, subst, arith}
 use Rattle.std.proofs.lemmas.List.{get_or_read}
 use Rattle.ir_log.specs.declared.event.Event.{Event}
-use Rattle.ir_trace.specs.Recorded.{RecordedThread, absent, recorded_thread}
+use Rattle.ir_trace.specs.Recorded.{RecordedThread, recorded_thread}
+use Rattle.ir_trace.specs.Absent.{absent}
 use Rattle.ir_coherence.proofs.CallerLemmas.{recorded_thread_at_number_is_recorded}
 use Rattle.ir_past.specs.Progress.{Fits}
 use Rattle.ir_past.proofs.Open.{events_fit_objects}

@@ -1,6 +1,7 @@
 use Rattle.std.proofs.Common.{◌≡◌, ◌++◌, length}
 use Rattle.ir_text.specs.Buffered.{Buffered}
-use Rattle.ir_text.specs.Texts.{lines_for, output_lines, output_text}
+use Rattle.ir_text.specs.Texts.{output_lines, output_text}
+use Rattle.ir_text.specs.Parts.{lines_for}
 use Rattle.ir_text.proofs.bytes.write_output.Given as goal
 
 abbrev pub invariant-loop-rest : goal.invariant-loop-rest
