@@ -1,5 +1,5 @@
 -- What was recorded of a run, however the code keeps it; how it is read from bytes, and its limits.
-use Rattle.std.specs.Prelude.{ℕ, List, [], map, Some, length, Option, None, Result, Ok, Err, nat_lt, ◌==◌, ◌||◌, if◌then◌else◌, ◌∷◌, ◌≡◌, ◌^◌, ◌<◌, ◌≤◌}
+use Rattle.std.specs.Prelude.{ℕ, List, [], map, Some, length, Option, None, Result, Ok, Err, nat_lt, ◌==◌, ◌||◌, if◌then◌else◌, ◌∷◌, ◌≡◌, ◌^◌, ◌<◌, ◌≤◌, true}
 pub use Rattle.ir_bytes.specs.Reading.{IsWord}
 use Rattle.ir_thread.specs.declared.end.End.{End}
 use Rattle.ir_thread.specs.declared.profile.Profile.{Profile}
