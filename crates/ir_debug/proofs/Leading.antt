@@ -9,7 +9,6 @@ use Rattle.ir_cut.specs.Searching.{IsLeastCut, IsGreatestCut}
 use Rattle.ir_command.specs.declared.command.Direction.{Direction}
 use Rattle.ir_command.specs.declared.command.Direction.TheVariants.{Forwards, Backwards}
 use Rattle.ir_command.specs.declared.command.Move.{Move}
-use Rattle.ir_command.specs.declared.command.Move.TheVariants.{Back}
 use Rattle.ir_command.specs.declared.command.Move.TheVariants as move
 use Rattle.ir_timeline.specs.Positions.{last_of, threads_of, Finds}
 use Rattle.ir_debug.specs.Machine.{Leads, StopsAt, Desk, stop_of}
@@ -74,7 +73,7 @@ step_leads_to_least_cut f at to m t n k sum last here asked stands added fits is
     (short ∙ ap (λ z. min (z + n) last) stands ∙ ap (min (cut_of at t + n)) is))
 
 -- steps back
-pub back_leads_to_greatest_cut : (f : FittedTrace) (at to : List ℕ) (m : Move) (t n k here : ℕ) → m ≡ Back t n → here ≡ cut_of at t → k ≡ here - n
+pub back_leads_to_greatest_cut : (f : FittedTrace) (at to : List ℕ) (m : Move) (t n k here : ℕ) → m ≡ move.Back t n → here ≡ cut_of at t → k ≡ here - n
     → IsGreatestCut f at t k to → LeadsInEachRun f at m to
 back_leads_to_greatest_cut f at to m t n k here asked stands less greatest =
     subst (λ z. LeadsInEachRun f at z to) (sym asked)
