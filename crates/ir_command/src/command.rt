@@ -49,7 +49,7 @@ pub enum Direction {
 /// What a thread is stopped at when it is continued.
 #[derive(Clone, Copy, Debug, PartialEq, Eq)]
 pub enum Point {
-    /// `break T A`: a breakpoint, before the thread's instruction at this address.
+    /// `break T A`: a breakpoint. It hits where the thread's pc is this address and it has a step left.
     Break { thread: u32, address: u32 },
     /// `watch T A`: a watchpoint, after a step that changes the word of the thread's private memory at this address.
     Watch { thread: u32, address: u32 },

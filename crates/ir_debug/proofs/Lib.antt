@@ -5,11 +5,8 @@ mod Leading
 mod LongLines
 mod Chosen
 mod KeptCuts
-mod SetPoints
 mod CarriedOut
 mod Rows
-mod RowsOne
-mod RowsTwo
-mod Here
+mod Guests
 mod Passed
 pub mod CallerLemmas

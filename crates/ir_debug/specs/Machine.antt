@@ -1,4 +1,4 @@
--- The small machine: a recorded run of a guest and a position of each of its threads, and what it answers to each command.
+-- The small machine: a guest with its trace and a position of each thread, and what it answers to each command, for each run with the trace.
 use Rattle.std.specs.Prelude.{◌==◌, ℕ, ◌+◌, not, Bool, true, false, List, [], ◌∷◌, ◌++◌, find, is_some, Option, option_map, ◌&&◌, ◌||◌, ◌*◌, ◌%◌, nat_le, nat_lt, length, Some, None, if◌then◌else◌, ◌≡◌, ◌-◌, min, take, ◌⊎◌, codes, decimal, Result, Ok, Err, ◌≢◌, unwrap_or, flat_map}
 use Rattle.std.specs.List.{filter}
 use Rattle.ir_fit.specs.Fit.{FittedTrace, HasRun, IsRefused}
@@ -38,19 +38,19 @@ pub record Kept : Type 0 where
   pub cut : List ℕ
 
 pub record Desk : Type 0 where
-  -- the guest and its trace, of which there is a run
+  -- the guest and its trace; that there is a run says `OpensFit`
   pub fitted : FittedTrace
   -- the position of each thread: a consistent cut
   pub at : List ℕ
-  -- whether it has given no answer yet, or its last was a move's
+  -- whether it has given no answer yet, or its last was that of a move, of cont, rcont or load
   pub fresh : Bool
   -- the points that are set, the last at the end
   pub points : List Numbered
   -- the last number that a point was given, or 0
   pub last_point : ℕ
-  -- the kept cuts, the last number given to one at the end
+  -- the kept cuts, by rising numbers
   pub kept : List Kept
-  -- that number, or 0
+  -- the last number that a kept cut was given, or 0
   pub last_kept : ℕ
 
 -- at the start, which is kept as 0
@@ -165,7 +165,7 @@ may_lack d (command.Keeping Keep) = true
 may_lack d (command.Keeping (Load n)) = true
 may_lack d c = false
 
--- the least cut at or above this one with thread t at k or more, or the greatest at or below it with t at k or less
+-- the least consistent cut at or above this one with thread t at k or more, or the greatest consistent one at or below it with t at k or less
 abbrev pub StopsAt : List run.Step → FittedTrace → List ℕ → ℕ → Direction → ℕ → List ℕ → Type 0
 StopsAt steps f at t Forwards k to = (length to ≡ threads_of f) × run.IsLeast (machine_of f) (start_of f) steps (cut_of at) t k (cut_of to)
 StopsAt steps f at t Backwards k to = (length to ≡ threads_of f) × run.IsGreatest (machine_of f) (start_of f) steps (cut_of at) t k (cut_of to)
@@ -278,7 +278,7 @@ pub data Opening : Type 0 where
   Unfit : (verdict : Verdict) → Opening
   Ready : (desk : Desk) → Opening
 
--- a trace of one of the guest's runs makes the machine ready; of any other the verdict is shown
+-- a trace of one of the guest's complete runs makes the machine ready; of any other the verdict is shown
 abbrev pub OpensFit : Guest → Recorded → Opening → Type 0
 OpensFit guest r (Ready d) = (f : FittedTrace) × (f.guest ≡ guest) × (f.recorded ≡ r) × HasRun f × (d ≡ desk_of f)
 OpensFit guest r (Unfit v) = IsRefused guest r (Refused v)

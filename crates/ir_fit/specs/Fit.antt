@@ -78,7 +78,7 @@ AreVerdicts guest r vs = let f = start_flat guest r.budget r.profile in (length 
     × ((run : List Step) → GoesFurthest guest r run → (t : ℕ) (v : ThreadVerdict) → slice_get vs t ≡ Some v
     → IsVerdict (machine f) (tables f) (trace_of r) run t v)
 
--- a guest, what was recorded of a run, and where each thread's events and leaves are among its steps
+-- a guest, a trace, and where each thread's events and leaves are among its steps; that they are those of a run says `HasRun`
 pub record FittedTrace : Type 0 where
   pub guest : Guest
   pub recorded : Recorded

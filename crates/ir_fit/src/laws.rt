@@ -35,12 +35,13 @@ pub fn maximal_exists()
     ensures { MaximalExists }
 {}
 
-/// Each thread has one verdict, whatever run it is read off.
+/// Of a coherent trace each thread has one verdict, whatever run it is read off that follows the trace as far as any can.
 pub fn one_verdict()
     ensures { OneVerdict }
 {}
 
-/// All threads are the same exactly where there is a complete run with the trace.
+/// At the end of a run that follows a coherent trace as far as any can, all threads are the same exactly where there is a
+/// complete run with the trace.
 pub fn fits_exactly()
     ensures { FitsExactly }
 {}

@@ -20,8 +20,8 @@ pub record Numbered : Type 0 where
 abbrev pub thread_at : FittedTrace → List Step → ℕ → ℕ → thread.ThreadState
 thread_at f run t k = th (machine_of f) (start_of f) run t k
 
--- the point hits thread t at position k: its pc is there, and it has a step left; or the step to k changed the word; or it left the
--- object after writing
+-- the point hits thread t at position k: its pc is there, and it has a step left; or the step to k changed the word; or that step left the
+-- object, which the thread had entered for writing
 abbrev pub HitBy : FittedTrace → List Step → ℕ → ℕ → Point → Type 0
 HitBy f run t k (Break u address) = (u ≡ t) × ((thread_at f run t k).core.pc ≡ address) × (k < count (machine_of f) (start_of f) run t)
 HitBy f run t k (Watch u address) = (u ≡ t) × ((j : ℕ) × (k ≡ suc j)

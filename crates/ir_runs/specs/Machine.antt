@@ -67,7 +67,7 @@ pub record Object : Type 0 where
   pub inside : ℕ → Option Access
   pub words : ℕ → ℕ
 
--- which object an act is about; an act about none leaves object 0 as it is
+-- the object that an act enters, leaves, reads or writes; any other act leaves object 0 as it is
 abbrev pub target : Act → ℕ
 target (Entry o a v) = o
 target (Exit o a) = o
@@ -115,7 +115,7 @@ emitted (Refusal o) b = Refused o
 emitted (Exit o a) b = Out o a b.version
 emitted q b = Quiet
 
--- whether the act is about an object
+-- whether the act enters, leaves, reads or writes an object
 abbrev pub is_shared : Act → Bool
 is_shared (Entry o a v) = true
 is_shared (Exit o a) = true

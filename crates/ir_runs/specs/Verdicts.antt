@@ -103,7 +103,7 @@ Judged m fin stuck x n es i k Same = m.ask x ≡ Done
 Judged m fin stuck x n es i k (Disagrees j h) = (m.ask x ≢ Done) × (Agrees m fin x n es → ⊥) × (j ≡ i) × (h ≡ k)
 Judged m fin stuck x n es i k (Starves j) = (m.ask x ≢ Done) × Agrees m fin x n es × Awaits (m.ask x) es × stuck × (j ≡ i)
 
--- the verdict on thread t at the end of this run, which follows the trace so far that no step more does; where it starves, no run takes it on
+-- the verdict on thread t at the end of this run; where it starves, no run that follows the trace takes it further
 abbrev pub IsVerdict : {T : Type 0} → Machine T → State T → Trace → List Step → ℕ → ThreadVerdict → Type 0
 IsVerdict m s tr run t v = Judged m (tr.ends t)
     ((further : List Step) → Follows (closing m tr) m s tr further → count m s further t ≤ count m s run t) ((end m s run).now t)

@@ -1,5 +1,5 @@
 use Rattle.std.proofs.lemmas.Result.{on_ok_weaker, on_err_weaker}
-use Rattle.ir_debug.proofs.Here.{answer_has_text_with_property}
+use Rattle.ir_debug.proofs.CarriedOut.{answer_has_text_with_property}
 use Rattle.ir_debug.proofs.answering.write_answer.Goals as goal
 
 pub returns-clause-ok : goal.returns-clause-ok

@@ -4,7 +4,7 @@ use Rattle.ir_stream.specs.Answers.{AppendsPrefix}
 use Rattle.std.proofs.lemmas.List.{length-take}
 use Rattle.ir_image.specs.Guest.{object_words}
 use Rattle.ir_debug.specs.Debugging.{Debugging}
-use Rattle.ir_debug.proofs.Here.{last_answer_of_equal_show, named, events_so_far_at_most_all, shown_object_exists, text_of_read_object_is_shown}
+use Rattle.ir_debug.proofs.CarriedOut.{last_answer_of_equal_show, named, events_so_far_at_most_all, shown_object_exists, text_of_read_object_is_shown}
 use Rattle.ir_debug.proofs.Passed.{permitted_command_passes_tests, address_in_guest_is_low}
 use Rattle.ir_debug.proofs.showing.write_shown.Goals as goal
 

@@ -7,7 +7,7 @@ use Rattle.ir_timeline.specs.Hand.{IsCutOf}
 use Rattle.ir_debug.specs.Debugging.{Debugging}
 use Rattle.ir_debug.proofs.Desks.{spoke}
 use Rattle.ir_debug.proofs.Passed.{named_thread_exists}
-use Rattle.ir_debug.proofs.SetPoints.{stop_at_most_last_position}
+use Rattle.ir_debug.proofs.Leading.{stop_at_most_last_position}
 use Rattle.ir_debug.proofs.debugger.Debugger.go_on.Goals as goal
 
 pub search-requires-clause-thread : goal.search-requires-clause-thread
