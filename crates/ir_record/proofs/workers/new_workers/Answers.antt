@@ -26,7 +26,7 @@ loop-world-preserved g c =
     let fewer = rest_of_seats_is_one_shorter at.seats.items c.remove-seat.new.self.items some seats in
     let long : length c.push.new.self.items ≡ suc (length at.made.items) = ap (λ z. length z) c.in_ok-push.ensures.items
     ∙ (let e = Rattle.std.proofs.Common.length-append at.made.items
-    (record { seat = c.remove-seat.result; thread = c.in_ok-thread.thread; log = c.in_ok-log.log; world = x } ∷ []) in
+    (record { seat = c.remove-seat.result; thread = c.in_ok-thread.thread; log = c.in_ok-log.log; world = x; apart = _ } ∷ []) in
     omega (arith, e)) in
     record {
       parts = split_moves_past_item at.yielded (into_iter_items at.world-iterator) rest c.args.worlds.items x at.invariant.parts
