@@ -1,6 +1,6 @@
 //! How far a search is.
 
-/// What a search reports to how far it is.
+/// What a search tells how far it is.
 pub trait Observer {
     /// There are so many states; the last was found after so many switches from thread to thread.
     fn searched(&self, states: usize, switches: usize);
