@@ -1,28 +1,18 @@
 //! The lines of an outcome.
 
-ghost use Rattle.std.specs.Prelude.{◌≡◌, ◌≤◌, ◌++◌, length, OnOk, IfOk};
+ghost use Rattle.std.specs.Prelude.{◌≡◌, ◌++◌, length, OnOk, IfOk};
 ghost use Rattle.std.specs.List.{slice_index_or};
 ghost use Rattle.ir_flat.specs.Room.{empty};
-ghost use Rattle.ir_image.specs.Guest.{most_object_words};
-ghost use Rattle.ir_explore_run.specs.Texts.{threads_text, object_text, objects_text, IsOutcomeText};
+ghost use Rattle.ir_explore_run.specs.Texts.{threads_text, object_text, objects_text, objects_in, IsOutcomeText};
 
 use crate::lines::{outcome_line, put_object, put_thread};
+use crate::started::Started;
 use ir_flat::Flat;
 use ir_object::Object;
-use ir_order::list_of;
+use ir_order::list_of_items;
 use ir_outcomes::Shown;
 use ir_thread::Thread;
 use std::alloc::{AllocError, Global};
-
-/// The objects of a guest at first.
-#[derive(Clone, Copy)]
-pub struct Started<'a> {
-    /// How many words each has.
-    pub words: usize,
-    /// The objects.
-    pub first: &'a [Object],
-    ghost few: { words ≤ most_object_words },
-}
 
 // Puts the lines of the threads.
 fn put_threads(alloc: Global, text: &mut Vec<u8>, threads: &[Thread]) -> Result<(), AllocError>
@@ -77,9 +67,9 @@ pub fn outcome_text(
     shown: &Shown,
 ) -> Result<Vec<u8>, AllocError>
     requires { length flat.now.objects ≡ length started.first.now }
-    ensures { IfOk result (λ text. IsOutcomeText (record { words = started.entry.words; first = started.entry.first.now }) flat.now number shown.now text.items) }
+    ensures { IfOk result (λ text. IsOutcomeText (objects_in started.entry) flat.now number shown.now text.items) }
 {
-    let list = list_of(alloc, shown.turns.as_slice())?;
+    let list = list_of_items(alloc, shown.turns.as_slice())?;
     let line = outcome_line(alloc, number, shown.level, list.as_str())?;
     let mut text = Vec::from_slice(alloc, line.as_bytes())?;
     put_threads(alloc, &mut text, flat.threads())?;

@@ -3,8 +3,10 @@
 ghost use Rattle.std.specs.Prelude.{◌≡◌, ◌⊎◌, ℕ, suc, ◌<◌, ◌≤◌, Some, length, slice_get, IfOk, IfErr};
 ghost use Rattle.ir_explore.specs.declared.stop.Stop.TheVariants.{Memory, Order};
 ghost use Rattle.ir_explore.specs.declared.origin.Origin.{Origin};
+ghost use Rattle.ir_explore.specs.Origins.{Spells};
+ghost use Rattle.ir_outcomes.specs.Path.{IsPathTo, ways_of};
 
-use ir_explore::{Origin, Stop};
+use ir_explore::{Origin, Refusal, Stop};
 use std::alloc::Global;
 
 /// The turns that led to a node, the last first: one more at most than its level says.
@@ -13,6 +15,7 @@ use std::alloc::Global;
 /// Out of memory. `Order` where they lead to no first node.
 pub fn path_to(alloc: Global, origins: &[Origin], node: usize) -> Result<Vec<Origin>, Stop>
     requires { node < length origins.now }
+    ensures path { IfOk result (λ path. IsPathTo origins.now node path.items) }
     ensures few { IfOk result (λ path. (n : Origin) → slice_get origins.now node ≡ Some n → length path.items ≤ suc n.level) }
     ensures refused { IfErr result (λ stop. (stop ≡ Memory) ⊎ (stop ≡ Order node)) }
 {
@@ -24,9 +27,36 @@ pub fn path_to(alloc: Global, origins: &[Origin], node: usize) -> Result<Vec<Ori
         if origin.level == 0 {
             return Ok(path);
         }
-        if origin.from >= origins.len() || origins[origin.from].level >= origin.level {
+        let from = origin.from as usize;
+        if from >= origins.len() || origins[from].level >= origin.level {
             return Err(Stop::Order(node));
         }
-        at = origin.from;
+        at = from;
     }
+}
+
+/// The refused tries that the table has under a number, the last first.
+///
+/// # Errors
+/// Out of memory. `Order` where the table has no such number.
+pub fn refusals_to(alloc: Global, table: &[Refusal], number: usize) -> Result<Vec<Refusal>, Stop>
+    ensures ways { IfOk result (λ refusals. Spells table.now number (ways_of refusals.items)) }
+    ensures refused { IfErr result (λ stop. (stop ≡ Memory) ⊎ (stop ≡ Order 0)) }
+{
+    let mut refusals = Vec::new(alloc);
+    let mut left = number;
+    'back: while left > 0 {
+        let place = left - 1;
+        if place >= table.len() {
+            return Err(Stop::Order(0));
+        }
+        let refusal = table[place];
+        let before = refusal.before as usize;
+        if before >= left {
+            return Err(Stop::Order(0));
+        }
+        refusals.push(refusal)?;
+        left = before;
+    }
+    Ok(refusals)
 }
