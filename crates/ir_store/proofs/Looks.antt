@@ -3,6 +3,7 @@ use Rattle.std.proofs.Common.{◌≡◌, ◌⊎◌, inl, inr, ◌<◌, ◌≤◌
 use Rattle.std.specs.Prelude.{slice_get, ◌&&◌, drop}
 use Rattle.std.specs.List.{AllByRecursion, slice_index_or}
 use Rattle.std.proofs.lemmas.Option.{same_Some}
+use Rattle.ir_lemmas.proofs.CallerLemmas.{found_element_of_all_by_recursion}
 use Rattle.ir_mach.specs.Core.{memory_size}
 use Rattle.ir_freeze.specs.Frozen.{frozen, is_over}
 use Rattle.ir_freeze.specs.Twins.{TellsApart, IsBounded}
@@ -12,7 +13,7 @@ use Rattle.ir_flat.specs.Room.{empty}
 use Rattle.ir_store.specs.declared.spot.Spot.{Spot}
 use Rattle.ir_store.specs.Nodes.{LookSame, cell_in}
 use Rattle.ir_store.specs.Table.{AreLooks, all_over, threads_at}
-use Rattle.ir_store.proofs.Lists.{found_element_of_all_by_recursion, drop_begins_with_element}
+use Rattle.ir_store.proofs.Lists.{drop_begins_with_element}
 
 -- threads that one number stands for look the same
 pub look_same_if_looks_equal : TellsApart → (start : List ℕ) (items : List ThreadState) (looks : List ℕ) → length start ≡ memory_size → AllByRecursion IsBounded items

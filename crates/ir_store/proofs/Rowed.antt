@@ -5,10 +5,11 @@ use Rattle.std.specs.Option.{option_map}
 use Rattle.std.specs.List.{AllByRecursion}
 use Rattle.std.proofs.lemmas.List.{map_push}
 use Rattle.std.proofs.lemmas.Option.{slice_get-map, slice_get_read, slice_get_within}
+use Rattle.ir_lemmas.proofs.CallerLemmas.{all_by_recursion_after_push, slice_get_after_push_cases, slice_get_of_pushed}
 use Rattle.ir_freeze.specs.Frozen.{frozen}
 use Rattle.ir_thread.specs.State.{ThreadState}
 use Rattle.ir_store.specs.Table.{Keeps, HasBytes, AreLooks}
-use Rattle.ir_store.proofs.Lists.{keeps_after_push, slice_get_of_pushed, slice_get_after_push_cases, all_by_recursion_after_push, length_map}
+use Rattle.ir_store.proofs.Lists.{keeps_after_push, length_map}
 
 pub read_row_is_mapped_element : {R X : Type 0} (f : R → X) (rows : List R) (row : R) (n : ℕ) (x : X) → n < length (map f rows) → row ≡ get_or rows n row
     → x ≡ f row → slice_get (map f rows) n ≡ Some x

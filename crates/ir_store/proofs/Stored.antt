@@ -5,13 +5,14 @@ use Rattle.std.specs.List.{AllByRecursion}
 use Rattle.std.specs.Option.{option_map}
 use Rattle.std.proofs.lemmas.List.{map-set}
 use Rattle.std.proofs.lemmas.Option.{same_Some, slice_get-map, slice_get-get_or}
+use Rattle.ir_lemmas.proofs.CallerLemmas.{element_of_all_by_recursion}
 use Rattle.ir_thread.specs.State.{ThreadState}
 use Rattle.ir_flat.specs.Flat.{Flat, IsFlat, idle, thread_of, cell_of}
 use Rattle.ir_flat.specs.Room.{empty}
 use Rattle.ir_flat.specs.Next.{with_thread, with_object}
 use Rattle.ir_store.specs.declared.spot.Spot.{Spot}
 use Rattle.ir_store.specs.Nodes.{Shared, Node, cell_in, flat_in, IsWithin, IsNode, AreKept}
-use Rattle.ir_store.proofs.Lists.{element_of_all_by_recursion, length_map}
+use Rattle.ir_store.proofs.Lists.{length_map}
 
 -- what is at a place of a list of what elements give
 pub mapped_element_at_place : {X Y : Type 0} (f : X → Y) (xs : List X) (i : ℕ) (x d : X) (y : Y) → i < length xs → x ≡ get_or xs i d
@@ -62,8 +63,3 @@ module _ (shared : Shared) (nodes : List Node) (kept : AreKept shared nodes) (v 
         objects = map-set (cell_in shared.words) node.objects o s i;
       })
       ∙ ap (λ z. with_object (with_thread z t (get_or shared.threads n idle)) o (cell_in shared.words s)) flat_is
-
-pub all_by_recursion_after_set : {X : Type 0} (P : X → Type 0) (xs : List X) (i : ℕ) (x : X) → AllByRecursion P xs → P x → AllByRecursion P (set xs i x)
-all_by_recursion_after_set P [] i x all is = tt
-all_by_recursion_after_set P (y ∷ xs) zero x all is = (is, all.1)
-all_by_recursion_after_set P (y ∷ xs) (suc i) x all is = (all.0, all_by_recursion_after_set P xs i x all.1 is)

@@ -1,10 +1,10 @@
 use Rattle.std.proofs.Common.{◌≡◌, ◌<◌, ℕ, inl, inr, get_or, length, sym, ap, ◌∙◌, subst, arith}
 use Rattle.std.proofs.lemmas.Bool.{cases_lt}
 use Rattle.std.proofs.lemmas.Option.{slice_get-get_or}
+use Rattle.ir_lemmas.proofs.CallerLemmas.{element_of_all_by_recursion}
 use Rattle.ir_flat.specs.Flat.{idle}
 use Rattle.ir_store.specs.Nodes.{LookSame}
 use Rattle.ir_store.specs.Table.{threads_at}
-use Rattle.ir_store.proofs.Lists.{element_of_all_by_recursion}
 use Rattle.ir_store.proofs.Stored.{get_or_map}
 use Rattle.ir_store.proofs.compare.same_threads.Goals as goal
 

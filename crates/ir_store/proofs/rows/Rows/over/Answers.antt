@@ -1,10 +1,11 @@
 use Rattle.std.proofs.Common.{◌≡◌, ◌<◌, ap, ◌∙◌, sym, subst, map, length, Some}
 use Rattle.std.specs.Prelude.{slice_get}
 use Rattle.std.proofs.lemmas.Option.{same_Some, slice_get-get_or}
+use Rattle.ir_lemmas.proofs.CallerLemmas.{found_element_of_all_by_recursion}
 use Rattle.ir_freeze.specs.Frozen.{is_over}
 use Rattle.ir_store.specs.Rows.{thread_in, KnowsOver}
 use Rattle.ir_store.specs.Table as table
-use Rattle.ir_store.proofs.Lists.{found_element_of_all_by_recursion, length_map}
+use Rattle.ir_store.proofs.Lists.{length_map}
 use Rattle.ir_store.proofs.Rowed.{read_row_is_mapped_element}
 use Rattle.ir_store.proofs.rows.Rows.over.Goals as goal
 

@@ -1,8 +1,9 @@
 use Rattle.std.proofs.Common.{◌≡◌, ◌<◌, ℕ, length, get_or, map, refl, sym, ap, ◌∙◌, subst, arith, Some}
 use Rattle.std.specs.Prelude.{slice_get}
+use Rattle.ir_lemmas.proofs.CallerLemmas.{element_of_all_by_recursion}
 use Rattle.ir_flat.specs.Flat.{Flat, IsFlat, idle, thread_of}
 use Rattle.ir_store.specs.Nodes.{Shared, Node, Stored, flat_in, IsNode}
-use Rattle.ir_store.proofs.Lists.{element_of_all_by_recursion, length_map}
+use Rattle.ir_store.proofs.Lists.{length_map}
 use Rattle.ir_store.proofs.Rowed.{read_row_is_mapped_element}
 use Rattle.ir_store.proofs.Stored.{node_is, flat_is, thread_is}
 use Rattle.ir_store.proofs.store.Store.thread_number.Goals as goal

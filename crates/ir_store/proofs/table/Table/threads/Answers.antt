@@ -1,11 +1,12 @@
 use Rattle.std.proofs.Common.{◌≡◌, ◌∙◌, sym, ap, subst, get_or}
 use Rattle.std.specs.Prelude.{slice_get, Some}
 use Rattle.std.proofs.lemmas.Option.{get_or_from_slice_get}
+use Rattle.ir_lemmas.proofs.CallerLemmas.{all_by_recursion_after_push}
 use Rattle.ir_flat.specs.Flat.{idle}
 use Rattle.ir_thread.specs.State.{ThreadState}
 use Rattle.ir_store.specs.Table.{HaveForm}
 use Rattle.ir_store.specs.Table as table
-use Rattle.ir_store.proofs.Lists.{all_by_recursion_after_push, mapped_elements_made_step}
+use Rattle.ir_store.proofs.Lists.{mapped_elements_made_step}
 use Rattle.ir_store.proofs.table.Table.threads.Goals as goal
 
 pub loop-n-preserved : goal.loop-n-preserved
