@@ -1,10 +1,11 @@
 -- The lines of outcomes, one after the other.
-use Rattle.std.proofs.Common.{◌≡◌, ℕ, suc, ◌+◌, ◌-◌, ◌≤◌, List, [], ◌∷◌, ◌++◌, inl, inr, Some, length, length-append, take, drop, refl, sym, ap, ◌∙◌, subst, arith}
+use Rattle.std.proofs.Common.{◌≡◌, ℕ, suc, ◌+◌, ◌-◌, ◌≤◌, List, [], ◌∷◌, ◌++◌, inl, inr, Some, length, length-append, take, drop, ◌<◌, get_or, refl, sym, ap, ◌∙◌, subst, arith}
 use Rattle.std.specs.Prelude.{slice_get, flat_map}
 use Rattle.std.proofs.lemmas.List.{length-drop, take_all, append-nil}
 use Rattle.std.proofs.lemmas.Grind.{flat_map-append}
-use Rattle.std.proofs.lemmas.Option.{same_Some}
-use Rattle.ir_explore.proofs.CallerLemmas.{slice_get_after_push_cases}
+use Rattle.std.proofs.lemmas.Option.{same_Some, slice_get-get_or}
+use Rattle.ir_explore.specs.Following.{Stay}
+use Rattle.ir_explore.proofs.CallerLemmas.{slice_get_after_push_cases, place_of_element_is_below_length}
 use Rattle.ir_flat.specs.Flat.{Flat}
 use Rattle.ir_outcomes.specs.Explored.{IsAt}
 use Rattle.ir_outcomes.specs.declared.shown.Shown.{Shown}
@@ -39,4 +40,25 @@ texts_after_outcome o flats outcomes many text own x f t at is = record {
   ];
   joined = ap (λ z. z ++ own) t.joined
       ∙ sym (flat_map-append (λ z. z) t.texts (own ∷ []) ∙ ap (λ z. flat_map (λ z. z) t.texts ++ z) (append-nil own));
+}
+
+-- outcomes keep their lines while more are found
+pub texts_among_more : (o : Objects) (flats flats' : List Flat) (outcomes outcomes' : List Shown) (many : ℕ) (text : List ℕ)
+    → AreTexts o flats outcomes many text → many ≤ length outcomes
+    → ((i : ℕ) (x : Shown) → slice_get outcomes i ≡ Some x → x.node < length flats) → Stay flats flats' → Stay outcomes outcomes'
+    → AreTexts o flats' outcomes' many text
+texts_among_more o flats flats' outcomes outcomes' many text t few nodes stay stays = record {
+  texts = t.texts;
+  count = t.count;
+  each = λ i x f own at is.
+      let less : i < length outcomes = (let a = place_of_element_is_below_length t.texts i own is in let b = t.count in omega (arith, a, b, few)) in
+      let y = get_or outcomes i x in
+      let here : slice_get outcomes i ≡ Some y = slice_get-get_or outcomes i x less in
+      let same : y ≡ x = same_Some y x (sym (stays i y here) ∙ at.0) in
+      let node : x.node < length flats = subst (λ z. z.node < length flats) same (nodes i y here) in
+      let g = get_or flats x.node f in
+      let there : slice_get flats x.node ≡ Some g = slice_get-get_or flats x.node f node in
+      let state : g ≡ f = same_Some g f (sym (stay x.node g there) ∙ at.1) in
+      t.each i x f own (subst (λ z. slice_get outcomes i ≡ Some z) same here, subst (λ z. slice_get flats x.node ≡ Some z) state there) is;
+  joined = t.joined;
 }

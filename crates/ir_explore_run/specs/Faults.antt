@@ -1,5 +1,5 @@
--- Why nothing was printed of a guest, and what that leaves.
-use Rattle.std.specs.Prelude.{◌≡◌, ℕ, List, [], codes, Ok, Err}
+-- Why a guest's answer wasn't printed, or not all of it, and what that leaves.
+use Rattle.std.specs.Prelude.{◌≡◌, ◌⊎◌, ℕ, List, [], codes, Ok, Err}
 use Rattle.ir_files.specs.Writers.{Writer, Took, Failed}
 use Rattle.ir_files.specs.declared.exit_status.ExitStatus.{ExitStatus}
 use Rattle.ir_files.specs.declared.exit_status.ExitStatus.TheVariants as status
@@ -9,6 +9,7 @@ use Rattle.ir_image.specs.declared.image_err.ImageErr.TheVariants as image
 use Rattle.ir_record_run.specs.Faults.{image_words}
 use Rattle.ir_thread.specs.State.{IsAllowed}
 use Rattle.ir_thread.specs.declared.profile.Profile.TheVariants.{One}
+use Rattle.ir_explore_run.specs.Printing.{EndsEarly}
 use Rattle.ir_explore_run.specs.Texts.{IsAnswerAbout}
 use Rattle.ir_explore_run.specs.declared.plan.ExplorePlan.{ExplorePlan}
 use Rattle.ir_explore_run.specs.declared.fault.ExploreFault.{ExploreFault}
@@ -37,28 +38,27 @@ fault_words TooLarge = codes "only guests of at most 8 threads and 16 objects ar
 fault_words NoMem = codes "memory ran out"
 fault_words Write = codes "standard output can't be written"
 
--- the answer about the guest that these bytes encode, which the first profile allows, was written whole
+-- these bytes encode the guest, which the first profile allows
+abbrev pub IsExplorable : List ℕ → Guest → Type 0
+IsExplorable bytes guest = (guest_at bytes ≡ Ok guest) × IsAllowed One guest
+
+-- the answer about the guest that these bytes encode was written whole
 pub record Answers (bytes : List ℕ) (plan : ExplorePlan) (answered : ExitStatus) (w : Writer) : Type 0 where
   pub guest : Guest
-  pub is : guest_at bytes ≡ Ok guest
-  pub allowed : IsAllowed One guest
+  pub is : IsExplorable bytes guest
   pub text : List ℕ
   pub answer : IsAnswerAbout guest plan answered text
   pub took : Took w text
 
--- such an answer was stopped by the writer
-pub record BreaksOff (bytes : List ℕ) (plan : ExplorePlan) (w : Writer) : Type 0 where
-  pub guest : Guest
-  pub is : guest_at bytes ≡ Ok guest
-  pub answered : ExitStatus
-  pub text : List ℕ
-  pub answer : IsAnswerAbout guest plan answered text
-  pub failed : Failed w text
+-- why the answer about a guest isn't printed whole: out of memory, or the writer failed, while outcomes were printed, or in all of the answer
+abbrev pub StopsPrinting : ExploreFault → Guest → ExplorePlan → Writer → Type 0
+StopsPrinting e guest plan w = EndsEarly e guest w
+    ⊎ ((e ≡ Write) × (answered : ExitStatus) × (text : List ℕ) × IsAnswerAbout guest plan answered text × Failed w text)
 
--- Why there is no answer. The image is refused for its first fault, or its guest is too large, or memory ran out: then nothing is written.
--- Or the writer failed.
+-- Why there is no answer, or not all of it. The image is refused for its first fault, or its guest is too large: then nothing is written. Or memory
+-- ran out, before anything was written or while outcomes were printed; or the writer failed.
 abbrev pub HasNone : ExploreFault → List ℕ → ExplorePlan → Writer → Type 0
 HasNone (Image e) bytes plan w = (guest_at bytes ≡ Err e) × Took w []
 HasNone TooLarge bytes plan w = ((guest : Guest) × (guest_at bytes ≡ Ok guest) × (IsAllowed One guest → ⊥)) × Took w []
-HasNone NoMem bytes plan w = Took w []
-HasNone Write bytes plan w = BreaksOff bytes plan w
+HasNone NoMem bytes plan w = Took w [] ⊎ ((guest : Guest) × IsExplorable bytes guest × StopsPrinting NoMem guest plan w)
+HasNone Write bytes plan w = (guest : Guest) × IsExplorable bytes guest × StopsPrinting Write guest plan w

@@ -1,5 +1,6 @@
 pub mod Lines
 pub mod Texts
+pub mod Printing
 pub mod Faults
 pub mod Conditions
 pub mod Until

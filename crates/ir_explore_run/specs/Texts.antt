@@ -21,6 +21,7 @@ use Rattle.ir_outcomes.specs.declared.explored.Explored.{Explored}
 use Rattle.ir_outcomes.specs.declared.shown.Shown.{Shown}
 use Rattle.ir_record.specs.Recording.{order_of_turns}
 use Rattle.ir_thread.specs.State.{ThreadState}
+use Rattle.ir_explore_run.specs.declared.outcome.Started.{Started}
 use Rattle.ir_explore_run.specs.declared.plan.ExplorePlan.{ExplorePlan}
 use Rattle.ir_explore_run.specs.Lines.{outcome_line, thread_text, object_line, hang_line, ended_text, counts_text, hangs_text, last_line}
 
@@ -53,6 +54,10 @@ pub record Objects : Type 0 where
 abbrev pub objects_of : Guest → Objects
 objects_of guest = record { words = object_words guest; first = start_cells guest 0 (object_count guest) }
 
+-- those that a program has in hand
+abbrev pub objects_in : Started → Objects
+objects_in s = record { words = s.words; first = s.first.now }
+
 -- the lines of an outcome, by its number
 abbrev pub IsOutcomeText : Objects → Flat → ℕ → Shown → List ℕ → Type 0
 IsOutcomeText o f number x text = (list : List ℕ) × IsListOf list (order_of_turns x.turns.items)
@@ -65,6 +70,15 @@ pub record AreTexts (o : Objects) (flats : List Flat) (outcomes : List Shown) (m
   pub each : (i : ℕ) (x : Shown) (f : Flat) (own : List ℕ) → IsAt flats outcomes i x f → slice_get texts i ≡ Some own
       → IsOutcomeText o f (suc i) x own
   pub joined : text ≡ flat_map (λ own. own) texts
+
+-- the outcomes of a guest that were found so far are printed
+pub record IsPart (guest : Guest) (text : List ℕ) : Type 0 where
+  pub flats : List Flat
+  pub outcomes : List Shown
+  -- those of runs with fewer switches are all among them
+  pub levels : ℕ
+  pub explored : AreExplored guest flats levels outcomes
+  pub texts : AreTexts (objects_of guest) flats outcomes (length outcomes) text
 
 -- the exit status of a search that ended so
 abbrev pub status_of : Ended → ExitStatus
@@ -123,14 +137,20 @@ pub record AreKnown (guest : Guest) (plan : ExplorePlan) (k : Known) : Type 0 wh
   pub covered : k.ended ≡ Covered → k.levels ≡ suc plan.switches
   pub stopped : (why : Stop) → k.ended ≡ Stopped why → MayStop guest k.flats plan.bounds.nodes plan.bounds.private why ⊎ IsOrder why
 
+-- a hang is printed if one is known, and then how the search ended
+pub record IsEnding (k : Known) (answered : ExitStatus) (text : List ℕ) : Type 0 where
+  pub hang_lines : List ℕ
+  pub hang_text : IsHangText k.hang hang_lines
+  pub whole : text ≡ hang_lines ++ end_line k.ended k.levels (length k.outcomes) (length k.flats) k.hangs
+  pub status : answered ≡ status_of k.ended
+
 -- it is printed: the outcomes of the guest, a hang if one is known, and how the search for them ended
 pub record IsKnownText (guest : Guest) (k : Known) (answered : ExitStatus) (text : List ℕ) : Type 0 where
   pub lines : List ℕ
   pub texts : AreTexts (objects_of guest) k.flats k.outcomes (length k.outcomes) lines
-  pub hang_lines : List ℕ
-  pub hang_text : IsHangText k.hang hang_lines
-  pub whole : text ≡ lines ++ (hang_lines ++ end_line k.ended k.levels (length k.outcomes) (length k.flats) k.hangs)
-  pub status : answered ≡ status_of k.ended
+  pub last_lines : List ℕ
+  pub ending : IsEnding k answered last_lines
+  pub whole : text ≡ lines ++ last_lines
 
 -- what is known of the outcomes of the guest is printed
 abbrev pub IsFound : Guest → ExplorePlan → ExitStatus → List ℕ → Type 0

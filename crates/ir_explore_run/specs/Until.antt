@@ -2,7 +2,7 @@
 use Rattle.std.specs.Prelude.{◌≡◌, ◌⊎◌, ℕ, suc, true, List, [], ◌++◌, length, Option, Some, None, Ok}
 use Rattle.ir_chaos.specs.Conditions.{Condition}
 use Rattle.ir_explore.specs.declared.search.Ended.TheVariants.{Finished}
-use Rattle.ir_files.specs.Writers.{Writer, Failed}
+use Rattle.ir_files.specs.Writers.{Writer, Took, Failed}
 use Rattle.ir_files.specs.declared.exit_status.ExitStatus.{ExitStatus}
 use Rattle.ir_flat.specs.Flat.{Flat}
 use Rattle.ir_graph.specs.Nodes.{told}
@@ -99,9 +99,10 @@ pub record IsFinding (image : List ℕ) (conditions : List Condition) (list text
   pub found : IsHitText guest conditions list text
   pub recorded : IsOfRun guest most_budget One found.hit.run trace outputs
 
--- Why there is no answer: as without conditions, or the writer failed in it.
+-- Why there is no answer: the image is refused or its guest too large, as without conditions; or memory ran out, and nothing was written; or the
+-- writer failed in it.
 abbrev pub HasNoAnswer : ExploreFault → List ℕ → ExplorePlan → List Condition → Writer → Type 0
 HasNoAnswer (Image e) image plan conditions w = HasNone (Image e) image plan w
 HasNoAnswer TooLarge image plan conditions w = HasNone TooLarge image plan w
-HasNoAnswer NoMem image plan conditions w = HasNone NoMem image plan w
+HasNoAnswer NoMem image plan conditions w = Took w []
 HasNoAnswer Write image plan conditions w = (list : Option (List ℕ)) × (text : List ℕ) × IsUntil image plan conditions list text × Failed w text

@@ -9,7 +9,7 @@ ghost use Rattle.ir_outcomes.specs.Explored.{AreExplored};
 ghost use Rattle.ir_thread.specs.State.{IsAllowed};
 ghost use Rattle.ir_thread.specs.declared.profile.Profile.TheVariants.{One};
 ghost use Rattle.ir_explore_run.specs.Conditions.{NoneBefore, IsFulfilled};
-ghost use Rattle.ir_explore_run.specs.Texts.{IsReason, IsStopped, AreKnown, IsKnownText, known_of, status_of};
+ghost use Rattle.ir_explore_run.specs.Texts.{IsReason, IsStopped, AreKnown, IsEnding, IsKnownText, known_of, status_of};
 ghost use Rattle.ir_explore_run.specs.Until.{IsHitText};
 ghost use Rattle.ir_explore_run.specs.declared.plan.ExplorePlan.{ExplorePlan};
 
@@ -36,6 +36,27 @@ fn status_of(ended: Ended) -> ExitStatus
     }
 }
 
+/// The lines after those of the outcomes: a hang, if one is known, and how the search ended. The exit status.
+pub fn ending_text(
+    alloc: Global,
+    explored: &Explored<'_>,
+) -> Result<(Vec<u8>, ExitStatus), AllocError>
+    ensures { IfOk result (λ answer. IsEnding (known_of explored.now) answer.1 answer.0.items) }
+{
+    let hang = hang_text(alloc, &explored.hang)?;
+    let mut text = Vec::from_slice(alloc, hang.as_bytes())?;
+    let ending = Ending {
+        ended: explored.ended,
+        levels: explored.levels,
+        outcomes: explored.outcomes.len(),
+        states: explored.states.graph.flats.len(),
+        hangs: explored.hangs,
+    };
+    let line = end_line(alloc, ending)?;
+    text.extend_from_slice(line.as_bytes())?;
+    Ok((text, status_of(explored.ended)))
+}
+
 /// The lines of what was found out about a guest, and the exit status.
 pub fn known_text(
     alloc: Global,
@@ -54,19 +75,10 @@ pub fn known_text(
         words: image.object_words(),
         first: start.objects(),
     };
-    let mut text = outcomes_text(alloc, started, flats, outcomes, outcomes.len())?;
-    let hang = hang_text(alloc, &explored.hang)?;
-    text.extend_from_slice(hang.as_bytes())?;
-    let ending = Ending {
-        ended: explored.ended,
-        levels: explored.levels,
-        outcomes: outcomes.len(),
-        states: flats.len(),
-        hangs: explored.hangs,
-    };
-    let line = end_line(alloc, ending)?;
-    text.extend_from_slice(line.as_bytes())?;
-    Ok((text, status_of(explored.ended)))
+    let mut text = outcomes_text(alloc, started, flats, outcomes, 0, outcomes.len())?;
+    let (ending, answered) = ending_text(alloc, explored)?;
+    text.extend_from_slice(ending.as_slice())?;
+    Ok((text, answered))
 }
 
 /// The line of a search that stopped before it began, and the exit status.
@@ -108,7 +120,7 @@ pub fn hit_text(
     };
     // The guest has some thread, so the list isn't empty.
     let _ = image.entries();
-    let mut text = outcomes_text(alloc, started, flats, outcomes, place + 1)?;
+    let mut text = outcomes_text(alloc, started, flats, outcomes, 0, place + 1)?;
     let shown = &outcomes[place];
     let list = list_of(alloc, shown.turns.as_slice())?;
     let line = found_line(alloc, place + 1, shown.level, list.as_str())?;

@@ -9,6 +9,7 @@ mod known;
 mod lines;
 mod outcome;
 mod plan;
+mod printing;
 mod run;
 mod seek;
 mod states;

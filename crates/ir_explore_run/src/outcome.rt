@@ -4,7 +4,7 @@ ghost use Rattle.std.specs.Prelude.{◌≡◌, ◌≤◌, ◌++◌, length, OnOk
 ghost use Rattle.std.specs.List.{slice_index_or};
 ghost use Rattle.ir_flat.specs.Room.{empty};
 ghost use Rattle.ir_image.specs.Guest.{most_object_words};
-ghost use Rattle.ir_explore_run.specs.Texts.{threads_text, object_text, objects_text, IsOutcomeText};
+ghost use Rattle.ir_explore_run.specs.Texts.{threads_text, object_text, objects_text, objects_in, IsOutcomeText};
 
 use crate::lines::{outcome_line, put_object, put_thread};
 use ir_flat::Flat;
@@ -77,7 +77,7 @@ pub fn outcome_text(
     shown: &Shown,
 ) -> Result<Vec<u8>, AllocError>
     requires { length flat.now.objects ≡ length started.first.now }
-    ensures { IfOk result (λ text. IsOutcomeText (record { words = started.entry.words; first = started.entry.first.now }) flat.now number shown.now text.items) }
+    ensures { IfOk result (λ text. IsOutcomeText (objects_in started.entry) flat.now number shown.now text.items) }
 {
     let list = list_of(alloc, shown.turns.as_slice())?;
     let line = outcome_line(alloc, number, shown.level, list.as_str())?;

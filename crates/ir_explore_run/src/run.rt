@@ -1,42 +1,72 @@
 //! `ir explore`: the bytes of an image in, the outcomes of its guest out.
 
-ghost use Rattle.std.specs.Prelude.{◌≡◌, ◌⊎◌, IfOk, IfErr, false};
+ghost use Rattle.std.specs.Prelude.{◌≡◌, ◌⊎◌, ℕ, List, IfOk, IfErr, false};
+ghost use Rattle.std.specs.Io.KnownBytes.{Appends};
 ghost use Rattle.ir_files.specs.Writers.{writer_of, Reports, fault_text};
 ghost use Rattle.ir_thread.specs.State.{IsAllowed};
 ghost use Rattle.ir_thread.specs.declared.profile.Profile.TheVariants.{One};
-ghost use Rattle.ir_explore_run.specs.Faults.{Answers, HasNone, fault_status, fault_words};
-ghost use Rattle.ir_explore_run.specs.Texts.{IsAnswerAbout};
+ghost use Rattle.ir_image.specs.Guest.{Guest};
+ghost use Rattle.ir_explore_run.specs.Faults.{Answers, HasNone, StopsPrinting, fault_status, fault_words};
+ghost use Rattle.ir_explore_run.specs.Texts.{IsAnswerAbout, IsReason, IsStopped};
 ghost use Rattle.ir_explore_run.specs.declared.fault.ExploreFault.{ExploreFault};
+ghost use Rattle.ir_explore_run.specs.declared.plan.ExplorePlan.{ExplorePlan};
 
-use crate::answer::{known_text, stopped_text};
+use crate::answer::{ending_text, stopped_text};
 use crate::fault::ExploreFault;
-use crate::known::known;
+use crate::outcome::Started;
 use crate::plan::ExplorePlan;
-use ir_explore::Observer;
+use crate::printing::print_levels;
+use ir_explore::{Observer, Stop};
 use ir_files::{ExitStatus, tell};
+use ir_flat::Flat;
 use ir_image::{Image, read_image};
+use ir_outcomes::Exploring;
 use ir_stream::{Sink, write_all};
 use ir_thread::Profile;
-use std::alloc::{AllocError, Global};
+use std::alloc::Global;
 
-// The lines about a guest, and the exit status.
-fn answer<W: Observer>(
+// Prints that a search didn't begin, and why.
+fn show_stop<O: Sink>(alloc: Global, why: Stop, out: &mut O) -> Result<ExitStatus, ExploreFault>
+    requires { O.broken out.old ≡ false }
+    ensures ok { IfOk result (λ answered. (guest : Guest) (plan : ExplorePlan) → IsReason guest plan why → (text : List ℕ) × IsStopped guest plan answered text × Appends (O.written out.old) (O.written out.new) text) }
+    ensures fails { IfErr result (λ e. (guest : Guest) (plan : ExplorePlan) → IsReason guest plan why → StopsPrinting e guest plan (writer_of (O.written out.old) (O.written out.new) (O.broken out.new))) }
+{
+    let (text, answered) = stopped_text(alloc, why)?;
+    write_all(out, text.as_slice())?;
+    Ok(answered)
+}
+
+// Prints the answer about a guest, as it is found.
+fn show<W: Observer, O: Sink>(
     alloc: Global,
     image: &Image,
     plan: ExplorePlan,
     observer: &W,
-) -> Result<(Vec<u8>, ExitStatus), AllocError>
-    requires { IsAllowed One image.now }
-    ensures { IfOk result (λ answer. IsAnswerAbout image.now plan answer.1 answer.0.items) }
+    out: &mut O,
+) -> Result<ExitStatus, ExploreFault>
+    requires allowed { IsAllowed One image.now }
+    requires works { O.broken out.old ≡ false }
+    ensures ok { IfOk result (λ answered. (text : List ℕ) × IsAnswerAbout image.now plan answered text × Appends (O.written out.old) (O.written out.new) text) }
+    ensures fails { IfErr result (λ e. StopsPrinting e image.now plan (writer_of (O.written out.old) (O.written out.new) (O.broken out.new))) }
 {
-    match known(alloc, image, plan, observer) {
-        Ok(explored) => known_text(alloc, image, plan, &explored),
-        Err(why) => stopped_text(alloc, why),
-    }
+    let mut exploring = match Exploring::start(alloc, image, plan.bounds, plan.switches) {
+        Ok(exploring) => exploring,
+        Err(why) => return show_stop(alloc, why, out),
+    };
+    let start = Flat::start(alloc, image, 0, Profile::One)?;
+    let started = Started {
+        words: image.object_words(),
+        first: start.objects(),
+    };
+    print_levels(alloc, started, &mut exploring, observer, out)?;
+    let explored = exploring.end();
+    let (text, answered) = ending_text(alloc, &explored)?;
+    write_all(out, text.as_slice())?;
+    Ok(answered)
 }
 
-// Writes the answer about the bytes of an image.
-fn show<W: Observer, O: Sink>(
+// Prints the answer about the bytes of an image.
+fn show_image<W: Observer, O: Sink>(
     alloc: Global,
     bytes: &[u8],
     plan: ExplorePlan,
@@ -54,13 +84,11 @@ fn show<W: Observer, O: Sink>(
     if !Profile::One.allows(&image) {
         return Err(ExploreFault::TooLarge);
     }
-    let (text, answered) = answer(alloc, &image, plan, observer)?;
-    write_all(out, text.as_slice())?;
-    Ok(answered)
+    show(alloc, &image, plan, observer, out)
 }
 
-/// Writes the different outcomes of the guest that these bytes encode, each with a list that spells an order that leads to it, and how the
-/// search for them ended. The exit status is `Done` if all were found that were asked for, and `NotSo` if the search stopped before. It is
+/// Writes the different outcomes of the guest that these bytes encode, level by level as they are found, each with a list that spells an order
+/// that leads to it, and then how the search for them ended. The exit status is `Done` if all were found that were asked for, and `NotSo` if the search stopped before. It is
 /// `Refused` if the bytes are no image or the guest is too large, and `Failed` if memory ran out or the writer failed: then the fault is
 /// reported in one line. The observer is told how far the search is.
 pub fn explore_run<W: Observer, O: Sink, E: Sink>(
@@ -77,7 +105,7 @@ pub fn explore_run<W: Observer, O: Sink, E: Sink>(
         ⊎ ((e : ExploreFault) × (result ≡ fault_status e) × HasNone e bytes.now plan (writer_of (O.written out.old) (O.written out.new) (O.broken out.new))
         × Reports (writer_of (E.written faults.old) (E.written faults.new) (E.broken faults.new)) (fault_text (fault_words e))) }
 {
-    match show(alloc, bytes, plan, observer, out) {
+    match show_image(alloc, bytes, plan, observer, out) {
         Ok(answered) => answered,
         Err(why) => {
             tell(faults, why.words());

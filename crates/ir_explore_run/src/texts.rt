@@ -1,12 +1,12 @@
 //! The lines of all outcomes.
 
-ghost use Rattle.std.specs.Prelude.{◌≡◌, ℕ, ◌<◌, ◌≤◌, length, Some, slice_get, IfOk};
+ghost use Rattle.std.specs.Prelude.{◌≡◌, ℕ, ◌<◌, ◌≤◌, ◌++◌, List, length, Some, slice_get, IfOk};
 ghost use Rattle.std.specs.String.{string_bytes};
-ghost use Rattle.ir_flat.specs.Flat.{Flat, start_cells};
+ghost use Rattle.ir_flat.specs.Flat.{Flat};
 ghost use Rattle.ir_graph.specs.Reached.{AllReached};
 ghost use Rattle.ir_image.specs.Guest.{object_count};
 ghost use Rattle.ir_outcomes.specs.declared.shown.Shown.{Shown};
-ghost use Rattle.ir_explore_run.specs.Texts.{AreTexts, IsHangText, end_line};
+ghost use Rattle.ir_explore_run.specs.Texts.{AreTexts, IsHangText, end_line, objects_in};
 
 use crate::lines::{counts_text, ended_text, hang_line, hangs_text, last_line};
 use crate::outcome::{Started, outcome_text};
@@ -17,21 +17,23 @@ use ir_outcomes::Shown;
 use ir_store::Store;
 use std::alloc::{AllocError, Global};
 
-/// The lines of the first outcomes of these.
+/// The lines of these outcomes from the one at a place on, up to another.
 pub fn outcomes_text(
     alloc: Global,
     started: Started<'_>,
     flats: &Store<'_>,
     outcomes: &[Shown],
-    many: usize,
+    from: usize,
+    until: usize,
 ) -> Result<Vec<u8>, AllocError>
-    requires many { many ≤ length outcomes.now }
+    requires order { from ≤ until }
+    requires until { until ≤ length outcomes.now }
     requires objects { (v : ℕ) (f : Flat) → slice_get flats.now.items v ≡ Some f → length f.objects ≡ length started.first.now }
     requires nodes { (i : ℕ) (x : Shown) → slice_get outcomes.now i ≡ Some x → x.node < length flats.now.items }
-    ensures { IfOk result (λ text. AreTexts (record { words = started.entry.words; first = started.entry.first.now }) flats.now.items outcomes.now many text.items) }
+    ensures { IfOk result (λ text. (before : List ℕ) → AreTexts (objects_in started.entry) flats.now.items outcomes.now from before → AreTexts (objects_in started.entry) flats.now.items outcomes.now until (before ++ text.items)) }
 {
     let mut text = Vec::new(alloc);
-    for i in 0..many {
+    for i in from..until {
         let shown = &outcomes[i];
         let state = state_of(flats, shown)?;
         let own = outcome_text(alloc, started, &state, i + 1, shown)?;

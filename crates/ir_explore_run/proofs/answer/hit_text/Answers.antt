@@ -10,6 +10,7 @@ use Rattle.ir_record.specs.declared.turns.Turns.{Turns}
 use Rattle.ir_explore_run.specs.Lines.{found_line}
 use Rattle.ir_explore_run.specs.Texts.{Objects, objects_of, AreTexts, known_of}
 use Rattle.ir_explore_run.proofs.Hits.{shown_order_is_not_empty, is_hit_if_shown_outcome_fulfils}
+use Rattle.ir_explore_run.proofs.Joined.{texts_of_no_outcome}
 use Rattle.ir_explore_run.proofs.answer.hit_text.Goals as goal
 
 pub outcomes_text-requires-clause-objects : goal.outcomes_text-requires-clause-objects
@@ -26,7 +27,8 @@ returns c = λ cs none (x, f, at, does).
     let lines = c.in_ok-text.text.items in
     let list = string_bytes c.in_ok-list.list in
     let value = c.as_slice-outcomes.ensures.value in
-    let first : ◌≡◌ {A = Objects} (record { words = c.object_words.result; first = c.objects.result.now }) (objects_of guest) =
+    let own : Objects = record { words = c.object_words.result; first = c.objects.result.now } in
+    let first : own ≡ objects_of guest =
     λ i. record {
       words = c.object_words.ensures.value i;
       first = (c.objects.ensures.value ∙ ap (λ z. z.objects) c.in_ok-start.ensures) i;
@@ -52,9 +54,9 @@ returns c = λ cs none (x, f, at, does).
       hit = is_hit_if_shown_outcome_fulfils guest cs flats outcomes c.args.explored.now.levels place x f list c.requires.explored at none does spells;
       lines = lines;
       texts = subst (λ z. AreTexts z flats outcomes (suc place) lines) first
-          (subst (λ z. AreTexts (record { words = c.object_words.result; first = c.objects.result.now }) flats z (suc place) lines) value
-          (subst (λ z. AreTexts (record { words = c.object_words.result; first = c.objects.result.now }) flats c.as_slice-outcomes.result.now z lines) next
-          c.in_ok-text.ensures));
+          (subst (λ z. AreTexts own flats z (suc place) lines) value
+          (subst (λ z. AreTexts own flats c.as_slice-outcomes.result.now z lines) next
+          (c.in_ok-text.ensures [] (texts_of_no_outcome own flats c.as_slice-outcomes.result.now))));
       whole = c.in_ok-extend_from_slice.ensures.items
           ∙ ap (λ z. lines ++ z) (c.as_bytes.ensures.value ∙ c.in_ok-line.ensures ∙ (λ i. found_line (next i) (same i).level (c.as_str.ensures.value i)));
     }

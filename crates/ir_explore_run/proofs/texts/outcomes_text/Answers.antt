@@ -1,14 +1,14 @@
-use Rattle.std.proofs.Common.{◌≡◌, ◌+◌, ◌<◌, ◌++◌, suc, Some, length, sym, ap, ◌∙◌, subst, arith}
+use Rattle.std.proofs.Common.{◌≡◌, ◌+◌, ◌<◌, ◌++◌, suc, Some, length, sym, ap, ◌∙◌, subst, append_assoc, arith}
 use Rattle.std.specs.Prelude.{slice_get}
 use Rattle.std.proofs.lemmas.Option.{slice_get-get_or}
-use Rattle.ir_explore_run.specs.Texts.{IsOutcomeText, AreTexts}
+use Rattle.ir_explore_run.specs.Texts.{IsOutcomeText, AreTexts, objects_in}
 use Rattle.ir_explore_run.proofs.Joined.{texts_after_outcome}
 use Rattle.ir_explore_run.proofs.texts.outcomes_text.Goals as goal
 
 pub state_of-requires : goal.state_of-requires
 state_of-requires c =
     let less : c.loop-i.i < length c.args.outcomes.now =
-    (let a = c.loop-i-test.true in let b = c.loop-i.auto.i-end in let m = c.requires.many in omega (arith, a, b, m)) in
+    (let a = c.loop-i-test.true in let b = c.loop-i.auto.i-end in let m = c.requires.until in omega (arith, a, b, m)) in
     let x = c.index-outcomes-i.result in
     c.requires.nodes c.loop-i.i x (slice_get-get_or c.args.outcomes.now c.loop-i.i x less ∙ ap Some (sym c.index-outcomes-i.is))
 
@@ -18,13 +18,15 @@ outcome_text-requires c = c.requires.objects c.index-outcomes-i.result.node c.in
 pub loop-i-preserved : goal.loop-i-preserved
 loop-i-preserved c =
     let less : c.loop-i.i < length c.args.outcomes.now =
-    (let a = c.loop-i-test.true in let b = c.loop-i.auto.i-end in let m = c.requires.many in omega (arith, a, b, m)) in
+    (let a = c.loop-i-test.true in let b = c.loop-i.auto.i-end in let m = c.requires.until in omega (arith, a, b, m)) in
     let x = c.index-outcomes-i.result in
     let f = c.in_ok-state.state in
     let at : slice_get c.args.outcomes.now c.loop-i.i ≡ Some x =
     slice_get-get_or c.args.outcomes.now c.loop-i.i x less ∙ ap Some (sym c.index-outcomes-i.is) in
     let next : c.loop-i.i + 1 ≡ suc c.loop-i.i = omega arith in
-    subst (AreTexts (record { words = c.args.started.words; first = c.args.started.first.now }) c.args.flats.now.items c.args.outcomes.now (c.loop-i.i + 1))
-    (sym (c.in_ok-extend_from_slice.ensures.items ∙ ap (λ z. c.loop-i.text.items ++ z) c.as_slice.ensures.value))
-    (texts_after_outcome (record { words = c.args.started.words; first = c.args.started.first.now }) c.args.flats.now.items c.args.outcomes.now c.loop-i.i c.loop-i.text.items c.in_ok-own.own.items x f
-    c.loop-i.invariant (at, c.in_ok-state.ensures.value) (subst (λ z. IsOutcomeText (record { words = c.args.started.words; first = c.args.started.first.now }) f z x c.in_ok-own.own.items) next c.in_ok-own.ensures))
+    let o = objects_in c.args.started in λ before first.
+    subst (AreTexts o c.args.flats.now.items c.args.outcomes.now (c.loop-i.i + 1))
+    (append_assoc before c.loop-i.text.items c.in_ok-own.own.items
+    ∙ ap (λ z. before ++ z) (sym (c.in_ok-extend_from_slice.ensures.items ∙ ap (λ z. c.loop-i.text.items ++ z) c.as_slice.ensures.value)))
+    (texts_after_outcome o c.args.flats.now.items c.args.outcomes.now c.loop-i.i (before ++ c.loop-i.text.items) c.in_ok-own.own.items x f
+    (c.loop-i.invariant before first) (at, c.in_ok-state.ensures.value) (subst (λ z. IsOutcomeText o f z x c.in_ok-own.own.items) next c.in_ok-own.ensures))
