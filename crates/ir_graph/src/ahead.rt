@@ -25,7 +25,7 @@ impl Model for Ahead {
 
 // The hash of a thread's number and an object.
 fn key(from: usize, spot: Spot) -> u64 {
-    hash_of_numbers(&[from as u64, spot.words as u64, spot.word.bits])
+    hash_of_numbers(&[from as u64, spot.words as u64, spot.word().bits])
 }
 
 impl Ahead {

@@ -1,5 +1,5 @@
 -- Threads and objects that look the same.
-use Rattle.std.proofs.Common.{◌≡◌, ◌⊎◌, inl, inr, ◌<◌, ◌≤◌, ◌+◌, Bool, ℕ, zero, suc, List, [], ◌∷◌, length, get_or, map, refl, sym, ap, ◌∙◌, subst, arith, Some}
+use Rattle.std.proofs.Common.{◌≡◌, ◌<◌, ◌+◌, Bool, ℕ, zero, suc, List, [], ◌∷◌, length, get_or, map, refl, sym, ap, ◌∙◌, arith, Some}
 use Rattle.std.specs.Prelude.{slice_get, ◌&&◌, drop}
 use Rattle.std.specs.List.{AllByRecursion, slice_index_or}
 use Rattle.std.proofs.lemmas.Option.{same_Some}

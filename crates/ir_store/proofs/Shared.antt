@@ -1,11 +1,10 @@
 -- States by numbers, while the tables grow.
-use Rattle.std.proofs.Common.{◌≡◌, ◌⊎◌, ◌<◌, ◌++◌, ◌∷◌, [], ℕ, List, length, get_or, map, refl, sym, ap, ◌∙◌, subst}
+use Rattle.std.proofs.Common.{◌≡◌, ◌<◌, [], ℕ, List, length, get_or, map, sym, subst}
 use Rattle.std.specs.List.{AllByRecursion}
-use Rattle.std.proofs.lemmas.List.{map_push}
-use Rattle.ir_flat.specs.Flat.{Flat, IsFlat, idle}
+use Rattle.ir_flat.specs.Flat.{IsFlat, idle}
 use Rattle.ir_store.specs.declared.spot.Spot.{Spot}
 use Rattle.ir_store.specs.Nodes.{Shared, Node, cell_in, flat_in, IsWithin, IsNode, AreKept, Grows}
-use Rattle.ir_store.proofs.Lists.{kept_element_is_equal, place_below_length_kept, all_by_recursion_weaker, map_equal_if_functions_equal, all_by_recursion_after_put}
+use Rattle.ir_store.proofs.Lists.{kept_element_is_equal, place_below_length_kept, all_by_recursion_weaker, map_equal_if_functions_equal}
 
 pub numbers_within_after_growth : {X : Type 0} (old new : List X) (d : X) → ((n : ℕ) → n < length old → n < length new) → (numbers : List ℕ)
     → AllByRecursion (λ n. n < length old) numbers → AllByRecursion (λ n. n < length new) numbers

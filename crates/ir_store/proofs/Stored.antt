@@ -5,12 +5,11 @@ use Rattle.std.specs.List.{AllByRecursion}
 use Rattle.std.specs.Option.{option_map}
 use Rattle.std.proofs.lemmas.List.{map-set}
 use Rattle.std.proofs.lemmas.Option.{same_Some, slice_get-map, slice_get-get_or}
-use Rattle.ir_thread.specs.State.{ThreadState}
-use Rattle.ir_flat.specs.Flat.{Flat, IsFlat, idle, thread_of, cell_of}
+use Rattle.ir_flat.specs.Flat.{Flat, idle, thread_of, cell_of}
 use Rattle.ir_flat.specs.Room.{empty}
 use Rattle.ir_flat.specs.Next.{with_thread, with_object}
 use Rattle.ir_store.specs.declared.spot.Spot.{Spot}
-use Rattle.ir_store.specs.Nodes.{Shared, Node, cell_in, flat_in, IsWithin, IsNode, AreKept}
+use Rattle.ir_store.specs.Nodes.{Shared, Node, cell_in, flat_in, IsNode, AreKept}
 use Rattle.ir_store.proofs.Lists.{element_of_all_by_recursion, length_map}
 
 -- what is at a place of a list of what elements give

@@ -1,5 +1,5 @@
 -- States whose threads and words are kept in tables.
-use Rattle.std.specs.Prelude.{◌≡◌, ◌<◌, ℕ, List, [], length, map}
+use Rattle.std.specs.Prelude.{◌≡◌, ◌<◌, ◌+◌, ◌*◌, ◌^◌, ℕ, List, [], length, map}
 use Rattle.std.specs.List.{AllByRecursion, slice_index_or}
 use Rattle.ir_image.specs.declared.form.ImageForm.{ImageForm}
 use Rattle.ir_thread.specs.State.{ThreadState}
@@ -22,9 +22,13 @@ pub record Node : Type 0 where
   pub threads : List ℕ
   pub objects : List Spot
 
+-- the word of an object, of two halves
+abbrev pub word_in : Spot → ℕ
+word_in spot = spot.high * 2 ^ 32 + spot.low
+
 -- the object with the words of this number
 abbrev pub cell_in : List (List ℕ) → Spot → Cell
-cell_in words spot = record { fields = fields_of spot.word.bits; words = slice_index_or words spot.words [] }
+cell_in words spot = record { fields = fields_of (word_in spot); words = slice_index_or words spot.words [] }
 
 abbrev pub cells_at : List (List ℕ) → List Spot → List Cell
 cells_at words spots = map (cell_in words) spots

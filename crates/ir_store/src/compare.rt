@@ -27,13 +27,13 @@ pub fn hash_of(table: &Table, node: &Node<'_>) -> u64
 {
     let mut hash = empty_hash();
     for n in node.threads.as_slice() {
-        hash = after_number(hash, table.look(*n) as u64);
+        hash = after_number(hash, table.look(*n as usize) as u64);
     }
     after_spots(hash, node.objects.as_slice())
 }
 
 // Whether the threads of these numbers look the same.
-fn same_threads(table: &Table, first: &[usize], second: &[usize]) -> bool
+fn same_threads(table: &Table, first: &[u32], second: &[u32]) -> bool
     requires first { AreIn table.now.items first.now }
     requires second { AreIn table.now.items second.now }
     ensures { result ≡ true → (t : ℕ) → t < length first.now → LookSame (slice_index_or (threads_at table.now.items first.now) t idle) (slice_index_or (threads_at table.now.items second.now) t idle) }
@@ -42,7 +42,7 @@ fn same_threads(table: &Table, first: &[usize], second: &[usize]) -> bool
         return false;
     }
     for t in 0..first.len() {
-        if !table.same_look(first[t], second[t]) {
+        if !table.same_look(first[t] as usize, second[t] as usize) {
             return false;
         }
     }

@@ -7,6 +7,7 @@ mod compare;
 mod hash;
 mod hints;
 mod node;
+mod number;
 mod objects;
 mod put;
 mod row;

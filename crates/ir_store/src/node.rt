@@ -10,7 +10,7 @@ use std::marker::Model;
 #[derive(Drop)]
 pub struct Node<'a> {
     pub code: &'a Code,
-    pub threads: Vec<usize>,
+    pub threads: Vec<u32>,
     pub objects: Vec<Spot>,
 }
 

@@ -19,10 +19,8 @@ pub fn spot_of(words: &mut Words, object: &Object) -> Result<Spot, AllocError>
     ensures found { IfOk result (λ spot. cell_in words.new spot ≡ object.now) }
 {
     let n = words.number(object.contents())?;
-    Ok(Spot {
-        words: n,
-        word: object.word(),
-    })
+    let spot = Spot::of(n, object.word())?;
+    Ok(spot)
 }
 
 /// The object of these numbers.
@@ -30,7 +28,7 @@ pub fn object_at(words: &Words, spot: Spot) -> Object
     requires { spot.words < length words.now }
     ensures { result ≡ cell_in words.now spot }
 {
-    Object::from_parts(spot.word, words.get(spot.words))
+    Object::from_parts(spot.word(), words.get(spot.words as usize))
 }
 
 /// These objects by numbers, of which the new ones are added.

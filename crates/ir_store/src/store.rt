@@ -12,6 +12,7 @@ ghost use Rattle.ir_store.specs.Table.{HaveForm, all_over};
 use crate::compare::{hash_of, same_looks};
 use crate::hints::Hints;
 use crate::node::Node;
+use crate::number::short;
 use crate::objects::{object_at, objects_at, spot_of, spots_of};
 use crate::put::put;
 use crate::spot::Spot;
@@ -97,7 +98,7 @@ impl<'a> Store<'a> {
         ensures flat { (f : Flat) → slice_get self.now.items v ≡ Some f → IsFlat f }
     {
         let node = &self.nodes[v];
-        node.threads[t]
+        node.threads[t] as usize
     }
 
     /// An object of a state, by numbers.
@@ -190,9 +191,10 @@ impl<'a> Store<'a> {
         ensures within { IfOk result (λ node. IsWithin self.now.shared node) }
         ensures flat { IfOk result (λ node. (f : Flat) → slice_get self.now.items v ≡ Some f → flat_in self.now.shared node ≡ with_object (with_thread f t (slice_index_or self.now.shared.threads thread idle)) o (cell_in self.now.shared.words spot)) }
     {
+        let number = short(thread)?;
         let node = &self.nodes[v];
         let mut threads = Vec::from_slice(self.alloc, node.threads.as_slice())?;
-        threads[t] = thread;
+        threads[t] = number;
         let mut objects = Vec::from_slice(self.alloc, node.objects.as_slice())?;
         objects[o] = spot;
         Ok(Node {

@@ -12,6 +12,7 @@ ghost use Rattle.ir_thread.specs.State.{ThreadState};
 
 use crate::hash::{after_bytes, after_number, empty_hash};
 use crate::hints::Hints;
+use crate::number::short;
 use crate::rows::Rows;
 use crate::twin::same_thread;
 use ir_freeze::tells_apart;
@@ -135,7 +136,7 @@ impl Table {
     ///
     /// # Errors
     /// Out of memory.
-    pub fn add_all(&mut self, threads: &[Thread]) -> Result<Vec<usize>, AllocError>
+    pub fn add_all(&mut self, threads: &[Thread]) -> Result<Vec<u32>, AllocError>
         requires { HaveForm self.old.form threads.now }
         ensures keeps { Keeps self.old.items self.new.items }
         ensures form { self.new.form ≡ self.old.form }
@@ -145,7 +146,8 @@ impl Table {
         let mut numbers = Vec::with_capacity(self.alloc, threads.len())?;
         for thread in threads {
             let n = self.add(thread)?;
-            numbers.push(n)?;
+            let number = short(n)?;
+            numbers.push(number)?;
         }
         Ok(numbers)
     }
@@ -171,12 +173,12 @@ impl Table {
     }
 
     /// Whether all threads of these numbers have.
-    pub fn all_over(&self, numbers: &[usize]) -> bool
+    pub fn all_over(&self, numbers: &[u32]) -> bool
         requires { AreIn self.now.items numbers.now }
         ensures { result ≡ all_over (threads_at self.now.items numbers.now) }
     {
         for n in numbers {
-            if !self.over(*n) {
+            if !self.over(*n as usize) {
                 return false;
             }
         }
@@ -204,14 +206,14 @@ impl Table {
     ///
     /// # Errors
     /// Out of memory.
-    pub fn threads(&self, numbers: &[usize]) -> Result<Vec<Thread>, AllocError>
+    pub fn threads(&self, numbers: &[u32]) -> Result<Vec<Thread>, AllocError>
         requires { AreIn self.now.items numbers.now }
         ensures value { IfOk result (λ threads. threads.items ≡ threads_at self.now.items numbers.now) }
         ensures form { IfOk result (λ threads. HaveForm self.now.form threads.items) }
     {
         let mut threads = Vec::with_capacity(self.alloc, numbers.len())?;
         for n in numbers {
-            let thread = self.rows.thread(*n)?;
+            let thread = self.rows.thread(*n as usize)?;
             threads.push(thread)?;
         }
         Ok(threads)

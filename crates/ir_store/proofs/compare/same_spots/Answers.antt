@@ -1,4 +1,4 @@
-use Rattle.std.proofs.Common.{arith, length}
+use Rattle.std.proofs.Common.{arith}
 use Rattle.ir_store.proofs.Looks.{object_words_equal_if_numbers_equal}
 use Rattle.ir_store.proofs.compare.same_spots.Goals as goal
 

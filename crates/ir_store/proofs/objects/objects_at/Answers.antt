@@ -1,4 +1,4 @@
-use Rattle.std.proofs.Common.{◌≡◌, ◌∙◌}
+use Rattle.std.proofs.Common.{◌∙◌}
 use Rattle.ir_store.specs.Nodes.{cell_in}
 use Rattle.ir_store.proofs.Lists.{mapped_elements_made_step}
 use Rattle.ir_store.proofs.objects.objects_at.Goals as goal

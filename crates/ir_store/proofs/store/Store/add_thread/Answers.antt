@@ -2,7 +2,7 @@ use Rattle.std.proofs.Common.{◌≡◌, ◌<◌, ap, ◌∙◌, length, get_or,
 use Rattle.std.specs.Prelude.{slice_get}
 use Rattle.std.proofs.lemmas.Option.{slice_get_within, get_or_from_slice_get}
 use Rattle.ir_flat.specs.Flat.{idle}
-use Rattle.ir_store.specs.Nodes.{Shared, Grows, Stored}
+use Rattle.ir_store.specs.Nodes.{Shared, Stored}
 use Rattle.ir_store.proofs.Lists.{if_ok_weaker}
 use Rattle.ir_store.proofs.Shared.{nodes_grown, flats_grown}
 use Rattle.ir_store.proofs.store.Store.add_thread.Goals as goal

@@ -1,6 +1,5 @@
-use Rattle.std.proofs.Common.{◌≡◌, ap, ◌∙◌, sym, subst}
-use Rattle.ir_flat.specs.Flat.{IsFlat}
-use Rattle.ir_store.specs.Nodes.{Shared, Node, Stored, flat_in}
+use Rattle.std.proofs.Common.{ap, ◌∙◌}
+use Rattle.ir_store.specs.Nodes.{Shared, Stored}
 use Rattle.ir_store.proofs.Shared.{nodes_grown, flats_grown}
 use Rattle.ir_store.proofs.store.Store.by_numbers.Goals as goal
 

@@ -1,7 +1,7 @@
-use Rattle.std.proofs.Common.{◌≡◌, ◌<◌, ℕ, length, get_or, map, refl, sym, ap, ◌∙◌, subst, arith, Some}
+use Rattle.std.proofs.Common.{◌≡◌, ◌<◌, length, get_or, refl, sym, ap, ◌∙◌, subst, arith, Some}
 use Rattle.std.specs.Prelude.{slice_get}
 use Rattle.ir_flat.specs.Flat.{Flat, IsFlat, idle, thread_of}
-use Rattle.ir_store.specs.Nodes.{Shared, Node, Stored, flat_in, IsNode}
+use Rattle.ir_store.specs.Nodes.{Shared, Node, Stored, flat_in}
 use Rattle.ir_store.proofs.Lists.{element_of_all_by_recursion, length_map}
 use Rattle.ir_store.proofs.Rowed.{read_row_is_mapped_element}
 use Rattle.ir_store.proofs.Stored.{node_is, flat_is, thread_is}

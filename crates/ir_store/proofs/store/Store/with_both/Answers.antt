@@ -1,6 +1,6 @@
-use Rattle.std.proofs.Common.{◌≡◌, ◌<◌, ℕ, length, get_or, map, set, refl, sym, ap, ◌∙◌, subst, arith, Some}
+use Rattle.std.proofs.Common.{◌≡◌, ◌<◌, length, get_or, set, refl, sym, ap, ◌∙◌, subst, arith, Some}
 use Rattle.std.specs.Prelude.{slice_get}
-use Rattle.ir_flat.specs.Flat.{Flat, idle}
+use Rattle.ir_flat.specs.Flat.{idle}
 use Rattle.ir_flat.specs.Next.{with_object, with_thread}
 use Rattle.ir_store.specs.Nodes.{Shared, Node, Stored, cell_in, flat_in}
 use Rattle.ir_store.proofs.Lists.{length_map}
@@ -46,12 +46,12 @@ returns-clause-flat c = λ f at.
     let both = both_is shared nodes c.self.invariant c.args.v node less c.index-node.ensures f there c.args.t c.args.thread c.args.o c.args.spot in
     subst (λ (z : Stored). flat_in z.shared (record {
       code = c.node.inside.code.now;
-      threads = set c.in_ok-threads.threads.items c.args.t c.args.thread;
+      threads = set c.in_ok-threads.threads.items c.args.t c.in_ok-number.number;
       objects = set c.in_ok-objects.objects.items c.args.o c.args.spot;
     }) ≡ with_object (with_thread f c.args.t (get_or z.shared.threads c.args.thread idle)) c.args.o (cell_in z.shared.words c.args.spot))
     c.self.view_is
     ((λ i. flat_in shared (record {
       code = (c.node.view_is i).code;
-      threads = set (threads i) c.args.t c.args.thread;
+      threads = set (threads i) c.args.t (c.in_ok-number.ensures i);
       objects = set (objects i) c.args.o c.args.spot;
     })) ∙ both)

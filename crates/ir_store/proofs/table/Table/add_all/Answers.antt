@@ -14,9 +14,9 @@ loop-thread-preserved c =
     let new = c.add.new.self.items in
     let keeps = c.add.ensures.keeps in
     let numbers = c.loop-thread.numbers.items in
-    let n = c.in_ok-n.n in
+    let n = c.in_ok-number.number in
     let x = c.thread-item.result in
-    let at : slice_get new n ≡ Some x = c.in_ok-n.ensures.found in
+    let at : slice_get new n ≡ Some x = subst (λ k. slice_get new k ≡ Some x) (sym c.in_ok-number.ensures) c.in_ok-n.ensures.found in
     let was : threads_at new numbers ≡ threads_at old numbers =
     map_equal_if_functions_equal (λ k. get_or new k idle) (λ k. get_or old k idle) (λ k. k < length old) numbers (kept_element_is_equal old new idle keeps) before.within in
     record {

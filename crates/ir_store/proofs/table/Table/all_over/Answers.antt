@@ -1,4 +1,4 @@
-use Rattle.std.proofs.Common.{◌≡◌, ◌+◌, sym, ap, ◌∙◌}
+use Rattle.std.proofs.Common.{◌+◌, sym, ap, ◌∙◌}
 use Rattle.std.specs.Prelude.{◌&&◌, drop}
 use Rattle.ir_store.specs.Table.{threads_at, all_over}
 use Rattle.ir_store.proofs.Looks.{all_over_threads_step}
