@@ -16,11 +16,11 @@ from collections import deque
 from pathlib import Path
 from typing import NamedTuple
 
-from lib import Wrong, assembled, examples, finish, parser_of, program, recorded, run, said, shell, use, wants
+from lib import Wrong, assembled, examples, finish, parser_of, profile_of, program, recorded, run, said, shell, use, wants
 
 WORDS = 8
 REGISTERS = ("s0", "s1", "s2")
-CALLS = {"enter_read": 7, "enter_write": 8, "leave": 9, "get": 10, "put": 11, "print": 2, "end": 1}
+CALLS = {"enter_read": 7, "enter_write": 8, "leave": 9, "get": 10, "put": 11, "try": 13, "print": 2, "end": 1}
 
 
 class Thread(NamedTuple):
@@ -38,7 +38,8 @@ START = Thread(0, (0,) * len(REGISTERS), (), b"", ())
 
 def ecall(call, *arguments):
     """The lines of a call."""
-    return [f"        addi a{place}, {value}" for place, value in enumerate(arguments)] + [f"        addi a7, zero, {CALLS[call]}", "        ecall"]
+    number = f"        addi a7, zero, {CALLS[call]}" + ("    # TRY_WRITE" if call == "try" else "")
+    return [f"        addi a{place}, {value}" for place, value in enumerate(arguments)] + [number, "        ecall"]
 
 
 def lines_of(operation, label):
@@ -54,6 +55,8 @@ def lines_of(operation, label):
             return ecall("get", f"zero, {thing}", f"zero, {index}") + [f"        addi {REGISTERS[register]}, a0, 0"]
         case ("put", thing, index, register):
             return ecall("put", f"zero, {thing}", f"zero, {index}", f"{REGISTERS[register]}, 0")
+        case ("try", thing, register):
+            return ecall("try", f"zero, {thing}") + [f"        addi {REGISTERS[register]}, a0, 0"]
         case ("print" | "end" as call, register):
             return ecall(call, f"{REGISTERS[register]}, 0")
         case (call, thing):
@@ -132,29 +135,37 @@ def shared(thread, words, operation):
     raise ValueError(operation)
 
 
-def after(guest, state, t):
-    """The state behind the next operation of a thread and whether it was an entry, or none where it has none or waits."""
+def tried(threads, t, thing, register):
+    """The thread behind its try: as it is refused and, if nobody is in the object, as it enters."""
+    behind = entered(threads, t, thing, "enter_write")
+    if behind and behind.ended:
+        return [(behind, False)]
+    refused = threads[t]._replace(at=threads[t].at + 1, registers=put_word(threads[t].registers, register, 0))
+    return [(refused, True)] + ([(behind._replace(registers=put_word(behind.registers, register, 1)), True)] if behind else [])
+
+
+def steps(guest, state, t):
+    """The threads and words behind each next operation of a thread and whether it was an entry or a try; none where it has none or waits."""
     threads, words = state
     thread = threads[t]
     if thread.ended:
-        if not thread.held:
-            return None
-        thread, is_entry = thread._replace(held=tuple(sorted(thread.held)[:-1])), False
-    else:
-        operation = guest[t][thread.at] if thread.at < len(guest[t]) else None
-        is_entry = operation is not None and operation[0].startswith("enter")
-        if operation is None:
-            thread = thread._replace(ended=(1, 0))
-        elif is_entry:
-            thread = entered(threads, t, operation[1], operation[0])
-            if thread is None:
-                return None
-            is_entry = not thread.ended
-        elif operation[0] in ("leave", "get", "put"):
-            thread, words = shared(thread, words, operation)
-        else:
-            thread = own(thread, operation)
-    return (threads[:t] + (thread,) + threads[t + 1:], words), is_entry
+        return [(thread._replace(held=tuple(sorted(thread.held)[:-1])), words, False)] if thread.held else []
+    operation = guest[t][thread.at] if thread.at < len(guest[t]) else None
+    if operation is None:
+        return [(thread._replace(ended=(1, 0)), words, False)]
+    if operation[0].startswith("enter"):
+        behind = entered(threads, t, operation[1], operation[0])
+        return [(behind, words, not behind.ended)] if behind else []
+    if operation[0] == "try":
+        return [(behind, words, is_entry) for behind, is_entry in tried(threads, t, *operation[1:])]
+    if operation[0] in ("leave", "get", "put"):
+        return [(*shared(thread, words, operation), False)]
+    return [(own(thread, operation), words, False)]
+
+
+def after(guest, state, t):
+    """Each state behind a next operation of a thread, and whether that was an entry or a try."""
+    return [((state[0][:t] + (thread,) + state[0][t + 1:], words), is_entry) for thread, words, is_entry in steps(guest, state, t)]
 
 
 def outcome_of(state):
@@ -183,17 +194,14 @@ def judged(guest, objects):
         state, last = queue.popleft()
         switches, is_done = least[state, last], True
         for t in range(len(guest)):
-            step = after(guest, state, t)
-            if step is None:
-                continue
-            is_done = False
-            on, is_entry = step
-            before.setdefault(on, set()).add(state)
-            node = (on, t if is_entry else last)
-            more = is_entry and last not in (None, t)
-            if node not in least or switches + more < least[node]:
-                least[node] = switches + more
-                (queue.append if more else queue.appendleft)(node)
+            for on, is_entry in after(guest, state, t):
+                is_done = False
+                before.setdefault(on, set()).add(state)
+                node = (on, t if is_entry else last)
+                more = is_entry and last not in (None, t)
+                if node not in least or switches + more < least[node]:
+                    least[node] = switches + more
+                    (queue.append if more else queue.appendleft)(node)
         if is_done:
             done.add(state)
             outcome = outcome_of(state)
@@ -233,7 +241,8 @@ def listed(lines, objects):
 
 def explored(folder, name, more=()):
     """What `ir explore` prints of an image, and its status."""
-    ended = run(["explore", f"{name}.img", *more], folder)
+    profile = ["--profile", "2"] if profile_of((folder / f"{name}.s").read_text()) == 2 else []
+    ended = run(["explore", f"{name}.img", *profile, *more], folder)
     return ended.stdout.decode().splitlines(), ended
 
 
@@ -284,11 +293,19 @@ def section(chance, objects):
     return operations
 
 
-def random_thread(chance, objects):
-    """A thread of a few sections, with operations of its own in between."""
+def attempt(chance, objects, at):
+    """A try with what is done if it enters; else that is skipped, but for a thread that doesn't look. The first of it is operation `at`."""
+    thing, answer = chance.randrange(objects), chance.randrange(len(REGISTERS))
+    inside = [(chance.choice(("get", "put", "put")), thing, chance.randrange(2), chance.randrange(len(REGISTERS))) for _ in range(chance.randint(1, 2))]
+    look = [("skip", answer, 0, at + len(inside) + 3)] if chance.random() < 0.9 else [("add", answer, 0)]
+    return [("try", thing, answer), *look, *inside, ("leave", thing)]
+
+
+def random_thread(chance, objects, tries=0.0):
+    """A thread of a few sections, with operations of its own in between; so often a section is a try."""
     operations = [("set", 0, chance.randint(0, 3))]
     for _ in range(chance.randint(1, 3)):
-        operations += section(chance, objects)
+        operations += attempt(chance, objects, len(operations)) if tries and chance.random() < tries else section(chance, objects)
         kind, register = chance.random(), chance.randrange(len(REGISTERS))
         if kind < 0.4:
             operations.append(("add", register, chance.randint(-2, 2)))
@@ -296,16 +313,16 @@ def random_thread(chance, objects):
             operations.append(("print", register))
     if chance.random() < 0.5:
         operations.append(("end", chance.randrange(len(REGISTERS))))
-    if chance.random() < 0.5:
+    if not tries and chance.random() < 0.5:
         at = chance.randrange(1, len(operations))
         operations.insert(at, ("skip", chance.randrange(len(REGISTERS)), chance.randint(0, 2), chance.randint(at + 1, len(operations) + 1)))
     return operations
 
 
-def random_guest(chance):
+def random_guest(chance, tries=0.0):
     """Two or three threads over one or two objects."""
     objects = chance.randint(1, 2)
-    return [random_thread(chance, objects) for _ in range(chance.randint(2, 3))], objects
+    return [random_thread(chance, objects, tries) for _ in range(chance.randint(2, 3))], objects
 
 
 # Counts that are known on paper.
@@ -441,6 +458,7 @@ def check_until_failures(folder):
 def main():
     parser = parser_of(__doc__)
     parser.add_argument("--guests", type=int, default=500, help="how many random guests")
+    parser.add_argument("--tries", type=int, default=300, help="how many random guests that try to enter")
     parser.add_argument("--seed", type=int, default=1, help="the seed of the guests")
     asked = parser.parse_args()
     use(asked.program)
@@ -454,7 +472,8 @@ def main():
                   *(lambda row=row: check_until(folder, row) for row in UNTIL),
                   *(lambda row=row: check_no_until(folder, row) for row in NO_UNTIL), lambda: check_until_failures(folder),
                   *(lambda row=row: check_on_paper(folder, row) for row in ON_PAPER),
-                  *(lambda: check_guest(folder, *random_guest(chance)) for _ in range(asked.guests))]
+                  *(lambda: check_guest(folder, *random_guest(chance)) for _ in range(asked.guests)),
+                  *(lambda: check_guest(folder, *random_guest(chance, 0.6)) for _ in range(asked.tries))]
         for check in checks:
             try:
                 check()
