@@ -2,3 +2,4 @@ mod Fulfilled
 mod Hits
 mod Joined
 mod Sought
+mod Printed

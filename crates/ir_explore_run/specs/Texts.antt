@@ -21,7 +21,7 @@ use Rattle.ir_outcomes.specs.declared.explored.Explored.{Explored}
 use Rattle.ir_outcomes.specs.declared.shown.Shown.{Shown}
 use Rattle.ir_record.specs.Recording.{order_of_turns}
 use Rattle.ir_thread.specs.State.{ThreadState}
-use Rattle.ir_explore_run.specs.declared.outcome.Started.{Started}
+use Rattle.ir_explore_run.specs.declared.started.Started.{Started}
 use Rattle.ir_explore_run.specs.declared.plan.ExplorePlan.{ExplorePlan}
 use Rattle.ir_explore_run.specs.Lines.{outcome_line, thread_text, object_line, hang_line, ended_text, counts_text, hangs_text, last_line}
 

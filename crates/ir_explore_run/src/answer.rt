@@ -14,8 +14,8 @@ ghost use Rattle.ir_explore_run.specs.Until.{IsHitText};
 ghost use Rattle.ir_explore_run.specs.declared.plan.ExplorePlan.{ExplorePlan};
 
 use crate::lines::found_line;
-use crate::outcome::Started;
 use crate::plan::ExplorePlan;
+use crate::started::Started;
 use crate::texts::{Ending, end_line, hang_text, outcomes_text};
 use ir_explore::{Ended, Stop};
 use ir_files::ExitStatus;
@@ -43,12 +43,13 @@ pub fn ending_text(
 ) -> Result<(Vec<u8>, ExitStatus), AllocError>
     ensures { IfOk result (λ answer. IsEnding (known_of explored.now) answer.1 answer.0.items) }
 {
+    let outcomes = explored.outcomes.as_slice();
     let hang = hang_text(alloc, &explored.hang)?;
     let mut text = Vec::from_slice(alloc, hang.as_bytes())?;
     let ending = Ending {
         ended: explored.ended,
         levels: explored.levels,
-        outcomes: explored.outcomes.len(),
+        outcomes: outcomes.len(),
         states: explored.states.graph.flats.len(),
         hangs: explored.hangs,
     };

@@ -12,6 +12,7 @@ mod plan;
 mod printing;
 mod run;
 mod seek;
+mod started;
 mod states;
 mod texts;
 mod until;

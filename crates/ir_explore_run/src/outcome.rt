@@ -1,28 +1,18 @@
 //! The lines of an outcome.
 
-ghost use Rattle.std.specs.Prelude.{◌≡◌, ◌≤◌, ◌++◌, length, OnOk, IfOk};
+ghost use Rattle.std.specs.Prelude.{◌≡◌, ◌++◌, length, OnOk, IfOk};
 ghost use Rattle.std.specs.List.{slice_index_or};
 ghost use Rattle.ir_flat.specs.Room.{empty};
-ghost use Rattle.ir_image.specs.Guest.{most_object_words};
 ghost use Rattle.ir_explore_run.specs.Texts.{threads_text, object_text, objects_text, objects_in, IsOutcomeText};
 
 use crate::lines::{outcome_line, put_object, put_thread};
+use crate::started::Started;
 use ir_flat::Flat;
 use ir_object::Object;
 use ir_order::list_of;
 use ir_outcomes::Shown;
 use ir_thread::Thread;
 use std::alloc::{AllocError, Global};
-
-/// The objects of a guest at first.
-#[derive(Clone, Copy)]
-pub struct Started<'a> {
-    /// How many words each has.
-    pub words: usize,
-    /// The objects.
-    pub first: &'a [Object],
-    ghost few: { words ≤ most_object_words },
-}
 
 // Puts the lines of the threads.
 fn put_threads(alloc: Global, text: &mut Vec<u8>, threads: &[Thread]) -> Result<(), AllocError>

@@ -1,6 +1,6 @@
 //! Outcomes are printed as they are found.
 
-ghost use Rattle.std.specs.Prelude.{◌≡◌, ◌⊎◌, ◌×◌, ◌++◌, ℕ, List, false, true, ◌<◌, ◌≤◌, None, Some, length, slice_get, IfErr, OnOk};
+ghost use Rattle.std.specs.Prelude.{◌≡◌, ◌⊎◌, ◌++◌, ℕ, List, false, true, ◌<◌, ◌≤◌, None, Some, length, slice_get, IfErr, OnOk};
 ghost use Rattle.std.specs.Io.KnownBytes.{Appends};
 ghost use Rattle.ir_files.specs.Writers.{writer_of};
 ghost use Rattle.ir_flat.specs.Flat.{Flat};
@@ -13,7 +13,7 @@ ghost use Rattle.ir_explore_run.specs.Texts.{AreTexts, objects_in, objects_of};
 ghost use Rattle.ir_explore_run.specs.declared.fault.ExploreFault.TheVariants.{NoMem, Write};
 
 use crate::fault::ExploreFault;
-use crate::outcome::Started;
+use crate::started::Started;
 use crate::texts::outcomes_text;
 use ir_explore::Observer;
 use ir_outcomes::Exploring;
@@ -58,7 +58,7 @@ pub fn print_levels<W: Observer, O: Sink>(
     requires allowed { IsAllowed One exploring.old.states.graph.image.now }
     requires is { IsExploring exploring.old }
     requires none { length exploring.old.list.outcomes.items ≡ 0 }
-    requires started { objects_in started.entry ≡ objects_of exploring.old.states.graph.image.now }
+    requires started { objects_in started ≡ objects_of exploring.old.states.graph.image.now }
     requires works { O.broken out.old ≡ false }
     ensures is { IsExploring exploring.new }
     ensures image { exploring.new.states.graph.image.now ≡ exploring.old.states.graph.image.now }

@@ -13,9 +13,9 @@ ghost use Rattle.ir_explore_run.specs.declared.plan.ExplorePlan.{ExplorePlan};
 
 use crate::answer::{ending_text, stopped_text};
 use crate::fault::ExploreFault;
-use crate::outcome::Started;
 use crate::plan::ExplorePlan;
 use crate::printing::print_levels;
+use crate::started::Started;
 use ir_explore::{Observer, Stop};
 use ir_files::{ExitStatus, tell};
 use ir_flat::Flat;

@@ -9,7 +9,8 @@ ghost use Rattle.ir_outcomes.specs.declared.shown.Shown.{Shown};
 ghost use Rattle.ir_explore_run.specs.Texts.{AreTexts, IsHangText, end_line, objects_in};
 
 use crate::lines::{counts_text, ended_text, hang_line, hangs_text, last_line};
-use crate::outcome::{Started, outcome_text};
+use crate::outcome::outcome_text;
+use crate::started::Started;
 use crate::states::state_of;
 use ir_explore::Ended;
 use ir_order::list_of;

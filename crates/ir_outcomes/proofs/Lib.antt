@@ -1,3 +1,4 @@
+pub mod CallerLemmas
 mod Again
 mod Showing
 mod Listed

@@ -28,7 +28,7 @@ returns c =
           (subst (λ z. AreTexts own flats z (length outcomes) lines) value
           (subst (λ z. AreTexts own flats c.as_slice-outcomes.result.now z lines) many
           (c.in_ok-text.ensures [] (texts_of_no_outcome own flats c.as_slice-outcomes.result.now))));
-      last_lines = c.in_ok-ending_text.field-0-0.items;
-      ending = c.in_ok-ending_text.ensures;
+      last_lines = c.in_ok-ending.ending.items;
+      ending = c.in_ok-ending.ensures;
       whole = c.in_ok-extend_from_slice.ensures.items ∙ ap (λ z. lines ++ z) c.as_slice.ensures.value;
     }

@@ -1,0 +1,79 @@
+-- Outcomes that are printed as they are found.
+use Rattle.std.proofs.Common.{◌≡◌, ◌++◌, ℕ, ◌<◌, ◌≤◌, true, List, [], ◌∷◌, Option, Some, length, get_or, refl, sym, subst, arith, inl, inr}
+use Rattle.std.specs.Prelude.{Err, slice_get}
+use Rattle.std.specs.Io.KnownBytes.{Appends}
+use Rattle.std.proofs.KnownBytes.{Appends-nil}
+use Rattle.std.proofs.lemmas.Option.{slice_get-get_or}
+use Rattle.ir_explore.specs.Following.{Stay}
+use Rattle.ir_explore.proofs.CallerLemmas.{place_of_element_is_below_length}
+use Rattle.ir_files.proofs.CallerLemmas.{appends_prefix_after_whole_text}
+use Rattle.ir_stream.specs.Answers.{AppendsPrefix}
+use Rattle.ir_outcomes.specs.declared.shown.Shown.{Shown}
+use Rattle.ir_files.specs.Writers.{Writer, Took, Failed}
+use Rattle.ir_files.specs.declared.exit_status.ExitStatus.{ExitStatus}
+use Rattle.ir_image.specs.Guest.{Guest}
+use Rattle.ir_outcomes.specs.Explored.{AreExplored}
+use Rattle.ir_outcomes.specs.declared.exploring.Exploring.{Exploring}
+use Rattle.ir_outcomes.proofs.CallerLemmas.{none_explored}
+use Rattle.ir_explore_run.specs.Faults.{StopsPrinting}
+use Rattle.ir_explore_run.specs.Printing.{HasPrinted, EndsEarly}
+use Rattle.ir_explore_run.specs.Texts.{Objects, objects_of, IsPart, IsAnswerAbout}
+use Rattle.ir_explore_run.specs.declared.fault.ExploreFault.TheVariants.{NoMem, Write}
+use Rattle.ir_explore_run.specs.declared.plan.ExplorePlan.{ExplorePlan}
+use Rattle.ir_explore_run.proofs.Joined.{texts_of_no_outcome, texts_among_more}
+
+-- before the first outcome nothing is printed
+pub nothing_is_part : (guest : Guest) → IsPart guest []
+nothing_is_part guest = record {
+  flats = [];
+  outcomes = [];
+  levels = 0;
+  explored = none_explored guest [];
+  texts = texts_of_no_outcome (objects_of guest) [] [];
+}
+
+-- the lines of the outcomes that a search has found
+pub printed_outcomes_are_part : (guest : Guest) (o : Objects) (e : Exploring) (text : List ℕ) → o ≡ objects_of guest
+    → AreExplored guest e.states.graph.flats.items e.list.levels e.list.outcomes.items
+    → HasPrinted o e (length e.list.outcomes.items) text → IsPart guest text
+printed_outcomes_are_part guest o e text same explored printed = record {
+  flats = e.states.graph.flats.items;
+  outcomes = e.list.outcomes.items;
+  levels = e.list.levels;
+  explored = explored;
+  texts = subst (λ z. HasPrinted z e (length e.list.outcomes.items) text) same printed;
+}
+
+-- out of memory before anything is printed
+pub stops_before_first_line : (guest : Guest) (plan : ExplorePlan) (w : Writer) → w.before ≡ w.after → StopsPrinting NoMem guest plan w
+stops_before_first_line guest plan w same =
+    inl ([], nothing_is_part guest, subst (λ z. Took (record w { after = z }) []) same (Appends-nil w.before))
+
+-- the writer fails in a whole answer
+pub stops_in_answer : (guest : Guest) (plan : ExplorePlan) (answered : ExitStatus) (text : List ℕ) (w : Writer) → IsAnswerAbout guest plan answered text
+    → Failed w text → StopsPrinting Write guest plan w
+stops_in_answer guest plan answered text w answer failed = inr (refl, answered, text, answer, failed)
+
+-- a list whose elements stay is no longer than what it becomes
+pub kept_list_is_not_longer : {A : Type 0} (xs ys : List A) → Stay xs ys → length xs ≤ length ys
+kept_list_is_not_longer [] ys stay = omega arith
+kept_list_is_not_longer (x ∷ xs) ys stay =
+    let at = slice_get-get_or (x ∷ xs) (length xs) x (omega arith) in
+    let less = place_of_element_is_below_length ys (length xs) (get_or (x ∷ xs) (length xs) x) (stay (length xs) (get_or (x ∷ xs) (length xs) x) at) in
+    omega (arith, less)
+
+-- what was printed, among the outcomes that were found since
+pub printed_among_more : (o : Objects) (e e' : Exploring) (many : ℕ) (text : List ℕ) → many ≡ length e.list.outcomes.items
+    → ((i : ℕ) (x : Shown) → slice_get e.list.outcomes.items i ≡ Some x → x.node < length e.states.graph.flats.items)
+    → Stay e.states.graph.flats.items e'.states.graph.flats.items → Stay e.list.outcomes.items e'.list.outcomes.items
+    → HasPrinted o e (length e.list.outcomes.items) text → HasPrinted o e' many text
+printed_among_more o e e' many text is nodes stay stays printed =
+    subst (λ n. HasPrinted o e' n text) (sym is)
+    (texts_among_more o e.states.graph.flats.items e'.states.graph.flats.items e.list.outcomes.items e'.list.outcomes.items
+    (length e.list.outcomes.items) text printed (omega arith) nodes stay stays)
+
+-- the writer fails in what comes after what it took
+pub failed_after_taken_text : (w : Writer) (mid : Option (List ℕ)) (done text : List ℕ) → Appends w.before mid done → AppendsPrefix mid w.after text
+    → w.failed ≡ true → Failed w (done ++ text)
+failed_after_taken_text w mid done text took prefix broken =
+    (appends_prefix_after_whole_text {A = ℕ} {E = ℕ} (Err 0) w.before mid w.after done text took prefix, broken)
