@@ -79,10 +79,11 @@ fn fit_with<G: Gate>(
     if let Err(cause) = same_header(&image, &trace) {
         return Err(FitErr::Refused(Verdict::Header(cause)));
     }
-    coherent(alloc, &trace)?;
     let follower = followed(alloc, &image, trace, passing, gate)?;
     let verdicts = follower.verdicts(alloc)?;
+    // The trace of a run is coherent, so that this is asked of other traces alone.
     if !all_same(&verdicts) {
+        coherent(alloc, &follower.trace)?;
         return Err(FitErr::Refused(Verdict::Threads(verdicts)));
     }
     let (trace, growing) = follower.into_parts();

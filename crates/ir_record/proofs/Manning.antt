@@ -2,7 +2,7 @@
 use Rattle.ir_thread.specs.declared.profile.Profile.{Profile}
 use Rattle.std.proofs.Common.{◌≡◌, ℕ, suc, ◌+◌, ◌<◌, ◌≤◌, Bool, false, List, [], ◌∷◌, ◌++◌, map, length, get_or, take, drop, refl, sym, ap, ◌∙◌, subst, arith, inl, inr, append-nil, append_assoc, length-append}
 use Rattle.std.proofs.lemmas.Bool.{cases_lt}
-use Rattle.std.proofs.lemmas.List.{length-map, get_or_past}
+use Rattle.std.proofs.lemmas.List.{length-map, get_or_past, get_or-map}
 use Rattle.std.specs.List.{AllByRecursion}
 use Rattle.atomic_table.specs.Seated.{TableId}
 use Rattle.atomic_table.specs.declared.shared.Seat.{Seat}
@@ -68,6 +68,14 @@ pub all_false_if_false_below_length : {W : Type 0} (f : W → Bool) (ws : List W
 all_false_if_false_below_length f ws n l h t = elim (cases_lt t n) [
   | inl below ↦ h t below
   | inr past ↦ get_or_past (map f ws) t false (let m = length-map ws f in omega (arith, m, l, past))
+]
+
+pub false_up_to_next_worker : {W : Type 0} (f : W → Bool) (ws : List W) (t : ℕ) (d : W) → t < length ws → f (get_or ws t d) ≡ false
+    → ((u : ℕ) → u < t → get_or (map f ws) u false ≡ false) → (u : ℕ) → u < t + 1 → get_or (map f ws) u false ≡ false
+false_up_to_next_worker f ws t d within here before u below = elim (cases_lt u t) [
+  | inl l ↦ before u l
+  | inr l ↦ let same : t ≡ u = omega (arith, l, below) in
+      subst (λ k. get_or (map f ws) k false ≡ false) same (get_or-map f ws t d false within ∙ here)
 ]
 
 pub map_with_last_added : {A B : Type 0} (f : A → B) (xs : List A) (x : A) (ys : List B) (y : B) → ys ≡ map f xs → y ≡ f x → ys ++ y

@@ -92,6 +92,7 @@ pub fn gathered<W: Drop>(
             thread,
             log,
             world,
+            ..
         } = worker;
         let bytes = filled(rooms.pop().unwrap(), thread.output());
         seats.push_reserved(seat);

@@ -1,5 +1,6 @@
 //! What runs one thread of a recording.
 
+use crossbeam_utils::CachePadded;
 use ir_crew::CrewSeat;
 use ir_log::Log;
 use ir_thread::Thread;
@@ -11,4 +12,6 @@ pub struct Worker<W> {
     pub thread: Thread,
     pub log: Log,
     pub world: W,
+    // Begins a cache line, and ends one. The end of one thread's state and the registers of the next would stand on one line.
+    pub apart: CachePadded<()>,
 }

@@ -90,6 +90,7 @@ impl<W: World> Worker<W> {
     }
 
     // Its thread leaves the object.
+    #[inline(always)]
     fn leave<G: Gate>(&mut self, crew: &Crew, code: &Code, gate: &G, object: u8, access: Access)
         requires worker { IsAtWork W.answers crew.now code.now self.old }
         requires asked { ask_of code.now self.old.thread ≡ ask.Leave object access }
@@ -103,6 +104,7 @@ impl<W: World> Worker<W> {
     }
 
     // Its thread reads a word of the object.
+    #[inline(always)]
     fn get(&mut self, crew: &Crew, code: &Code, object: u8, index: u8)
         requires worker { IsAtWork W.answers crew.now code.now self.old }
         requires asked { ask_of code.now self.old.thread ≡ ask.Get object index }
@@ -115,6 +117,7 @@ impl<W: World> Worker<W> {
     }
 
     // Its thread writes a word of the object.
+    #[inline(always)]
     fn put(&mut self, crew: &Crew, code: &Code, object: u8, index: u8, value: u32)
         requires worker { IsAtWork W.answers crew.now code.now self.old }
         requires asked { ask_of code.now self.old.thread ≡ ask.Put object index value }
@@ -127,6 +130,7 @@ impl<W: World> Worker<W> {
     }
 
     // Its thread takes a step that concerns no other thread.
+    #[inline(always)]
     fn take_own_step(&mut self, crew: &Crew, code: &Code, asked: Ask)
         requires worker { IsAtWork W.answers crew.now code.now self.old }
         requires asked { ask_of code.now self.old.thread ≡ asked }
@@ -139,13 +143,14 @@ impl<W: World> Worker<W> {
 
     // Its thread takes private steps that come next, all of them if they are few; and what it asks then. Their number is
     // reported to the gate.
+    #[inline(always)]
     fn take_private_steps<G: Gate>(&mut self, crew: &Crew, code: &Code, gate: &G) -> Ask
         requires worker { IsAtWork W.answers crew.now code.now self.old }
         ensures asked { result ≡ ask_of code.now self.new.thread }
         ensures stays { StaysAtWork W.answers crew.now self.old self.new }
         ensures world { self.new.world ≡ self.old.world }
     {
-        let (ran, asked) = self.thread.run(code, STRETCH);
+        let (ran, asked) = self.thread.run_to_ask(code, STRETCH);
         gate.stepped(self.thread.number(), ran);
         asked
     }
@@ -172,6 +177,7 @@ impl<W: World> Worker<W> {
     }
 
     // Its thread takes the step that it asks, unless its world is asked and fails.
+    #[inline(always)]
     fn take_step<R: Wait, G: Gate>(
         &mut self,
         rt: &R,

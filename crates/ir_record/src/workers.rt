@@ -9,6 +9,7 @@ ghost use Rattle.ir_record.specs.Worlds.{NoneFailed, IsFirstFailed};
 
 use crate::worker::Worker;
 use crate::world::World;
+use crossbeam_utils::CachePadded;
 use ir_crew::{Crew, CrewSeat};
 use ir_image::{Code, Image};
 use ir_log::Log;
@@ -44,6 +45,7 @@ pub fn new_workers<W: Drop>(
             thread,
             log,
             world,
+            apart: CachePadded::new(()),
         })?;
     }
     Ok(made)

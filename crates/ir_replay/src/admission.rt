@@ -40,6 +40,7 @@ fn call_result(fitted: &Fitted, flat: &Flat<'_>, t: usize, kind: EnvKind) -> Opt
 }
 
 // The result of thread t's next step, an entry; none where the object can't be entered now as the log says.
+#[inline(always)]
 fn entry_result(
     fitted: &Fitted,
     flat: &Flat<'_>,
@@ -89,6 +90,7 @@ fn try_result(fitted: &Fitted, flat: &Flat<'_>, t: usize, object: u8) -> Option<
 }
 
 // The result with which thread t takes its next step as the log says; none where it can't now.
+#[inline(always)]
 pub fn next_result(fitted: &Fitted, flat: &Flat<'_>, t: usize, asked: Ask) -> Option<u32>
     requires emitted { t < length fitted.now.guest.entries }
     requires thread { t < length flat.now.threads }

@@ -25,7 +25,8 @@ pub fn left(target: &[u64], flat: &Flat<'_>, t: usize) -> u64
 
 // Thread t takes its next step, for which it asks so, where it is below its target and the step is admitted. Whether it
 // took one.
-fn step_asked<G: Gate>(
+#[inline(always)]
+fn take_if_admitted<G: Gate>(
     fitted: &Fitted,
     target: &[u64],
     flat: &mut Flat<'_>,
@@ -54,6 +55,48 @@ fn step_asked<G: Gate>(
             tell_entry(gate, &flat.threads()[t], asked);
             taken
         }
+    }
+}
+
+// The same, with a case for each frequent ask. Where it is known which ask it is, the compiler leaves out the tests of it.
+fn step_asked<G: Gate>(
+    fitted: &Fitted,
+    target: &[u64],
+    flat: &mut Flat<'_>,
+    t: usize,
+    asked: Ask,
+    gate: &G,
+) -> bool
+    requires target { IsTarget fitted.now target.now }
+    requires under { IsUnder fitted.now target.now flat.old }
+    requires thread { t < length target.now }
+    requires asked { asked ≡ ask_of flat.old.code (thread_of flat.old t) }
+    ensures under { IsUnder fitted.now target.now flat.new }
+    ensures gone { result ≡ true → HasGone flat.old flat.new t 1 }
+    ensures same { result ≡ false → IsSame flat.old flat.new }
+    ensures rests { result ≡ false → Rests fitted.now target.now flat.new t }
+{
+    match asked {
+        Ask::Enter(object, access) => {
+            take_if_admitted(fitted, target, flat, t, Ask::Enter(object, access), gate)
+        }
+        Ask::Leave(object, access) => {
+            take_if_admitted(fitted, target, flat, t, Ask::Leave(object, access), gate)
+        }
+        Ask::Get(object, index) => {
+            take_if_admitted(fitted, target, flat, t, Ask::Get(object, index), gate)
+        }
+        Ask::Put(object, index, value) => {
+            take_if_admitted(
+                fitted,
+                target,
+                flat,
+                t,
+                Ask::Put(object, index, value),
+                gate,
+            )
+        }
+        _ => take_if_admitted(fitted, target, flat, t, asked, gate),
     }
 }
 

@@ -6,6 +6,7 @@ ghost use Rattle.ir_thread.specs.Permitted.{most_steps, held_count};
 ghost use Rattle.ir_thread.specs.State.{ThreadState, start_state, most_budget, most_events, most_output};
 
 use crate::end::End;
+use crate::holding::{HELD_ROOM, roomy};
 use crate::limits::MOST_OUTPUT;
 use crate::profile::Profile;
 use ir_image::{Image, ImageForm};
@@ -76,7 +77,7 @@ impl Thread {
         let form = image.form();
         let objects = image.object_count();
         let output = Vec::with_capacity(alloc, MOST_OUTPUT)?;
-        let mut held = Vec::with_capacity(alloc, objects)?;
+        let mut held = Vec::with_capacity(alloc, HELD_ROOM)?;
         held.resize(objects, None)?;
         let mach = Mach::new(alloc, image, thread)?;
         Ok(Thread {
@@ -126,7 +127,7 @@ impl Thread {
         Ok(Thread {
             mach: self.mach.copy()?,
             number: self.number,
-            held: self.held.clone()?,
+            held: roomy(*self.held.allocator(), self.held.as_slice())?,
             budget: self.budget,
             profile: self.profile,
             form: self.form,

@@ -74,17 +74,17 @@ fn put_event(out: &mut Vec<u8>, event: Event) -> Result<(), AllocError>
             put_word(out, value)
         }
         Event::Read { object, version } => {
-            out.extend_from_slice(&[4, object])?;
-            put_word(out, version)
+            let [a, b, c, d] = version.to_le_bytes();
+            out.extend_from_slice(&[4, object, a, b, c, d])
         }
         Event::Write {
             object,
             version,
             readers,
         } => {
-            out.extend_from_slice(&[5, object])?;
-            put_word(out, version)?;
-            put_word(out, readers)
+            let [a, b, c, d] = version.to_le_bytes();
+            let [e, f, g, h] = readers.to_le_bytes();
+            out.extend_from_slice(&[5, object, a, b, c, d, e, f, g, h])
         }
         Event::Try { object } => out.extend_from_slice(&[6, object]),
     }

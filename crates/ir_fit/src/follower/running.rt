@@ -2,17 +2,61 @@
 
 ghost use Rattle.std.specs.Prelude.{◌≡◌, ◌<◌, ℕ, length, IfSome, IfNone};
 ghost use Rattle.ir_fit.specs.Ahead.{IsMove, IsStopped};
-ghost use Rattle.ir_fit.specs.Follower.{GoesOn, IsFollower, IsSized};
+ghost use Rattle.ir_fit.specs.Follower.{all_ahead, GoesOn, IsFollower, IsSized};
 ghost use Rattle.ir_fit.specs.Passed.{IsAlong, ArePassed};
+ghost use Rattle.ir_flat.specs.Flat.{thread_of};
 ghost use Rattle.ir_image.specs.Guest.{Guest};
+ghost use Rattle.ir_thread.specs.State.{ask_of};
 
 use crate::follower::Follower;
 use crate::follower::look::{Look, Move};
 use crate::follower::passing::Passing;
 use crate::follower::readiness::Readiness;
 use ir_object::{Gate, Untold};
+use ir_thread::Ask;
 
 impl Follower<'_> {
+    // Thread t, which asks so, takes its next step, if that follows the trace; or else what is seen of it.
+    #[tactic(auto, using(crate::proofs::Moves::goes_on_is_reflexive))]
+    #[inline(always)]
+    fn follow_asked(&mut self, t: usize, asked: Ask) -> Option<Look>
+        requires sized { IsSized self.old }
+        requires thread { t < length self.old.flat.threads }
+        requires asked { asked ≡ ask_of self.old.flat.code (thread_of self.old.flat t) }
+        ensures goes { GoesOn self.old.trace self.old.flat self.old.places.items self.new.flat self.new.places.items }
+        ensures fewer { IfNone result (all_ahead self.new.trace self.new.flat < all_ahead self.old.trace self.old.flat) }
+        ensures trace { self.new.trace ≡ self.old.trace }
+        ensures sized { IsSized self.new }
+    {
+        match self.look_at(t, asked) {
+            Look::Goes(next) => {
+                self.take(next);
+                None
+            }
+            look => Some(look),
+        }
+    }
+
+    // The same, with a case for each frequent ask. Where it is known which ask it is, the compiler leaves out the tests of it.
+    #[inline(always)]
+    fn follow_ask(&mut self, t: usize, asked: Ask) -> Option<Look>
+        requires sized { IsSized self.old }
+        requires thread { t < length self.old.flat.threads }
+        requires asked { asked ≡ ask_of self.old.flat.code (thread_of self.old.flat t) }
+        ensures goes { GoesOn self.old.trace self.old.flat self.old.places.items self.new.flat self.new.places.items }
+        ensures fewer { IfNone result (all_ahead self.new.trace self.new.flat < all_ahead self.old.trace self.old.flat) }
+        ensures trace { self.new.trace ≡ self.old.trace }
+        ensures sized { IsSized self.new }
+    {
+        match asked {
+            Ask::Enter(object, access) => self.follow_asked(t, Ask::Enter(object, access)),
+            Ask::Leave(object, access) => self.follow_asked(t, Ask::Leave(object, access)),
+            Ask::Get(object, index) => self.follow_asked(t, Ask::Get(object, index)),
+            Ask::Put(object, index, value) => self.follow_asked(t, Ask::Put(object, index, value)),
+            _ => self.follow_asked(t, asked),
+        }
+    }
+
     // Thread t continues while its steps follow the trace, up to where it pauses. The gate is told of its steps now and then.
     pub fn advance<G: Gate>(&mut self, t: usize, pause: u64, gate: &G)
         requires sized { IsSized self.old }
@@ -29,13 +73,11 @@ impl Follower<'_> {
             let (taken, asked) = self.flat.run_to_ask(t, stretch);
             // With the step that it took before.
             untold.add(gate, number, taken.saturating_add(1));
-            let look = self.look_at(t, asked);
-            let Look::Goes(next) = look else {
+            if let Some(look) = self.follow_ask(t, asked) {
                 self.note(t, look);
                 untold.tell(gate, number);
                 return;
-            };
-            self.take(next);
+            }
             if self.thread(t).steps() >= pause {
                 self.pause(t);
                 untold.tell(gate, number);

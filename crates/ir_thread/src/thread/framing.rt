@@ -6,6 +6,7 @@ ghost use Rattle.ir_mach.specs.Pages.{ArePages, memory_pages, page_of, page_size
 ghost use Rattle.ir_thread.specs.Frames.{frame_of, thread_of};
 
 use crate::frame::Frame;
+use crate::holding::roomy;
 use crate::limits::MOST_OUTPUT;
 use crate::thread::Thread;
 use ir_mach::Mach;
@@ -58,7 +59,7 @@ impl Thread {
         Ok(Thread {
             mach: Mach::build(alloc, &frame.regs, pages)?,
             number: frame.number,
-            held: frame.held.clone()?,
+            held: roomy(alloc, frame.held.as_slice())?,
             budget: frame.budget,
             profile: frame.profile,
             form: frame.form,

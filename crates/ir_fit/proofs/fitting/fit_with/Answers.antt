@@ -5,16 +5,18 @@ use Rattle.ir_runs.specs.Coherent.{IsCoherent}
 use Rattle.ir_fit.specs.Fit.{HasRun, IsRefused}
 use Rattle.ir_fit.specs.Growing.{grown}
 use Rattle.ir_fit.specs.Follower.{AreStanding}
+use Rattle.ir_fit.specs.Within.{BreaksBy}
 use Rattle.ir_runs.specs.declared.thread_verdict.ThreadVerdict.{ThreadVerdict}
 use Rattle.ir_fit.proofs.Furthest.{broken_coherence_refuses_trace, differing_thread_refuses_trace, same_threads_give_run}
 use Rattle.ir_fit.proofs.fitting.fit_with.Goals as goal
 
 pub returns-in_err-coherent-clause-refused : goal.returns-in_err-coherent-clause-refused
 returns-in_err-coherent-clause-refused g c =
-    let p = err_from_is_err_and c.from_residual.result c.from_residual.ensures.1 in
+    let p = err_from_is_err_and c.from_residual-in_err-coherent.result c.from_residual-in_err-coherent.ensures.1 in
     subst (λ z. IfErr z (IsRefused c.args.image c.args.trace)) (sym p.1)
     (subst (IsRefused c.args.image c.args.trace) (sym p.2)
-    (broken_coherence_refuses_trace c.args.image c.args.trace c.in_default.ensures.same c.in_err-coherent.field-0.0 c.in_err-coherent.ensures.breaks))
+    (broken_coherence_refuses_trace c.args.image c.args.trace c.in_default.ensures.same c.in_err-coherent.field-0.0
+    (subst (λ z. BreaksBy z c.in_err-coherent.field-0.0) c.in_ok-follower.ensures.trace c.in_err-coherent.ensures.breaks)))
 
 pub returns-then-not-all_same-clause-refused : goal.returns-then-not-all_same-clause-refused
 returns-then-not-all_same-clause-refused g c =
@@ -23,7 +25,8 @@ returns-then-not-all_same-clause-refused g c =
     let is : IsRecorded r = subst IsRecorded c.trace.view_is c.trace.invariant in
     let n = c.in_default.ensures.same.threads in
     let co : IsCoherent (length c.args.image.entries) (trace_of r) =
-    subst (λ k. IsCoherent k (trace_of r)) n c.in_ok-coherent.ensures.coherent in
+    subst (λ k. IsCoherent k (trace_of r)) n
+    (subst (λ z. IsCoherent (length z.threads) (trace_of z)) c.in_ok-follower.ensures.trace c.in_ok-coherent.ensures.coherent) in
     let stand : AreStanding r c.in_ok-follower.follower.flat c.in_ok-follower.follower.places.items vs =
     subst (λ z. AreStanding z c.in_ok-follower.follower.flat c.in_ok-follower.follower.places.items vs) c.in_ok-follower.ensures.trace
     c.in_ok-verdicts.ensures.stand in

@@ -5,7 +5,7 @@ use Rattle.ir_thread.specs.State as thread
 use Rattle.ir_crew.specs.Ends.{AreSeats}
 use Rattle.ir_record.specs.Threads.{AreNew}
 use Rattle.ir_record.proofs.Gathering.{split_place_below_length, split_moves_past_item, length_of_rest_is_one_less, map_with_item_added}
-use Rattle.ir_record.proofs.Manning.{new_workers_with_one_added, first_seat_and_rest, rest_of_seats_is_one_shorter}
+use Rattle.ir_record.proofs.Manning.{new_workers_with_one_added, first_seat_and_rest, rest_of_seats_is_one_shorter, length_with_item_added}
 use Rattle.ir_record.proofs.workers.new_workers.Goals as goal
 
 pub loop-world-preserved : goal.loop-world-preserved
@@ -24,10 +24,8 @@ loop-world-preserved g c =
     let some : 0 < length at.seats.items = omega (arith, place, size, count, below, left) in
     let seats = c.remove-seat.ensures.by_index.2 in
     let fewer = rest_of_seats_is_one_shorter at.seats.items c.remove-seat.new.self.items some seats in
-    let long : length c.push.new.self.items ≡ suc (length at.made.items) = ap (λ z. length z) c.in_ok-push.ensures.items
-    ∙ (let e = Rattle.std.proofs.Common.length-append at.made.items
-    (record { seat = c.remove-seat.result; thread = c.in_ok-thread.thread; log = c.in_ok-log.log; world = x } ∷ []) in
-    omega (arith, e)) in
+    let long : length c.push.new.self.items ≡ suc (length at.made.items) =
+    length_with_item_added at.made.items c.push.new.self.items _ c.in_ok-push.ensures.items in
     record {
       parts = split_moves_past_item at.yielded (into_iter_items at.world-iterator) rest c.args.worlds.items x at.invariant.parts
           c.in-Some.ensures.steps.0;

@@ -3,7 +3,7 @@ use Rattle.ir_cut.specs.Positions.{cut_of}
 use Rattle.ir_weave.specs.Standing.{positions}
 use Rattle.ir_weave.proofs.CallerLemmas.{under_target_after_answered_step}
 use Rattle.ir_replay.proofs.Reached.{steps_ahead_if_below_target, rests_if_next_not_logged}
-use Rattle.ir_replay.proofs.stepping.step_asked.Goals as goal
+use Rattle.ir_replay.proofs.stepping.take_if_admitted.Goals as goal
 
 pub next_result-requires-clause-steps : goal.next_result-requires-clause-steps
 next_result-requires-clause-steps g c = steps_ahead_if_below_target c.args.fitted.now c.args.target.now c.args.flat.now c.args.t c.left.result
