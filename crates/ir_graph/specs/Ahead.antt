@@ -2,17 +2,11 @@
 use Rattle.std.specs.Prelude.{◌≡◌, ℕ, ◌<◌, Bool, false, List, length}
 use Rattle.std.specs.List.{slice_index_or, AllByRecursion}
 use Rattle.ir_thread.specs.State.{ask_of}
-use Rattle.ir_thread.specs.declared.ask.Ask.{Ask}
-use Rattle.ir_thread.specs.declared.ask.Ask.TheVariants as ask
 use Rattle.ir_flat.specs.Flat.{Flat, idle, thread_of, cell_of}
 use Rattle.ir_store.specs.Nodes.{Shared, cell_in}
 use Rattle.ir_graph.specs.Lone.{TakesTurn}
+use Rattle.ir_graph.specs.Plain.{IsNoTry}
 use Rattle.ir_graph.specs.declared.known.Turn.{Turn}
-
--- a thread that asks so doesn't try to enter
-abbrev pub IsNoTry : Ask → Type 0
-IsNoTry (ask.Try object) = ⊥
-IsNoTry _ = Unit {0}
 
 -- the thread and the object of these numbers become those of the others by a turn of the thread
 pub record IsTurn (code : List ℕ) (shared : Shared) (turn : Turn) : Type 0 where

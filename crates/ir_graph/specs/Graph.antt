@@ -1,5 +1,5 @@
 -- The graph of a guest.
-use Rattle.std.specs.Prelude.{◌≡◌, ◌⊎◌, ℕ, ◌<◌, Bool, true, List, length, Option, Some, None, slice_get}
+use Rattle.std.specs.Prelude.{◌≡◌, ◌⊎◌, ℕ, ◌<◌, ◌≤◌, Bool, true, List, length, Option, Some, None, slice_get}
 use Rattle.ir_image.specs.Guest.{Guest}
 use Rattle.ir_explore.specs.Following.{BothWays}
 use Rattle.ir_states.specs.Outcomes.{Begins}
@@ -20,6 +20,7 @@ pub record IsGraph (guest : Guest) (profile : Profile) (flats : List Flat) (note
   pub many : (f : Flat) → slice_get flats 0 ≡ Some f → length f.threads ≡ threads
   pub begins : (f : Flat) → slice_get flats 0 ≡ Some f → (answers : ℕ → List ℕ)
       → Begins (seen_by guest.code) (told_by guest.code) (Alike guest.code) (seen_start guest profile answers) (seen_of f answers)
+  pub past : (t : ℕ) (refused : Bool) (v : ℕ) → threads ≤ t → noted t refused v ≡ Some None
   pub untried : profile ≡ One → (t v : ℕ) → noted t true v ≡ Some None
   pub asked : (t : ℕ) (refused : Bool) (v : ℕ) (next : Option ℕ) → t < threads → noted t refused v ≡ Some next
       → (v < length flats) ⊎ ((profile ≡ One) × (refused ≡ true))

@@ -1,5 +1,5 @@
 -- The nodes of a guest's graph: its states at rest, as the threads see them.
-use Rattle.std.specs.Prelude.{◌≡◌, ℕ, ◌<◌, Bool, true, false, List, [], ◌∷◌, length, Option, Some, None, slice_get}
+use Rattle.std.specs.Prelude.{◌≡◌, ℕ, ◌<◌, Bool, List, [], ◌∷◌, length, Option, Some, None, slice_get}
 use Rattle.ir_runs.specs.Machine.{Machine}
 use Rattle.ir_runs.specs.Run as run
 use Rattle.ir_states.specs.Counting.{Answers}
@@ -9,8 +9,6 @@ use Rattle.ir_states.specs.Orders.{is_refusal}
 use Rattle.ir_states.specs.Sources.{Giving, sourced, by_source}
 use Rattle.ir_states.specs.Views.{viewed, beside}
 use Rattle.ir_thread.specs.State.{ThreadState, ask_of}
-use Rattle.ir_thread.specs.declared.ask.Ask.{Ask}
-use Rattle.ir_thread.specs.declared.ask.Ask.TheVariants as ask
 use Rattle.ir_flat.specs.Flat.{Flat, tables, thread_of}
 use Rattle.ir_seen.specs.Seen.{view, seen_machine, Same}
 use Rattle.ir_graph.specs.Plain.{Rests, IsLike}
@@ -59,12 +57,6 @@ IsStepBy f answers refused e = is_refusal (run.act (seen_by f.code) (seen_of f a
 -- thread t has such a step there
 abbrev pub HasStepBy : Flat → (ℕ → List ℕ) → ℕ → Bool → Type 0
 HasStepBy f answers t refused = (r : ℕ) × run.Can (seen_by f.code) (seen_of f answers) (t, r) × IsStepBy f answers refused (t, r)
-
--- a thread that asks so may have a step by this way: only one that tries is refused
-abbrev pub MayGo : Bool → Ask → Type 0
-MayGo true (ask.Try object) = Unit {0}
-MayGo true _ = ⊥
-MayGo false _ = Unit {0}
 
 -- Where thread t leads from node v by one of its two ways, its refused try or any other step: it has no such step there, or it has one, and
 -- each leads to node w, whatever its world answers.

@@ -71,3 +71,14 @@ IsFair _ = ⊥
 abbrev pub result_by : Bool → ℕ
 result_by true = 0
 result_by false = 1
+
+-- a thread that asks so doesn't try to enter
+abbrev pub IsNoTry : Ask → Type 0
+IsNoTry (ask.Try object) = ⊥
+IsNoTry _ = Unit {0}
+
+-- a thread that asks so may have a step by this way: only one that tries is refused
+abbrev pub MayGo : Bool → Ask → Type 0
+MayGo true (ask.Try object) = Unit {0}
+MayGo true _ = ⊥
+MayGo false _ = Unit {0}

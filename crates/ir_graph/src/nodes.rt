@@ -3,9 +3,9 @@
 ghost use Rattle.std.specs.Prelude.{◌≡◌, ◌⊎◌, ℕ, suc, ◌<◌, ◌≤◌, true, Some, None, length, slice_get, IfOk, IfErr, IfSome, OnOk, OnErr, IsErrOf};
 ghost use Rattle.ir_explore.specs.declared.stop.Stop.TheVariants.{Nodes, Memory};
 ghost use Rattle.ir_flat.specs.Flat.{Flat};
-ghost use Rattle.ir_graph.specs.Ahead.{AreTurns, IsNoTry, IsTurnOf};
-ghost use Rattle.ir_graph.specs.Nodes.{LookAlike, AllRest, AreNodes, MayGo, Stay, LeadsFrom};
-ghost use Rattle.ir_graph.specs.Plain.{IsLike, result_by};
+ghost use Rattle.ir_graph.specs.Ahead.{AreTurns, IsTurnOf};
+ghost use Rattle.ir_graph.specs.Nodes.{LookAlike, AllRest, AreNodes, Stay, LeadsFrom};
+ghost use Rattle.ir_graph.specs.Plain.{IsLike, IsNoTry, MayGo, result_by};
 ghost use Rattle.ir_graph.specs.Reached.{IsReached, AllReached};
 ghost use Rattle.ir_graph.specs.Stops.{MayStop};
 ghost use Rattle.ir_image.specs.Guest.{Guest};
@@ -127,10 +127,10 @@ fn node_by_steps<'a>(
 {
     let mut flat = flats.get(way.node)?;
     let asked = flat.ask(way.thread);
-    let Some(result) = way_result(way.refused, asked) else {
+    let Some(answer) = way_result(way.refused, asked) else {
         return Ok(None);
     };
-    if let Err(_) = flat.take(way.thread, asked, result) {
+    if let Err(_) = flat.take(way.thread, asked, answer) {
         return Ok(None);
     }
     if let Err(stop) = run_to_rest(&mut flat, way.thread, bounds.private) {

@@ -105,6 +105,7 @@ fn note(
     node: usize,
     next: Option<usize>,
 ) -> Result<(), AllocError>
+    requires thread { thread < length rows.old }
     requires node { node < nodes }
     requires fresh { noted_in rows.old thread node ≡ None }
     ensures found { OnOk result (noted_in rows.new thread node ≡ Some next) }

@@ -3,7 +3,8 @@
 ghost use Rattle.std.specs.Prelude.{◌≡◌, ℕ, ◌<◌, false, Some, length, slice_get, IfOk, IfSome};
 ghost use Rattle.std.specs.List.{slice_index_or};
 ghost use Rattle.ir_flat.specs.Flat.{Flat, cell_of, idle, thread_of};
-ghost use Rattle.ir_graph.specs.Ahead.{AreTurns, IsNoTry, IsTurnOf};
+ghost use Rattle.ir_graph.specs.Ahead.{AreTurns, IsTurnOf};
+ghost use Rattle.ir_graph.specs.Plain.{IsNoTry};
 ghost use Rattle.ir_store.specs.Nodes.{Grows, cell_in};
 ghost use Rattle.ir_thread.specs.State.{ask_of};
 
@@ -27,9 +28,9 @@ fn known_turn(flats: &Store<'_>, ahead: &Ahead, way: Way) -> Option<Turn>
     ensures there { IfSome result (λ turn. (f : Flat) → slice_get flats.now.items way.node ≡ Some f → cell_in flats.now.shared.words turn.spot ≡ cell_of f turn.object) }
 {
     let from = flats.thread_number(way.node, way.thread);
-    let object = ahead.first(from)?.object;
-    let spot = flats.spot(way.node, object)?;
-    ahead.find(from, object, way.refused, spot)
+    let first = ahead.first(from)?;
+    let spot = flats.spot(way.node, first.object)?;
+    ahead.find(from, first.object, way.refused, spot)
 }
 
 // The object that a thread enters or tries to, and whether it tries, if it asks one of these.
