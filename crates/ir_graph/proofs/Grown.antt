@@ -3,6 +3,7 @@ use Rattle.std.proofs.Common.{◌≡◌, ℕ, zero, suc, ◌<◌, ◌≤◌, Boo
 use Rattle.std.specs.Prelude.{slice_get}
 use Rattle.std.specs.List.{slice_index_or}
 use Rattle.std.specs.Global.{Vec}
+use Rattle.std.proofs.lemmas.Bool.{cases_lt}
 use Rattle.std.proofs.lemmas.Option.{same_Some}
 use Rattle.ir_image.specs.Guest.{Guest}
 use Rattle.ir_explore.specs.Following.{BothWays}
@@ -13,14 +14,14 @@ use Rattle.ir_thread.specs.State.{ask_of, most_budget}
 use Rattle.ir_thread.specs.declared.ask.Ask.{Ask}
 use Rattle.ir_thread.specs.declared.ask.Ask.TheVariants as ask
 use Rattle.ir_thread.specs.declared.profile.Profile.{Profile}
-use Rattle.ir_thread.specs.declared.profile.Profile.TheVariants.{One}
+use Rattle.ir_thread.specs.declared.profile.Profile.TheVariants.{One, Two}
 use Rattle.ir_thread.proofs.CallerLemmas.{ask_of_permitted}
 use Rattle.ir_seen.specs.Seen.{seen_start}
 use Rattle.ir_seen.proofs.CallerLemmas.{start_view_ignores_budget}
 use Rattle.ir_flat.specs.Flat.{Flat, idle, start_flat, start_threads, thread_of}
 use Rattle.ir_graph.specs.Graph.{IsGraph}
 use Rattle.ir_graph.specs.Nodes.{seen_by, told_by, Alike, seen_of, AllRest, AreNodes, Stay, LeadsFrom}
-use Rattle.ir_graph.specs.Notes.{noted_in}
+use Rattle.ir_graph.specs.Notes.{noted_by, noted_in}
 use Rattle.ir_graph.specs.Reached.{IsReached, AllReached}
 use Rattle.ir_graph.specs.Plain.{GoesPlain, IsLike, IsNoTry}
 use Rattle.ir_graph.proofs.Found.{refused_leads_nowhere_unless_try}
@@ -171,10 +172,27 @@ noted_in_past_threads [] t v l = refl
 noted_in_past_threads (row ∷ rows) zero v l = absurd (omega (arith, l))
 noted_in_past_threads (row ∷ rows) (suc t) v l = noted_in_past_threads rows t v (omega (arith, l))
 
+-- so where nothing is noted it is a thread's
+pub noted_row_exists_if_free : (rows : List (Vec (Option (Option ℕ)))) (t v : ℕ) → noted_in rows t v ≡ None → t < length rows
+noted_row_exists_if_free rows t v free = elim (cases_lt t (length rows)) [
+  | inl l ↦ l
+  | inr l ↦ absurd (cc (sym free ∙ noted_in_past_threads rows t v l))
+]
+
 -- nothing is noted of the refused way: in the first profile that it leads nowhere, and in the second it is free
 pub data FreeToTry (profile : Profile) (threads : ℕ) (noted : ℕ → BothWays) : Type 0 where
   Untried : profile ≡ One → ((t v : ℕ) → noted t true v ≡ Some None) → FreeToTry profile threads noted
   Tried : (profile ≡ One → ⊥) → ((t v : ℕ) → t < threads → noted t true v ≡ None) → FreeToTry profile threads noted
+
+pub free_to_try : (profile : Profile) (threads : ℕ) (rows refusals : List (Vec (Option (Option ℕ)))) → (profile ≡ One → refusals ≡ [])
+    → (profile ≡ Two → (t v : ℕ) → t < threads → noted_in refusals t v ≡ None) → FreeToTry profile threads (noted_by rows refusals)
+free_to_try One threads rows refusals none free = Untried refl (λ t v. ap (λ z. noted_in z t v) (none refl))
+free_to_try Two threads rows refusals none free = Tried (λ e. absurd (cc e)) (free refl)
+
+pub noted_by_past_threads : (rows refusals : List (Vec (Option (Option ℕ)))) → length refusals ≤ length rows → (t : ℕ) (refused : Bool) (v : ℕ)
+    → length rows ≤ t → noted_by rows refusals t refused v ≡ Some None
+noted_by_past_threads rows refusals less t true v l = noted_in_past_threads refusals t v (omega (arith, less, l))
+noted_by_past_threads rows refusals less t false v l = noted_in_past_threads rows t v l
 
 -- the graph at first
 pub start_is_graph : (guest : Guest) (profile : Profile) (budget : ℕ) (h : Flat) (noted : ℕ → BothWays) (threads : ℕ)

@@ -13,7 +13,7 @@ mod Listed
 mod Levels
 mod Hangs
 mod Listing
--- mod Searched
+mod Searched
 pub mod CallerLemmas
 mod Forms
 mod LoneSteps

@@ -8,6 +8,6 @@ pub mod Ahead
 pub mod Graph
 pub mod Outcomes
 pub mod Listing
--- pub mod Searched
+pub mod Searched
 pub mod Hangs
 pub mod Stops

@@ -1,0 +1,12 @@
+use Rattle.ir_graph.proofs.Searched.{listed_by, stand_by}
+use Rattle.ir_graph.proofs.states.States.is_finished.Goals as goal
+
+pub returns-clause-finished : goal.returns-clause-finished
+returns-clause-finished c = λ over is between.
+    let s = c.args.self.now in
+    let asked = c.is_finished.ensures.finished over _ _ between in
+    record {
+      all = listed_by s.graph.image.now s.graph.flats.items s.graph.rows.items s.search.nodes.items _ _ is.graph is.threads between.has between.all asked;
+      nodes = between.all;
+      stand = stand_by s.graph.image.now s.graph.flats.items s.graph.rows.items s.search.nodes.items _ _ is.graph is.threads between.has between.all asked;
+    }

@@ -1,0 +1,17 @@
+use Rattle.std.proofs.Common.{length}
+use Rattle.ir_explore.specs.Levels.{rows}
+use Rattle.ir_explore.proofs.CallerLemmas.{finished_asked}
+use Rattle.ir_graph.specs.Notes.{noted_in}
+use Rattle.ir_graph.proofs.Searched.{marked_by, if_ok}
+use Rattle.ir_graph.proofs.states.States.marks.Goals as goal
+
+pub returns : goal.returns
+returns c =
+    let graph = c.args.self.now.graph in
+    let search = c.args.self.now.search in
+    let between = c.requires.between in
+    let asked = finished_asked (noted_in graph.rows.items) (length graph.flats.items) search.nodes.items (rows search.opened.items) search.level between
+    c.requires.over in
+    if_ok c.mark_states.result (λ marks ways. marked_by graph.image.now graph.flats.items graph.rows.items search.nodes.items
+    (length (rows search.opened.items)) search.level.number c.requires.is.graph c.requires.is.threads between.has between.all asked marks.items ways)
+    c.mark_states.ensures

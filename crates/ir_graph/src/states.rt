@@ -1,0 +1,104 @@
+//! The states of a guest that its runs lead over, found level by level.
+
+ghost use Rattle.std.specs.Prelude.{◌≡◌, ◌⊎◌, ℕ, suc, ◌≤◌, ◌<◌, true, false, length, IfOk, IfErr, OnErr, OnOk};
+ghost use Rattle.ir_explore.specs.declared.stop.Stop.TheVariants.{Memory};
+ghost use Rattle.ir_explore.specs.Following.{Stay};
+ghost use Rattle.ir_explore.specs.Origins.{Adds};
+ghost use Rattle.ir_graph.specs.Hangs.{AreMarked};
+ghost use Rattle.ir_graph.specs.Searched.{AreSearched, IsSearch, StandsBetween, IsWhole};
+ghost use Rattle.ir_graph.specs.Stops.{IsStop, MayStop};
+ghost use Rattle.ir_thread.specs.State.{IsAllowed};
+
+use crate::graph::Graph;
+use crate::marks::mark_states;
+use crate::nodes::Bounds;
+use crate::start::start_graph;
+use ir_explore::{Observer, Search, Stop};
+use ir_image::Image;
+use ir_thread::Profile;
+use std::alloc::{AllocError, Global};
+
+/// The states that were found, and how.
+#[derive(Drop)]
+pub struct States<'a> {
+    /// The graph: a state for each node.
+    pub graph: Graph<'a>,
+    /// How the search came to each node, and how far it is.
+    pub search: Search,
+}
+
+impl<'a> States<'a> {
+    /// The first state of a guest whose threads make the calls of this profile: where it comes to rest from its start.
+    ///
+    /// # Errors
+    /// Some thread doesn't come to its first entry or try, as `run_to_rest` says, or out of memory.
+    pub fn start(
+        alloc: Global,
+        image: &'a Image,
+        profile: Profile,
+        bounds: Bounds,
+    ) -> Result<States<'a>, Stop>
+        requires allowed { IsAllowed profile image.now }
+        requires some { 1 ≤ bounds.nodes }
+        ensures image { IfOk result (λ s. s.graph.image.now ≡ image.now) }
+        ensures profile { IfOk result (λ s. s.graph.profile ≡ profile) }
+        ensures bounds { IfOk result (λ s. s.graph.bounds ≡ bounds) }
+        ensures is { IfOk result IsSearch }
+        ensures between { IfOk result StandsBetween }
+        ensures number { IfOk result (λ s. s.search.level.number ≡ 0) }
+        ensures first { IfOk result (λ s. s.search.level.first ≡ 0) }
+        ensures refused { IfErr result (λ stop. (stop ≡ Memory) ⊎ IsStop image.now profile bounds.private stop) }
+    {
+        let graph = start_graph(alloc, image, profile, bounds)?;
+        let search = Search::new(alloc, graph.rows.len())?;
+        Ok(States { graph, search })
+    }
+
+    /// Whether all states are found.
+    pub fn is_finished(&self) -> bool
+        ensures finished { result ≡ true → IsSearch self.now → StandsBetween self.now → IsWhole self.now }
+        ensures over { result ≡ true → self.now.search.level.until ≤ self.now.search.level.first }
+        ensures more { result ≡ false → self.now.search.level.first < self.now.search.level.until }
+    {
+        self.search.is_finished()
+    }
+
+    /// Goes over the next level: each thread goes on alone from each state that was found in the level before.
+    ///
+    /// # Errors
+    /// Some thread isn't followed, there are as many states as there may be, or out of memory. Then the search can't go on.
+    pub fn go_over<O: Observer>(&mut self, observer: &O) -> Result<(), Stop>
+        requires is { IsSearch self.old }
+        requires between { StandsBetween self.old }
+        requires more { self.old.search.level.first < self.old.search.level.until }
+        ensures is { IsSearch self.new }
+        ensures image { self.new.graph.image.now ≡ self.old.graph.image.now }
+        ensures profile { self.new.graph.profile ≡ self.old.graph.profile }
+        ensures bounds { self.new.graph.bounds ≡ self.old.graph.bounds }
+        ensures stay { Stay self.old.graph.flats.items self.new.graph.flats.items }
+        ensures adds { Adds self.old.search.level.number self.old.search.nodes.items self.new.search.nodes.items }
+        // Once it has gone over it
+        ensures between { OnOk result (StandsBetween self.new) }
+        ensures next { OnOk result (self.new.search.level.number ≡ suc self.old.search.level.number) }
+        ensures searched { OnOk result (AreSearched self.new.graph.image.now self.new.graph.profile self.new.graph.flats.items self.new.search.nodes.items self.new.search.level.number) }
+        // Else it has found some states of it
+        ensures level { OnErr result (self.new.search.level ≡ self.old.search.level) }
+        ensures part { AreSearched self.new.graph.image.now self.new.graph.profile self.new.graph.flats.items self.new.search.nodes.items self.old.search.level.number }
+        ensures stopped { IfErr result (λ stop. MayStop self.new.graph.image.now self.new.graph.profile self.new.graph.flats.items self.new.graph.bounds.nodes self.new.graph.bounds.private stop) }
+    {
+        self.search.go_over(&mut self.graph, observer)
+    }
+
+    /// Which of the states can be brought to an end.
+    ///
+    /// # Errors
+    /// Out of memory.
+    pub fn marks(&self, alloc: Global) -> Result<Vec<bool>, AllocError>
+        requires is { IsSearch self.now }
+        requires between { StandsBetween self.now }
+        requires over { self.now.search.level.until ≤ self.now.search.level.first }
+        ensures { IfOk result (λ marks. AreMarked self.now.graph.flats.items marks.items) }
+    {
+        mark_states(alloc, &self.graph)
+    }
+}
