@@ -109,7 +109,8 @@ fn follow<S: Successors, O: Observer>(
         return Ok(());
     }
     let origin = origin_after(&mut found.refusals, here.origin, refused)?;
-    open(opened, found, Pending { node, origin }, observer)
+    open(opened, found, Pending { node, origin }, observer)?;
+    Ok(())
 }
 
 /// Opens a node for a thread, and each node to which the thread goes on from there, by either way, up to where it can't or to opened ones.
