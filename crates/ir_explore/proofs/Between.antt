@@ -1,14 +1,15 @@
 -- A search between two levels.
-use Rattle.std.proofs.Common.{◌≡◌, ℕ, suc, ◌+◌, ◌-◌, ◌<◌, ◌≤◌, Bool, Some, List, length, sym, ◌∙◌, subst, arith}
-use Rattle.std.specs.Prelude.{slice_get}
+use Rattle.std.proofs.Common.{◌≡◌, ℕ, suc, zero, ◌+◌, ◌-◌, ◌<◌, ◌≤◌, Bool, Some, List, [], ◌∷◌, length, refl, sym, ap, ◌∙◌, subst, arith}
+use Rattle.std.specs.Prelude.{slice_get, replicate}
+use Rattle.std.proofs.lemmas.Option.{same_Some}
 use Rattle.ir_explore.specs.declared.origin.Level.{Level}
 use Rattle.ir_explore.specs.declared.origin.Origin.{Origin}
 use Rattle.ir_explore.specs.declared.origin.Refusal.{Refusal}
-use Rattle.ir_explore.specs.Following.{BothWays, Keeps}
+use Rattle.ir_explore.specs.Following.{BothWays, Keeps, IsOpen}
 use Rattle.ir_explore.specs.Levels.{AllFollowed, AllOpen, AreWithin, AreAsked, AreGoneOver, LevelEnds}
-use Rattle.ir_explore.specs.Origins.{BeginsAt, Adds, AreReached, first_origin}
+use Rattle.ir_explore.specs.Origins.{Whole, BeginsAt, Adds, IsReachedBy, AreReached, first_origin}
 use Rattle.ir_explore.specs.Searching.{HasGone, IsBetween}
-use Rattle.ir_explore.proofs.Gone.{asked_all, gone_over_if_notes_kept, gone_over_after_level, node_levels_after_adds, added_nodes_begin_next_level}
+use Rattle.ir_explore.proofs.Gone.{asked_all, gone_over_if_notes_kept, gone_over_after_level, node_levels_after_adds, added_nodes_begin_next_level, row_of_empty_rows_is_empty}
 use Rattle.ir_explore.proofs.Reached.{place_of_element_is_below_length, rising_after_level_added}
 
 module _ (noted more : ℕ → BothWays) (size : ℕ) (nodes new : List Origin) (refusals table : List Refusal) (opened : List (List Bool)) (level : Level)
@@ -72,3 +73,39 @@ pub finished_asked : (noted : ℕ → BothWays) (size : ℕ) (nodes : List Origi
 finished_asked noted size nodes refusals opened level between over =
     asked_all noted (length opened) nodes opened level.first (level.number - 1) between.ends
     (let a = between.until in let b = between.order in omega (arith, a, b, over)) size between.all
+
+-- before the first level there is one node, and nothing is opened
+pub first_level_is_between : (noted : ℕ → BothWays) (threads : ℕ) (refusals : List Refusal)
+    → IsBetween noted 1 (first_origin ∷ []) refusals (replicate threads []) (record { number = 0; first = 0; until = 1 })
+first_level_is_between noted threads refusals = record {
+  has = record {
+    gone = tt;
+    reached = λ v n is. reached v n is;
+    rising = λ u v a b at there order. let x = level_is_first u a at in let y = level_is_first v b there in omega (arith, x, y);
+    most = λ v n is. let x = level_is_first v n is in omega (arith, x);
+    first = refl;
+    few = omega arith;
+  };
+  ends = record {
+    threads_are = refl;
+    followed = λ t row is v o. absurd (no_node_open row (row_of_empty_rows_is_empty threads t row is) v o);
+    opens = λ t row few is v low less. absurd (omega (arith, less));
+    within = λ t row is. let e = ap length (row_of_empty_rows_is_empty threads t row is) in omega (arith, e);
+    levels = λ v n is. let x = level_is_first v n is in omega (arith, x);
+  };
+  stands = λ v low less. omega (arith, less);
+  all = refl;
+  until = refl;
+  order = omega arith;
+  number = omega arith;
+}
+  where
+    level_is_first : (v : ℕ) (n : Origin) → slice_get (first_origin ∷ []) v ≡ Some n → n.level ≡ 0
+    level_is_first zero n is = ap (λ z. z.level) (sym (same_Some first_origin n is))
+    level_is_first (suc v) n is = absurd (cc is)
+    reached : AreReached noted refusals (first_origin ∷ [])
+    reached zero n is =
+        subst (IsReachedBy noted refusals (first_origin ∷ []) 0) (same_Some first_origin n is) (refl, [], ([], Whole, refl), refl)
+    reached (suc v) n is = absurd (cc is)
+    no_node_open : (row : List Bool) → row ≡ [] → (v : ℕ) → IsOpen row v → ⊥
+    no_node_open row none v o = cc (subst (λ z. IsOpen z v) none o)
