@@ -6,7 +6,7 @@ use Rattle.ir_explore.proofs.turn.take_turn.Goals as goal
 
 pub returns-in_err-go_alone-clause-adds : goal.returns-in_err-go_alone-clause-adds
 returns-in_err-go_alone-clause-adds g c =
-    adds_transitive c.args.level.number c.args.nodes.now.items c.loop-from.nodes.items c.go_alone.new.nodes.items c.loop-from.invariant.adds
+    adds_transitive c.args.level.number c.args.found.now.nodes.items c.loop-from.found.nodes.items c.go_alone.new.found.nodes.items c.loop-from.invariant.adds
     c.go_alone.ensures.adds
 
 pub loop-from-preserved : goal.loop-from-preserved
@@ -23,13 +23,13 @@ loop-from-preserved g c = record {
   nodes = c.in_ok-go_alone.ensures.nodes;
   until = let a = c.loop-from.invariant.until in let b = c.go_alone.ensures.adds.longer in omega (arith, a, b);
   level = λ v low less.
-      begins_at_if_nodes_kept c.loop-from.nodes.items c.go_alone.new.nodes.items c.go_alone.ensures.adds.stays c.args.level.number v
+      begins_at_if_nodes_kept c.loop-from.found.nodes.items c.go_alone.new.found.nodes.items c.go_alone.ensures.adds.stays c.args.level.number v
       (c.loop-from.invariant.level v low less);
   reached = c.go_alone.ensures.reached;
   adds =
-      adds_transitive c.args.level.number c.args.nodes.now.items c.loop-from.nodes.items c.go_alone.new.nodes.items c.loop-from.invariant.adds
+      adds_transitive c.args.level.number c.args.found.now.nodes.items c.loop-from.found.nodes.items c.go_alone.new.found.nodes.items c.loop-from.invariant.adds
       c.go_alone.ensures.adds;
-  kept = λ t v to e. c.go_alone.ensures.kept t v to (c.loop-from.invariant.kept t v to e);
+  kept = λ t refused v to e. c.go_alone.ensures.kept t refused v to (c.loop-from.invariant.kept t refused v to e);
   stay = λ v x is. c.go_alone.ensures.stay v x (c.loop-from.invariant.stay v x is);
   sound = c.go_alone.ensures.sound;
   origin = c.go_alone.ensures.origin ∙ c.loop-from.invariant.origin;
