@@ -103,9 +103,11 @@ first_level_is_between noted threads refusals = record {
     level_is_first : (v : ℕ) (n : Origin) → slice_get (first_origin ∷ []) v ≡ Some n → n.level ≡ 0
     level_is_first zero n is = ap (λ z. z.level) (sym (same_Some first_origin n is))
     level_is_first (suc v) n is = absurd (cc is)
+
     reached : AreReached noted refusals (first_origin ∷ [])
     reached zero n is =
         subst (IsReachedBy noted refusals (first_origin ∷ []) 0) (same_Some first_origin n is) (refl, [], ([], Whole, refl), refl)
     reached (suc v) n is = absurd (cc is)
+
     no_node_open : (row : List Bool) → row ≡ [] → (v : ℕ) → IsOpen row v → ⊥
     no_node_open row none v o = cc (subst (λ z. IsOpen z v) none o)

@@ -1,5 +1,5 @@
 -- A thread that goes on alone, as far as it has come.
-use Rattle.std.proofs.Common.{◌≡◌, ℕ, suc, zero, ◌+◌, ◌<◌, ◌≤◌, Bool, Option, false, true, Some, List, [], ◌∷◌, ◌++◌, ◌⊎◌, inl, inr, length, length-set, length-append, get_or, slice_set, refl, sym, ap, ◌∙◌, subst, arith}
+use Rattle.std.proofs.Common.{◌≡◌, ℕ, suc, zero, ◌<◌, ◌≤◌, Bool, Option, false, true, Some, List, [], ◌∷◌, ◌++◌, ◌⊎◌, inl, inr, length, length-set, length-append, get_or, slice_set, refl, sym, ap, ◌∙◌, subst, arith}
 use Rattle.std.specs.Prelude.{slice_get, replicate}
 use Rattle.std.proofs.lemmas.Option.{same_Some}
 use Rattle.ir_explore.specs.declared.found.Pending.{Pending}
@@ -8,8 +8,7 @@ use Rattle.ir_explore.specs.declared.origin.Refusal.{Refusal}
 use Rattle.ir_explore.specs.Following.{BothWays, Stay, IsOpen, GoesTo, IsFollowed}
 use Rattle.ir_explore.specs.Going.{HasNode, IsGoing, IsAfter}
 use Rattle.ir_explore.specs.Origins.{BeginsAt, Spells, Whole, IsReachedBy, AreReached, Adds}
-use Rattle.ir_explore.specs.Ways.{shut}
-use Rattle.ir_explore.proofs.Opens.{goes_to_if_notes_kept, shut_at_most_length, Opening, shut_place_opened, open_place_added}
+use Rattle.ir_explore.proofs.Opens.{goes_to_if_notes_kept, Opening, shut_place_opened, open_place_added}
 use Rattle.ir_explore.proofs.Reached.{AllKept, added_element_is_last, slice_get_after_push_cases, slice_get_kept_by_append, place_of_element_is_below_length, reached_by_if_grown, reached_by_after_step, reached_if_notes_kept, reached_after_node_added, table_stays_after_step, after_step_is_in_turn, adds_reflexive, adds_after_node_pushed}
 
 -- what is so of either way
@@ -47,7 +46,6 @@ nothing_in_hand_if_followed noted thread level opened nodes refusals wide reache
   comes = λ i p is. absurd (cc is);
   threads = λ i p is. absurd (cc is);
   levels = λ i p is. absurd (cc is);
-  counted = λ i p is. absurd (cc is);
 }
 
 -- a turn that is over
@@ -75,7 +73,6 @@ taken_up noted thread level opened nodes refusals hand p g = record {
   comes = all (λ x. IsReachedBy noted refusals nodes x.node x.origin) g.comes;
   threads = all (λ x. x.origin.thread ≡ thread) g.threads;
   levels = all (λ x. x.origin.level ≡ level) g.levels;
-  counted = all (λ x. x.origin.entries + shut opened ≤ length opened) g.counted;
 }
   where
     moved : (v : ℕ) → HasNode (hand ++ p ∷ []) v → HasNode (p ∷ hand) v
@@ -83,6 +80,7 @@ taken_up noted thread level opened nodes refusals hand p g = record {
       | inl old ↦ (suc h.0, h.1, old, h.3)
       | inr new ↦ (0, p, refl, ap (λ x. x.node) new.1 ∙ h.3)
     ]
+
     all : (Q : Pending → Type 0) → ((i : ℕ) (x : Pending) → slice_get (hand ++ p ∷ []) i ≡ Some x → Q x) → (i : ℕ) (x : Pending)
         → slice_get (p ∷ hand) i ≡ Some x → Q x
     all Q each zero x is = each (length hand) x (added_element_is_last hand p ∙ is)
@@ -100,7 +98,6 @@ laid_down noted thread level opened nodes refusals hand p g ways = record {
   comes = λ i. g.comes (suc i);
   threads = λ i. g.threads (suc i);
   levels = λ i. g.levels (suc i);
-  counted = λ i. g.counted (suc i);
 }
   where
     without : (v i : ℕ) (x : Pending) → slice_get (p ∷ hand) i ≡ Some x → x.node ≡ v
@@ -126,43 +123,32 @@ going_if_notes_kept noted more thread level opened nodes refusals hand kept g = 
       reached_by_if_grown noted more refusals refusals nodes nodes kept (λ v x e. e) (λ v x e. e) (omega arith) p.node p.origin (g.comes i p is);
   threads = g.threads;
   levels = g.levels;
-  counted = g.counted;
 }
-
--- what opening a node costs pays for a step more
-counted_after_opening : (opened row : List Bool) (y n : ℕ) → Opening opened row y → n + shut opened ≤ length opened → suc n + shut row ≤ length row
-counted_after_opening opened row y n o few = elim o.counts [
-  | inl p ↦ let a = p.0 in let b = p.1 in omega (arith, a, b, few)
-  | inr p ↦ let a = p.0 in let b = p.1 in omega (arith, a, b, few)
-]
 
 -- One node more is opened, and is in hand as the last: what was known of the nodes and of the table stays.
 going_after_opening : (noted more : ℕ → BothWays) (thread level : ℕ) (opened row : List Bool) (nodes new : List Origin) (refusals table : List Refusal)
-    (hand : List Pending) (next : Pending) (n : ℕ) → IsGoing noted thread level opened nodes refusals hand → AllKept noted more → Stay nodes new
+    (hand : List Pending) (next : Pending) → IsGoing noted thread level opened nodes refusals hand → AllKept noted more → Stay nodes new
     → length nodes ≤ length new → Stay refusals table → length row ≡ length new → Opening opened row next.node → AreReached more table new
     → IsReachedBy more table new next.node next.origin → next.origin.thread ≡ thread → next.origin.level ≡ level
-    → next.origin.entries ≤ suc n → n + shut opened ≤ length opened → IsGoing more thread level row new table (hand ++ next ∷ [])
-going_after_opening noted more thread level opened row nodes new refusals table hand next n g kept stays longer stay wide o reached comes own
-    same few counted = record {
-  wide = wide;
-  reached = reached;
-  followed = λ v is. elim (o.only v is) [
-    | inl old ↦ elim (g.followed v old) [
-      | inl h ↦ inl (has_node_kept_by_append hand (next ∷ []) v h)
-      | inr f ↦ inr (λ refused.
-          goes_to_if_notes_kept (noted thread refused) (more thread refused) opened row v (kept thread refused) o.stays (f refused))
-    ]
-    | inr here ↦ inl (subst (HasNode (hand ++ next ∷ [])) (sym here) (last_has_node hand next))
-  ];
-  opens = each_with_one_more (λ x. IsOpen row x.node) hand next (λ i x is. o.stays x.node (g.opens i x is)) o.opens;
-  comes = each_with_one_more (λ x. IsReachedBy more table new x.node x.origin) hand next
-      (λ i x is. reached_by_if_grown noted more refusals table nodes new kept stay stays longer x.node x.origin (g.comes i x is)) comes;
-  threads = each_with_one_more (λ x. x.origin.thread ≡ thread) hand next g.threads own;
-  levels = each_with_one_more (λ x. x.origin.level ≡ level) hand next g.levels same;
-  counted = each_with_one_more (λ x. x.origin.entries + shut row ≤ length row) hand next
-      (λ i x is. let a = counted_after_opening opened row next.node x.origin.entries o (g.counted i x is) in omega (arith, a))
-      (let a = counted_after_opening opened row next.node n o counted in omega (arith, a, few));
-}
+    → IsGoing more thread level row new table (hand ++ next ∷ [])
+going_after_opening noted more thread level opened row nodes new refusals table hand next g kept stays longer stay wide o reached comes own
+    same = record {
+      wide = wide;
+      reached = reached;
+      followed = λ v is. elim (o.only v is) [
+        | inl old ↦ elim (g.followed v old) [
+          | inl h ↦ inl (has_node_kept_by_append hand (next ∷ []) v h)
+          | inr f ↦ inr (λ refused.
+              goes_to_if_notes_kept (noted thread refused) (more thread refused) opened row v (kept thread refused) o.stays (f refused))
+        ]
+        | inr here ↦ inl (subst (HasNode (hand ++ next ∷ [])) (sym here) (last_has_node hand next))
+      ];
+      opens = each_with_one_more (λ x. IsOpen row x.node) hand next (λ i x is. o.stays x.node (g.opens i x is)) o.opens;
+      comes = each_with_one_more (λ x. IsReachedBy more table new x.node x.origin) hand next
+          (λ i x is. reached_by_if_grown noted more refusals table nodes new kept stay stays longer x.node x.origin (g.comes i x is)) comes;
+      threads = each_with_one_more (λ x. x.origin.thread ≡ thread) hand next g.threads own;
+      levels = each_with_one_more (λ x. x.origin.level ≡ level) hand next g.levels same;
+    }
 
 -- a turn begins: its first node is opened, and is in hand
 pub turn_begins : (noted : ℕ → BothWays) (start : Origin) (opened : List Bool) (nodes : List Origin) (refusals : List Refusal) (d : Bool)
@@ -171,11 +157,10 @@ pub turn_begins : (noted : ℕ → BothWays) (start : Origin) (opened : List Boo
     → IsGoing noted start.thread start.level (slice_set opened start.from true) nodes refusals (record { node = start.from; origin = start } ∷ [])
 turn_begins noted start opened nodes refusals d followed reached begins none less wide unopened =
     going_after_opening noted noted start.thread start.level opened (slice_set opened start.from true) nodes nodes refusals refusals []
-    (record { node = start.from; origin = start }) 0
+    (record { node = start.from; origin = start })
     (nothing_in_hand_if_followed noted start.thread start.level opened nodes refusals wide reached followed) (λ t refused v next is. is) (λ v x is. is)
     (omega arith) (λ v x is. is) (length-set opened start.from true ∙ wide) (shut_place_opened opened start.from d less unopened) reached
-    (turn_begins_reached noted refusals nodes start none begins) refl refl (let a = none.1 in omega (arith, a))
-    (let a = shut_at_most_length opened in omega (arith, a))
+    (turn_begins_reached noted refusals nodes start none begins) refl refl
 
 -- The nodes, once one was opened: as they were, or with this one at the end.
 pub record Joined (nodes new : List Origin) (next : Pending) : Type 0 where
@@ -272,8 +257,8 @@ module _ (noted more : ℕ → BothWays) (opened : List Bool) (nodes new : List 
       → IsGoing more here.origin.thread here.origin.level row new table (here ∷ pending ++ next ∷ [])
   going_after_going_on row o wide =
       let t = after_step_is_in_turn refusals table here.origin refused next.origin after in
-      going_after_opening noted more here.origin.thread here.origin.level opened row nodes new refusals table (here ∷ pending) next here.origin.entries
+      going_after_opening noted more here.origin.thread here.origin.level opened row nodes new refusals table (here ∷ pending) next
       g kept (joined_nodes_stay nodes new next j) (joined_nodes_are_no_fewer nodes new next j)
       (table_stays_after_step refusals table here.origin refused next.origin after) wide o reached_after_going_on
       (comes_there (let a = place_of_element_is_below_length row next.node true o.opens in omega (arith, a, wide)))
-      t.1 t.2 t.3 (g.counted 0 here refl)
+      t.1 t.2

@@ -2,8 +2,7 @@
 use Rattle.std.proofs.Common.{◌≡◌, ℕ, suc, zero, ◌<◌, ◌≤◌, Bool, true, false, true≢false, Some, None, List, [], ◌∷◌, ◌++◌, ◌⊎◌, inl, inr, length, length-set, length-append, get_or, slice_set, refl, sym, ap, ◌∙◌, subst, arith}
 use Rattle.std.specs.Prelude.{slice_get, replicate}
 use Rattle.std.proofs.lemmas.Bool.{cases_eq}
-use Rattle.std.specs.declared.option.Option.{Option}
-use Rattle.std.proofs.lemmas.Option.{slice_get-get_or, get_or_from_slice_get, same_Some}
+use Rattle.std.proofs.lemmas.Option.{slice_get-get_or, get_or_from_slice_get}
 use Rattle.ir_explore.specs.Following.{Leading, BothWays, Keeps, IsOpen, StaysOpen, GoesTo, IsFollowed}
 use Rattle.ir_explore.specs.Going.{left_to_open}
 use Rattle.ir_explore.specs.Ways.{shut}
@@ -49,12 +48,6 @@ stays_open_through_opening old xs x l stays v o = stays_open_after_opening xs x 
 pub open_if_element_true : (xs : List Bool) (x : ℕ) (d : Bool) → x < length xs → get_or xs x d ≡ true → IsOpen xs x
 open_if_element_true xs x d l e = slice_get-get_or xs x d l ∙ ap Some e
 
-pub shut_at_most_length : (xs : List Bool) → shut xs ≤ length xs
-unfolding shut
-shut_at_most_length [] = omega arith
-shut_at_most_length (true ∷ xs) = let h = shut_at_most_length xs in omega (arith, h)
-shut_at_most_length (false ∷ xs) = let h = shut_at_most_length xs in omega (arith, h)
-
 replicated_false_has_no_open : (n v : ℕ) → IsOpen (replicate n false) v → ⊥
 replicated_false_has_no_open zero v o = cc o
 replicated_false_has_no_open (suc n) zero o = cc o
@@ -75,15 +68,6 @@ followed_after_closed_places_added leading xs n f v o refused = elim (f v (open_
   | inl none ↦ inl none
   | inr s ↦ inr (s.0, s.1, stays_open_after_closed_places_added xs n s.0 s.2)
 ]
-
--- whether a node is new
-pub node_count_after_new_node : (size more next : ℕ) (o : Option ℕ) → o ≡ Some next → (more ≡ size) ⊎ ((o ≡ Some size) × (more ≡ suc size))
-    → next < more → next ≡ size → more ≡ suc size
-node_count_after_new_node size more next o is h less same = elim h [ inl e ↦ absurd (omega (arith, e, less, same)) | inr p ↦ p.1 ]
-
-pub node_count_after_known_node : (size more next : ℕ) (o : Option ℕ) → o ≡ Some next → (more ≡ size) ⊎ ((o ≡ Some size) × (more ≡ suc size))
-    → (next ≡ size → ⊥) → more ≡ size
-node_count_after_known_node size more next o is h other = elim h [ inl e ↦ e | inr p ↦ absurd (other (same_Some next size (sym is ∙ p.0))) ]
 
 pub open_if_element_or_false_true : (xs : List Bool) (v : ℕ) → get_or xs v false ≡ true → IsOpen xs v
 open_if_element_or_false_true [] v e = absurd (true≢false (sym e))

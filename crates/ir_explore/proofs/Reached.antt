@@ -99,8 +99,7 @@ table_stays_after_step refusals table n true next a v x is =
 ways_after_step : (refusals table : List Refusal) (n : Origin) (refused : Bool) (next : Origin) → IsAfter refusals table n refused next
     → (ways : List Bool) → AreWaysOf refusals n ways → AreWaysOf table next (ways ++ refused ∷ [])
 ways_after_step refusals table n false next a ways (before, spelled, is) =
-    subst (λ z. AreWaysOf table z (ways ++ false ∷ [])) (sym a.1)
-    (
+    subst (λ z. AreWaysOf table z (ways ++ false ∷ [])) (sym a.1) (
       before,
       spells_if_table_grows refusals table (table_stays_after_step refusals table n false next a) n.refusals before spelled,
       ap (λ z. z ++ false ∷ []) is ∙ append_assoc before (replicate n.entries false) (false ∷ []) ∙ ap (λ z. before ++ z) (replicate_and_one_more n.entries),
@@ -110,8 +109,7 @@ ways_after_step refusals table n true next a ways (before, spelled, is) =
     let at : slice_get table (length refusals) ≡ Some last =
     subst (λ z. slice_get z (length refusals) ≡ Some last) (sym a.0) (added_element_is_last refusals last) in
     let all : List Bool = before ++ replicate n.entries false ++ true ∷ [] in
-    subst (λ z. AreWaysOf table z (ways ++ true ∷ [])) (sym a.1)
-    (
+    subst (λ z. AreWaysOf table z (ways ++ true ∷ [])) (sym a.1) (
       all,
       Refused (length refusals) last before at
           (spells_if_table_grows refusals table (table_stays_after_step refusals table n true next a) n.refusals before spelled),
@@ -119,11 +117,11 @@ ways_after_step refusals table n true next a ways (before, spelled, is) =
     )
 
 pub after_step_is_in_turn : (refusals table : List Refusal) (n : Origin) (refused : Bool) (next : Origin) → IsAfter refusals table n refused next
-    → (next.from ≡ n.from) × (next.thread ≡ n.thread) × (next.level ≡ n.level) × (next.entries ≤ suc n.entries)
+    → (next.from ≡ n.from) × (next.thread ≡ n.thread) × (next.level ≡ n.level)
 after_step_is_in_turn refusals table n false next a =
-    (ap (λ z. z.from) a.1, ap (λ z. z.thread) a.1, ap (λ z. z.level) a.1, let e = ap (λ z. z.entries) a.1 in omega (arith, e))
+    (ap (λ z. z.from) a.1, ap (λ z. z.thread) a.1, ap (λ z. z.level) a.1)
 after_step_is_in_turn refusals table n true next a =
-    (ap (λ z. z.from) a.1, ap (λ z. z.thread) a.1, ap (λ z. z.level) a.1, let e = ap (λ z. z.entries) a.1 in omega (arith, e))
+    (ap (λ z. z.from) a.1, ap (λ z. z.thread) a.1, ap (λ z. z.level) a.1)
 
 -- by one step more
 pub reached_by_after_step : (noted more : ℕ → BothWays) (refusals table : List Refusal) (nodes new : List Origin) → AllKept noted more

@@ -1,5 +1,5 @@
 -- A thread's turn, as far as it has come.
-use Rattle.std.specs.Prelude.{◌≡◌, ℕ, suc, ◌+◌, ◌-◌, ◌≤◌, Bool, true, false, List, [], ◌∷◌, ◌++◌, ◌⊎◌, Some, length, slice_get}
+use Rattle.std.specs.Prelude.{◌≡◌, ℕ, suc, ◌+◌, ◌-◌, Bool, true, false, List, [], ◌∷◌, ◌++◌, ◌⊎◌, Some, length, slice_get}
 use Rattle.ir_explore.specs.declared.found.Pending.{Pending}
 use Rattle.ir_explore.specs.declared.origin.Origin.{Origin}
 use Rattle.ir_explore.specs.declared.origin.Refusal.{Refusal}
@@ -22,8 +22,6 @@ pub record IsGoing (noted : ℕ → BothWays) (thread level : ℕ) (opened : Lis
   pub comes : (i : ℕ) (p : Pending) → slice_get hand i ≡ Some p → IsReachedBy noted refusals nodes p.node p.origin
   pub threads : (i : ℕ) (p : Pending) → slice_get hand i ≡ Some p → p.origin.thread ≡ thread
   pub levels : (i : ℕ) (p : Pending) → slice_get hand i ≡ Some p → p.origin.level ≡ level
-  -- its steps are no more than the opened nodes
-  pub counted : (i : ℕ) (p : Pending) → slice_get hand i ≡ Some p → p.origin.entries + shut opened ≤ length opened
 
 -- how many nodes are left to open, of so many that there may be
 abbrev pub left_to_open : ℕ → List Bool → ℕ

@@ -1,6 +1,6 @@
 //! A thread that goes on alone.
 
-ghost use Rattle.std.specs.Prelude.{◌≡◌, ◌⊎◌, ◌++◌, ℕ, Bool, false, true, suc, [], ◌∷◌, ◌+◌, ◌-◌, ◌^◌, ◌<◌, ◌≤◌, length, slice_set, IfOk, OnErr, IfErr, IsErrOf, OnOk};
+ghost use Rattle.std.specs.Prelude.{◌≡◌, ◌⊎◌, ◌++◌, ℕ, Bool, false, true, suc, [], ◌∷◌, ◌+◌, ◌-◌, ◌<◌, ◌≤◌, length, slice_set, IfOk, OnErr, IfErr, IsErrOf, OnOk};
 ghost use Rattle.ir_explore.specs.declared.stop.Stop.TheVariants.{Nodes, Memory};
 ghost use Rattle.ir_explore.specs.Following.{Keeps, Stay, IsOpen, StaysOpen, GoesTo, IsFollowed};
 ghost use Rattle.ir_explore.specs.Going.{IsGoing, IsAfter, left_to_open};
@@ -8,33 +8,27 @@ ghost use Rattle.ir_explore.specs.Origins.{BeginsAt, AreReached, Adds};
 
 use crate::found::{Found, Pending};
 use crate::observer::Observer;
-use crate::origin::{Origin, Refusal};
+use crate::origin::{Origin, Refusal, narrow};
 use crate::stop::Stop;
 use crate::successors::Successors;
 
 // How the thread comes to a node by one step more, with its try refused or not.
-fn origin_after(
-    refusals: &mut Vec<Refusal>,
-    origin: Origin,
-    refused: bool,
-) -> Result<Origin, Stop>
-    requires { origin.entries < 2 ^ 63 }
+fn origin_after(refusals: &mut Vec<Refusal>, origin: Origin, refused: bool) -> Result<Origin, Stop>
     ensures after { IfOk result (λ next. IsAfter refusals.old.items refusals.new.items origin refused next) }
     ensures err { OnErr result (refusals.new.items ≡ refusals.old.items) }
     ensures memory { IfErr result (λ stop. stop ≡ Memory) }
 {
     if !refused {
-        return Ok(Origin {
-            entries: origin.entries + 1,
-            ..origin
-        });
+        let entries = narrow(origin.entries as usize + 1)?;
+        return Ok(Origin { entries, ..origin });
     }
+    let number = narrow(refusals.len() + 1)?;
     refusals.push(Refusal {
         before: origin.refusals,
         entries: origin.entries,
     })?;
     Ok(Origin {
-        refusals: refusals.len(),
+        refusals: number,
         entries: 0,
         ..origin
     })
@@ -62,7 +56,7 @@ fn open<O: Observer>(
     } else {
         opened.push(true)?;
         found.nodes.push(next.origin)?;
-        observer.searched(found.nodes.len(), next.origin.level);
+        observer.searched(found.nodes.len(), next.origin.level as usize);
     }
     found.pending.push(next)?;
     Ok(())
@@ -102,7 +96,7 @@ fn follow<S: Successors, O: Observer>(
     ensures stopped { IfErr result (λ stop. (stop ≡ Memory) ⊎ S.may_stop graph.new stop) }
     ensures sound { S.is_sound graph.new }
 {
-    let Some(node) = graph.next(here.origin.thread, refused, here.node)? else {
+    let Some(node) = graph.next(here.origin.thread as usize, refused, here.node)? else {
         return Ok(());
     };
     if node < opened.len() && opened[node] {
@@ -155,12 +149,13 @@ pub fn go_alone<S: Successors, O: Observer>(
     ensures stopped { IfErr result (λ stop. (stop ≡ Memory) ⊎ S.may_stop graph.new stop) }
     ensures sound { S.is_sound graph.new }
 {
-    if opened[start.from] {
+    let from = start.from as usize;
+    if opened[from] {
         return Ok(());
     }
     found.pending.clear();
     let first = Pending {
-        node: start.from,
+        node: from,
         origin: start,
     };
     open(opened, found, first, observer)?;

@@ -48,12 +48,7 @@ pub trait Successors {
     ///
     /// # Errors
     /// `Nodes` if a new node would be one too many; any other as the graph says.
-    fn next(
-        &mut self,
-        thread: usize,
-        refused: bool,
-        node: usize,
-    ) -> Result<Option<usize>, Stop>
+    fn next(&mut self, thread: usize, refused: bool, node: usize) -> Result<Option<usize>, Stop>
         requires node { node < size self.old }
         requires room { size self.old ≤ most self.old }
         requires sound { is_sound self.old }

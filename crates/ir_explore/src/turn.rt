@@ -8,7 +8,7 @@ ghost use Rattle.ir_explore.specs.Origins.{AreReached, IsLevel, Adds};
 use crate::alone::go_alone;
 use crate::found::Found;
 use crate::observer::Observer;
-use crate::origin::{Level, Origin};
+use crate::origin::{Level, turn_from};
 use crate::stop::Stop;
 use crate::successors::Successors;
 
@@ -55,13 +55,7 @@ pub fn take_turn<S: Successors, O: Observer>(
 {
     opened.resize(found.nodes.len(), false)?;
     for from in level.first..level.until {
-        let start = Origin {
-            from,
-            thread,
-            refusals: 0,
-            entries: 0,
-            level: level.number,
-        };
+        let start = turn_from(from, thread, level.number)?;
         go_alone(graph, opened, found, start, observer)?;
     }
     Ok(())

@@ -1,10 +1,9 @@
-use Rattle.std.proofs.Common.{◌≡◌, ◌⊎◌, ◌++◌, ℕ, Bool, false, true, suc, Some, [], ◌∷◌, ◌+◌, ◌<◌, ◌≤◌, length, length-set, length-append, get_or, inl, inr, refl, sym, ap, ◌∙◌, subst, arith}
+use Rattle.std.proofs.Common.{◌≡◌, ◌⊎◌, Bool, false, true, Some, [], ◌∷◌, ◌<◌, ◌≤◌, length, length-set, length-append, get_or, inl, inr, refl, sym, ap, ◌∙◌, subst, arith}
 use Rattle.ir_explore.specs.declared.found.Pending.{Pending}
-use Rattle.ir_explore.specs.Following.{IsOpen, GoesTo}
 use Rattle.ir_explore.specs.Going.{IsGoing, IsAfter}
 use Rattle.ir_explore.specs.Origins.{AreReached}
-use Rattle.ir_explore.proofs.Opens.{Opening, opened_counts_less, open_if_element_true, goes_to_if_notes_kept}
-use Rattle.ir_explore.proofs.Reached.{reached_if_notes_kept, table_stays_after_step, adds_reflexive, place_of_element_is_below_length}
+use Rattle.ir_explore.proofs.Opens.{Opening, opened_counts_less, open_if_element_true}
+use Rattle.ir_explore.proofs.Reached.{reached_if_notes_kept, adds_reflexive, place_of_element_is_below_length}
 use Rattle.ir_explore.proofs.Going.{going_if_notes_kept, opened_and_joined, joined_if_added, node_is_no_later, reached_after_going_on, adds_after_going_on, going_after_going_on}
 use Rattle.ir_explore.proofs.alone.follow.Goals as goal
 use Rattle.ir_explore.proofs.alone.follow.Goals.{else-node-len-via-then-node-len+else-index, else-node-len-via-else-node-len}
@@ -59,11 +58,6 @@ returns-then-index-clause-reached g c =
 
 pub returns-then-index-clause-adds : goal.returns-then-index-clause-adds
 returns-then-index-clause-adds g c = adds_reflexive c.args.here.origin.level c.args.found.now.nodes.items
-
-pub origin_after-requires : goal.origin_after-requires
-origin_after-requires g c =
-    let a = c.requires.going.counted 0 c.args.here refl in
-    let b = c.args.opened.now.ok.0 in let d = c.args.opened.now.small in omega (arith, a, b, d)
 
 pub returns-in_err-origin-clause-reached : goal.returns-in_err-origin-clause-reached
 returns-in_err-origin-clause-reached g c =
@@ -130,7 +124,7 @@ returns-clause-going g c =
     c.in_ok-node.ensures.added (c.in_ok-node.ensures.within c.in-Some.node c.in-Some.is) in
     let b = c.requires.nodes in let d = c.requires.going.wide in omega (arith, a, b, d)) in
     let shut_there : ((d : Bool) × (c.in-Some.node < length c.args.opened.now.items) × (get_or c.args.opened.now.items c.in-Some.node d ≡ false))
-        ⊎ (length c.args.opened.now.items ≤ c.in-Some.node) =
+    ⊎ (length c.args.opened.now.items ≤ c.in-Some.node) =
     elim c.else-node-len.branch [
       | else-node-len-via-then-node-len+else-index w ↦ inl (
         w.index.result.now,
@@ -140,11 +134,11 @@ returns-clause-going g c =
       | else-node-len-via-else-node-len w ↦ inr (let a = w.if-node-len.false in let b = c.len.ensures in let d = c.args.opened.now.ok.0 in omega (arith, a, b, d))
     ] in
     let both : Opening c.args.opened.now.items c.open.new.opened.items next.node
-        × (length c.open.new.opened.items ≡ length c.open.new.found.nodes.items) =
+    × (length c.open.new.opened.items ≡ length c.open.new.found.nodes.items) =
     opened_and_joined c.args.opened.now.items c.open.new.opened.items c.args.found.now.nodes.items c.open.new.found.nodes.items next c.requires.going.wide
     here shut_there c.in_ok-open.ensures.old c.in_ok-open.ensures.new in
     subst (λ z. IsGoing (g.S.Successors.noted c.next.new.self) c.args.here.origin.thread c.args.here.origin.level c.open.new.opened.items
-        c.open.new.found.nodes.items c.open.new.found.refusals.items (c.args.here ∷ z)) (sym c.in_ok-open.ensures.pending)
+    c.open.new.found.nodes.items c.open.new.found.refusals.items (c.args.here ∷ z)) (sym c.in_ok-open.ensures.pending)
     (going_after_going_on (g.S.Successors.noted c.args.graph.now) (g.S.Successors.noted c.next.new.self) c.args.opened.now.items
     c.args.found.now.nodes.items c.open.new.found.nodes.items c.args.found.now.refusals.items c.open.new.found.refusals.items c.args.here
     c.args.found.now.pending.items c.args.refused next c.requires.going c.next.ensures.kept
@@ -162,7 +156,7 @@ returns-clause-follows g c =
     c.in_ok-node.ensures.added (c.in_ok-node.ensures.within c.in-Some.node c.in-Some.is) in
     let b = c.requires.nodes in let d = c.requires.going.wide in omega (arith, a, b, d)) in
     let shut_there : ((d : Bool) × (c.in-Some.node < length c.args.opened.now.items) × (get_or c.args.opened.now.items c.in-Some.node d ≡ false))
-        ⊎ (length c.args.opened.now.items ≤ c.in-Some.node) =
+    ⊎ (length c.args.opened.now.items ≤ c.in-Some.node) =
     elim c.else-node-len.branch [
       | else-node-len-via-then-node-len+else-index w ↦ inl (
         w.index.result.now,
@@ -172,7 +166,7 @@ returns-clause-follows g c =
       | else-node-len-via-else-node-len w ↦ inr (let a = w.if-node-len.false in let b = c.len.ensures in let d = c.args.opened.now.ok.0 in omega (arith, a, b, d))
     ] in
     let both : Opening c.args.opened.now.items c.open.new.opened.items next.node
-        × (length c.open.new.opened.items ≡ length c.open.new.found.nodes.items) =
+    × (length c.open.new.opened.items ≡ length c.open.new.found.nodes.items) =
     opened_and_joined c.args.opened.now.items c.open.new.opened.items c.args.found.now.nodes.items c.open.new.found.nodes.items next c.requires.going.wide
     here shut_there c.in_ok-open.ensures.old c.in_ok-open.ensures.new in
     inr (c.in-Some.node, c.in_ok-node.ensures.found ∙ ap Some c.in-Some.is, both.0.opens)
@@ -185,7 +179,7 @@ returns-clause-less g c =
     c.in_ok-node.ensures.added (c.in_ok-node.ensures.within c.in-Some.node c.in-Some.is) in
     let b = c.requires.nodes in let d = c.requires.going.wide in omega (arith, a, b, d)) in
     let shut_there : ((d : Bool) × (c.in-Some.node < length c.args.opened.now.items) × (get_or c.args.opened.now.items c.in-Some.node d ≡ false))
-        ⊎ (length c.args.opened.now.items ≤ c.in-Some.node) =
+    ⊎ (length c.args.opened.now.items ≤ c.in-Some.node) =
     elim c.else-node-len.branch [
       | else-node-len-via-then-node-len+else-index w ↦ inl (
         w.index.result.now,
@@ -195,7 +189,7 @@ returns-clause-less g c =
       | else-node-len-via-else-node-len w ↦ inr (let a = w.if-node-len.false in let b = c.len.ensures in let d = c.args.opened.now.ok.0 in omega (arith, a, b, d))
     ] in
     let both : Opening c.args.opened.now.items c.open.new.opened.items next.node
-        × (length c.open.new.opened.items ≡ length c.open.new.found.nodes.items) =
+    × (length c.open.new.opened.items ≡ length c.open.new.found.nodes.items) =
     opened_and_joined c.args.opened.now.items c.open.new.opened.items c.args.found.now.nodes.items c.open.new.found.nodes.items next c.requires.going.wide
     here shut_there c.in_ok-open.ensures.old c.in_ok-open.ensures.new in
     let room : length c.open.new.opened.items ≤ g.S.Successors.most c.next.new.self =

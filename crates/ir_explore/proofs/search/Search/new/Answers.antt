@@ -1,4 +1,4 @@
-use Rattle.std.proofs.Common.{◌≡◌, [], ◌∷◌, sym, subst}
+use Rattle.std.proofs.Common.{[], ◌∷◌, sym, subst}
 use Rattle.ir_explore.specs.Levels.{rows}
 use Rattle.ir_explore.specs.Origins.{first_origin}
 use Rattle.ir_explore.specs.Searching.{IsBetween}
