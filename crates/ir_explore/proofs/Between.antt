@@ -1,23 +1,25 @@
 -- A search between two levels.
-use Rattle.std.proofs.Common.{◌≡◌, ℕ, suc, ◌+◌, ◌-◌, ◌<◌, ◌≤◌, Bool, Some, List, length, sym, ◌∙◌, subst, arith}
-use Rattle.std.specs.Prelude.{slice_get}
+use Rattle.std.proofs.Common.{◌≡◌, ℕ, suc, zero, ◌+◌, ◌-◌, ◌<◌, ◌≤◌, Bool, Some, List, [], ◌∷◌, length, refl, sym, ap, ◌∙◌, subst, arith}
+use Rattle.std.specs.Prelude.{slice_get, replicate}
+use Rattle.std.proofs.lemmas.Option.{same_Some}
 use Rattle.ir_explore.specs.declared.origin.Level.{Level}
 use Rattle.ir_explore.specs.declared.origin.Origin.{Origin}
-use Rattle.ir_explore.specs.Following.{Leading, Keeps}
+use Rattle.ir_explore.specs.declared.origin.Refusal.{Refusal}
+use Rattle.ir_explore.specs.Following.{BothWays, Keeps, IsOpen}
 use Rattle.ir_explore.specs.Levels.{AllFollowed, AllOpen, AreWithin, AreAsked, AreGoneOver, LevelEnds}
-use Rattle.ir_explore.specs.Origins.{BeginsAt, Adds, AreReached, first_origin}
+use Rattle.ir_explore.specs.Origins.{Whole, BeginsAt, Adds, IsReachedBy, AreReached, first_origin}
 use Rattle.ir_explore.specs.Searching.{HasGone, IsBetween}
-use Rattle.ir_explore.proofs.Gone.{asked_all, gone_over_if_notes_kept, gone_over_after_level, node_levels_after_adds, added_nodes_begin_next_level}
+use Rattle.ir_explore.proofs.Gone.{asked_all, gone_over_if_notes_kept, gone_over_after_level, node_levels_after_adds, added_nodes_begin_next_level, row_of_empty_rows_is_empty}
 use Rattle.ir_explore.proofs.Reached.{place_of_element_is_below_length, rising_after_level_added}
 
-module _ (noted more : ℕ → Leading) (size : ℕ) (nodes new : List Origin) (opened : List (List Bool)) (level : Level)
-    (between : IsBetween noted size nodes opened level) (kept : (t : ℕ) → Keeps (noted t) (more t)) (adds : Adds level.number nodes new)
-    (reached : AreReached more new) where
+module _ (noted more : ℕ → BothWays) (size : ℕ) (nodes new : List Origin) (refusals table : List Refusal) (opened : List (List Bool)) (level : Level)
+    (between : IsBetween noted size nodes refusals opened level) (kept : (t : ℕ) (refused : Bool) → Keeps (noted t refused) (more t refused)) (adds : Adds level.number nodes new)
+    (reached : AreReached more table new) where
   levels_now : (v : ℕ) (n : Origin) → slice_get nodes v ≡ Some n → n.level ≤ level.number
   levels_now v n is = let a = between.ends.levels v n is in omega (arith, a)
 
   -- part of a level more
-  pub has_part : (threads bigger : ℕ) → threads ≡ length opened → length new ≤ bigger → HasGone more threads bigger new level.number
+  pub has_part : (threads bigger : ℕ) → threads ≡ length opened → length new ≤ bigger → HasGone more threads bigger new table level.number
   has_part threads bigger same few = record {
     gone = subst (λ z. AreGoneOver more z new level.number) (sym same) (gone_over_if_notes_kept noted more (length opened) nodes new level.number kept adds.stays between.has.gone);
     reached = reached;
@@ -30,7 +32,7 @@ module _ (noted more : ℕ → Leading) (size : ℕ) (nodes new : List Origin) (
   -- a level more
   pub between_more : (bigger : ℕ) (rows : List (List Bool)) (next : Level) → AllFollowed more rows → AllOpen rows 0 level.until (length opened)
       → AreWithin rows (length new) → length rows ≡ length opened → length new ≡ bigger → next.number ≡ level.number + 1
-      → next.first ≡ level.until → next.until ≡ length new → level.first < level.until → IsBetween more bigger new rows next
+      → next.first ≡ level.until → next.until ≡ length new → level.first < level.until → IsBetween more bigger new table rows next
   between_more bigger rows next followed opens within same all number first until some =
       let ends : LevelEnds more (length opened) new rows (length nodes) level.number = record {
         threads_are = same;
@@ -66,8 +68,46 @@ module _ (noted more : ℕ → Leading) (size : ℕ) (nodes new : List Origin) (
       }
 
 -- what is between two levels of which the next has no node is finished
-pub finished_asked : (noted : ℕ → Leading) (size : ℕ) (nodes : List Origin) (opened : List (List Bool)) (level : Level)
-    → IsBetween noted size nodes opened level → level.until ≤ level.first → AreAsked noted (length opened) size
-finished_asked noted size nodes opened level between over =
+pub finished_asked : (noted : ℕ → BothWays) (size : ℕ) (nodes : List Origin) (refusals : List Refusal) (opened : List (List Bool)) (level : Level)
+    → IsBetween noted size nodes refusals opened level → level.until ≤ level.first → AreAsked noted (length opened) size
+finished_asked noted size nodes refusals opened level between over =
     asked_all noted (length opened) nodes opened level.first (level.number - 1) between.ends
     (let a = between.until in let b = between.order in omega (arith, a, b, over)) size between.all
+
+-- before the first level there is one node, and nothing is opened
+pub first_level_is_between : (noted : ℕ → BothWays) (threads : ℕ) (refusals : List Refusal)
+    → IsBetween noted 1 (first_origin ∷ []) refusals (replicate threads []) (record { number = 0; first = 0; until = 1 })
+first_level_is_between noted threads refusals = record {
+  has = record {
+    gone = tt;
+    reached = λ v n is. reached v n is;
+    rising = λ u v a b at there order. let x = level_is_first u a at in let y = level_is_first v b there in omega (arith, x, y);
+    most = λ v n is. let x = level_is_first v n is in omega (arith, x);
+    first = refl;
+    few = omega arith;
+  };
+  ends = record {
+    threads_are = refl;
+    followed = λ t row is v o. absurd (no_node_open row (row_of_empty_rows_is_empty threads t row is) v o);
+    opens = λ t row few is v low less. absurd (omega (arith, less));
+    within = λ t row is. let e = ap length (row_of_empty_rows_is_empty threads t row is) in omega (arith, e);
+    levels = λ v n is. let x = level_is_first v n is in omega (arith, x);
+  };
+  stands = λ v low less. omega (arith, less);
+  all = refl;
+  until = refl;
+  order = omega arith;
+  number = omega arith;
+}
+  where
+    level_is_first : (v : ℕ) (n : Origin) → slice_get (first_origin ∷ []) v ≡ Some n → n.level ≡ 0
+    level_is_first zero n is = ap (λ z. z.level) (sym (same_Some first_origin n is))
+    level_is_first (suc v) n is = absurd (cc is)
+
+    reached : AreReached noted refusals (first_origin ∷ [])
+    reached zero n is =
+        subst (IsReachedBy noted refusals (first_origin ∷ []) 0) (same_Some first_origin n is) (refl, [], ([], Whole, refl), refl)
+    reached (suc v) n is = absurd (cc is)
+
+    no_node_open : (row : List Bool) → row ≡ [] → (v : ℕ) → IsOpen row v → ⊥
+    no_node_open row none v o = cc (subst (λ z. IsOpen z v) none o)

@@ -7,7 +7,7 @@ use Rattle.std.proofs.lemmas.Option.{slice_get-get_or, same_Some}
 use Rattle.std.proofs.Math.Dec.{leb}
 use Rattle.ir_states.proofs.CallerLemmas.{more_levels}
 use Rattle.ir_explore.specs.declared.origin.Origin.{Origin}
-use Rattle.ir_explore.specs.Following.{Leading, Keeps, GoesTo}
+use Rattle.ir_explore.specs.Following.{Leading, BothWays, Keeps, GoesTo}
 use Rattle.ir_explore.specs.Levels.{AllFollowed, AllOpen, AreWithin, LevelEnds, AreAsked, Covered, AreGoneOver}
 use Rattle.ir_explore.specs.Origins.{BeginsAt, Adds}
 use Rattle.ir_explore.proofs.Opens.{open_if_element_or_false_true, element_or_false_true_if_open}
@@ -25,10 +25,10 @@ pub opened_if_all_open : (opened : List (List Bool)) (n threads t v : ℕ) → A
 opened_if_all_open opened n threads t v all wide l less =
     element_or_false_true_if_open (get_or opened t []) v (all t (get_or opened t []) l (row_below_length_is_element opened t (omega (arith, l, wide))) v (omega arith) less)
 
-pub opened_node_is_followed : (noted : ℕ → Leading) (opened : List (List Bool)) (t v : ℕ) → AllFollowed noted opened → t < length opened
-    → is_opened_for opened v t ≡ true → GoesTo (noted t) (λ w. is_opened_for opened w t ≡ true) v
-opened_node_is_followed noted opened t v all l is =
-    elim (all t (get_or opened t []) (row_below_length_is_element opened t l) v (open_if_element_or_false_true (get_or opened t []) v is)) [
+pub opened_node_is_followed : (noted : ℕ → BothWays) (opened : List (List Bool)) (t v : ℕ) → AllFollowed noted opened → t < length opened
+    → is_opened_for opened v t ≡ true → (refused : Bool) → GoesTo (noted t refused) (λ w. is_opened_for opened w t ≡ true) v
+opened_node_is_followed noted opened t v all l is refused =
+    elim (all t (get_or opened t []) (row_below_length_is_element opened t l) v (open_if_element_or_false_true (get_or opened t []) v is) refused) [
       | inl none ↦ inl none
       | inr s ↦ inr (s.0, s.1, element_or_false_true_if_open (get_or opened t []) s.0 s.2)
     ]
@@ -47,25 +47,25 @@ element_below_length_exists (x ∷ xs) (suc v) l = element_below_length_exists x
 goes_to_if_notes_kept : (leading more : Leading) (Those : ℕ → Type 0) (v : ℕ) → Keeps leading more → GoesTo leading Those v → GoesTo more Those v
 goes_to_if_notes_kept leading more Those v kept g = elim g [ inl none ↦ inl (kept v None none) | inr s ↦ inr (s.0, kept v (Some s.0) s.1, s.2) ]
 
-pub covered_if_notes_kept : (noted more : ℕ → Leading) (threads : ℕ) (nodes new : List Origin) (c : ℕ) → ((t : ℕ) → Keeps (noted t) (more t))
+pub covered_if_notes_kept : (noted more : ℕ → BothWays) (threads : ℕ) (nodes new : List Origin) (c : ℕ) → ((t : ℕ) (refused : Bool) → Keeps (noted t refused) (more t refused))
     → ((v : ℕ) (n : Origin) → slice_get nodes v ≡ Some n → slice_get new v ≡ Some n) → Covered noted threads nodes c
     → Covered more threads new c
 covered_if_notes_kept noted more threads nodes new c kept stays h = record {
   levels = h.levels;
   opens = h.opens;
-  followed = λ k v t l few is.
-      goes_to_if_notes_kept (noted t) (more t) (λ w. h.levels k w t ≡ true) v (kept t) (h.followed k v t l few is);
+  followed = λ k v t l few is refused.
+      goes_to_if_notes_kept (noted t refused) (more t refused) (λ w. h.levels k w t ≡ true) v (kept t refused) (h.followed k v t l few is refused);
   turned = h.turned;
   within = λ k v t l few is. let n = h.within k v t l few is in (n.0, stays v n.0 n.1, n.2);
 }
 
-pub gone_over_if_notes_kept : (noted more : ℕ → Leading) (threads : ℕ) (nodes new : List Origin) (number : ℕ) → ((t : ℕ) → Keeps (noted t) (more t))
+pub gone_over_if_notes_kept : (noted more : ℕ → BothWays) (threads : ℕ) (nodes new : List Origin) (number : ℕ) → ((t : ℕ) (refused : Bool) → Keeps (noted t refused) (more t refused))
     → ((v : ℕ) (n : Origin) → slice_get nodes v ≡ Some n → slice_get new v ≡ Some n) → AreGoneOver noted threads nodes number
     → AreGoneOver more threads new number
 gone_over_if_notes_kept noted more threads nodes new zero kept stays h = tt
 gone_over_if_notes_kept noted more threads nodes new (suc c) kept stays h = covered_if_notes_kept noted more threads nodes new c kept stays h
 
-module _ (noted : ℕ → Leading) (threads : ℕ) (nodes : List Origin) (opened : List (List Bool)) where
+module _ (noted : ℕ → BothWays) (threads : ℕ) (nodes : List Origin) (opened : List (List Bool)) where
   within_now : (until number : ℕ) → LevelEnds noted threads nodes opened until number → (v t : ℕ) → t < threads → is_opened_for opened v t ≡ true
       → (n : Origin) × (slice_get nodes v ≡ Some n) × (n.level ≤ number)
   within_now until number h v t few is =
@@ -95,15 +95,15 @@ module _ (noted : ℕ → Leading) (threads : ℕ) (nodes : List Origin) (opened
   covered_more until c h now less = record {
     levels = more_levels h.levels c (is_opened_for opened);
     opens = λ t few. up_to h.levels c 0 0 t (omega arith) ∙ h.opens t few;
-    followed = λ k v t l few is. elim (cases_lt c k) [
+    followed = λ k v t l few is refused. elim (cases_lt c k) [
       | inl high ↦
           elim (opened_node_is_followed noted opened t v now.followed (let a = now.threads_are in omega (arith, a, few))
-          (sym (above h.levels c k v t high) ∙ is)) [
+          (sym (above h.levels c k v t high) ∙ is) refused) [
             | inl none ↦ inl none
             | inr s ↦ inr (s.0, s.1, above h.levels c k s.0 t high ∙ s.2)
           ]
       | inr low ↦
-          elim (h.followed k v t low few (sym (up_to h.levels c k v t low) ∙ is)) [
+          elim (h.followed k v t low few (sym (up_to h.levels c k v t low) ∙ is) refused) [
             | inl none ↦ inl none
             | inr s ↦ inr (s.0, s.1, up_to h.levels c k s.0 t low ∙ s.2)
           ]
@@ -128,17 +128,17 @@ module _ (noted : ℕ → Leading) (threads : ℕ) (nodes : List Origin) (opened
 
   pub asked_all : (until number : ℕ) → LevelEnds noted threads nodes opened until number → until ≡ length nodes → (size : ℕ)
       → length nodes ≡ size → AreAsked noted threads size
-  asked_all until number h all size same v t less few =
+  asked_all until number h all size same v t less few refused =
       let l : t < length opened = (let a = h.threads_are in omega (arith, a, few)) in
       elim (opened_node_is_followed noted opened t v h.followed l
-      (opened_if_all_open opened until threads t v h.opens (let a = h.threads_are in omega (arith, a)) few (omega (arith, less, all, same)))) [
+      (opened_if_all_open opened until threads t v h.opens (let a = h.threads_are in omega (arith, a)) few (omega (arith, less, all, same))) refused) [
         | inl none ↦ inl none
         | inr s ↦ inr (s.0, s.1, let a = opened_node_is_within opened (length nodes) t s.0 h.within l s.2 in omega (arith, a, same))
       ]
 
 -- one more level is gone over
-pub gone_over_after_level : (noted more : ℕ → Leading) (threads : ℕ) (nodes new : List Origin) (opened : List (List Bool)) (number : ℕ)
-    → ((t : ℕ) → Keeps (noted t) (more t)) → Adds number nodes new → AreGoneOver noted threads nodes number → 0 < length nodes
+pub gone_over_after_level : (noted more : ℕ → BothWays) (threads : ℕ) (nodes new : List Origin) (opened : List (List Bool)) (number : ℕ)
+    → ((t : ℕ) (refused : Bool) → Keeps (noted t refused) (more t refused)) → Adds number nodes new → AreGoneOver noted threads nodes number → 0 < length nodes
     → LevelEnds more threads new opened (length nodes) number → AreGoneOver more threads new (suc number)
 unfolding covered_if_notes_kept
 gone_over_after_level noted more threads nodes new opened zero kept adds gone some now = covered_start more threads new opened (length nodes) now some
@@ -169,7 +169,7 @@ row_of_empty_rows_is_empty (suc threads) zero row e = sym (same_Some [] row e)
 row_of_empty_rows_is_empty (suc threads) (suc t) row e = row_of_empty_rows_is_empty threads t row e
 
 -- what is gone over up to a level is gone over up to each one before
-pub covered_up_to_lower_level : (noted : ℕ → Leading) (threads : ℕ) (nodes : List Origin) (c d : ℕ) → d ≤ c → Covered noted threads nodes c
+pub covered_up_to_lower_level : (noted : ℕ → BothWays) (threads : ℕ) (nodes : List Origin) (c d : ℕ) → d ≤ c → Covered noted threads nodes c
     → Covered noted threads nodes d
 covered_up_to_lower_level noted threads nodes c d less h = record {
   levels = h.levels;
@@ -179,7 +179,7 @@ covered_up_to_lower_level noted threads nodes c d less h = record {
   within = λ k v t l. h.within k v t (omega (arith, l, less));
 }
 
-pub covered_below_gone_over_level : (noted : ℕ → Leading) (threads : ℕ) (nodes : List Origin) (n d : ℕ) → d < n → AreGoneOver noted threads nodes n
+pub covered_below_gone_over_level : (noted : ℕ → BothWays) (threads : ℕ) (nodes : List Origin) (n d : ℕ) → d < n → AreGoneOver noted threads nodes n
     → Covered noted threads nodes d
 covered_below_gone_over_level noted threads nodes zero d less h = absurd (omega (arith, less))
 covered_below_gone_over_level noted threads nodes (suc c) d less h = covered_up_to_lower_level noted threads nodes c d (omega (arith, less)) h

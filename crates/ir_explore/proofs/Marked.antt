@@ -1,39 +1,39 @@
 -- Ways to marked nodes.
 use Rattle.std.proofs.Common.{◌≡◌, ℕ, ◌+◌, ◌<◌, ◌≤◌, Bool, true, false, true≢false, Some, List, [], ◌∷◌, inl, inr, length, length-set, get_or, slice_set, refl, sym, ◌∙◌, subst, arith}
 use Rattle.std.proofs.lemmas.Bool.{cases_eq}
-use Rattle.ir_explore.specs.Following.{Leading, IsOpen, StaysOpen}
+use Rattle.ir_explore.specs.Following.{BothWays, IsOpen, StaysOpen}
 use Rattle.ir_explore.specs.Ways.{shut, IsBefore, IsMarkedBack, Leads, HasMarked}
 use Rattle.ir_explore.proofs.Opens.{shut_less_after_opening, stays_open_through_opening, open_after_opening_cases}
 use Rattle.ir_explore.proofs.Reached.{place_of_element_is_below_length}
 
-pub open_node_has_marked : (noted : ℕ → Leading) (threads : ℕ) (marks : List Bool) (v : ℕ) → IsOpen marks v → HasMarked noted threads marks v
+pub open_node_has_marked : (noted : ℕ → BothWays) (threads : ℕ) (marks : List Bool) (v : ℕ) → IsOpen marks v → HasMarked noted threads marks v
 open_node_has_marked noted threads marks v is = (place_of_element_is_below_length marks v true is, [], v, refl, is)
 
-pub has_marked_step : (noted : ℕ → Leading) (threads : ℕ) (marks : List Bool) (v t w : ℕ) → v < length marks → t < threads
-    → noted t v ≡ Some (Some w) → HasMarked noted threads marks w → HasMarked noted threads marks v
-has_marked_step noted threads marks v t w less few is (l, ts, x, path, open_at) = (less, t ∷ ts, x, (w, few, is, l, path), open_at)
+pub has_marked_step : (noted : ℕ → BothWays) (threads : ℕ) (marks : List Bool) (v t : ℕ) (refused : Bool) (w : ℕ) → v < length marks → t < threads
+    → noted t refused v ≡ Some (Some w) → HasMarked noted threads marks w → HasMarked noted threads marks v
+has_marked_step noted threads marks v t refused w less few is (l, ts, x, path, open_at) = (less, (t, refused) ∷ ts, x, (w, few, is, l, path), open_at)
 
 -- a way to what has a way
-pub has_marked_through_new_marks : (noted : ℕ → Leading) (threads : ℕ) (old new : List Bool) → length new ≡ length old
+pub has_marked_through_new_marks : (noted : ℕ → BothWays) (threads : ℕ) (old new : List Bool) → length new ≡ length old
     → ((v : ℕ) → IsOpen new v → HasMarked noted threads old v) → (v : ℕ) → HasMarked noted threads new v → HasMarked noted threads old v
 has_marked_through_new_marks noted threads old new same ways v (l, ts, w, path, is) = by ts v l path
   where
-    by : (ts : List ℕ) (v : ℕ) → v < length new → Leads noted threads (length new) v ts w → HasMarked noted threads old v
+    by : (ts : List (ℕ × Bool)) (v : ℕ) → v < length new → Leads noted threads (length new) v ts w → HasMarked noted threads old v
     by [] v l path = subst (HasMarked noted threads old) (sym path) (ways w is)
-    by (t ∷ ts) v l (x, few, to, less, path) =
-        has_marked_step noted threads old v t x (omega (arith, l, same)) few to (by ts x less path)
+    by ((t, refused) ∷ ts) v l (x, few, to, less, path) =
+        has_marked_step noted threads old v t refused x (omega (arith, l, same)) few to (by ts x less path)
 
 -- who has a way is marked, where marks are passed on back
-pub node_with_way_is_marked_back : (noted : ℕ → Leading) (threads : ℕ) (old new : List Bool) → length new ≡ length old → StaysOpen old new
+pub node_with_way_is_marked_back : (noted : ℕ → BothWays) (threads : ℕ) (old new : List Bool) → length new ≡ length old → StaysOpen old new
     → IsMarkedBack noted threads new → (v : ℕ) → HasMarked noted threads old v → IsOpen new v
 node_with_way_is_marked_back noted threads old new same stays back v (l, ts, w, path, is) = by ts v l path
   where
-    by : (ts : List ℕ) (v : ℕ) → v < length old → Leads noted threads (length old) v ts w → IsOpen new v
+    by : (ts : List (ℕ × Bool)) (v : ℕ) → v < length old → Leads noted threads (length old) v ts w → IsOpen new v
     by [] v l path = subst (IsOpen new) (sym path) (stays w is)
-    by (t ∷ ts) v l (x, few, to, less, path) = back v (omega (arith, l, same)) (t, x, few, to, by ts x less path)
+    by ((t, refused) ∷ ts) v l (x, few, to, less, path) = back v (omega (arith, l, same)) (t, refused, x, few, to, by ts x less path)
 
 -- A sweep as far as it has come, over the last k nodes: these were the marks at first, and those are they now.
-pub record Sweeping (noted : ℕ → Leading) (threads : ℕ) (old marks : List Bool) (changed : Bool) (k : ℕ) : Type 0 where
+pub record Sweeping (noted : ℕ → BothWays) (threads : ℕ) (old marks : List Bool) (changed : Bool) (k : ℕ) : Type 0 where
   pub nodes : length marks ≡ length old
   pub stays : StaysOpen old marks
   pub ways : (v : ℕ) → IsOpen marks v → HasMarked noted threads old v
@@ -41,7 +41,7 @@ pub record Sweeping (noted : ℕ → Leading) (threads : ℕ) (old marks : List 
   pub less : changed ≡ true → shut marks < shut old
   pub back : changed ≡ false → (v : ℕ) → length marks ≤ v + k → v < length marks → IsBefore noted threads marks v → IsOpen marks v
 
-pub sweep_starts : (noted : ℕ → Leading) (threads : ℕ) (marks : List Bool) → Sweeping noted threads marks marks false 0
+pub sweep_starts : (noted : ℕ → BothWays) (threads : ℕ) (marks : List Bool) → Sweeping noted threads marks marks false 0
 sweep_starts noted threads marks = record {
   nodes = refl;
   stays = λ v is. is;
@@ -52,17 +52,17 @@ sweep_starts noted threads marks = record {
 }
 
 -- a node is marked
-pub sweep_marks_node : (noted : ℕ → Leading) (threads : ℕ) (old marks : List Bool) (changed : Bool) (k node : ℕ) (d : Bool)
+pub sweep_marks_node : (noted : ℕ → BothWays) (threads : ℕ) (old marks : List Bool) (changed : Bool) (k node : ℕ) (d : Bool)
     → Sweeping noted threads old marks changed k → node < length marks → get_or marks node d ≡ false → IsBefore noted threads marks node
     → Sweeping noted threads old (slice_set marks node true) true (k + 1)
-sweep_marks_node noted threads old marks changed k node d s l unmarked (t, w, few, to, is) =
+sweep_marks_node noted threads old marks changed k node d s l unmarked (t, refused, w, few, to, is) =
     let fewer = shut_less_after_opening marks node d l unmarked in record {
       nodes = length-set marks node true ∙ s.nodes;
       stays = stays_open_through_opening old marks node l s.stays;
       ways = λ v now. elim (open_after_opening_cases marks node v now) [
         | inl before ↦ s.ways v before
         | inr same ↦ subst (HasMarked noted threads old) (sym same)
-            (has_marked_step noted threads old node t w (let a = s.nodes in omega (arith, a, l)) few to (s.ways w is))
+            (has_marked_step noted threads old node t refused w (let a = s.nodes in omega (arith, a, l)) few to (s.ways w is))
       ];
       most = let a = s.most in omega (arith, a, fewer);
       less = λ _. let a = s.most in omega (arith, a, fewer);
@@ -70,7 +70,7 @@ sweep_marks_node noted threads old marks changed k node d s l unmarked (t, w, fe
     }
 
 -- a node stays as it is
-pub sweep_leaves_node : (noted : ℕ → Leading) (threads : ℕ) (old marks : List Bool) (changed : Bool) (k node : ℕ)
+pub sweep_leaves_node : (noted : ℕ → BothWays) (threads : ℕ) (old marks : List Bool) (changed : Bool) (k node : ℕ)
     → Sweeping noted threads old marks changed k → node + (k + 1) ≡ length marks → (IsBefore noted threads marks node → IsOpen marks node)
     → Sweeping noted threads old marks changed (k + 1)
 sweep_leaves_node noted threads old marks changed k node s here is = record {

@@ -1,15 +1,17 @@
 -- What a search over numbers has gone over is gone over of the machine.
 use Rattle.std.proofs.Common.{◌≡◌, ℕ, suc, zero, ◌<◌, ◌≤◌, Bool, true, cond, eq-eqb, ne_eqb, Some, List, [], ◌∷◌, ◌++◌, ◌⊎◌, inl, inr, length, refl, sym, ap, ◌∙◌, subst, arith}
-use Rattle.std.specs.Prelude.{slice_get, replicate}
+use Rattle.std.specs.Prelude.{map, slice_get, replicate}
 use Rattle.std.proofs.lemmas.Bool.{cases_eq, cases_lt}
 use Rattle.ir_runs.specs.Machine.{Machine}
-use Rattle.ir_runs.specs.Run.{State, IsDone}
+use Rattle.ir_runs.specs.Run.{State, act, IsDone}
 use Rattle.ir_states.specs.Counting.{Answers}
 use Rattle.ir_states.specs.Nodes.{Path}
+use Rattle.ir_states.specs.Orders.{is_refusal}
 use Rattle.ir_states.specs.Outcomes.{changes, switches, IsFinished, Covers, HasWay}
 use Rattle.ir_states.proofs.CallerLemmas.{path_append}
 use Rattle.ir_explore.specs.declared.origin.Origin.{Origin}
-use Rattle.ir_explore.specs.Following.{Leading, IsOpen}
+use Rattle.ir_explore.specs.declared.origin.Refusal.{Refusal}
+use Rattle.ir_explore.specs.Following.{BothWays, IsOpen}
 use Rattle.ir_explore.specs.Levels.{AreAsked, Covered}
 use Rattle.ir_explore.specs.Meaning.{Means, Steps}
 use Rattle.ir_explore.specs.Origins.{Goes, BeginsAt, first_origin, AreReached, LeadsBy}
@@ -59,83 +61,90 @@ switches_of_replicated_thread u zero = omega arith
 switches_of_replicated_thread u (suc n) = let h = changes_of_replicated_thread u n in omega (arith, h)
 
 module _ {T : Type 0} (m : Machine T) (answers : Answers T) (Alike : State T → State T → Type 0) (s : State T) (state_of : ℕ → State T)
-    (noted : ℕ → Leading) (threads size : ℕ) (means : Means m answers Alike s state_of noted threads size) where
+    (noted : ℕ → BothWays) (threads size : ℕ) (means : Means m answers Alike s state_of noted threads size) where
   -- a thread's turn is a path
-  goes_path : (t n v w : ℕ) → v < size → Goes (noted t) size v n w → Path (Steps m state_of noted size) v (replicate n t) w
-  goes_path t zero v w l g = g
-  goes_path t (suc n) v w l g =
-      let c = means.can t v g.0 l g.1 in (c.0, g.0, (g.1, l, g.2, c.1), goes_path t n g.0 w g.2 g.3)
+  goes_path : (t : ℕ) (ways : List Bool) (v w : ℕ) → v < size → Goes (noted t) size v ways w
+      → Path (Steps m state_of noted size) v (replicate (length ways) t) w
+  goes_path t [] v w l g = g
+  goes_path t (refused ∷ ways) v w l g =
+      let c = means.can t refused v g.0 l g.1 in
+      let is : noted t (is_refusal (act m (state_of v) (t, c.0))) v ≡ Some (Some g.0) = subst (λ z. noted t z v ≡ Some (Some g.0)) (sym c.2) g.1 in
+      (c.0, g.0, (is, l, g.2, c.1), goes_path t ways g.0 w g.2 g.3)
 
   -- An order of threads leads to each node, with as many switches at most as its level.
-  pub node_order : (nodes : List Origin) → AreReached noted nodes → length nodes ≡ size → 0 < size → (k v : ℕ) (n : Origin)
-      → slice_get nodes v ≡ Some n → n.level ≡ k
-      → (ts : List ℕ) × LeadsBy nodes k v ts × Path (Steps m state_of noted size) 0 ts v × (switches ts ≤ k)
-  node_order nodes reached all some zero v n is same =
+  pub node_order : (nodes : List Origin) (refusals : List Refusal) → AreReached noted refusals nodes → length nodes ≡ size → 0 < size
+      → (k v : ℕ) (n : Origin) → slice_get nodes v ≡ Some n → n.level ≡ k
+      → (ts : List ℕ) × LeadsBy refusals nodes k v ts × Path (Steps m state_of noted size) 0 ts v × (switches ts ≤ k)
+  node_order nodes refusals reached all some zero v n is same =
       let r = reached v n is in
       let first : n.from ≡ 0 = subst (λ z. BeginsAt nodes z n.from) same r.0 in
-      let goes : Goes (noted n.thread) size 0 n.entries v =
-      subst (λ z. Goes (noted n.thread) size z n.entries v) first
-      (subst (λ z. Goes (noted n.thread) z n.from n.entries v) all r.1) in (
-        replicate n.entries n.thread,
-        (n, is, refl),
-        goes_path n.thread n.entries 0 v some goes,
-        switches_of_replicated_thread n.thread n.entries,
+      let goes : Goes (noted n.thread) size 0 r.1 v =
+      subst (λ z. Goes (noted n.thread) size z r.1 v) first
+      (subst (λ z. Goes (noted n.thread) z n.from r.1 v) all r.3) in (
+        replicate (length r.1) n.thread,
+        (n, is, r.1, r.2, refl),
+        goes_path n.thread r.1 0 v some goes,
+        switches_of_replicated_thread n.thread (length r.1),
       )
-  node_order nodes reached all some (suc k) v n is same =
+  node_order nodes refusals reached all some (suc k) v n is same =
       let r = reached v n is in
       let before : BeginsAt nodes (suc k) n.from = subst (λ z. BeginsAt nodes z n.from) same r.0 in
-      let from = node_order nodes reached all some k n.from before.0 before.1 before.2 in
+      let from = node_order nodes refusals reached all some k n.from before.0 before.1 before.2 in
       let l : n.from < size = (let h = place_of_element_is_below_length nodes n.from before.0 before.1 in omega (arith, h, all)) in
-      let goes = subst (λ z. Goes (noted n.thread) z n.from n.entries v) all r.1 in (
-        from.0 ++ replicate n.entries n.thread,
-        (n, is, from.0, from.1, refl),
-        path_append (Steps m state_of noted size) 0 n.from v from.0 (replicate n.entries n.thread) from.2
-            (goes_path n.thread n.entries n.from v l goes),
-        let a = switches_after_repeated_turn from.0 n.thread n.entries in let b = from.3 in omega (arith, a, b),
+      let goes = subst (λ z. Goes (noted n.thread) z n.from r.1 v) all r.3 in (
+        from.0 ++ replicate (length r.1) n.thread,
+        (n, is, from.0, from.1, r.1, r.2, refl),
+        path_append (Steps m state_of noted size) 0 n.from v from.0 (replicate (length r.1) n.thread) from.2
+            (goes_path n.thread r.1 n.from v l goes),
+        let a = switches_after_repeated_turn from.0 n.thread (length r.1) in let b = from.3 in omega (arith, a, b),
       )
 
   -- where each thread was asked at each node, the search is finished
-  pub asked_finished : (nodes : List Origin) → AreReached noted nodes → length nodes ≡ size → 0 < size → AreAsked noted threads size
+  pub asked_finished : (nodes : List Origin) (refusals : List Refusal) → AreReached noted refusals nodes → length nodes ≡ size → 0 < size → AreAsked noted threads size
       → IsFinished m answers Alike s state_of (λ v. v < size) (Steps m state_of noted size) 0
-  asked_finished nodes reached all some asked = record {
+  asked_finished nodes refusals reached all some asked = record {
     begins = means.begins;
     is = some;
     at_rest = means.at_rest;
-    leads = λ v l e w n. (n.2, means.leads e.0 v w l n.0 e refl n.3);
+    leads = λ v l e w n. (n.2, means.leads e.0 (is_refusal (act m (state_of v) e)) v w l n.0 e refl refl n.3);
     followed = λ v l e can. elim (cases_lt e.0 threads) [
-      | inl few ↦ elim (asked v e.0 l few) [
-        | inl none ↦ absurd (means.stays e.0 v l none e refl can)
+      | inl few ↦ elim (asked v e.0 l few (is_refusal (act m (state_of v) e))) [
+        | inl none ↦ absurd (means.stays e.0 (is_refusal (act m (state_of v) e)) v l none e refl refl can)
         | inr to ↦ (to.0, (to.1, l, to.2, can))
       ]
       | inr many ↦ absurd (means.idle v l e many can)
     ];
     reached = λ v l.
         let n = element_below_length_exists nodes v (omega (arith, l, all)) in
-        let o = node_order nodes reached all some n.0.level v n.0 n.1 refl in
+        let o = node_order nodes refusals reached all some n.0.level v n.0 n.1 refl in
         (o.0, o.2);
   }
 
   -- an order that leads to a marked node is a way, where the marked ones are done
   pub marked_way : (marks : List Bool) → length marks ≡ size → ((w : ℕ) → IsOpen marks w → IsDone m (state_of w)) → (v : ℕ)
       → HasMarked noted threads marks v → HasWay m state_of (Steps m state_of noted size) v
-  marked_way marks all done v (less, ts, w, path, is) = (ts, w, by ts v (omega (arith, less, all)) path, done w is)
+  marked_way marks all done v (less, ts, w, path, is) = (map (λ e. e.0) ts, w, by ts v (omega (arith, less, all)) path, done w is)
     where
-      by : (ts : List ℕ) (v : ℕ) → v < size → Leads noted threads (length marks) v ts w → Path (Steps m state_of noted size) v ts w
+      by : (ts : List (ℕ × Bool)) (v : ℕ) → v < size → Leads noted threads (length marks) v ts w → Path (Steps m state_of noted size) v (map (λ e. e.0) ts) w
       by [] v l path = path
-      by (t ∷ ts) v l (x, few, to, within, path) =
+      by ((t, refused) ∷ ts) v l (x, few, to, within, path) =
           let next : x < size = omega (arith, within, all) in
-          let c = means.can t v x l to in (c.0, x, (to, l, next, c.1), by ts x next path)
+          let c = means.can t refused v x l to in
+          (c.0, x, (subst (λ z. noted t z v ≡ Some (Some x)) (sym c.2) to, l, next, c.1), by ts x next path)
 
   -- a way is an order that leads to a marked node, where the done ones are marked
   pub way_to_marked : (marks : List Bool) → length marks ≡ size → ((w : ℕ) → w < size → IsDone m (state_of w) → IsOpen marks w) → (v : ℕ)
       → v < size → HasWay m state_of (Steps m state_of noted size) v → HasMarked noted threads marks v
   way_to_marked marks all marked v l (ts, w, path, done) =
-      let p = by ts v l path in (omega (arith, l, all), ts, w, p.0, marked w p.1 done)
+      let p = by ts v l path in (omega (arith, l, all), p.0, w, p.1, marked w p.2 done)
     where
-      by : (ts : List ℕ) (v : ℕ) → v < size → Path (Steps m state_of noted size) v ts w → Leads noted threads (length marks) v ts w × (w < size)
-      by [] v l path = (path, subst (λ z. z < size) path l)
+      by : (ts : List ℕ) (v : ℕ) → v < size → Path (Steps m state_of noted size) v ts w
+          → (us : List (ℕ × Bool)) × Leads noted threads (length marks) v us w × (w < size)
+      by [] v l path = ([], path, subst (λ z. z < size) path l)
       by (t ∷ ts) v l (r, x, (to, here, next, can), path) = elim (cases_lt t threads) [
-        | inl few ↦ let p = by ts x next path in ((x, few, to, omega (arith, next, all), p.0), p.1)
+        | inl few ↦
+            let p = by ts x next path in
+            ((t, is_refusal (act m (state_of v) (t, r))) ∷ p.0, (x, few, to, omega (arith, next, all), p.1), p.2)
         | inr many ↦ absurd (means.idle v l (t, r) many can)
       ]
 
@@ -156,8 +165,8 @@ module _ {T : Type 0} (m : Machine T) (answers : Answers T) (Alike : State T →
         followed = λ k v e o can.
             let l : v < size = inside v o.1.0 o.1.1 in
             elim (cases_lt e.0 threads) [
-              | inl few ↦ elim (h.followed k v e.0 o.0 few (o.2 e.0 few (inl refl))) [
-                | inl none ↦ absurd (means.stays e.0 v l none e refl can)
+              | inl few ↦ elim (h.followed k v e.0 o.0 few (o.2 e.0 few (inl refl)) (is_refusal (act m (state_of v) e))) [
+                | inl none ↦ absurd (means.stays e.0 (is_refusal (act m (state_of v) e)) v l none e refl refl can)
                 | inr to ↦ (
                   to.0,
                   (
@@ -168,7 +177,7 @@ module _ {T : Type 0} (m : Machine T) (answers : Answers T) (Alike : State T →
                       | inr many ↦ absurd (omega (arith, few, many))
                     ],
                   ),
-                  means.leads e.0 v to.0 l to.1 e refl can,
+                  means.leads e.0 (is_refusal (act m (state_of v) e)) v to.0 l to.1 e refl refl can,
                 )
               ]
               | inr many ↦ absurd (means.idle v l e many can)

@@ -1,11 +1,13 @@
 -- How nodes are reached, as a search finds more.
-use Rattle.std.proofs.Common.{◌≡◌, ℕ, suc, zero, ◌<◌, ◌≤◌, Some, List, [], ◌∷◌, ◌++◌, ◌⊎◌, inl, inr, length, length-append, refl, sym, ap, ◌∙◌, subst, arith}
-use Rattle.std.specs.Prelude.{slice_get}
+use Rattle.std.proofs.Common.{◌≡◌, ℕ, suc, zero, ◌<◌, ◌≤◌, Bool, true, false, Some, List, [], ◌∷◌, ◌++◌, ◌⊎◌, inl, inr, length, length-append, append_assoc, append-nil, refl, sym, ap, ◌∙◌, subst, arith}
+use Rattle.std.specs.Prelude.{slice_get, replicate}
 use Rattle.std.proofs.lemmas.Bool.{cases_lt}
 use Rattle.std.proofs.lemmas.Option.{same_Some}
 use Rattle.ir_explore.specs.declared.origin.Origin.{Origin}
-use Rattle.ir_explore.specs.Following.{Leading, Keeps}
-use Rattle.ir_explore.specs.Origins.{Goes, BeginsAt, AreReached, AreRising, Adds}
+use Rattle.ir_explore.specs.declared.origin.Refusal.{Refusal}
+use Rattle.ir_explore.specs.Following.{BothWays, Keeps, Stay}
+use Rattle.ir_explore.specs.Going.{IsAfter}
+use Rattle.ir_explore.specs.Origins.{Goes, Spells, Whole, Refused, AreWaysOf, BeginsAt, IsReachedBy, AreReached, AreRising, Adds}
 
 -- what is at a place of a list with one more
 pub slice_get_after_push_cases : {A : Type 0} (xs : List A) (y : A) (v : ℕ) (n : A) → slice_get (xs ++ y ∷ []) v ≡ Some n
@@ -25,49 +27,117 @@ place_of_element_is_below_length [] v n e = absurd (cc e)
 place_of_element_is_below_length (x ∷ xs) zero n e = omega arith
 place_of_element_is_below_length (x ∷ xs) (suc v) n e = let h = place_of_element_is_below_length xs v n e in omega (arith, h)
 
-pub goes_if_notes_kept : (leading more : Leading) (size wide : ℕ) → Keeps leading more → size ≤ wide → (n v w : ℕ) → Goes leading size v n w
-    → Goes more wide v n w
-goes_if_notes_kept leading more size wide kept l zero v w g = g
-goes_if_notes_kept leading more size wide kept l (suc n) v w g =
-    (g.0, kept v (Some g.0) g.1, let a = g.2 in omega (arith, a, l), goes_if_notes_kept leading more size wide kept l n g.0 w g.3)
+pub goes_if_notes_kept : (leading more : BothWays) (size wide : ℕ) → ((refused : Bool) → Keeps (leading refused) (more refused)) → size ≤ wide
+    → (ways : List Bool) (v w : ℕ) → Goes leading size v ways w → Goes more wide v ways w
+goes_if_notes_kept leading more size wide kept l [] v w g = g
+goes_if_notes_kept leading more size wide kept l (refused ∷ ways) v w g =
+    (g.0, kept refused v (Some g.0) g.1, let a = g.2 in omega (arith, a, l), goes_if_notes_kept leading more size wide kept l ways g.0 w g.3)
 
 -- one step more
-pub goes_one_step_further : (leading : Leading) (size n v w x : ℕ) → Goes leading size v n w → leading w ≡ Some (Some x) → x < size
-    → Goes leading size v (suc n) x
-goes_one_step_further leading size zero v w x g is l = (x, ap leading g ∙ is, l, refl)
-goes_one_step_further leading size (suc n) v w x g is l = (g.0, g.1, g.2, goes_one_step_further leading size n g.0 w x g.3 is l)
+pub goes_one_step_further : (leading : BothWays) (size : ℕ) (ways : List Bool) (refused : Bool) (v w x : ℕ) → Goes leading size v ways w
+    → leading refused w ≡ Some (Some x) → x < size → Goes leading size v (ways ++ refused ∷ []) x
+goes_one_step_further leading size [] refused v w x g is l = (x, ap (leading refused) g ∙ is, l, refl)
+goes_one_step_further leading size (way ∷ ways) refused v w x g is l =
+    (g.0, g.1, g.2, goes_one_step_further leading size ways refused g.0 w x g.3 is l)
+
+pub spells_if_table_grows : (old new : List Refusal) → Stay old new → (number : ℕ) (ways : List Bool) → Spells old number ways → Spells new number ways
+spells_if_table_grows old new stay number ways Whole = Whole
+spells_if_table_grows old new stay number ways (Refused i x before at s) =
+    Refused i x before (stay i x at) (spells_if_table_grows old new stay x.before before s)
 
 pub begins_at_if_nodes_kept : (nodes more : List Origin) → ((v : ℕ) (n : Origin) → slice_get nodes v ≡ Some n → slice_get more v ≡ Some n)
     → (k from : ℕ) → BeginsAt nodes k from → BeginsAt more k from
 begins_at_if_nodes_kept nodes more stays zero from b = b
 begins_at_if_nodes_kept nodes more stays (suc k) from b = (b.0, stays from b.0 b.1, b.2)
 
-pub reached_if_notes_kept : (noted more : ℕ → Leading) (nodes : List Origin) → ((t : ℕ) → Keeps (noted t) (more t)) → AreReached noted nodes
-    → AreReached more nodes
-reached_if_notes_kept noted more nodes kept r v n e =
-    let h = r v n e in
-    (h.0, goes_if_notes_kept (noted n.thread) (more n.thread) (length nodes) (length nodes) (kept n.thread) (omega arith) n.entries n.from v h.1)
+-- what was noted stays, of each thread and way
+abbrev pub AllKept : (ℕ → BothWays) → (ℕ → BothWays) → Type 0
+AllKept noted more = (t : ℕ) (refused : Bool) → Keeps (noted t refused) (more t refused)
+
+pub reached_by_if_grown : (noted more : ℕ → BothWays) (refusals table : List Refusal) (nodes new : List Origin) → AllKept noted more
+    → Stay refusals table → Stay nodes new → length nodes ≤ length new → (v : ℕ) (n : Origin) → IsReachedBy noted refusals nodes v n
+    → IsReachedBy more table new v n
+reached_by_if_grown noted more refusals table nodes new kept stay stays longer v n r = (
+  begins_at_if_nodes_kept nodes new stays n.level n.from r.0,
+  r.1,
+  (r.2.0, spells_if_table_grows refusals table stay n.refusals r.2.0 r.2.1, r.2.2),
+  goes_if_notes_kept (noted n.thread) (more n.thread) (length nodes) (length new) (kept n.thread) longer r.1 n.from v r.3,
+)
+
+pub reached_if_notes_kept : (noted more : ℕ → BothWays) (refusals table : List Refusal) (nodes : List Origin) → AllKept noted more
+    → Stay refusals table → AreReached noted refusals nodes → AreReached more table nodes
+reached_if_notes_kept noted more refusals table nodes kept stay r v n e =
+    reached_by_if_grown noted more refusals table nodes nodes kept stay (λ u m is. is) (omega arith) v n (r v n e)
 
 -- a node more, reached as its origin says
-pub reached_after_node_added : (noted : ℕ → Leading) (nodes : List Origin) (new : Origin) → AreReached noted nodes
-    → BeginsAt nodes new.level new.from
-    → Goes (noted new.thread) (suc (length nodes)) new.from new.entries (length nodes) → AreReached noted (nodes ++ new ∷ [])
-reached_after_node_added noted nodes new r b g v n e =
-    let size : length (nodes ++ new ∷ []) ≡ suc (length nodes) =
-    (let h = length-append nodes (new ∷ []) in omega (arith, h)) in
-    let stays = begins_at_if_nodes_kept nodes (nodes ++ new ∷ []) (λ u m is. slice_get_kept_by_append nodes (new ∷ []) u m is) in
-    elim (slice_get_after_push_cases nodes new v n e) [
-      | inl old ↦ let h = r v n old in (
-        stays n.level n.from h.0,
-        goes_if_notes_kept (noted n.thread) (noted n.thread) (length nodes) _ (λ u next is. is) (omega (arith, size)) n.entries n.from v h.1,
-      )
-      | inr p ↦ subst (λ z. BeginsAt (nodes ++ new ∷ []) z.level z.from × Goes (noted z.thread) (length (nodes ++ new ∷ [])) z.from z.entries v)
-          p.1 (
-            stays new.level new.from b,
-            subst (λ z. Goes (noted new.thread) z new.from new.entries v) (sym size)
-                (subst (Goes (noted new.thread) (suc (length nodes)) new.from new.entries) (sym p.0) g),
-          )
-    ]
+pub reached_after_node_added : (noted more : ℕ → BothWays) (refusals table : List Refusal) (nodes : List Origin) (new : Origin) → AllKept noted more
+    → Stay refusals table → AreReached noted refusals nodes → IsReachedBy more table (nodes ++ new ∷ []) (length nodes) new
+    → AreReached more table (nodes ++ new ∷ [])
+reached_after_node_added noted more refusals table nodes new kept stay r by v n e = elim (slice_get_after_push_cases nodes new v n e) [
+  | inl old ↦
+      reached_by_if_grown noted more refusals table nodes (nodes ++ new ∷ []) kept stay
+      (λ u m is. slice_get_kept_by_append nodes (new ∷ []) u m is) (let h = length-append nodes (new ∷ []) in omega (arith, h)) v n (r v n old)
+  | inr p ↦ subst (λ z. IsReachedBy more table (nodes ++ new ∷ []) v z) p.1
+      (subst (λ z. IsReachedBy more table (nodes ++ new ∷ []) z new) (sym p.0) by)
+]
+
+pub added_element_is_last : {A : Type 0} (xs : List A) (y : A) → slice_get (xs ++ y ∷ []) (length xs) ≡ Some y
+added_element_is_last [] y = refl
+added_element_is_last (x ∷ xs) y = added_element_is_last xs y
+
+replicate_and_one_more : (n : ℕ) → replicate n false ++ false ∷ [] ≡ replicate (suc n) false
+replicate_and_one_more zero = refl
+replicate_and_one_more (suc n) = ap (λ z. false ∷ z) (replicate_and_one_more n)
+
+pub table_stays_after_step : (refusals table : List Refusal) (n : Origin) (refused : Bool) (next : Origin) → IsAfter refusals table n refused next
+    → Stay refusals table
+table_stays_after_step refusals table n false next a v x is = subst (λ z. slice_get z v ≡ Some x) (sym a.0) is
+table_stays_after_step refusals table n true next a v x is =
+    subst (λ z. slice_get z v ≡ Some x) (sym a.0) (slice_get_kept_by_append refusals (record { before = n.refusals; entries = n.entries } ∷ []) v x is)
+
+-- the ways of a turn that goes on by one more
+ways_after_step : (refusals table : List Refusal) (n : Origin) (refused : Bool) (next : Origin) → IsAfter refusals table n refused next
+    → (ways : List Bool) → AreWaysOf refusals n ways → AreWaysOf table next (ways ++ refused ∷ [])
+ways_after_step refusals table n false next a ways (before, spelled, is) =
+    subst (λ z. AreWaysOf table z (ways ++ false ∷ [])) (sym a.1) (
+      before,
+      spells_if_table_grows refusals table (table_stays_after_step refusals table n false next a) n.refusals before spelled,
+      ap (λ z. z ++ false ∷ []) is ∙ append_assoc before (replicate n.entries false) (false ∷ []) ∙ ap (λ z. before ++ z) (replicate_and_one_more n.entries),
+    )
+ways_after_step refusals table n true next a ways (before, spelled, is) =
+    let last : Refusal = record { before = n.refusals; entries = n.entries } in
+    let at : slice_get table (length refusals) ≡ Some last =
+    subst (λ z. slice_get z (length refusals) ≡ Some last) (sym a.0) (added_element_is_last refusals last) in
+    let all : List Bool = before ++ replicate n.entries false ++ true ∷ [] in
+    subst (λ z. AreWaysOf table z (ways ++ true ∷ [])) (sym a.1) (
+      all,
+      Refused (length refusals) last before at
+          (spells_if_table_grows refusals table (table_stays_after_step refusals table n true next a) n.refusals before spelled),
+      ap (λ z. z ++ true ∷ []) is ∙ sym (append-nil all),
+    )
+
+pub after_step_is_in_turn : (refusals table : List Refusal) (n : Origin) (refused : Bool) (next : Origin) → IsAfter refusals table n refused next
+    → (next.from ≡ n.from) × (next.thread ≡ n.thread) × (next.level ≡ n.level)
+after_step_is_in_turn refusals table n false next a =
+    (ap (λ z. z.from) a.1, ap (λ z. z.thread) a.1, ap (λ z. z.level) a.1)
+after_step_is_in_turn refusals table n true next a =
+    (ap (λ z. z.from) a.1, ap (λ z. z.thread) a.1, ap (λ z. z.level) a.1)
+
+-- by one step more
+pub reached_by_after_step : (noted more : ℕ → BothWays) (refusals table : List Refusal) (nodes new : List Origin) → AllKept noted more
+    → Stay nodes new → length nodes ≤ length new → (v w : ℕ) (n : Origin) (refused : Bool) (next : Origin) → IsAfter refusals table n refused next
+    → IsReachedBy noted refusals nodes v n → more n.thread refused v ≡ Some (Some w) → w < length new → IsReachedBy more table new w next
+reached_by_after_step noted more refusals table nodes new kept stays longer v w n refused next after r is less =
+    let t = after_step_is_in_turn refusals table n refused next after in
+    let goes : Goes (more n.thread) (length new) n.from (r.1 ++ refused ∷ []) w =
+    goes_one_step_further (more n.thread) (length new) r.1 refused n.from v w
+    (goes_if_notes_kept (noted n.thread) (more n.thread) (length nodes) (length new) (kept n.thread) longer r.1 n.from v r.3) is less in (
+      subst (λ z. BeginsAt new z next.from) (sym t.2) (subst (λ z. BeginsAt new n.level z) (sym t.0) (begins_at_if_nodes_kept nodes new stays n.level n.from r.0)),
+      r.1 ++ refused ∷ [],
+      ways_after_step refusals table n refused next after r.1 r.2,
+      subst (λ z. Goes (more z) (length new) next.from (r.1 ++ refused ∷ []) w) (sym t.1)
+          (subst (λ z. Goes (more n.thread) (length new) z (r.1 ++ refused ∷ []) w) (sym t.0) goes),
+    )
 
 pub adds_reflexive : (k : ℕ) (nodes : List Origin) → Adds k nodes nodes
 adds_reflexive k nodes = record {

@@ -2,9 +2,13 @@
 use Rattle.std.specs.Prelude.{◌≡◌, ℕ, ◌≤◌, ◌<◌, Bool, true, List, ◌⊎◌, Some, None, slice_get}
 use Rattle.std.specs.declared.option.Option.{Option}
 
--- where the thread leads from each node: it hasn't been asked, to no node, or to this one
+-- where a thread leads from each node by one way: it hasn't been asked, to no node, or to this one
 abbrev pub Leading : Type 0
 Leading = ℕ → Option (Option ℕ)
+
+-- the two ways of a thread: its try is refused, or it takes any other step
+abbrev pub BothWays : Type 0
+BothWays = Bool → Leading
 
 -- what was noted stays
 abbrev pub Keeps : Leading → Leading → Type 0
@@ -26,13 +30,9 @@ StaysOpen old new = (v : ℕ) → IsOpen old v → IsOpen new v
 abbrev pub GoesTo : Leading → (ℕ → Type 0) → ℕ → Type 0
 GoesTo leading Those v = (leading v ≡ Some None) ⊎ ((w : ℕ) × (leading v ≡ Some (Some w)) × Those w)
 
--- from each opened node the thread can't go on, or it goes on to an opened one
-abbrev pub IsFollowed : Leading → List Bool → Type 0
-IsFollowed leading opened = (v : ℕ) → IsOpen opened v → GoesTo leading (IsOpen opened) v
-
--- the same, but for the node in hand, to which it may go on too
-abbrev pub IsFollowedTo : Leading → List Bool → ℕ → Type 0
-IsFollowedTo leading opened x = (v : ℕ) → IsOpen opened v → GoesTo leading (λ w. IsOpen opened w ⊎ (w ≡ x)) v
+-- by each way the thread can't go on from each opened node, or it goes on to an opened one
+abbrev pub IsFollowed : BothWays → List Bool → Type 0
+IsFollowed leading opened = (v : ℕ) → IsOpen opened v → (refused : Bool) → GoesTo (leading refused) (IsOpen opened) v
 
 -- each node from `first` on below `until` is opened
 abbrev pub AreOpen : List Bool → ℕ → ℕ → Type 0

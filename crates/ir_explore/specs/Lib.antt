@@ -3,4 +3,5 @@ pub mod Meaning
 pub mod Origins
 pub mod Levels
 pub mod Ways
+pub mod Going
 pub mod Searching

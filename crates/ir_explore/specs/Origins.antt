@@ -1,13 +1,25 @@
 -- How a search came to each of its nodes.
-use Rattle.std.specs.Prelude.{◌≡◌, ℕ, suc, zero, ◌≤◌, ◌<◌, List, ◌++◌, replicate, length, Some, slice_get}
+use Rattle.std.specs.Prelude.{◌≡◌, ℕ, suc, zero, ◌≤◌, ◌<◌, Bool, true, false, List, [], ◌∷◌, ◌++◌, replicate, length, Some, slice_get}
 use Rattle.ir_explore.specs.declared.origin.Level.{Level}
 use Rattle.ir_explore.specs.declared.origin.Origin.{Origin}
-use Rattle.ir_explore.specs.Following.{Leading}
+use Rattle.ir_explore.specs.declared.origin.Refusal.{Refusal}
+use Rattle.ir_explore.specs.Following.{BothWays}
 
--- by n steps of the thread from node v to node w, over nodes below `size`
-abbrev pub Goes : Leading → ℕ → ℕ → ℕ → ℕ → Type 0
-Goes leading size v zero w = v ≡ w
-Goes leading size v (suc n) w = (x : ℕ) × (leading v ≡ Some (Some x)) × (x < size) × Goes leading size x n w
+-- by these ways of the thread, one after the other, from node v to node w, over nodes below `size`
+abbrev pub Goes : BothWays → ℕ → ℕ → List Bool → ℕ → Type 0
+Goes leading size v [] w = v ≡ w
+Goes leading size v (refused ∷ ways) w = (x : ℕ) × (leading refused v ≡ Some (Some x)) × (x < size) × Goes leading size x ways w
+
+-- The ways that the table has under a number: under 0 there are none. Each other number is a place and 1, and what stands there gives the
+-- ways under an earlier number, then so many that aren't refused, and then one that is.
+pub data Spells (refusals : List Refusal) : ℕ → List Bool → Type 0 where
+  Whole : Spells refusals zero []
+  Refused : (i : ℕ) → (x : Refusal) → (before : List Bool) → slice_get refusals i ≡ Some x → Spells refusals x.before before
+      → Spells refusals (suc i) (before ++ replicate x.entries false ++ true ∷ [])
+
+-- the ways of a turn: those under its number, and then so many that aren't refused
+abbrev pub AreWaysOf : List Refusal → Origin → List Bool → Type 0
+AreWaysOf refusals n ways = (before : List Bool) × Spells refusals n.refusals before × (ways ≡ before ++ replicate n.entries false)
 
 -- in level k a turn may begin at this node: at the first, or at one of the level before
 abbrev pub BeginsAt : List Origin → ℕ → ℕ → Type 0
@@ -16,12 +28,16 @@ BeginsAt nodes (suc k) from = (n : Origin) × (slice_get nodes from ≡ Some n) 
 
 -- the first node, where the search began
 abbrev pub first_origin : Origin
-first_origin = record { from = 0; thread = 0; entries = 0; level = 0 }
+first_origin = record { from = 0; thread = 0; refusals = 0; entries = 0; level = 0 }
+
+-- node v was reached so: a turn may begin where this one did, and its ways lead from there to v
+abbrev pub IsReachedBy : (ℕ → BothWays) → List Refusal → List Origin → ℕ → Origin → Type 0
+IsReachedBy noted refusals nodes v n = BeginsAt nodes n.level n.from
+    × (ways : List Bool) × AreWaysOf refusals n ways × Goes (noted n.thread) (length nodes) n.from ways v
 
 -- each node was reached as its origin says
-abbrev pub AreReached : (ℕ → Leading) → List Origin → Type 0
-AreReached noted nodes = (v : ℕ) (n : Origin) → slice_get nodes v ≡ Some n
-    → BeginsAt nodes n.level n.from × Goes (noted n.thread) (length nodes) n.from n.entries v
+abbrev pub AreReached : (ℕ → BothWays) → List Refusal → List Origin → Type 0
+AreReached noted refusals nodes = (v : ℕ) (n : Origin) → slice_get nodes v ≡ Some n → IsReachedBy noted refusals nodes v n
 
 -- in this level a turn may begin at each of its nodes
 abbrev pub IsLevel : List Origin → Level → Type 0
@@ -38,7 +54,8 @@ pub record Adds (k : ℕ) (old new : List Origin) : Type 0 where
   pub longer : length old ≤ length new
 
 -- this order of threads leads to a node of level k
-abbrev pub LeadsBy : List Origin → ℕ → ℕ → List ℕ → Type 0
-LeadsBy nodes zero v ts = (n : Origin) × (slice_get nodes v ≡ Some n) × (ts ≡ replicate n.entries n.thread)
-LeadsBy nodes (suc k) v ts = (n : Origin) × (slice_get nodes v ≡ Some n) × (us : List ℕ) × LeadsBy nodes k n.from us
-    × (ts ≡ us ++ replicate n.entries n.thread)
+abbrev pub LeadsBy : List Refusal → List Origin → ℕ → ℕ → List ℕ → Type 0
+LeadsBy refusals nodes zero v ts = (n : Origin) × (slice_get nodes v ≡ Some n)
+    × (ways : List Bool) × AreWaysOf refusals n ways × (ts ≡ replicate (length ways) n.thread)
+LeadsBy refusals nodes (suc k) v ts = (n : Origin) × (slice_get nodes v ≡ Some n) × (us : List ℕ) × LeadsBy refusals nodes k n.from us
+    × (ways : List Bool) × AreWaysOf refusals n ways × (ts ≡ us ++ replicate (length ways) n.thread)

@@ -1,6 +1,6 @@
 -- Nodes from which threads lead to marked ones.
 use Rattle.std.specs.Prelude.{◌≡◌, ℕ, suc, ◌<◌, Bool, true, false, List, [], ◌∷◌, Some, length}
-use Rattle.ir_explore.specs.Following.{Leading, IsOpen}
+use Rattle.ir_explore.specs.Following.{BothWays, IsOpen}
 
 -- how many nodes aren't marked
 unfoldable pub shut : List Bool → ℕ
@@ -8,19 +8,20 @@ shut [] = 0
 shut (true ∷ marks) = shut marks
 shut (false ∷ marks) = suc (shut marks)
 
--- some of these threads leads from node v to a marked one
-abbrev pub IsBefore : (ℕ → Leading) → ℕ → List Bool → ℕ → Type 0
-IsBefore noted threads marks v = (t : ℕ) × (w : ℕ) × (t < threads) × (noted t v ≡ Some (Some w)) × IsOpen marks w
+-- some of these threads leads by some way from node v to a marked one
+abbrev pub IsBefore : (ℕ → BothWays) → ℕ → List Bool → ℕ → Type 0
+IsBefore noted threads marks v = (t : ℕ) × (refused : Bool) × (w : ℕ) × (t < threads) × (noted t refused v ≡ Some (Some w)) × IsOpen marks w
 
 -- each node from which one of them leads to a marked one is marked
-abbrev pub IsMarkedBack : (ℕ → Leading) → ℕ → List Bool → Type 0
+abbrev pub IsMarkedBack : (ℕ → BothWays) → ℕ → List Bool → Type 0
 IsMarkedBack noted threads marks = (v : ℕ) → v < length marks → IsBefore noted threads marks v → IsOpen marks v
 
--- these threads lead, in this order, from node v to node w, over nodes below `size`
-abbrev pub Leads : (ℕ → Leading) → ℕ → ℕ → ℕ → List ℕ → ℕ → Type 0
+-- these threads lead, in this order and each by this way, from node v to node w, over nodes below `size`
+abbrev pub Leads : (ℕ → BothWays) → ℕ → ℕ → ℕ → List (ℕ × Bool) → ℕ → Type 0
 Leads noted threads size v [] w = v ≡ w
-Leads noted threads size v (t ∷ ts) w = (x : ℕ) × (t < threads) × (noted t v ≡ Some (Some x)) × (x < size) × Leads noted threads size x ts w
+Leads noted threads size v ((t, refused) ∷ ts) w = (x : ℕ) × (t < threads) × (noted t refused v ≡ Some (Some x)) × (x < size)
+    × Leads noted threads size x ts w
 
 -- some order of them leads from node v to a marked one
-abbrev pub HasMarked : (ℕ → Leading) → ℕ → List Bool → ℕ → Type 0
-HasMarked noted threads marks v = (v < length marks) × (ts : List ℕ) × (w : ℕ) × Leads noted threads (length marks) v ts w × IsOpen marks w
+abbrev pub HasMarked : (ℕ → BothWays) → ℕ → List Bool → ℕ → Type 0
+HasMarked noted threads marks v = (v < length marks) × (ts : List (ℕ × Bool)) × (w : ℕ) × Leads noted threads (length marks) v ts w × IsOpen marks w

@@ -1,70 +1,93 @@
 //! A thread that goes on alone.
 
-ghost use Rattle.std.specs.Prelude.{◌≡◌, ◌⊎◌, ◌++◌, ℕ, false, [], ◌∷◌, ◌<◌, ◌≤◌, length, OnErr, IfErr, IsErrOf, OnOk};
+ghost use Rattle.std.specs.Prelude.{◌≡◌, ◌⊎◌, ◌++◌, ℕ, Bool, false, true, suc, [], ◌∷◌, ◌+◌, ◌-◌, ◌<◌, ◌≤◌, length, slice_set, IfOk, OnErr, IfErr, IsErrOf, OnOk};
 ghost use Rattle.ir_explore.specs.declared.stop.Stop.TheVariants.{Nodes, Memory};
-ghost use Rattle.ir_explore.specs.Following.{Keeps, Stay, IsOpen, StaysOpen, IsFollowed};
+ghost use Rattle.ir_explore.specs.Following.{Keeps, Stay, IsOpen, StaysOpen, GoesTo, IsFollowed};
+ghost use Rattle.ir_explore.specs.Going.{IsGoing, IsAfter, left_to_open};
 ghost use Rattle.ir_explore.specs.Origins.{BeginsAt, AreReached, Adds};
 
+use crate::found::{Found, Pending};
 use crate::observer::Observer;
-use crate::origin::Origin;
+use crate::origin::{Origin, Refusal, narrow};
 use crate::stop::Stop;
 use crate::successors::Successors;
 
-// A node that isn't among them yet joins them, and isn't opened.
-fn join<O: Observer>(
-    opened: &mut Vec<bool>,
-    nodes: &mut Vec<Origin>,
-    node: usize,
-    origin: Origin,
-    observer: &O,
-) -> Result<(), Stop>
-    ensures old { OnOk result ((node ≡ length nodes.old.items → ⊥) → (opened.new.items ≡ opened.old.items) × (nodes.new.items ≡ nodes.old.items)) }
-    ensures new { OnOk result (node ≡ length nodes.old.items → (opened.new.items ≡ opened.old.items ++ false ∷ []) × (nodes.new.items ≡ nodes.old.items ++ origin ∷ [])) }
-    ensures stays { StaysOpen opened.old.items opened.new.items }
-    ensures err { OnErr result (nodes.new.items ≡ nodes.old.items) }
+// How the thread comes to a node by one step more, with its try refused or not.
+fn origin_after(refusals: &mut Vec<Refusal>, origin: Origin, refused: bool) -> Result<Origin, Stop>
+    ensures after { IfOk result (λ next. IsAfter refusals.old.items refusals.new.items origin refused next) }
+    ensures err { OnErr result (refusals.new.items ≡ refusals.old.items) }
     ensures memory { IfErr result (λ stop. stop ≡ Memory) }
 {
-    if node == nodes.len() {
-        opened.push(false)?;
-        nodes.push(origin)?;
-        observer.searched(nodes.len(), origin.level);
+    if !refused {
+        let entries = narrow(origin.entries as usize + 1)?;
+        return Ok(Origin { entries, ..origin });
     }
+    let number = narrow(refusals.len() + 1)?;
+    refusals.push(Refusal {
+        before: origin.refusals,
+        entries: origin.entries,
+    })?;
+    Ok(Origin {
+        refusals: number,
+        entries: 0,
+        ..origin
+    })
+}
+
+// A node is opened for a thread, and is left to follow. A new one joins the nodes.
+fn open<O: Observer>(
+    opened: &mut Vec<bool>,
+    found: &mut Found,
+    next: Pending,
+    observer: &O,
+) -> Result<(), Stop>
+    requires node { next.node ≤ length opened.old.items }
+    requires wide { length opened.old.items ≡ length found.old.nodes.items }
+    ensures old { OnOk result (next.node < length opened.old.items → (opened.new.items ≡ slice_set opened.old.items next.node true) × (found.new.nodes.items ≡ found.old.nodes.items)) }
+    ensures new { OnOk result (next.node ≡ length opened.old.items → (opened.new.items ≡ opened.old.items ++ true ∷ []) × (found.new.nodes.items ≡ found.old.nodes.items ++ next.origin ∷ [])) }
+    ensures pending { OnOk result (found.new.pending.items ≡ found.old.pending.items ++ next ∷ []) }
+    ensures refusals { found.new.refusals.items ≡ found.old.refusals.items }
+    ensures stays { StaysOpen opened.old.items opened.new.items }
+    ensures nodes { (found.new.nodes.items ≡ found.old.nodes.items) ⊎ ((next.node ≡ length opened.old.items) × (found.new.nodes.items ≡ found.old.nodes.items ++ next.origin ∷ [])) }
+    ensures memory { IfErr result (λ stop. stop ≡ Memory) }
+{
+    if next.node < opened.len() {
+        opened[next.node] = true;
+    } else {
+        opened.push(true)?;
+        found.nodes.push(next.origin)?;
+        observer.searched(found.nodes.len(), next.origin.level as usize);
+    }
+    found.pending.push(next)?;
     Ok(())
 }
 
-/// Opens a node for a thread, and each node to which the thread goes on from there, up to where it can't or to an opened one.
-/// `start` is the turn: its node, its thread, its level, and no entry yet. What it finds joins the nodes.
-///
-/// # Errors
-/// The graph stops, or out of memory. What was opened stays so, but isn't followed.
-pub fn go_alone<S: Successors, O: Observer>(
+// The thread goes on by one way from a node in hand. Where it comes to a node that isn't opened, that one is left to follow.
+fn follow<S: Successors, O: Observer>(
     graph: &mut S,
     opened: &mut Vec<bool>,
-    nodes: &mut Vec<Origin>,
-    start: Origin,
+    found: &mut Found,
+    here: Pending,
+    refused: bool,
     observer: &O,
 ) -> Result<(), Stop>
-    requires followed { IsFollowed (S.noted graph.old start.thread) opened.old.items }
-    requires begins { BeginsAt nodes.old.items start.level start.from }
-    requires reached { AreReached (S.noted graph.old) nodes.old.items }
-    requires node { start.from < length nodes.old.items }
-    requires row { length opened.old.items ≡ length nodes.old.items }
-    requires nodes { length nodes.old.items ≡ S.size graph.old }
+    requires going { IsGoing (S.noted graph.old) here.origin.thread here.origin.level opened.old.items found.old.nodes.items found.old.refusals.items (here ∷ found.old.pending.items) }
+    requires nodes { length found.old.nodes.items ≡ S.size graph.old }
     requires room { S.size graph.old ≤ S.most graph.old }
     requires sound { S.is_sound graph.old }
 
     // Once it has gone on
-    ensures followed { OnOk result (IsFollowed (S.noted graph.new start.thread) opened.new.items) }
-    ensures opens { OnOk result (IsOpen opened.new.items start.from) }
-    ensures row { OnOk result (length opened.new.items ≡ length nodes.new.items) }
-    ensures nodes { OnOk result (length nodes.new.items ≡ S.size graph.new) }
+    ensures going { OnOk result (IsGoing (S.noted graph.new) here.origin.thread here.origin.level opened.new.items found.new.nodes.items found.new.refusals.items (here ∷ found.new.pending.items)) }
+    ensures follows { OnOk result (GoesTo (S.noted graph.new here.origin.thread refused) (IsOpen opened.new.items) here.node) }
+    ensures nodes { OnOk result (length found.new.nodes.items ≡ S.size graph.new) }
+    ensures less { OnOk result (left_to_open (S.most graph.new) opened.new.items + length found.new.pending.items ≤ left_to_open (S.most graph.old) opened.old.items + length found.old.pending.items) }
 
     // Whatever comes
     ensures stays { StaysOpen opened.old.items opened.new.items }
-    ensures reached { AreReached (S.noted graph.new) nodes.new.items }
-    ensures adds { Adds start.level nodes.old.items nodes.new.items }
-    ensures few { length nodes.new.items ≤ S.size graph.new }
-    ensures kept { (t : ℕ) → Keeps (S.noted graph.old t) (S.noted graph.new t) }
+    ensures reached { AreReached (S.noted graph.new) found.new.refusals.items found.new.nodes.items }
+    ensures adds { Adds here.origin.level found.old.nodes.items found.new.nodes.items }
+    ensures few { length found.new.nodes.items ≤ S.size graph.new }
+    ensures kept { (t : ℕ) (way : Bool) → Keeps (S.noted graph.old t way) (S.noted graph.new t way) }
     ensures stay { Stay (S.nodes graph.old) (S.nodes graph.new) }
     ensures room { S.size graph.new ≤ S.most graph.new }
     ensures limit { S.most graph.new ≡ S.most graph.old }
@@ -73,16 +96,72 @@ pub fn go_alone<S: Successors, O: Observer>(
     ensures stopped { IfErr result (λ stop. (stop ≡ Memory) ⊎ S.may_stop graph.new stop) }
     ensures sound { S.is_sound graph.new }
 {
-    let mut node = start.from;
-    let mut entries = 0;
-    'alone: while !opened[node] {
-        opened[node] = true;
-        match graph.next(start.thread, node)? {
-            None => return Ok(()),
-            Some(next) => node = next,
-        }
-        entries += 1;
-        join(opened, nodes, node, Origin { entries, ..start }, observer)?;
+    let Some(node) = graph.next(here.origin.thread as usize, refused, here.node)? else {
+        return Ok(());
+    };
+    if node < opened.len() && opened[node] {
+        return Ok(());
+    }
+    let origin = origin_after(&mut found.refusals, here.origin, refused)?;
+    open(opened, found, Pending { node, origin }, observer)?;
+    Ok(())
+}
+
+/// Opens a node for a thread, and each node to which the thread goes on from there, by either way, up to where it can't or to opened ones.
+/// `start` is the turn: its node, its thread, its level, and no entry yet. What it finds joins the nodes.
+///
+/// # Errors
+/// The graph stops, or out of memory. What was opened stays so, but isn't followed.
+pub fn go_alone<S: Successors, O: Observer>(
+    graph: &mut S,
+    opened: &mut Vec<bool>,
+    found: &mut Found,
+    start: Origin,
+    observer: &O,
+) -> Result<(), Stop>
+    requires followed { IsFollowed (S.noted graph.old start.thread) opened.old.items }
+    requires begins { BeginsAt found.old.nodes.items start.level start.from }
+    requires none { (start.refusals ≡ 0) × (start.entries ≡ 0) }
+    requires reached { AreReached (S.noted graph.old) found.old.refusals.items found.old.nodes.items }
+    requires node { start.from < length found.old.nodes.items }
+    requires row { length opened.old.items ≡ length found.old.nodes.items }
+    requires nodes { length found.old.nodes.items ≡ S.size graph.old }
+    requires room { S.size graph.old ≤ S.most graph.old }
+    requires sound { S.is_sound graph.old }
+
+    // Once it has gone on
+    ensures followed { OnOk result (IsFollowed (S.noted graph.new start.thread) opened.new.items) }
+    ensures opens { OnOk result (IsOpen opened.new.items start.from) }
+    ensures row { OnOk result (length opened.new.items ≡ length found.new.nodes.items) }
+    ensures nodes { OnOk result (length found.new.nodes.items ≡ S.size graph.new) }
+
+    // Whatever comes
+    ensures stays { StaysOpen opened.old.items opened.new.items }
+    ensures reached { AreReached (S.noted graph.new) found.new.refusals.items found.new.nodes.items }
+    ensures adds { Adds start.level found.old.nodes.items found.new.nodes.items }
+    ensures few { length found.new.nodes.items ≤ S.size graph.new }
+    ensures kept { (t : ℕ) (way : Bool) → Keeps (S.noted graph.old t way) (S.noted graph.new t way) }
+    ensures stay { Stay (S.nodes graph.old) (S.nodes graph.new) }
+    ensures room { S.size graph.new ≤ S.most graph.new }
+    ensures limit { S.most graph.new ≡ S.most graph.old }
+    ensures origin { S.origin graph.new ≡ S.origin graph.old }
+    ensures full { IsErrOf result Nodes → S.size graph.new ≡ S.most graph.new }
+    ensures stopped { IfErr result (λ stop. (stop ≡ Memory) ⊎ S.may_stop graph.new stop) }
+    ensures sound { S.is_sound graph.new }
+{
+    let from = start.from as usize;
+    if opened[from] {
+        return Ok(());
+    }
+    found.pending.clear();
+    let first = Pending {
+        node: from,
+        origin: start,
+    };
+    open(opened, found, first, observer)?;
+    'pending: while let Some(here) = found.pending.pop() {
+        follow(graph, opened, found, here, false, observer)?;
+        follow(graph, opened, found, here, true, observer)?;
     }
     Ok(())
 }

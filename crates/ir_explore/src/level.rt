@@ -1,13 +1,14 @@
 //! A level: each thread has a turn.
 
-ghost use Rattle.std.specs.Prelude.{◌≡◌, ◌⊎◌, ℕ, ◌<◌, ◌≤◌, length, IfErr, IsErrOf, OnOk};
+ghost use Rattle.std.specs.Prelude.{◌≡◌, ◌⊎◌, ℕ, Bool, ◌<◌, ◌≤◌, length, IfErr, IsErrOf, OnOk};
 ghost use Rattle.ir_explore.specs.declared.stop.Stop.TheVariants.{Nodes, Memory};
 ghost use Rattle.ir_explore.specs.Following.{Keeps, Stay};
 ghost use Rattle.ir_explore.specs.Levels.{rows, AllFollowed, AllOpen, AreWithin};
 ghost use Rattle.ir_explore.specs.Origins.{AreReached, IsLevel, Adds};
 
+use crate::found::Found;
 use crate::observer::Observer;
-use crate::origin::{Level, Origin};
+use crate::origin::Level;
 use crate::stop::Stop;
 use crate::successors::Successors;
 use crate::turn::take_turn;
@@ -20,32 +21,32 @@ use crate::turn::take_turn;
 pub fn take_level<S: Successors, O: Observer>(
     graph: &mut S,
     opened: &mut [Vec<bool>],
-    nodes: &mut Vec<Origin>,
+    found: &mut Found,
     level: Level,
     observer: &O,
 ) -> Result<(), Stop>
     requires followed { AllFollowed (S.noted graph.old) (rows opened.old) }
     requires before { AllOpen (rows opened.old) 0 level.first (length opened.old) }
-    requires level { IsLevel nodes.old.items level }
-    requires reached { AreReached (S.noted graph.old) nodes.old.items }
-    requires until { level.until ≤ length nodes.old.items }
-    requires rows { AreWithin (rows opened.old) (length nodes.old.items) }
-    requires nodes { length nodes.old.items ≡ S.size graph.old }
+    requires level { IsLevel found.old.nodes.items level }
+    requires reached { AreReached (S.noted graph.old) found.old.refusals.items found.old.nodes.items }
+    requires until { level.until ≤ length found.old.nodes.items }
+    requires rows { AreWithin (rows opened.old) (length found.old.nodes.items) }
+    requires nodes { length found.old.nodes.items ≡ S.size graph.old }
     requires room { S.size graph.old ≤ S.most graph.old }
     requires sound { S.is_sound graph.old }
 
     // Once each has had its turn
     ensures followed { OnOk result (AllFollowed (S.noted graph.new) (rows opened.new)) }
     ensures opens { OnOk result (AllOpen (rows opened.new) 0 level.until (length opened.old)) }
-    ensures rows { OnOk result (AreWithin (rows opened.new) (length nodes.new.items)) }
-    ensures nodes { OnOk result (length nodes.new.items ≡ S.size graph.new) }
+    ensures rows { OnOk result (AreWithin (rows opened.new) (length found.new.nodes.items)) }
+    ensures nodes { OnOk result (length found.new.nodes.items ≡ S.size graph.new) }
 
     // Whatever comes
     ensures threads { length opened.new ≡ length opened.old }
-    ensures reached { AreReached (S.noted graph.new) nodes.new.items }
-    ensures adds { Adds level.number nodes.old.items nodes.new.items }
-    ensures few { length nodes.new.items ≤ S.size graph.new }
-    ensures kept { (t : ℕ) → Keeps (S.noted graph.old t) (S.noted graph.new t) }
+    ensures reached { AreReached (S.noted graph.new) found.new.refusals.items found.new.nodes.items }
+    ensures adds { Adds level.number found.old.nodes.items found.new.nodes.items }
+    ensures few { length found.new.nodes.items ≤ S.size graph.new }
+    ensures kept { (t : ℕ) (way : Bool) → Keeps (S.noted graph.old t way) (S.noted graph.new t way) }
     ensures stay { Stay (S.nodes graph.old) (S.nodes graph.new) }
     ensures room { S.size graph.new ≤ S.most graph.new }
     ensures limit { S.most graph.new ≡ S.most graph.old }
@@ -55,7 +56,7 @@ pub fn take_level<S: Successors, O: Observer>(
     ensures sound { S.is_sound graph.new }
 {
     for thread in 0..opened.len() {
-        take_turn(graph, &mut opened[thread], nodes, thread, level, observer)?;
+        take_turn(graph, &mut opened[thread], found, thread, level, observer)?;
     }
     Ok(())
 }

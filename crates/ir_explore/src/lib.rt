@@ -1,7 +1,8 @@
-//! A search over numbered nodes, level by level: in a level each thread goes on alone as far as it can.
+//! A search over numbered nodes, level by level: in a level each thread goes on alone as far as it can, by each of its two ways.
 #![tactic(auto)]
 
 mod alone;
+mod found;
 mod level;
 mod observer;
 mod origin;
@@ -12,9 +13,10 @@ mod turn;
 mod ways;
 
 pub use alone::go_alone;
+pub use found::{Found, Pending};
 pub use level::take_level;
 pub use observer::{Observer, Unobserved};
-pub use origin::{Level, Origin};
+pub use origin::{Level, Origin, Refusal};
 pub use search::{Ended, Search};
 pub use stop::Stop;
 pub use successors::Successors;

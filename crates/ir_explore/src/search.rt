@@ -1,12 +1,13 @@
 //! A search that goes on level by level.
 
-ghost use Rattle.std.specs.Prelude.{◌≡◌, ◌⊎◌, ℕ, suc, true, false, [], ◌∷◌, ◌<◌, ◌≤◌, length, replicate, IfOk, IfErr, IsErrOf, OnErr, OnOk};
+ghost use Rattle.std.specs.Prelude.{◌≡◌, ◌⊎◌, ℕ, Bool, suc, true, false, [], ◌∷◌, ◌<◌, ◌≤◌, length, replicate, IfOk, IfErr, IsErrOf, OnErr, OnOk};
 ghost use Rattle.ir_explore.specs.declared.stop.Stop.TheVariants.{Nodes, Memory};
-ghost use Rattle.ir_explore.specs.Following.{Leading, Keeps, Stay};
+ghost use Rattle.ir_explore.specs.Following.{BothWays, Keeps, Stay};
 ghost use Rattle.ir_explore.specs.Levels.{rows, AreAsked};
 ghost use Rattle.ir_explore.specs.Origins.{first_origin, Adds};
 ghost use Rattle.ir_explore.specs.Searching.{HasGone, IsBetween};
 
+use crate::found::Found;
 use crate::level::take_level;
 use crate::observer::Observer;
 use crate::origin::{Level, Origin};
@@ -28,8 +29,8 @@ pub enum Ended {
 /// A search that goes on level by level.
 #[derive(Debug, Drop)]
 pub struct Search {
-    /// How it came to each node.
-    pub nodes: Vec<Origin>,
+    /// The nodes that were found, and how.
+    pub found: Found,
     /// For each thread, whether each node is opened for it.
     pub opened: Vec<Vec<bool>>,
     /// The level that comes next.
@@ -56,6 +57,7 @@ fn first_node(alloc: Global) -> Result<Vec<Origin>, AllocError>
     nodes.push(Origin {
         from: 0,
         thread: 0,
+        refusals: 0,
         entries: 0,
         level: 0,
     })?;
@@ -71,12 +73,16 @@ impl Search {
         ensures threads { IfOk result (λ s. length (rows s.opened.items) ≡ threads) }
         ensures number { IfOk result (λ s. s.level.number ≡ 0) }
         ensures first { IfOk result (λ s. s.level.first ≡ 0) }
-        ensures between { IfOk result (λ s. (noted : ℕ → Leading) → IsBetween noted 1 s.nodes.items (rows s.opened.items) s.level) }
+        ensures between { IfOk result (λ s. (noted : ℕ → BothWays) → IsBetween noted 1 s.found.nodes.items s.found.refusals.items (rows s.opened.items) s.level) }
     {
         let opened = no_rows(alloc, threads)?;
         let nodes = first_node(alloc)?;
         Ok(Search {
-            nodes,
+            found: Found {
+                nodes,
+                refusals: Vec::new(alloc),
+                pending: Vec::new(alloc),
+            },
             opened,
             level: Level {
                 number: 0,
@@ -88,7 +94,7 @@ impl Search {
 
     /// Whether the search is finished: no node was found in the last level.
     pub fn is_finished(&self) -> bool
-        ensures finished { result ≡ true → (noted : ℕ → Leading) (size : ℕ) → IsBetween noted size self.now.nodes.items (rows self.now.opened.items) self.now.level
+        ensures finished { result ≡ true → (noted : ℕ → BothWays) (size : ℕ) → IsBetween noted size self.now.found.nodes.items self.now.found.refusals.items (rows self.now.opened.items) self.now.level
             → AreAsked noted (length (rows self.now.opened.items)) size }
         ensures over { result ≡ true → self.now.level.until ≤ self.now.level.first }
         ensures more { result ≡ false → self.now.level.first < self.now.level.until }
@@ -106,21 +112,21 @@ impl Search {
         graph: &mut S,
         observer: &O,
     ) -> Result<(), Stop>
-        requires between { IsBetween (S.noted graph.old) (S.size graph.old) self.old.nodes.items (rows self.old.opened.items) self.old.level }
+        requires between { IsBetween (S.noted graph.old) (S.size graph.old) self.old.found.nodes.items self.old.found.refusals.items (rows self.old.opened.items) self.old.level }
         requires more { self.old.level.first < self.old.level.until }
         requires room { S.size graph.old ≤ S.most graph.old }
         requires sound { S.is_sound graph.old }
 
         // Once it has gone over it
-        ensures between { OnOk result (IsBetween (S.noted graph.new) (S.size graph.new) self.new.nodes.items (rows self.new.opened.items) self.new.level) }
+        ensures between { OnOk result (IsBetween (S.noted graph.new) (S.size graph.new) self.new.found.nodes.items self.new.found.refusals.items (rows self.new.opened.items) self.new.level) }
         ensures next { OnOk result (self.new.level.number ≡ suc self.old.level.number) }
 
         // Whatever comes
-        ensures has { HasGone (S.noted graph.new) (length (rows self.new.opened.items)) (S.size graph.new) self.new.nodes.items self.old.level.number }
+        ensures has { HasGone (S.noted graph.new) (length (rows self.new.opened.items)) (S.size graph.new) self.new.found.nodes.items self.new.found.refusals.items self.old.level.number }
         ensures level { OnErr result (self.new.level ≡ self.old.level) }
-        ensures adds { Adds self.old.level.number self.old.nodes.items self.new.nodes.items }
+        ensures adds { Adds self.old.level.number self.old.found.nodes.items self.new.found.nodes.items }
         ensures threads { length (rows self.new.opened.items) ≡ length (rows self.old.opened.items) }
-        ensures kept { (t : ℕ) → Keeps (S.noted graph.old t) (S.noted graph.new t) }
+        ensures kept { (t : ℕ) (way : Bool) → Keeps (S.noted graph.old t way) (S.noted graph.new t way) }
         ensures stay { Stay (S.nodes graph.old) (S.nodes graph.new) }
         ensures room { S.size graph.new ≤ S.most graph.new }
         ensures limit { S.most graph.new ≡ S.most graph.old }
@@ -130,11 +136,11 @@ impl Search {
         ensures sound { S.is_sound graph.new }
     {
         let level = self.level;
-        take_level(graph, &mut self.opened, &mut self.nodes, level, observer)?;
+        take_level(graph, &mut self.opened, &mut self.found, level, observer)?;
         self.level = Level {
             number: level.number + 1,
             first: level.until,
-            until: self.nodes.len(),
+            until: self.found.nodes.len(),
         };
         Ok(())
     }

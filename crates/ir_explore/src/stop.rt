@@ -18,8 +18,6 @@ pub enum Stop {
     Order(usize),
     /// This thread calls the environment.
     World(usize),
-    /// This thread tries to enter.
-    Try(usize),
     /// Out of memory.
     Memory,
 }

@@ -1,21 +1,31 @@
 -- The graph, once it has grown.
-use Rattle.std.proofs.Common.{◌≡◌, ℕ, zero, suc, ◌<◌, ◌≤◌, Option, Some, None, List, [], ◌∷◌, ◌⊎◌, inl, inr, length, refl, sym, ap, ◌∙◌, subst, arith}
+use Rattle.std.proofs.Common.{◌≡◌, ℕ, zero, suc, ◌<◌, ◌≤◌, Bool, true, false, Option, Some, None, List, [], ◌∷◌, ◌⊎◌, inl, inr, length, refl, sym, ap, ◌∙◌, subst, arith}
 use Rattle.std.specs.Prelude.{slice_get}
+use Rattle.std.specs.List.{slice_index_or}
 use Rattle.std.specs.Global.{Vec}
+use Rattle.std.proofs.lemmas.Bool.{cases_lt}
 use Rattle.std.proofs.lemmas.Option.{same_Some}
 use Rattle.ir_image.specs.Guest.{Guest}
+use Rattle.ir_explore.specs.Following.{BothWays}
 use Rattle.ir_states.specs.Outcomes.{Begins}
 use Rattle.ir_states.specs.Views.{beside}
-use Rattle.ir_thread.specs.declared.profile.Profile.TheVariants.{One}
+use Rattle.ir_thread.specs.Permitted.{Permits}
+use Rattle.ir_thread.specs.State.{ask_of, most_budget}
+use Rattle.ir_thread.specs.declared.ask.Ask.{Ask}
+use Rattle.ir_thread.specs.declared.ask.Ask.TheVariants as ask
+use Rattle.ir_thread.specs.declared.profile.Profile.{Profile}
+use Rattle.ir_thread.specs.declared.profile.Profile.TheVariants.{One, Two}
+use Rattle.ir_thread.proofs.CallerLemmas.{ask_of_permitted}
 use Rattle.ir_seen.specs.Seen.{seen_start}
 use Rattle.ir_seen.proofs.CallerLemmas.{start_view_ignores_budget}
-use Rattle.ir_flat.specs.Flat.{Flat, start_flat}
+use Rattle.ir_flat.specs.Flat.{Flat, idle, start_flat, start_threads, thread_of}
 use Rattle.ir_graph.specs.Graph.{IsGraph}
 use Rattle.ir_graph.specs.Nodes.{seen_by, told_by, Alike, seen_of, AllRest, AreNodes, Stay, LeadsFrom}
-use Rattle.ir_graph.specs.Notes.{noted_in}
+use Rattle.ir_graph.specs.Notes.{noted_by, noted_in}
 use Rattle.ir_graph.specs.Reached.{IsReached, AllReached}
-use Rattle.ir_graph.specs.Plain.{GoesPlain, IsLike}
-use Rattle.ir_graph.proofs.Leads.{begins_by_plain_steps}
+use Rattle.ir_graph.specs.Plain.{GoesPlain, IsLike, IsNoTry}
+use Rattle.ir_graph.proofs.Found.{refused_leads_nowhere_unless_try}
+use Rattle.ir_graph.proofs.Leads.{begins_by_plain_steps, every_number_rests_if_all_rest}
 use Rattle.ir_graph.proofs.Plain.{like_reflexive}
 
 pub element_below_length_exists : (flats : List Flat) (v : ℕ) → v < length flats → (f : Flat) × (slice_get flats v ≡ Some f)
@@ -29,71 +39,160 @@ old_node_is_unchanged flats new v f stay l is =
     let old = element_below_length_exists flats v l in
     subst (λ z. slice_get flats v ≡ Some z) (same_Some old.0 f (sym (stay v old.0 old.1) ∙ is)) old.1
 
-leads_from_after_nodes_added : (flats new : List Flat) (t v : ℕ) (next : Option ℕ) → Stay flats new → v < length flats
-    → ((w : ℕ) → next ≡ Some w → w < length flats) → LeadsFrom flats t v next → LeadsFrom new t v next
-leads_from_after_nodes_added flats new t v None stay l within h = λ f is. h f (old_node_is_unchanged flats new v f stay l is)
-leads_from_after_nodes_added flats new t v (Some w) stay l within h = λ f g is there.
+leads_from_after_nodes_added : (flats new : List Flat) (t : ℕ) (refused : Bool) (v : ℕ) (next : Option ℕ) → Stay flats new → v < length flats
+    → ((w : ℕ) → next ≡ Some w → w < length flats) → LeadsFrom flats t refused v next → LeadsFrom new t refused v next
+leads_from_after_nodes_added flats new t refused v None stay l within h = λ f is. h f (old_node_is_unchanged flats new v f stay l is)
+leads_from_after_nodes_added flats new t refused v (Some w) stay l within h = λ f g is there.
     h f g (old_node_is_unchanged flats new v f stay l is) (old_node_is_unchanged flats new w g stay (within w refl) there)
 
+-- the threads of a start have its profile
+profiles_of_start : (guest : Guest) (from n t : ℕ) → (slice_index_or (start_threads guest most_budget One from n) t idle).profile ≡ One
+profiles_of_start guest from zero t = refl
+profiles_of_start guest from (suc n) zero = refl
+profiles_of_start guest from (suc n) (suc t) = profiles_of_start guest (suc from) n t
+
+-- a thread of the first profile doesn't try
+no_try_in_first_profile : (guest : Guest) (f : Flat) (t : ℕ) → IsReached guest One f → IsNoTry (ask_of f.code (thread_of f t))
+no_try_in_first_profile guest f t reached = by (ask_of f.code (thread_of f t)) (ask_of_permitted f.code (thread_of f t))
+  where
+    first : (thread_of f t).profile ≡ One
+    first = sym (reached.like.twins t).profile ∙ profiles_of_start guest 0 (length guest.entries) t
+
+    by : (q : Ask) → Permits (thread_of f t) q → IsNoTry q
+    by ask.Private p = tt
+    by (ask.Env k) p = tt
+    by (ask.Enter o a) p = tt
+    by (ask.Try o) p = absurd (cc (sym first ∙ p.4))
+    by (ask.Leave o a) p = tt
+    by (ask.Get o i) p = tt
+    by (ask.Put o i v) p = tt
+    by ask.Print p = tt
+    by (ask.End e) p = tt
+    by ask.Done p = tt
+
+-- so none is refused there
+untried_leads_nowhere : (guest : Guest) (profile : Profile) (flats : List Flat) (t v : ℕ) → profile ≡ One → AreNodes flats
+    → AllReached guest profile flats → LeadsFrom flats t true v None
+untried_leads_nowhere guest profile flats t v one nodes reached = refused_leads_nowhere_unless_try flats t v nodes (λ f is. (
+  every_number_rests_if_all_rest f (nodes.rest v f is) t,
+  no_try_in_first_profile guest f t (subst (λ z. IsReached guest z f) one (reached v f is)),
+))
+
 -- nodes were added
-pub is_graph_after_nodes_added : (guest : Guest) (flats new : List Flat) (noted : ℕ → ℕ → Option (Option ℕ)) (threads : ℕ)
-    → IsGraph guest flats noted threads → Stay flats new → AreNodes new → AllReached guest new → length flats ≤ length new
-    → IsGraph guest new noted threads
-is_graph_after_nodes_added guest flats new noted threads g stay nodes reached more = record {
+pub is_graph_after_nodes_added : (guest : Guest) (profile : Profile) (flats new : List Flat) (noted : ℕ → BothWays) (threads : ℕ)
+    → IsGraph guest profile flats noted threads → Stay flats new → AreNodes new → AllReached guest profile new → length flats ≤ length new
+    → IsGraph guest profile new noted threads
+is_graph_after_nodes_added guest profile flats new noted threads g stay nodes reached more = record {
   nodes = nodes;
   some = let a = g.some in omega (arith, a, more);
   number = g.number;
   code = λ f is. g.code f (old_node_is_unchanged flats new 0 f stay g.some is);
   many = λ f is. g.many f (old_node_is_unchanged flats new 0 f stay g.some is);
   begins = λ f is. g.begins f (old_node_is_unchanged flats new 0 f stay g.some is);
-  asked = λ t v next few is. let a = g.asked t v next few is in omega (arith, a, more);
-  within = λ t v w few is. let a = g.within t v w few is in omega (arith, a, more);
+  past = g.past;
+  untried = g.untried;
+  asked = λ t refused v next few is. elim (g.asked t refused v next few is) [
+    | inl a ↦ inl (omega (arith, a, more))
+    | inr first ↦ inr first
+  ];
+  within = λ t refused v w few is. let a = g.within t refused v w few is in omega (arith, a, more);
   reached = reached;
-  leads = λ t v next few is.
-      leads_from_after_nodes_added flats new t v next stay (g.asked t v next few is)
-      (λ w e. g.within t v w few (is ∙ ap Some e)) (g.leads t v next few is);
+  leads = λ t refused v next few is. elim (g.asked t refused v next few is) [
+    | inl l ↦
+        leads_from_after_nodes_added flats new t refused v next stay l (λ w e. g.within t refused v w few (is ∙ ap Some e))
+        (g.leads t refused v next few is)
+    | inr first ↦
+        let none : None ≡ next =
+        same_Some None next (sym (g.untried first.0 t v) ∙ subst (λ z. noted t z v ≡ Some next) first.1 is) in
+        subst (LeadsFrom new t refused v) none
+        (subst (λ z. LeadsFrom new t z v None) (sym first.1) (untried_leads_nowhere guest profile new t v first.0 nodes reached))
+  ];
 }
 
 -- one more was noted, at most
-pub is_graph_after_note : (guest : Guest) (flats : List Flat) (old new : ℕ → ℕ → Option (Option ℕ)) (threads thread node : ℕ) (to : Option ℕ)
-    → IsGraph guest flats old threads
-    → ((t v : ℕ) → (new t v ≡ old t v) ⊎ ((t ≡ thread) × (v ≡ node) × (new t v ≡ Some to)))
-    → node < length flats → ((w : ℕ) → to ≡ Some w → w < length flats) → LeadsFrom flats thread node to → IsGraph guest flats new threads
-is_graph_after_note guest flats old new threads thread node to g only inside within leads = record {
+pub is_graph_after_note : (guest : Guest) (profile : Profile) (flats : List Flat) (old new : ℕ → BothWays) (threads thread : ℕ) (way : Bool)
+    (node : ℕ) (to : Option ℕ) → IsGraph guest profile flats old threads
+    → ((t : ℕ) (refused : Bool) (v : ℕ) → (new t refused v ≡ old t refused v)
+    ⊎ ((t ≡ thread) × (refused ≡ way) × (v ≡ node) × (new t refused v ≡ Some to)))
+    → old thread way node ≡ None → node < length flats → ((w : ℕ) → to ≡ Some w → w < length flats) → LeadsFrom flats thread way node to
+    → IsGraph guest profile flats new threads
+is_graph_after_note guest profile flats old new threads thread way node to g only fresh inside within leads = record {
   nodes = g.nodes;
   some = g.some;
   number = g.number;
   code = g.code;
   many = g.many;
   begins = g.begins;
-  asked = λ t v next few is. elim (only t v) [
-    | inl same ↦ g.asked t v next few (sym same ∙ is)
-    | inr p ↦ subst (λ z. z < length flats) (sym p.1) inside
+  past = λ t refused v l. elim (only t refused v) [
+    | inl same ↦ same ∙ g.past t refused v l
+    | inr p ↦ absurd (cc (sym (was t refused v p.0 p.1 p.2) ∙ g.past t refused v l))
   ];
-  within = λ t v w few is. elim (only t v) [
-    | inl same ↦ g.within t v w few (sym same ∙ is)
-    | inr p ↦ within w (same_Some to (Some w) (sym p.2 ∙ is))
+  untried = λ one t v. elim (only t true v) [
+    | inl same ↦ same ∙ g.untried one t v
+    | inr p ↦ absurd (cc (sym (was t true v p.0 p.1 p.2) ∙ g.untried one t v))
+  ];
+  asked = λ t refused v next few is. elim (only t refused v) [
+    | inl same ↦ g.asked t refused v next few (sym same ∙ is)
+    | inr p ↦ inl (subst (λ z. z < length flats) (sym p.2) inside)
+  ];
+  within = λ t refused v w few is. elim (only t refused v) [
+    | inl same ↦ g.within t refused v w few (sym same ∙ is)
+    | inr p ↦ within w (same_Some to (Some w) (sym p.3 ∙ is))
   ];
   reached = g.reached;
-  leads = λ t v next few is. elim (only t v) [
-    | inl same ↦ g.leads t v next few (sym same ∙ is)
+  leads = λ t refused v next few is. elim (only t refused v) [
+    | inl same ↦ g.leads t refused v next few (sym same ∙ is)
     | inr p ↦
-        subst (LeadsFrom flats t v) (same_Some to next (sym p.2 ∙ is))
-        (subst (λ z. LeadsFrom flats t z to) (sym p.1) (subst (λ z. LeadsFrom flats z node to) (sym p.0) leads))
+        subst (LeadsFrom flats t refused v) (same_Some to next (sym p.3 ∙ is))
+        (subst (λ z. LeadsFrom flats t refused z to) (sym p.2)
+        (subst (λ z. LeadsFrom flats t z node to) (sym p.1) (subst (λ z. LeadsFrom flats z way node to) (sym p.0) leads)))
   ];
 }
+  where
+    was : (t : ℕ) (refused : Bool) (v : ℕ) → t ≡ thread → refused ≡ way → v ≡ node → old t refused v ≡ None
+    was t refused v a b c = (λ i. old (a i) (b i) (c i)) ∙ fresh
+
+-- so is a graph that has grown, once more is noted of the rows of its ways
+pub is_graph_after_way_noted : (guest : Guest) (profile : Profile) (old flats : List Flat) (rows refusals new tries : List (Vec (Option (Option ℕ))))
+    (thread : ℕ) (way : Bool) (node : ℕ) (to : Option ℕ) → IsGraph guest profile old (noted_by rows refusals) (length rows) → Stay old flats
+    → AreNodes flats → AllReached guest profile flats → length old ≤ length flats
+    → ((t : ℕ) (refused : Bool) (v : ℕ) → (noted_by new tries t refused v ≡ noted_by rows refusals t refused v)
+    ⊎ ((t ≡ thread) × (refused ≡ way) × (v ≡ node) × (noted_by new tries t refused v ≡ Some to)))
+    → length new ≡ length rows → noted_by rows refusals thread way node ≡ None → node < length old → ((w : ℕ) → to ≡ Some w → w < length flats)
+    → LeadsFrom flats thread way node to → IsGraph guest profile flats (noted_by new tries) (length new)
+is_graph_after_way_noted guest profile old flats rows refusals new tries thread way node to g stay nodes reached grown only same fresh inside within leads =
+    subst (IsGraph guest profile flats (noted_by new tries)) (sym same)
+    (is_graph_after_note guest profile flats (noted_by rows refusals) (noted_by new tries) (length rows) thread way node to
+    (is_graph_after_nodes_added guest profile old flats (noted_by rows refusals) (length rows) g stay nodes reached grown) only fresh
+    (omega (arith, inside, grown)) within leads)
 
 -- each node has all threads
-pub thread_count_of_node : (guest : Guest) (flats : List Flat) (noted : ℕ → ℕ → Option (Option ℕ)) (threads v : ℕ) (f : Flat)
-    → IsGraph guest flats noted threads → slice_get flats v ≡ Some f → length f.threads ≡ threads
-thread_count_of_node guest flats noted threads v f g is =
+pub thread_count_of_node : (guest : Guest) (profile : Profile) (flats : List Flat) (noted : ℕ → BothWays) (threads v : ℕ) (f : Flat)
+    → IsGraph guest profile flats noted threads → slice_get flats v ≡ Some f → length f.threads ≡ threads
+thread_count_of_node guest profile flats noted threads v f g is =
     let first = element_below_length_exists flats 0 g.some in
     (g.nodes.like 0 v first.0 f first.1 is).threads ∙ g.many first.0 first.1
 
+-- where nothing is noted of it, a number is a thread's
+pub thread_is_below_if_free : (guest : Guest) (profile : Profile) (flats : List Flat) (noted : ℕ → BothWays) (threads t : ℕ) (refused : Bool)
+    (v w : ℕ) (f : Flat) → IsGraph guest profile flats noted threads → noted t refused v ≡ None → slice_get flats w ≡ Some f → t < length f.threads
+thread_is_below_if_free guest profile flats noted threads t refused v w f g free is = elim (cases_lt t threads) [
+  | inl l ↦ subst (λ n. t < n) (sym (thread_count_of_node guest profile flats noted threads w f g is)) l
+  | inr l ↦ absurd (cc (sym free ∙ g.past t refused v l))
+]
+
+-- what is so of rows is so of equal ones
+pub is_graph_of_equal_rows : (guest : Guest) (profile : Profile) (flats : List Flat) (new tries : List (Vec (Option (Option ℕ))))
+    {rows refusals : List (Vec (Option (Option ℕ)))} → rows ≡ new → refusals ≡ tries
+    → IsGraph guest profile flats (noted_by new tries) (length new) → IsGraph guest profile flats (noted_by rows refusals) (length rows)
+is_graph_of_equal_rows guest profile flats new tries {rows} {refusals} same also g =
+    subst (λ z. IsGraph guest profile flats (noted_by z refusals) (length z)) (sym same)
+    (subst (λ z. IsGraph guest profile flats (noted_by new z) (length new)) (sym also) g)
+
 -- each node has the guest's code
-pub code_of_node : (guest : Guest) (flats : List Flat) (noted : ℕ → ℕ → Option (Option ℕ)) (threads v : ℕ) (f : Flat)
-    → IsGraph guest flats noted threads → slice_get flats v ≡ Some f → f.code ≡ guest.code
-code_of_node guest flats noted threads v f g is =
+pub code_of_node : (guest : Guest) (profile : Profile) (flats : List Flat) (noted : ℕ → BothWays) (threads v : ℕ) (f : Flat)
+    → IsGraph guest profile flats noted threads → slice_get flats v ≡ Some f → f.code ≡ guest.code
+code_of_node guest profile flats noted threads v f g is =
     let first = element_below_length_exists flats 0 g.some in
     (g.nodes.like 0 v first.0 f first.1 is).code ∙ g.code first.0 first.1
 
@@ -103,32 +202,78 @@ noted_in_past_threads [] t v l = refl
 noted_in_past_threads (row ∷ rows) zero v l = absurd (omega (arith, l))
 noted_in_past_threads (row ∷ rows) (suc t) v l = noted_in_past_threads rows t v (omega (arith, l))
 
+-- so where nothing is noted it is a thread's
+pub noted_row_exists_if_free : (rows : List (Vec (Option (Option ℕ)))) (t v : ℕ) → noted_in rows t v ≡ None → t < length rows
+noted_row_exists_if_free rows t v free = elim (cases_lt t (length rows)) [
+  | inl l ↦ l
+  | inr l ↦ absurd (cc (sym free ∙ noted_in_past_threads rows t v l))
+]
+
+-- nothing is noted of the refused way: in the first profile that it leads nowhere, and in the second it is free
+pub data FreeToTry (profile : Profile) (threads : ℕ) (noted : ℕ → BothWays) : Type 0 where
+  Untried : profile ≡ One → ((t v : ℕ) → noted t true v ≡ Some None) → FreeToTry profile threads noted
+  Tried : (profile ≡ One → ⊥) → ((t v : ℕ) → t < threads → noted t true v ≡ None) → FreeToTry profile threads noted
+
+pub free_to_try : (profile : Profile) (threads : ℕ) (rows refusals : List (Vec (Option (Option ℕ)))) → (profile ≡ One → refusals ≡ [])
+    → (profile ≡ Two → (t v : ℕ) → t < threads → noted_in refusals t v ≡ None) → FreeToTry profile threads (noted_by rows refusals)
+free_to_try One threads rows refusals none free = Untried refl (λ t v. ap (λ z. noted_in z t v) (none refl))
+free_to_try Two threads rows refusals none free = Tried (λ e. absurd (cc e)) (free refl)
+
+pub noted_by_past_threads : (rows refusals : List (Vec (Option (Option ℕ)))) → length refusals ≤ length rows → (t : ℕ) (refused : Bool) (v : ℕ)
+    → length rows ≤ t → noted_by rows refusals t refused v ≡ Some None
+noted_by_past_threads rows refusals less t true v l = noted_in_past_threads refusals t v (omega (arith, less, l))
+noted_by_past_threads rows refusals less t false v l = noted_in_past_threads rows t v l
+
 -- the graph at first
-pub start_is_graph : (guest : Guest) (budget : ℕ) (h : Flat) (noted : ℕ → ℕ → Option (Option ℕ)) (threads : ℕ)
-    → GoesPlain (start_flat guest budget One) h → IsReached guest h → AllRest h → length h.threads ≡ threads → threads ≡ length guest.entries
-    → ((t v : ℕ) → t < threads → noted t v ≡ None) → IsGraph guest (h ∷ []) noted threads
-start_is_graph guest budget h noted threads goes reached rest many number free =
-    let only : (v : ℕ) (f : Flat) → slice_get (h ∷ []) v ≡ Some f → h ≡ f =
-    λ v f is. here v f is in record {
-      nodes = record {
-        rest = λ v f is. subst AllRest (only v f is) rest;
-        like = λ u v f g a b. subst (λ z. IsLike z g) (only u f a) (subst (IsLike h) (only v g b) (like_reflexive h));
-      };
+pub start_is_graph : (guest : Guest) (profile : Profile) (budget : ℕ) (h : Flat) (noted : ℕ → BothWays) (threads : ℕ)
+    → GoesPlain (start_flat guest budget profile) h → IsReached guest profile h → AllRest h → length h.threads ≡ threads
+    → threads ≡ length guest.entries → ((t v : ℕ) → t < threads → noted t false v ≡ None) → FreeToTry profile threads noted
+    → ((t : ℕ) (refused : Bool) (v : ℕ) → threads ≤ t → noted t refused v ≡ Some None) → IsGraph guest profile (h ∷ []) noted threads
+start_is_graph guest profile budget h noted threads goes reached rest many number free tries past =
+    record {
+      nodes = nodes;
       some = omega arith;
       number = number;
       code = λ f is. ap (λ z. z.code) (sym (only 0 f is)) ∙ goes.code;
       many = λ f is. ap (λ z. length z.threads) (sym (only 0 f is)) ∙ many;
       begins = λ f is answers.
-          subst (λ z. Begins (seen_by guest.code) (told_by guest.code) (Alike guest.code) (seen_start guest One answers) (seen_of z answers))
+          subst (λ z. Begins (seen_by guest.code) (told_by guest.code) (Alike guest.code) (seen_start guest profile answers) (seen_of z answers))
           (only 0 f is)
           (subst (λ z. Begins (seen_by guest.code) (told_by guest.code) (Alike guest.code) (beside z answers) (seen_of h answers))
-          (start_view_ignores_budget guest budget 1 One) (begins_by_plain_steps (start_flat guest budget One) h goes answers));
-      asked = λ t v next few is. absurd (cc (sym (free t v few) ∙ is));
-      within = λ t v w few is. absurd (cc (sym (free t v few) ∙ is));
-      reached = λ v f is. subst (IsReached guest) (only v f is) reached;
-      leads = λ t v next few is. absurd (cc (sym (free t v few) ∙ is));
+          (start_view_ignores_budget guest budget 1 profile) (begins_by_plain_steps (start_flat guest budget profile) h goes answers));
+      past = past;
+      untried = λ one t v. untried tries one t v;
+      asked = λ t refused v next few is. inr (first tries t refused v next few is);
+      within = λ t refused v w few is.
+          let one = first tries t refused v (Some w) few is in
+          absurd (cc (sym (untried tries one.0 t v) ∙ subst (λ z. noted t z v ≡ Some (Some w)) one.1 is));
+      reached = each;
+      leads = λ t refused v next few is.
+          let one = first tries t refused v next few is in
+          subst (LeadsFrom (h ∷ []) t refused v)
+          (same_Some None next (sym (untried tries one.0 t v) ∙ subst (λ z. noted t z v ≡ Some next) one.1 is))
+          (subst (λ z. LeadsFrom (h ∷ []) t z v None) (sym one.1) (untried_leads_nowhere guest profile (h ∷ []) t v one.0 nodes each));
     }
   where
-    here : (v : ℕ) (f : Flat) → slice_get (h ∷ []) v ≡ Some f → h ≡ f
-    here zero f is = same_Some h f is
-    here (suc v) f is = absurd (cc is)
+    only : (v : ℕ) (f : Flat) → slice_get (h ∷ []) v ≡ Some f → h ≡ f
+    only zero f is = same_Some h f is
+    only (suc v) f is = absurd (cc is)
+
+    nodes : AreNodes (h ∷ [])
+    nodes = record {
+      rest = λ v f is. subst AllRest (only v f is) rest;
+      like = λ u v f g a b. subst (λ z. IsLike z g) (only u f a) (subst (IsLike h) (only v g b) (like_reflexive h));
+    }
+
+    each : AllReached guest profile (h ∷ [])
+    each v f is = subst (IsReached guest profile) (only v f is) reached
+
+    untried : FreeToTry profile threads noted → profile ≡ One → (t v : ℕ) → noted t true v ≡ Some None
+    untried (Untried is none) one = none
+    untried (Tried never none) one = absurd (never one)
+
+    first : FreeToTry profile threads noted → (t : ℕ) (refused : Bool) (v : ℕ) (next : Option ℕ) → t < threads → noted t refused v ≡ Some next
+        → (profile ≡ One) × (refused ≡ true)
+    first tries t false v next few is = absurd (cc (sym (free t v few) ∙ is))
+    first (Untried one none) t true v next few is = (one, refl)
+    first (Tried never none) t true v next few is = absurd (cc (sym (none t v few) ∙ is))

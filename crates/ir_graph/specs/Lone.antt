@@ -1,24 +1,26 @@
 -- A thread that goes on beside one object.
-use Rattle.std.specs.Prelude.{◌≡◌, ◌<◌, ℕ, zero, suc, List, length, slice_index, slice_set}
+use Rattle.std.specs.Prelude.{◌≡◌, ◌<◌, ℕ, zero, suc, Bool, true, false, List, length, slice_index, slice_set}
 use Rattle.ir_image.specs.Guest.{most_object_words}
 use Rattle.ir_object.specs.Cell.{Cell}
 use Rattle.ir_object.specs.Standing.{Admitted, CanLeave}
 use Rattle.ir_object.specs.Word.{IsFields, entered, left_by}
-use Rattle.ir_runs.specs.declared.access.Access.{Access}
+use Rattle.ir_object.specs.declared.fields.Fields.{Fields}
+use Rattle.ir_runs.specs.declared.access.Access.TheVariants.{Writing}
 use Rattle.ir_thread.specs.State.{ThreadState, ask_of, after_ask}
 use Rattle.ir_thread.specs.declared.ask.Ask.{Ask}
 use Rattle.ir_thread.specs.declared.ask.Ask.TheVariants as ask
 use Rattle.ir_thread.specs.declared.ask.Reply.{Reply}
 use Rattle.ir_thread.specs.declared.ask.Reply.TheVariants.{Go, Value}
 use Rattle.ir_flat.specs.Flat.{Flat, IsFlat, thread_of, cell_of}
-use Rattle.ir_graph.specs.Plain.{IsFair, Rests}
+use Rattle.ir_flat.specs.Next.{MayTry}
+use Rattle.ir_graph.specs.Plain.{IsFair, Rests, result_by}
 
 -- an ask is about no object but this one, and nothing outside
 abbrev pub IsAbout : ℕ → Ask → Type 0
 IsAbout o ask.Private = Unit {0}
 IsAbout o (ask.Env kind) = ⊥
 IsAbout o (ask.Enter p access) = p ≡ o
-IsAbout o (ask.Try p) = ⊥
+IsAbout o (ask.Try p) = p ≡ o
 IsAbout o (ask.Leave p access) = p ≡ o
 IsAbout o (ask.Get p index) = p ≡ o
 IsAbout o (ask.Put p index value) = p ≡ o
@@ -26,52 +28,61 @@ IsAbout o ask.Print = Unit {0}
 IsAbout o (ask.End e) = Unit {0}
 IsAbout o ask.Done = ⊥
 
--- what the object answers
-abbrev pub answer_from : Cell → Ask → Reply
-answer_from c ask.Private = Go
-answer_from c (ask.Env kind) = Go
-answer_from c (ask.Enter p access) = Go
-answer_from c (ask.Try p) = Go
-answer_from c (ask.Leave p access) = Go
-answer_from c (ask.Get p index) = Value (slice_index c.words index)
-answer_from c (ask.Put p index value) = Go
-answer_from c ask.Print = Go
-answer_from c (ask.End e) = Go
-answer_from c ask.Done = Go
+-- what the object answers; of a try it is known whether it is refused
+abbrev pub answer_from : Bool → Cell → Ask → Reply
+answer_from refused c ask.Private = Go
+answer_from refused c (ask.Env kind) = Go
+answer_from refused c (ask.Enter p access) = Go
+answer_from refused c (ask.Try p) = Value (result_by refused)
+answer_from refused c (ask.Leave p access) = Go
+answer_from refused c (ask.Get p index) = Value (slice_index c.words index)
+answer_from refused c (ask.Put p index value) = Go
+answer_from refused c ask.Print = Go
+answer_from refused c (ask.End e) = Go
+answer_from refused c ask.Done = Go
+
+-- the object after a try
+abbrev pub cell_after_try : Bool → Cell → Cell
+cell_after_try true c = c
+cell_after_try false c = record c { fields = entered Writing c.fields }
 
 -- the object after what is asked of it
-abbrev pub cell_after : Cell → Ask → Cell
-cell_after c ask.Private = c
-cell_after c (ask.Env kind) = c
-cell_after c (ask.Enter p access) = record c { fields = entered access c.fields }
-cell_after c (ask.Try p) = c
-cell_after c (ask.Leave p access) = record c { fields = left_by access c.fields }
-cell_after c (ask.Get p index) = c
-cell_after c (ask.Put p index value) = record c { words = slice_set c.words index value }
-cell_after c ask.Print = c
-cell_after c (ask.End e) = c
-cell_after c ask.Done = c
+abbrev pub cell_after : Bool → Cell → Ask → Cell
+cell_after refused c ask.Private = c
+cell_after refused c (ask.Env kind) = c
+cell_after refused c (ask.Enter p access) = record c { fields = entered access c.fields }
+cell_after refused c (ask.Try p) = cell_after_try refused c
+cell_after refused c (ask.Leave p access) = record c { fields = left_by access c.fields }
+cell_after refused c (ask.Get p index) = c
+cell_after refused c (ask.Put p index value) = record c { words = slice_set c.words index value }
+cell_after refused c ask.Print = c
+cell_after refused c (ask.End e) = c
+cell_after refused c ask.Done = c
 
 -- the thread and the object after the thread's next step
-abbrev pub lone_thread : List ℕ → ThreadState → Cell → ThreadState
-lone_thread code x c = after_ask code x (ask_of code x) (answer_from c (ask_of code x))
+abbrev pub lone_thread : List ℕ → Bool → ThreadState → Cell → ThreadState
+lone_thread code refused x c = after_ask code x (ask_of code x) (answer_from refused c (ask_of code x))
 
-abbrev pub lone_cell : List ℕ → ThreadState → Cell → Cell
-lone_cell code x c = cell_after c (ask_of code x)
+abbrev pub lone_cell : List ℕ → Bool → ThreadState → Cell → Cell
+lone_cell code refused x c = cell_after refused c (ask_of code x)
 
 -- y and d are x and c after so many steps of the thread, none of which can be refused and all of which are about this object alone
 abbrev pub GoesLone : List ℕ → ℕ → ℕ → ThreadState → Cell → ThreadState → Cell → Type 0
 GoesLone code o zero x c y d = (x ≡ y) × (c ≡ d)
 GoesLone code o (suc k) x c y d = IsFair (ask_of code x) × IsAbout o (ask_of code x)
-    × GoesLone code o k (lone_thread code x c) (lone_cell code x c) y d
+    × GoesLone code o k (lone_thread code false x c) (lone_cell code false x c) y d
 
--- a thread that rests enters this object and goes on, by steps about it alone, to where it rests again: x and c become y and d
-pub record TakesTurn (code : List ℕ) (o : ℕ) (x : ThreadState) (c : Cell) (y : ThreadState) (d : Cell) : Type 0 where
-  pub access : Access
-  pub asks : ask_of code x ≡ ask.Enter o access
-  pub admitted : Admitted access c.fields
+-- a thread that asks so can begin a turn with this object: it enters, or its try is refused or enters
+abbrev pub MayBegin : Bool → ℕ → Fields → Ask → Type 0
+MayBegin refused o fields (ask.Enter p access) = (refused ≡ false) × (p ≡ o) × Admitted access fields
+MayBegin refused o fields (ask.Try p) = (p ≡ o) × MayTry fields (result_by refused)
+MayBegin refused o fields _ = ⊥
+
+-- a thread that rests enters this object, or tries to, and goes on, by steps about it alone, to where it rests again: x and c become y and d
+pub record TakesTurn (code : List ℕ) (o : ℕ) (refused : Bool) (x : ThreadState) (c : Cell) (y : ThreadState) (d : Cell) : Type 0 where
+  pub begins : MayBegin refused o c.fields (ask_of code x)
   pub steps : ℕ
-  pub goes : GoesLone code o steps (lone_thread code x c) (lone_cell code x c) y d
+  pub goes : GoesLone code o steps (lone_thread code refused x c) (lone_cell code refused x c) y d
   pub rests : Rests (ask_of code y)
 
 -- a thread and an object of some state of a guest
@@ -85,15 +96,20 @@ pub record AreBeside (code : List ℕ) (o : ℕ) (x : ThreadState) (c : Cell) : 
   pub here : thread_of flat thread ≡ x
   pub there : cell_of flat o ≡ c
 
+-- the object may be tried so
+abbrev pub MayTakeTry : Bool → Cell → Type 0
+MayTakeTry true c = Unit {0}
+MayTakeTry false c = Admitted Writing c.fields × IsFields (entered Writing c.fields)
+
 -- the object may be asked so
-abbrev pub MayTake : Cell → Ask → Type 0
-MayTake c ask.Private = Unit {0}
-MayTake c (ask.Env kind) = ⊥
-MayTake c (ask.Enter p access) = Admitted access c.fields × IsFields (entered access c.fields)
-MayTake c (ask.Try p) = ⊥
-MayTake c (ask.Leave p access) = CanLeave access c.fields × IsFields (left_by access c.fields)
-MayTake c (ask.Get p index) = index < most_object_words
-MayTake c (ask.Put p index value) = index < most_object_words
-MayTake c ask.Print = Unit {0}
-MayTake c (ask.End e) = Unit {0}
-MayTake c ask.Done = ⊥
+abbrev pub MayTake : Bool → Cell → Ask → Type 0
+MayTake refused c ask.Private = Unit {0}
+MayTake refused c (ask.Env kind) = ⊥
+MayTake refused c (ask.Enter p access) = Admitted access c.fields × IsFields (entered access c.fields)
+MayTake refused c (ask.Try p) = MayTakeTry refused c
+MayTake refused c (ask.Leave p access) = CanLeave access c.fields × IsFields (left_by access c.fields)
+MayTake refused c (ask.Get p index) = index < most_object_words
+MayTake refused c (ask.Put p index value) = index < most_object_words
+MayTake refused c ask.Print = Unit {0}
+MayTake refused c (ask.End e) = Unit {0}
+MayTake refused c ask.Done = ⊥

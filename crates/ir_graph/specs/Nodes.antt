@@ -1,10 +1,11 @@
 -- The nodes of a guest's graph: its states at rest, as the threads see them.
-use Rattle.std.specs.Prelude.{◌≡◌, ℕ, ◌<◌, List, [], ◌∷◌, length, Option, Some, None, slice_get}
+use Rattle.std.specs.Prelude.{◌≡◌, ℕ, ◌<◌, Bool, List, [], ◌∷◌, length, Option, Some, None, slice_get}
 use Rattle.ir_runs.specs.Machine.{Machine}
 use Rattle.ir_runs.specs.Run as run
 use Rattle.ir_states.specs.Counting.{Answers}
 use Rattle.ir_states.specs.Looks.{Looks}
 use Rattle.ir_states.specs.Nodes.{LeadsTo}
+use Rattle.ir_states.specs.Orders.{is_refusal}
 use Rattle.ir_states.specs.Sources.{Giving, sourced, by_source}
 use Rattle.ir_states.specs.Views.{viewed, beside}
 use Rattle.ir_thread.specs.State.{ThreadState, ask_of}
@@ -49,9 +50,19 @@ pub record AreNodes (flats : List Flat) : Type 0 where
 abbrev pub Stay : List Flat → List Flat → Type 0
 Stay old new = (v : ℕ) (f : Flat) → slice_get old v ≡ Some f → slice_get new v ≡ Some f
 
--- where thread t leads from node v: it has no step there, or each of its steps leads to node w, whatever its world answers
-abbrev pub LeadsFrom : List Flat → ℕ → ℕ → Option ℕ → Type 0
-LeadsFrom flats t v None = (f : Flat) → slice_get flats v ≡ Some f → (answers : ℕ → List ℕ) (e : run.Step) → e.0 ≡ t
-    → run.Can (seen_by f.code) (seen_of f answers) e → ⊥
-LeadsFrom flats t v (Some w) = (f g : Flat) → slice_get flats v ≡ Some f → slice_get flats w ≡ Some g → (answers : ℕ → List ℕ) (e : run.Step)
-    → e.0 ≡ t → LeadsTo (seen_by f.code) (told_by f.code) (Alike f.code) (seen_of f answers) e (seen_of g answers)
+-- the step of a state is a refused try, or it isn't
+abbrev pub IsStepBy : Flat → (ℕ → List ℕ) → Bool → run.Step → Type 0
+IsStepBy f answers refused e = is_refusal (run.act (seen_by f.code) (seen_of f answers) e) ≡ refused
+
+-- thread t has such a step there
+abbrev pub HasStepBy : Flat → (ℕ → List ℕ) → ℕ → Bool → Type 0
+HasStepBy f answers t refused = (r : ℕ) × run.Can (seen_by f.code) (seen_of f answers) (t, r) × IsStepBy f answers refused (t, r)
+
+-- Where thread t leads from node v by one of its two ways, its refused try or any other step: it has no such step there, or it has one, and
+-- each leads to node w, whatever its world answers.
+abbrev pub LeadsFrom : List Flat → ℕ → Bool → ℕ → Option ℕ → Type 0
+LeadsFrom flats t refused v None = (f : Flat) → slice_get flats v ≡ Some f → (answers : ℕ → List ℕ) (e : run.Step) → e.0 ≡ t
+    → IsStepBy f answers refused e → run.Can (seen_by f.code) (seen_of f answers) e → ⊥
+LeadsFrom flats t refused v (Some w) = (f g : Flat) → slice_get flats v ≡ Some f → slice_get flats w ≡ Some g → (answers : ℕ → List ℕ)
+    → HasStepBy f answers t refused × ((e : run.Step) → e.0 ≡ t → IsStepBy f answers refused e → run.Can (seen_by f.code) (seen_of f answers) e
+    → LeadsTo (seen_by f.code) (told_by f.code) (Alike f.code) (seen_of f answers) e (seen_of g answers))

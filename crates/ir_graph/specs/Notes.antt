@@ -1,5 +1,5 @@
 -- Where threads lead from nodes, as it was noted.
-use Rattle.std.specs.Prelude.{◌≡◌, ℕ, zero, suc, List, [], ◌∷◌, Option, Some, None, refl}
+use Rattle.std.specs.Prelude.{◌≡◌, ℕ, zero, suc, Bool, true, false, List, [], ◌∷◌, Option, Some, None, refl}
 use Rattle.std.specs.Global.{Vec}
 use Rattle.std.specs.List.{slice_index_or}
 
@@ -25,3 +25,8 @@ abbrev pub noted_in : List (Vec (Option (Option ℕ))) → ℕ → ℕ → Optio
 noted_in [] t v = Some None
 noted_in (row ∷ rows) zero v = slice_index_or row.items v None
 noted_in (row ∷ rows) (suc t) v = noted_in rows t v
+
+-- the same, by whether its try is refused: each way has its own rows
+abbrev pub noted_by : List (Vec (Option (Option ℕ))) → List (Vec (Option (Option ℕ))) → ℕ → Bool → ℕ → Option (Option ℕ)
+noted_by rows refusals t false = noted_in rows t
+noted_by rows refusals t true = noted_in refusals t

@@ -48,9 +48,10 @@ pub record IsLike (f g : Flat) : Type 0 where
   pub objects : length g.objects ≡ length f.objects
   pub twins : (u : ℕ) → AreTwins (thread_of f u) (thread_of g u)
 
--- a thread asks so where it rests: it enters, or it is done
+-- a thread asks so where it rests: it enters, tries to enter, or is done
 abbrev pub Rests : Ask → Type 0
 Rests (ask.Enter object access) = Unit {0}
+Rests (ask.Try object) = Unit {0}
 Rests ask.Done = Unit {0}
 Rests _ = ⊥
 
@@ -65,3 +66,19 @@ IsFair (ask.End ending.BudgetSpent) = ⊥
 IsFair (ask.End ending.LogFull) = ⊥
 IsFair (ask.End e) = Unit {0}
 IsFair _ = ⊥
+
+-- the result of a step from rest: that of a refused try, or of one that enters; nothing looks at that of an entry
+abbrev pub result_by : Bool → ℕ
+result_by true = 0
+result_by false = 1
+
+-- a thread that asks so doesn't try to enter
+abbrev pub IsNoTry : Ask → Type 0
+IsNoTry (ask.Try object) = ⊥
+IsNoTry _ = Unit {0}
+
+-- a thread that asks so may have a step by this way: only one that tries is refused
+abbrev pub MayGo : Bool → Ask → Type 0
+MayGo true (ask.Try object) = Unit {0}
+MayGo true _ = ⊥
+MayGo false _ = Unit {0}

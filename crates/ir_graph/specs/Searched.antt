@@ -6,42 +6,43 @@ use Rattle.ir_explore.specs.Levels.{rows}
 use Rattle.ir_explore.specs.Origins.{AreRising}
 use Rattle.ir_explore.specs.Searching.{HasGone, IsBetween}
 use Rattle.ir_flat.specs.Flat.{Flat}
+use Rattle.ir_thread.specs.declared.profile.Profile.{Profile}
 use Rattle.ir_graph.specs.Ahead.{AreTurns}
 use Rattle.ir_graph.specs.Graph.{IsGraph}
 use Rattle.ir_graph.specs.Hangs.{AllStand}
 use Rattle.ir_graph.specs.Nodes.{AreNodes}
-use Rattle.ir_graph.specs.Notes.{noted_in}
+use Rattle.ir_graph.specs.Notes.{noted_by}
 use Rattle.ir_graph.specs.Outcomes.{AllListed, WithinListed}
 use Rattle.ir_graph.specs.Reached.{AllReached}
 use Rattle.ir_graph.specs.declared.states.States.{States}
 
 -- The states are those of this guest at rest, to each of which a run leads. Origins are known of the first of them, by rising levels, and so
 -- many levels are gone over.
-pub record AreSearched (guest : Guest) (flats : List Flat) (origins : List Origin) (levels : ℕ) : Type 0 where
+pub record AreSearched (guest : Guest) (profile : Profile) (flats : List Flat) (origins : List Origin) (levels : ℕ) : Type 0 where
   pub states : AreNodes flats
-  pub reached : AllReached guest flats
+  pub reached : AllReached guest profile flats
   pub few : length origins ≤ length flats
   pub rising : AreRising origins
   pub most : (v : ℕ) (n : Origin) → slice_get origins v ≡ Some n → n.level ≤ levels
-  pub within : (c : ℕ) → c < levels → WithinListed guest flats origins c
+  pub within : (c : ℕ) → c < levels → WithinListed guest profile flats origins c
 
 -- a search over the graph of a guest
 pub record IsSearch (s : States) : Type 0 where
-  pub graph : IsGraph s.graph.image.now s.graph.flats.items (noted_in s.graph.rows.items) (length s.graph.rows.items)
+  pub graph : IsGraph s.graph.image.now s.graph.profile s.graph.flats.items (noted_by s.graph.rows.items s.graph.refusals.items) (length s.graph.rows.items)
   pub turns : AreTurns s.graph.image.now.code s.graph.flats.shared s.graph.ahead
   pub room : length s.graph.flats.items ≤ s.graph.bounds.nodes
   pub threads : length (rows s.search.opened.items) ≡ length s.graph.rows.items
 
 -- it stands between two levels
 abbrev pub StandsBetween : States → Type 0
-StandsBetween s = IsBetween (noted_in s.graph.rows.items) (length s.graph.flats.items) s.search.nodes.items (rows s.search.opened.items) s.search.level
+StandsBetween s = IsBetween (noted_by s.graph.rows.items s.graph.refusals.items) (length s.graph.flats.items) s.search.found.nodes.items s.search.found.refusals.items (rows s.search.opened.items) s.search.level
 
 -- so many levels are gone over
 abbrev pub HasLevels : States → ℕ → Type 0
-HasLevels s n = HasGone (noted_in s.graph.rows.items) (length (rows s.search.opened.items)) (length s.graph.flats.items) s.search.nodes.items n
+HasLevels s n = HasGone (noted_by s.graph.rows.items s.graph.refusals.items) (length (rows s.search.opened.items)) (length s.graph.flats.items) s.search.found.nodes.items s.search.found.refusals.items n
 
 -- each outcome of the guest is that of a listed state; its runs that count stand at listed states
 pub record IsWhole (s : States) : Type 0 where
-  pub all : AllListed s.graph.image.now s.graph.flats.items
-  pub nodes : length s.search.nodes.items ≡ length s.graph.flats.items
-  pub stand : AllStand s.graph.image.now s.graph.flats.items s.search.nodes.items
+  pub all : AllListed s.graph.image.now s.graph.profile s.graph.flats.items
+  pub nodes : length s.search.found.nodes.items ≡ length s.graph.flats.items
+  pub stand : AllStand s.graph.image.now s.graph.profile s.graph.flats.items s.search.found.nodes.items

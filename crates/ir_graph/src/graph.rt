@@ -5,72 +5,75 @@ ghost use Rattle.ir_flat.specs.Flat.{Flat};
 ghost use Rattle.ir_image.specs.Guest.{Guest};
 ghost use Rattle.ir_graph.specs.Ahead.{AreTurns};
 ghost use Rattle.ir_graph.specs.Graph.{IsGraph};
-ghost use Rattle.ir_graph.specs.Notes.{noted_in};
+ghost use Rattle.ir_graph.specs.Notes.{noted_by};
 ghost use Rattle.ir_graph.specs.Stops.{MayStop};
+ghost use Rattle.ir_thread.specs.declared.profile.Profile.{Profile};
 
 use crate::ahead::Ahead;
 use crate::nodes::{Bounds, successor};
-use crate::notes::{Row, known, note};
+use crate::notes::{Row, known, note_way};
+use crate::way::Way;
 use ir_explore::{Stop, Successors};
 use ir_image::Image;
 use ir_store::Store;
+use ir_thread::Profile;
 
 /// The graph of a guest whose threads call no environment: its states at rest, as the threads can tell them apart.
 #[derive(Drop)]
 pub struct Graph<'a> {
     /// The image of the guest.
     pub image: &'a Image,
+    /// Which calls its threads make.
+    pub profile: Profile,
     /// The states.
     pub flats: Store<'a>,
     /// How far the search may go.
     pub bounds: Bounds,
     pub(crate) ahead: Ahead,
     pub(crate) rows: Vec<Row>,
+    pub(crate) refusals: Vec<Row>,
 }
 
 impl<'a> Successors for Graph<'a> {
-    ghost Origin = { Guest × ℕ };
+    ghost Origin = { Guest × Profile × ℕ };
 
-    ghost origin = { λ g. (g.image.now, g.bounds.private) };
+    ghost origin = { λ g. (g.image.now, g.profile, g.bounds.private) };
 
     ghost size = { λ g. length g.flats.items };
 
     ghost most = { λ g. g.bounds.nodes };
 
-    ghost may_stop = { λ g. MayStop g.image.now g.flats.items g.bounds.nodes g.bounds.private };
+    ghost may_stop = { λ g. MayStop g.image.now g.profile g.flats.items g.bounds.nodes g.bounds.private };
 
     ghost Node = { Flat };
 
     ghost nodes = { λ g. g.flats.items };
 
-    ghost noted = { λ g. noted_in g.rows.items };
+    ghost noted = { λ g. noted_by g.rows.items g.refusals.items };
 
-    ghost is_sound = { λ g. IsGraph g.image.now g.flats.items (noted_in g.rows.items) (length g.rows.items) × AreTurns g.image.now.code g.flats.shared g.ahead };
+    ghost is_sound = { λ g. IsGraph g.image.now g.profile g.flats.items (noted_by g.rows.items g.refusals.items) (length g.rows.items) × AreTurns g.image.now.code g.flats.shared g.ahead };
 
-    fn known(&self, thread: usize, node: usize) -> Option<Option<usize>> {
-        if thread < self.rows.len() {
-            known(&self.rows, thread, node)
+    fn known(&self, thread: usize, refused: bool, node: usize) -> Option<Option<usize>> {
+        if refused {
+            known(&self.refusals, thread, node)
         } else {
-            Some(None)
+            known(&self.rows, thread, node)
         }
     }
 
-    fn next(&mut self, thread: usize, node: usize) -> Result<Option<usize>, Stop> {
-        if thread >= self.rows.len() {
-            return Ok(None);
-        }
-        if let Some(next) = known(&self.rows, thread, node) {
+    fn next(&mut self, thread: usize, refused: bool, node: usize) -> Result<Option<usize>, Stop> {
+        if let Some(next) = self.known(thread, refused, node) {
             return Ok(next);
         }
-        let next = successor(
-            &mut self.flats,
-            &mut self.ahead,
-            self.image.code(),
+        let way = Way {
             thread,
+            refused,
             node,
-            self.bounds,
-        )?;
-        note(&mut self.rows, self.flats.len(), thread, node, next)?;
+        };
+        let code = self.image.code();
+        let next = successor(&mut self.flats, &mut self.ahead, code, way, self.bounds)?;
+        let nodes = self.flats.len();
+        note_way(&mut self.rows, &mut self.refusals, nodes, way, next)?;
         Ok(next)
     }
 }

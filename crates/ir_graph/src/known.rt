@@ -2,13 +2,17 @@
 
 use ir_store::Spot;
 
-/// A thread enters an object and goes on to where it rests.
+/// A thread enters an object, or tries to, and goes on to where it rests.
 #[derive(Clone, Copy, Debug, PartialEq, Eq)]
 pub struct Turn {
     /// The number of the thread before.
     pub from: usize,
-    /// The object that it enters.
+    /// The object that it enters or tries to.
     pub object: usize,
+    /// Whether it tries.
+    pub tries: bool,
+    /// Whether the try is refused.
+    pub refused: bool,
     /// That object before.
     pub spot: Spot,
     /// The number of the thread after.

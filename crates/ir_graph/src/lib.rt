@@ -15,6 +15,7 @@ mod rest;
 mod start;
 mod states;
 mod turns;
+mod way;
 
 pub use ahead::Ahead;
 pub use ends::{is_done, same_outcome};

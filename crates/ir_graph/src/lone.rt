@@ -1,11 +1,9 @@
 //! A thread that goes on beside one object.
 
-ghost use Rattle.std.specs.Prelude.{◌≡◌, ℕ, true, IfSome};
-ghost use Rattle.ir_graph.specs.Lone.{IsAbout, answer_from, cell_after, GoesLone, TakesTurn, AreBeside, MayTake};
+ghost use Rattle.std.specs.Prelude.{◌≡◌, ℕ, true, false, IfSome};
+ghost use Rattle.ir_graph.specs.Lone.{IsAbout, answer_from, cell_after, GoesLone, MayBegin, TakesTurn, AreBeside, MayTake};
 ghost use Rattle.ir_graph.specs.Plain.{IsFair, Rests};
-ghost use Rattle.ir_object.specs.Standing.{Admitted};
 ghost use Rattle.ir_thread.specs.State.{ask_of, after_ask};
-ghost use Rattle.ir_thread.specs.declared.ask.Ask.TheVariants as ask;
 
 use ir_image::Code;
 use ir_object::Object;
@@ -17,7 +15,7 @@ fn is_rest(asked: Ask) -> bool
     ensures { result ≡ true → Rests asked }
 {
     match asked {
-        Ask::Enter(_, _) | Ask::Done => true,
+        Ask::Enter(_, _) | Ask::Try(_) | Ask::Done => true,
         _ => false,
     }
 }
@@ -38,18 +36,23 @@ fn is_about(object: u8, asked: Ask) -> bool
     }
 }
 
-// The thread takes the step that it asked, which is about this object or none.
+// The thread takes the step that it asked, which is about this object or none; a try is refused or enters.
 #[tactic(auto, unfolding(ir_thread::specs::State::after_reply))]
-fn take_beside(code: &Code, thread: &mut Thread, object: &mut Object, asked: Ask)
+fn take_beside(code: &Code, thread: &mut Thread, object: &mut Object, asked: Ask, refused: bool)
     requires asked { asked ≡ ask_of code.now thread.old }
-    requires may { MayTake object.old asked }
-    ensures thread { thread.new ≡ after_ask code.now thread.old asked (answer_from object.old asked) }
-    ensures object { object.new ≡ cell_after object.old asked }
+    requires may { MayTake refused object.old asked }
+    ensures thread { thread.new ≡ after_ask code.now thread.old asked (answer_from refused object.old asked) }
+    ensures object { object.new ≡ cell_after refused object.old asked }
 {
     match asked {
         Ask::Enter(_, access) => {
             object.enter(access);
             thread.take_asked(code, asked, Reply::Go);
+        }
+        Ask::Try(_) if refused => thread.take_asked(code, asked, Reply::Value(0)),
+        Ask::Try(_) => {
+            object.enter(Access::Writing);
+            thread.take_asked(code, asked, Reply::Value(1));
         }
         Ask::Leave(_, access) => {
             object.leave(access);
@@ -86,40 +89,50 @@ fn go_beside(code: &Code, thread: &mut Thread, object: &mut Object, number: u8, 
         if !is_about(number, asked) {
             return false;
         }
-        take_beside(code, thread, object, asked);
+        take_beside(code, thread, object, asked, false);
         left -= 1;
     }
 }
 
-// How the thread enters this object, if it may.
-fn entry(code: &Code, thread: &Thread, object: &Object, number: u8) -> Option<Access>
-    ensures asks { IfSome result (λ access. ask_of code.now thread.now ≡ ask.Enter number access) }
-    ensures admitted { IfSome result (λ access. Admitted access object.now.fields) }
+// What the thread asks, if it can begin a turn with this object: it enters, or its try is refused or enters.
+fn first_ask(
+    code: &Code,
+    thread: &Thread,
+    object: &Object,
+    number: u8,
+    refused: bool,
+) -> Option<Ask>
+    ensures asks { IfSome result (λ asked. ask_of code.now thread.now ≡ asked) }
+    ensures begins { IfSome result (λ asked. MayBegin refused number object.now.fields asked) }
 {
     match thread.ask(code) {
-        Ask::Enter(o, Access::Reading) if o == number && object.can_read() => Some(Access::Reading),
-        Ask::Enter(o, Access::Writing) if o == number && object.can_write() => Some(
-            Access::Writing,
+        Ask::Enter(o, Access::Reading) if o == number && !refused && object.can_read() => Some(
+            Ask::Enter(number, Access::Reading),
         ),
+        Ask::Enter(o, Access::Writing) if o == number && !refused && object.can_write() => Some(
+            Ask::Enter(number, Access::Writing),
+        ),
+        Ask::Try(o) if o == number && (refused || object.can_write()) => Some(Ask::Try(number)),
         _ => None,
     }
 }
 
-/// A thread that rests enters this object and goes on to where it rests again, if all its steps up to there, at most `limit`, are about this
-/// object alone; whether it did.
+/// A thread that rests enters this object, or its try is refused or enters, and it goes on to where it rests again, if all its steps up to
+/// there, at most `limit`, are about this object alone; whether it did.
 pub fn turn_beside(
     code: &Code,
     thread: &mut Thread,
     object: &mut Object,
     number: u8,
+    refused: bool,
     limit: u64,
 ) -> bool
     requires { AreBeside code.now number thread.old object.old }
-    ensures { result ≡ true → TakesTurn code.now number thread.old object.old thread.new object.new }
+    ensures { result ≡ true → TakesTurn code.now number refused thread.old object.old thread.new object.new }
 {
-    let Some(access) = entry(code, thread, object, number) else {
+    let Some(asked) = first_ask(code, thread, object, number, refused) else {
         return false;
     };
-    take_beside(code, thread, object, Ask::Enter(number, access));
+    take_beside(code, thread, object, asked, refused);
     go_beside(code, thread, object, number, limit)
 }

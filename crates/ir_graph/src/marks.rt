@@ -4,7 +4,7 @@ ghost use Rattle.std.specs.Prelude.{◌≡◌, ℕ, Some, length, slice_get, IfO
 ghost use Rattle.ir_explore.specs.Following.{IsOpen};
 ghost use Rattle.ir_flat.specs.Flat.{Flat, machine, tables};
 ghost use Rattle.ir_graph.specs.Hangs.{AreWays};
-ghost use Rattle.ir_graph.specs.Notes.{noted_in};
+ghost use Rattle.ir_graph.specs.Notes.{noted_by};
 ghost use Rattle.ir_runs.specs.Run.{IsDone};
 
 use crate::graph::Graph;
@@ -30,7 +30,7 @@ fn done_states(alloc: Global, flats: &Store<'_>) -> Result<Vec<bool>, AllocError
 /// # Errors
 /// Out of memory.
 pub fn mark_states(alloc: Global, graph: &Graph<'_>) -> Result<Vec<bool>, AllocError>
-    ensures { IfOk result (λ marks. AreWays (noted_in graph.now.rows.items) (length graph.now.rows.items) graph.now.flats.items marks.items) }
+    ensures { IfOk result (λ marks. AreWays (noted_by graph.now.rows.items graph.now.refusals.items) (length graph.now.rows.items) graph.now.flats.items marks.items) }
 {
     let mut marks = done_states(alloc, &graph.flats)?;
     mark_ways(graph, graph.rows.len(), &mut marks);

@@ -1,23 +1,26 @@
 //! The nodes that were found, and where threads lead from them.
 
-ghost use Rattle.std.specs.Prelude.{◌≡◌, ◌⊎◌, ℕ, suc, ◌<◌, ◌≤◌, Some, None, length, slice_get, IfOk, IfErr, OnOk, OnErr, IsErrOf};
+ghost use Rattle.std.specs.Prelude.{◌≡◌, ◌⊎◌, ℕ, suc, ◌<◌, ◌≤◌, true, Some, None, length, slice_get, IfOk, IfErr, IfSome, OnOk, OnErr, IsErrOf};
 ghost use Rattle.ir_explore.specs.declared.stop.Stop.TheVariants.{Nodes, Memory};
 ghost use Rattle.ir_flat.specs.Flat.{Flat};
 ghost use Rattle.ir_graph.specs.Ahead.{AreTurns, IsTurnOf};
 ghost use Rattle.ir_graph.specs.Nodes.{LookAlike, AllRest, AreNodes, Stay, LeadsFrom};
-ghost use Rattle.ir_graph.specs.Plain.{IsLike};
+ghost use Rattle.ir_graph.specs.Plain.{IsLike, IsNoTry, MayGo, result_by};
 ghost use Rattle.ir_graph.specs.Reached.{IsReached, AllReached};
 ghost use Rattle.ir_graph.specs.Stops.{MayStop};
 ghost use Rattle.ir_image.specs.Guest.{Guest};
 ghost use Rattle.ir_store.specs.Nodes.{Grows, IsNode, flat_in};
+ghost use Rattle.ir_thread.specs.declared.profile.Profile.{Profile};
 
 use crate::ahead::Ahead;
 use crate::known::Turn;
 use crate::rest::run_to_rest;
-use crate::turns::turn_of;
+use crate::turns::{tries, turn_of};
+use crate::way::Way;
 use ir_explore::Stop;
 use ir_image::Code;
 use ir_store::{Node, Store};
+use ir_thread::Ask;
 
 /// How far a search may go.
 #[derive(Clone, Copy, Debug, PartialEq, Eq)]
@@ -38,7 +41,7 @@ fn node_of<'a>(flats: &mut Store<'a>, new: Node<'a>, most: usize) -> Result<usiz
     ensures nodes { AreNodes flats.new.items }
     ensures stay { Stay flats.old.items flats.new.items }
     ensures shared { flats.new.shared ≡ flats.old.shared }
-    ensures reached { (guest : Guest) → AllReached guest flats.old.items → IsReached guest (flat_in flats.old.shared new.entry) → AllReached guest flats.new.items }
+    ensures reached { (guest : Guest) (profile : Profile) → AllReached guest profile flats.old.items → IsReached guest profile (flat_in flats.old.shared new.entry) → AllReached guest profile flats.new.items }
     ensures within { IfOk result (λ w. w < length flats.new.items) }
     ensures added { IfOk result (λ w. (length flats.new.items ≡ length flats.old.items) ⊎ ((w ≡ length flats.old.items) × (length flats.new.items ≡ suc (length flats.old.items)))) }
     ensures alike { IfOk result (λ w. (f : Flat) → slice_get flats.new.items w ≡ Some f → LookAlike (flat_in flats.old.shared new.entry) f) }
@@ -59,63 +62,69 @@ fn node_of<'a>(flats: &mut Store<'a>, new: Node<'a>, most: usize) -> Result<usiz
 }
 
 // The node where a turn of a thread leads.
-fn node_by<'a>(
-    flats: &mut Store<'a>,
-    thread: usize,
-    node: usize,
-    turn: Turn,
-    most: usize,
-) -> Result<usize, Stop>
+fn node_by<'a>(flats: &mut Store<'a>, way: Way, turn: Turn, most: usize) -> Result<usize, Stop>
     requires nodes { AreNodes flats.old.items }
-    requires node { node < length flats.old.items }
-    requires thread { (f : Flat) → slice_get flats.old.items node ≡ Some f → thread < length f.threads }
-    requires turn { (f : Flat) → slice_get flats.old.items node ≡ Some f → IsTurnOf f.code flats.old.shared f thread turn }
+    requires node { way.node < length flats.old.items }
+    requires thread { (f : Flat) → slice_get flats.old.items way.node ≡ Some f → way.thread < length f.threads }
+    requires turn { (f : Flat) → slice_get flats.old.items way.node ≡ Some f → IsTurnOf f.code flats.old.shared f way.thread way.refused turn }
     requires room { length flats.old.items ≤ most }
     ensures nodes { AreNodes flats.new.items }
     ensures stay { Stay flats.old.items flats.new.items }
     ensures shared { flats.new.shared ≡ flats.old.shared }
-    ensures reached { (guest : Guest) → AllReached guest flats.old.items → AllReached guest flats.new.items }
+    ensures reached { (guest : Guest) (profile : Profile) → AllReached guest profile flats.old.items → AllReached guest profile flats.new.items }
     ensures within { IfOk result (λ w. w < length flats.new.items) }
     ensures added { IfOk result (λ w. (length flats.new.items ≡ length flats.old.items) ⊎ ((w ≡ length flats.old.items) × (length flats.new.items ≡ suc (length flats.old.items)))) }
-    ensures leads { IfOk result (λ w. LeadsFrom flats.new.items thread node (Some w)) }
+    ensures leads { IfOk result (λ w. LeadsFrom flats.new.items way.thread way.refused way.node (Some w)) }
     ensures grown { length flats.old.items ≤ length flats.new.items }
     ensures room { length flats.new.items ≤ most }
     ensures full { IsErrOf result Nodes → length flats.new.items ≡ most }
     ensures stopped { IfErr result (λ stop. (stop ≡ Memory) ⊎ ((stop ≡ Nodes) × (length flats.new.items ≡ most))) }
 {
-    flats.thread_number(node, thread);
-    let new = flats.with_both(node, thread, turn.to, turn.object, turn.after)?;
+    flats.thread_number(way.node, way.thread);
+    let new = flats.with_both(way.node, way.thread, turn.to, turn.object, turn.after)?;
     node_of(flats, new, most)
 }
 
+// The result of a step by this way, if a thread that asks so has one: only one that tries is refused.
+fn way_result(refused: bool, asked: Ask) -> Option<u32>
+    ensures result { IfSome result (λ r. r ≡ result_by refused) }
+    ensures has { IfSome result (λ r. MayGo refused asked) }
+    ensures none { result ≡ None → (refused ≡ true) × IsNoTry asked }
+{
+    match asked {
+        Ask::Try(_) if refused => Some(0),
+        _ if refused => None,
+        _ => Some(1),
+    }
+}
+
 // The node where a thread leads by its steps, one by one.
-fn node_by_steps<'a>(
-    flats: &mut Store<'a>,
-    thread: usize,
-    node: usize,
-    bounds: Bounds,
-) -> Result<Option<usize>, Stop>
+fn node_by_steps<'a>(flats: &mut Store<'a>, way: Way, bounds: Bounds) -> Result<Option<usize>, Stop>
     requires nodes { AreNodes flats.old.items }
-    requires node { node < length flats.old.items }
-    requires thread { (f : Flat) → slice_get flats.old.items node ≡ Some f → thread < length f.threads }
+    requires node { way.node < length flats.old.items }
+    requires thread { (f : Flat) → slice_get flats.old.items way.node ≡ Some f → way.thread < length f.threads }
     requires room { length flats.old.items ≤ bounds.nodes }
     ensures nodes { AreNodes flats.new.items }
     ensures stay { Stay flats.old.items flats.new.items }
     ensures grows { Grows flats.old.shared flats.new.shared }
-    ensures reached { (guest : Guest) → AllReached guest flats.old.items → AllReached guest flats.new.items }
+    ensures reached { (guest : Guest) (profile : Profile) → AllReached guest profile flats.old.items → AllReached guest profile flats.new.items }
     ensures within { IfOk result (λ next. (w : ℕ) → next ≡ Some w → w < length flats.new.items) }
     ensures added { IfOk result (λ next. (length flats.new.items ≡ length flats.old.items) ⊎ ((next ≡ Some (length flats.old.items)) × (length flats.new.items ≡ suc (length flats.old.items)))) }
-    ensures leads { IfOk result (λ next. LeadsFrom flats.new.items thread node next) }
+    ensures leads { IfOk result (λ next. LeadsFrom flats.new.items way.thread way.refused way.node next) }
     ensures grown { length flats.old.items ≤ length flats.new.items }
     ensures room { length flats.new.items ≤ bounds.nodes }
     ensures full { IsErrOf result Nodes → length flats.new.items ≡ bounds.nodes }
-    ensures stopped { IfErr result (λ stop. (guest : Guest) → AllReached guest flats.old.items → MayStop guest flats.new.items bounds.nodes bounds.private stop) }
+    ensures stopped { IfErr result (λ stop. (guest : Guest) (profile : Profile) → AllReached guest profile flats.old.items → MayStop guest profile flats.new.items bounds.nodes bounds.private stop) }
 {
-    let mut flat = flats.get(node)?;
-    if let Err(_) = flat.step(thread, 0) {
+    let mut flat = flats.get(way.node)?;
+    let asked = flat.ask(way.thread);
+    let Some(answer) = way_result(way.refused, asked) else {
+        return Ok(None);
+    };
+    if let Err(_) = flat.take(way.thread, asked, answer) {
         return Ok(None);
     }
-    if let Err(stop) = run_to_rest(&mut flat, thread, bounds.private) {
+    if let Err(stop) = run_to_rest(&mut flat, way.thread, bounds.private) {
         return Err(stop);
     }
     let new = flats.by_numbers(&flat)?;
@@ -125,7 +134,7 @@ fn node_by_steps<'a>(
     }
 }
 
-/// Where a thread leads from a node: to no node, to one of these, or to a new one after them.
+/// Where a thread leads from a node by one of its ways: to no node, to one of these, or to a new one after them.
 ///
 /// # Errors
 /// `Nodes` if the new one would be one too many, what `run_to_rest` gives, or out of memory.
@@ -133,37 +142,39 @@ pub fn successor<'a>(
     flats: &mut Store<'a>,
     ahead: &mut Ahead,
     code: &Code,
-    thread: usize,
-    node: usize,
+    way: Way,
     bounds: Bounds,
 ) -> Result<Option<usize>, Stop>
     requires nodes { AreNodes flats.old.items }
-    requires node { node < length flats.old.items }
-    requires thread { (f : Flat) → slice_get flats.old.items node ≡ Some f → thread < length f.threads }
-    requires code { (f : Flat) → slice_get flats.old.items node ≡ Some f → f.code ≡ code.now }
+    requires node { way.node < length flats.old.items }
+    requires thread { (f : Flat) → slice_get flats.old.items way.node ≡ Some f → way.thread < length f.threads }
+    requires code { (f : Flat) → slice_get flats.old.items way.node ≡ Some f → f.code ≡ code.now }
     requires turns { AreTurns code.now flats.old.shared ahead.old }
     requires room { length flats.old.items ≤ bounds.nodes }
     ensures nodes { AreNodes flats.new.items }
     ensures stay { Stay flats.old.items flats.new.items }
     ensures turns { AreTurns code.now flats.new.shared ahead.new }
-    ensures reached { (guest : Guest) → AllReached guest flats.old.items → AllReached guest flats.new.items }
+    ensures reached { (guest : Guest) (profile : Profile) → AllReached guest profile flats.old.items → AllReached guest profile flats.new.items }
     ensures within { IfOk result (λ next. (w : ℕ) → next ≡ Some w → w < length flats.new.items) }
     ensures added { IfOk result (λ next. (length flats.new.items ≡ length flats.old.items) ⊎ ((next ≡ Some (length flats.old.items)) × (length flats.new.items ≡ suc (length flats.old.items)))) }
-    ensures leads { IfOk result (λ next. LeadsFrom flats.new.items thread node next) }
+    ensures leads { IfOk result (λ next. LeadsFrom flats.new.items way.thread way.refused way.node next) }
     ensures grown { length flats.old.items ≤ length flats.new.items }
     ensures room { length flats.new.items ≤ bounds.nodes }
     ensures full { IsErrOf result Nodes → length flats.new.items ≡ bounds.nodes }
-    ensures stopped { IfErr result (λ stop. (guest : Guest) → AllReached guest flats.old.items → MayStop guest flats.new.items bounds.nodes bounds.private stop) }
+    ensures stopped { IfErr result (λ stop. (guest : Guest) (profile : Profile) → AllReached guest profile flats.old.items → MayStop guest profile flats.new.items bounds.nodes bounds.private stop) }
 {
-    let number = flats.thread_number(node, thread);
+    let number = flats.thread_number(way.node, way.thread);
     if flats.thread_over(number) {
         return Ok(None);
     }
-    if let Some(turn) = turn_of(flats, ahead, code, thread, node, bounds.private)? {
-        return match node_by(flats, thread, node, turn, bounds.nodes) {
+    if way.refused && !tries(flats, ahead, code, number)? {
+        return Ok(None);
+    }
+    if let Some(turn) = turn_of(flats, ahead, code, way, bounds.private)? {
+        return match node_by(flats, way, turn, bounds.nodes) {
             Ok(next) => Ok(Some(next)),
             Err(stop) => Err(stop),
         };
     }
-    node_by_steps(flats, thread, node, bounds)
+    node_by_steps(flats, way, bounds)
 }

@@ -1,10 +1,11 @@
 //! Where each thread leads from each node, as far as it is known.
 
-ghost use Rattle.std.specs.Prelude.{◌≡◌, ◌⊎◌, ℕ, ◌<◌, Some, None, length, IfOk, OnOk, OnErr};
+ghost use Rattle.std.specs.Prelude.{◌≡◌, ◌⊎◌, ℕ, ◌<◌, Bool, Some, None, length, IfOk, OnOk, OnErr};
 ghost use Rattle.std.specs.List.{slice_index_or};
 ghost use Rattle.ir_explore.specs.Following.{Keeps};
-ghost use Rattle.ir_graph.specs.Notes.{noted_in};
+ghost use Rattle.ir_graph.specs.Notes.{noted_by, noted_in};
 
+use crate::way::Way;
 use std::alloc::AllocError;
 use std::marker::Model;
 
@@ -66,11 +67,13 @@ impl Lead {
 /// A thread's row: a lead for each node that it was asked at.
 pub type Row = Vec<Lead>;
 
-/// What is known of a thread and a node.
+/// What is known of a thread and a node; a number that is no row's thread leads to no node.
 pub fn known(rows: &[Row], thread: usize, node: usize) -> Option<Option<usize>>
-    requires { thread < length rows.now }
     ensures { result ≡ noted_in rows.now thread node }
 {
+    if thread >= rows.len() {
+        return Some(None);
+    }
     let row = &rows[thread];
     if node < row.len() {
         row[node].known()
@@ -94,11 +97,8 @@ fn put(row: &mut Row, nodes: usize, node: usize, next: Option<usize>) -> Result<
     Ok(())
 }
 
-/// Notes where a thread leads from a node; there are so many nodes.
-///
-/// # Errors
-/// Out of memory, or the node's number is too large for a lead; nothing is noted.
-pub fn note(
+// Notes where a thread leads from a node; there are so many nodes.
+fn note(
     rows: &mut [Row],
     nodes: usize,
     thread: usize,
@@ -115,4 +115,31 @@ pub fn note(
 {
     put(&mut rows[thread], nodes, node, next)?;
     Ok(())
+}
+
+/// Notes where a thread leads from a node by one of its ways, each of which has its own rows; there are so many nodes.
+///
+/// # Errors
+/// Out of memory, or the node's number is too large for a lead; nothing is noted.
+pub fn note_way(
+    rows: &mut [Row],
+    refusals: &mut [Row],
+    nodes: usize,
+    way: Way,
+    next: Option<usize>,
+) -> Result<(), AllocError>
+    requires node { way.node < nodes }
+    requires fresh { noted_by rows.old refusals.old way.thread way.refused way.node ≡ None }
+    ensures found { OnOk result (noted_by rows.new refusals.new way.thread way.refused way.node ≡ Some next) }
+    ensures kept { (t : ℕ) (refused : Bool) → Keeps (noted_by rows.old refusals.old t refused) (noted_by rows.new refusals.new t refused) }
+    ensures only { (t : ℕ) (refused : Bool) (v : ℕ) → (noted_by rows.new refusals.new t refused v ≡ noted_by rows.old refusals.old t refused v)
+        ⊎ ((t ≡ way.thread) × (refused ≡ way.refused) × (v ≡ way.node) × (noted_by rows.new refusals.new t refused v ≡ Some next)) }
+    ensures threads { length rows.new ≡ length rows.old }
+    ensures refusals { length refusals.new ≡ length refusals.old }
+{
+    if way.refused {
+        note(refusals, nodes, way.thread, way.node, next)
+    } else {
+        note(rows, nodes, way.thread, way.node, next)
+    }
 }

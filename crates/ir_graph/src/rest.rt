@@ -1,6 +1,6 @@
-//! A thread that runs on alone to its next entry.
+//! A thread that runs on alone to its next entry or try.
 
-ghost use Rattle.std.specs.Prelude.{◌≡◌, ◌<◌, ◌≤◌, true, false, length, IfOk, IfErr, OnOk};
+ghost use Rattle.std.specs.Prelude.{◌≡◌, ◌<◌, ◌≤◌, Bool, true, false, length, IfOk, IfErr, OnOk};
 ghost use Rattle.ir_flat.specs.Flat.{thread_of};
 ghost use Rattle.ir_graph.specs.Plain.{IsFair, GoesPlain, OthersStay, Rests};
 ghost use Rattle.ir_graph.specs.Stops.{IsRefused, StopsAt};
@@ -19,22 +19,21 @@ fn rests(thread: usize, asked: Ask) -> Result<bool, Stop>
     ensures stopped { IfErr result (λ stop. IsRefused thread asked stop) }
 {
     match asked {
-        Ask::Enter(_, _) | Ask::Done => Ok(true),
+        Ask::Enter(_, _) | Ask::Try(_) | Ask::Done => Ok(true),
         Ask::Env(_) => Err(Stop::World(thread)),
-        Ask::Try(_) => Err(Stop::Try(thread)),
         Ask::End(End::BudgetSpent) | Ask::End(End::LogFull) => Err(Stop::Log(thread)),
         _ => Ok(false),
     }
 }
 
-/// A thread runs on alone, by at most `limit` steps, to its next entry or until it is done; how many they are.
+/// A thread runs on alone, by at most `limit` steps, to its next entry or try or until it is done; how many they are.
 ///
 /// # Errors
-/// It takes as many steps without an entry, calls the environment, tries to enter, has a full log or a spent budget.
+/// It takes as many steps without an entry or a try, calls the environment, has a full log or a spent budget.
 pub fn run_to_rest(flat: &mut Flat<'_>, thread: usize, limit: u64) -> Result<u64, Stop>
     requires { thread < length flat.old.threads }
     ensures goes { GoesPlain flat.old flat.new }
-    ensures alone { IfOk result (λ steps. GoesAlone flat.old flat.new thread steps 0) }
+    ensures alone { IfOk result (λ steps. (refused : Bool) → GoesAlone flat.old flat.new thread refused steps 0) }
     ensures within { IfOk result (λ steps. steps ≤ limit) }
     ensures others { OthersStay flat.old flat.new thread }
     ensures rests { OnOk result (Rests (ask_of flat.new.code (thread_of flat.new thread))) }

@@ -1,60 +1,74 @@
 //! The turn of a thread at a node.
 
-ghost use Rattle.std.specs.Prelude.{◌≡◌, ℕ, ◌<◌, Some, length, slice_get, IfOk, IfSome};
+ghost use Rattle.std.specs.Prelude.{◌≡◌, ℕ, ◌<◌, false, Some, length, slice_get, IfOk, IfSome};
 ghost use Rattle.std.specs.List.{slice_index_or};
 ghost use Rattle.ir_flat.specs.Flat.{Flat, cell_of, idle, thread_of};
 ghost use Rattle.ir_graph.specs.Ahead.{AreTurns, IsTurnOf};
+ghost use Rattle.ir_graph.specs.Plain.{IsNoTry};
 ghost use Rattle.ir_store.specs.Nodes.{Grows, cell_in};
+ghost use Rattle.ir_thread.specs.State.{ask_of};
 
 use crate::ahead::Ahead;
 use crate::known::Turn;
 use crate::lone::turn_beside;
+use crate::way::Way;
 use ir_image::Code;
 use ir_store::Store;
 use ir_thread::Ask;
 use std::alloc::AllocError;
 
 // The turn of a thread at a node, if it is known.
-fn known_turn(flats: &Store<'_>, ahead: &Ahead, thread: usize, node: usize) -> Option<Turn>
-    requires node { node < length flats.now.items }
-    requires thread { (f : Flat) → slice_get flats.now.items node ≡ Some f → thread < length f.threads }
+fn known_turn(flats: &Store<'_>, ahead: &Ahead, way: Way) -> Option<Turn>
+    requires node { way.node < length flats.now.items }
+    requires thread { (f : Flat) → slice_get flats.now.items way.node ≡ Some f → way.thread < length f.threads }
     ensures known { IfSome result (λ turn. (i : ℕ) × (slice_get ahead.now i ≡ Some turn)) }
-    ensures object { IfSome result (λ turn. (f : Flat) → slice_get flats.now.items node ≡ Some f → turn.object < length f.objects) }
-    ensures here { IfSome result (λ turn. (f : Flat) → slice_get flats.now.items node ≡ Some f → slice_index_or flats.now.shared.threads turn.from idle ≡ thread_of f thread) }
-    ensures there { IfSome result (λ turn. (f : Flat) → slice_get flats.now.items node ≡ Some f → cell_in flats.now.shared.words turn.spot ≡ cell_of f turn.object) }
+    ensures way { IfSome result (λ turn. turn.refused ≡ way.refused) }
+    ensures object { IfSome result (λ turn. (f : Flat) → slice_get flats.now.items way.node ≡ Some f → turn.object < length f.objects) }
+    ensures here { IfSome result (λ turn. (f : Flat) → slice_get flats.now.items way.node ≡ Some f → slice_index_or flats.now.shared.threads turn.from idle ≡ thread_of f way.thread) }
+    ensures there { IfSome result (λ turn. (f : Flat) → slice_get flats.now.items way.node ≡ Some f → cell_in flats.now.shared.words turn.spot ≡ cell_of f turn.object) }
 {
-    let from = flats.thread_number(node, thread);
-    let object = ahead.object(from)?;
-    let spot = flats.spot(node, object)?;
-    ahead.find(from, object, spot)
+    let from = flats.thread_number(way.node, way.thread);
+    let first = ahead.first(from)?;
+    let spot = flats.spot(way.node, first.object)?;
+    ahead.find(from, first.object, way.refused, spot)
+}
+
+// The object that a thread enters or tries to, and whether it tries, if it asks one of these.
+fn object_of(asked: Ask) -> Option<(u8, bool)>
+    ensures { IfSome result (λ found. found.1 ≡ false → IsNoTry asked) }
+{
+    match asked {
+        Ask::Enter(object, _) => Some((object, false)),
+        Ask::Try(object) => Some((object, true)),
+        _ => None,
+    }
 }
 
 // The turn of a thread at a node, if it is about one object alone.
 fn new_turn(
     flats: &mut Store<'_>,
     code: &Code,
-    thread: usize,
-    node: usize,
+    way: Way,
     limit: u64,
 ) -> Result<Option<Turn>, AllocError>
-    requires node { node < length flats.old.items }
-    requires thread { (f : Flat) → slice_get flats.old.items node ≡ Some f → thread < length f.threads }
-    requires code { (f : Flat) → slice_get flats.old.items node ≡ Some f → f.code ≡ code.now }
+    requires node { way.node < length flats.old.items }
+    requires thread { (f : Flat) → slice_get flats.old.items way.node ≡ Some f → way.thread < length f.threads }
+    requires code { (f : Flat) → slice_get flats.old.items way.node ≡ Some f → f.code ≡ code.now }
     ensures items { flats.new.items ≡ flats.old.items }
     ensures grows { Grows flats.old.shared flats.new.shared }
-    ensures turn { IfOk result (λ found. IfSome found (λ turn. (f : Flat) → slice_get flats.new.items node ≡ Some f → IsTurnOf code.now flats.new.shared f thread turn)) }
+    ensures turn { IfOk result (λ found. IfSome found (λ turn. (f : Flat) → slice_get flats.new.items way.node ≡ Some f → IsTurnOf code.now flats.new.shared f way.thread way.refused turn)) }
 {
-    let from = flats.thread_number(node, thread);
+    let from = flats.thread_number(way.node, way.thread);
     let mut own = flats.thread(from)?;
-    let Ask::Enter(number, _) = own.ask(code) else {
+    let Some((number, tries)) = object_of(own.ask(code)) else {
         return Ok(None);
     };
     let object = number as usize;
-    let Some(spot) = flats.spot(node, object) else {
+    let Some(spot) = flats.spot(way.node, object) else {
         return Ok(None);
     };
     let mut beside = flats.object(spot);
-    if !turn_beside(code, &mut own, &mut beside, number, limit) {
+    if !turn_beside(code, &mut own, &mut beside, number, way.refused, limit) {
         return Ok(None);
     }
     let to = flats.add_thread(&own)?;
@@ -62,6 +76,8 @@ fn new_turn(
     Ok(Some(Turn {
         from,
         object,
+        tries,
+        refused: way.refused,
         spot,
         to,
         after,
@@ -76,25 +92,48 @@ pub fn turn_of(
     flats: &mut Store<'_>,
     ahead: &mut Ahead,
     code: &Code,
-    thread: usize,
-    node: usize,
+    way: Way,
     limit: u64,
 ) -> Result<Option<Turn>, AllocError>
-    requires node { node < length flats.old.items }
-    requires thread { (f : Flat) → slice_get flats.old.items node ≡ Some f → thread < length f.threads }
-    requires code { (f : Flat) → slice_get flats.old.items node ≡ Some f → f.code ≡ code.now }
+    requires node { way.node < length flats.old.items }
+    requires thread { (f : Flat) → slice_get flats.old.items way.node ≡ Some f → way.thread < length f.threads }
+    requires code { (f : Flat) → slice_get flats.old.items way.node ≡ Some f → f.code ≡ code.now }
     requires turns { AreTurns code.now flats.old.shared ahead.old }
     ensures items { flats.new.items ≡ flats.old.items }
     ensures grows { Grows flats.old.shared flats.new.shared }
     ensures turns { AreTurns code.now flats.new.shared ahead.new }
-    ensures turn { IfOk result (λ found. IfSome found (λ turn. (f : Flat) → slice_get flats.new.items node ≡ Some f → IsTurnOf code.now flats.new.shared f thread turn)) }
+    ensures turn { IfOk result (λ found. IfSome found (λ turn. (f : Flat) → slice_get flats.new.items way.node ≡ Some f → IsTurnOf code.now flats.new.shared f way.thread way.refused turn)) }
 {
-    if let Some(turn) = known_turn(flats, ahead, thread, node) {
+    if let Some(turn) = known_turn(flats, ahead, way) {
         return Ok(Some(turn));
     }
-    let found = new_turn(flats, code, thread, node, limit)?;
+    let found = new_turn(flats, code, way, limit)?;
     if let Some(turn) = found {
         ahead.note(turn)?;
     }
     Ok(found)
+}
+
+/// Whether the thread of a number tries to enter.
+///
+/// # Errors
+/// Out of memory.
+pub fn tries(
+    flats: &Store<'_>,
+    ahead: &Ahead,
+    code: &Code,
+    number: usize,
+) -> Result<bool, AllocError>
+    requires within { number < length flats.now.shared.threads }
+    requires turns { AreTurns code.now flats.now.shared ahead.now }
+    ensures { IfOk result (λ tries. tries ≡ false → IsNoTry (ask_of code.now (slice_index_or flats.now.shared.threads number idle))) }
+{
+    if let Some(turn) = ahead.first(number) {
+        return Ok(turn.tries);
+    }
+    let own = flats.thread(number)?;
+    match own.ask(code) {
+        Ask::Try(_) => Ok(true),
+        _ => Ok(false),
+    }
 }

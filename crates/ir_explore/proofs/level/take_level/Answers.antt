@@ -14,7 +14,7 @@ take_turn-requires-clause-row g c =
 
 pub returns-in_err-take_turn-clause-adds : goal.returns-in_err-take_turn-clause-adds
 returns-in_err-take_turn-clause-adds g c =
-    adds_transitive c.args.level.number c.args.nodes.now.items c.loop-thread.nodes.items c.take_turn.new.nodes.items c.loop-thread.invariant.adds
+    adds_transitive c.args.level.number c.args.found.now.nodes.items c.loop-thread.found.nodes.items c.take_turn.new.found.nodes.items c.loop-thread.invariant.adds
     c.take_turn.ensures.adds
 
 pub loop-thread-preserved : goal.loop-thread-preserved
@@ -22,7 +22,7 @@ loop-thread-preserved g c =
     let l : c.loop-thread.thread < length c.loop-thread.opened =
     (let a = c.loop-thread-test.true in let b = c.loop-thread.auto.opened in omega (arith, a, b)) in
     let this = row_of_rows c.loop-thread.opened c.loop-thread.thread c.index-opened-thread.result l in
-    let longer : length c.loop-thread.nodes.items ≤ length c.take_turn.new.nodes.items = c.take_turn.ensures.adds.longer in record {
+    let longer : length c.loop-thread.found.nodes.items ≤ length c.take_turn.new.found.nodes.items = c.take_turn.ensures.adds.longer in record {
       followed = λ t row e. elim (row_after_set_cases c.loop-thread.opened c.loop-thread.thread t c.take_turn.new.opened row l e) [
         | inl p ↦ subst (IsFollowed (g.S.Successors.noted c.take_turn.new.graph t)) p.1
             (subst (λ u. IsFollowed (g.S.Successors.noted c.take_turn.new.graph u) c.take_turn.new.opened.items) (sym p.0)
@@ -45,7 +45,7 @@ loop-thread-preserved g c =
         | inr n ↦ c.loop-thread.invariant.opens t row (let a = n.0 in omega (arith, a, few)) n.1 v low less
       ];
       within = λ t row e. elim (row_after_set_cases c.loop-thread.opened c.loop-thread.thread t c.take_turn.new.opened row l e) [
-        | inl p ↦ subst (λ r. length r ≤ length c.take_turn.new.nodes.items) p.1
+        | inl p ↦ subst (λ r. length r ≤ length c.take_turn.new.found.nodes.items) p.1
             (let a = c.in_ok-take_turn.ensures.row in omega (arith, a))
         | inr n ↦ let a = c.loop-thread.invariant.within t row n.1 in omega (arith, a, longer)
       ];
@@ -53,13 +53,13 @@ loop-thread-preserved g c =
       nodes = c.in_ok-take_turn.ensures.nodes;
       until = let a = c.loop-thread.invariant.until in omega (arith, a, longer);
       level = λ v low less.
-          begins_at_if_nodes_kept c.loop-thread.nodes.items c.take_turn.new.nodes.items c.take_turn.ensures.adds.stays c.args.level.number v
+          begins_at_if_nodes_kept c.loop-thread.found.nodes.items c.take_turn.new.found.nodes.items c.take_turn.ensures.adds.stays c.args.level.number v
           (c.loop-thread.invariant.level v low less);
       reached = c.take_turn.ensures.reached;
       adds =
-          adds_transitive c.args.level.number c.args.nodes.now.items c.loop-thread.nodes.items c.take_turn.new.nodes.items
+          adds_transitive c.args.level.number c.args.found.now.nodes.items c.loop-thread.found.nodes.items c.take_turn.new.found.nodes.items
           c.loop-thread.invariant.adds c.take_turn.ensures.adds;
-      kept = λ t v to e. c.take_turn.ensures.kept t v to (c.loop-thread.invariant.kept t v to e);
+      kept = λ t refused v to e. c.take_turn.ensures.kept t refused v to (c.loop-thread.invariant.kept t refused v to e);
       stay = λ v x is. c.take_turn.ensures.stay v x (c.loop-thread.invariant.stay v x is);
       sound = c.take_turn.ensures.sound;
       origin = c.take_turn.ensures.origin ∙ c.loop-thread.invariant.origin;

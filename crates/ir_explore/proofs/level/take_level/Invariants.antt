@@ -1,4 +1,4 @@
-use Rattle.std.proofs.Common.{◌≡◌, ℕ, ◌≤◌, length}
+use Rattle.std.proofs.Common.{◌≡◌, ℕ, Bool, ◌≤◌, length}
 use Rattle.ir_explore.specs.Following.{Keeps, Stay}
 use Rattle.ir_explore.specs.Levels.{rows, AllFollowed, AllOpen, AreWithin}
 use Rattle.ir_explore.specs.Origins.{AreReached, IsLevel, Adds}
@@ -9,14 +9,14 @@ invariant-loop-thread g l = record {
   followed : AllFollowed (g.S.Successors.noted l.graph) (rows l.opened);
   before : AllOpen (rows l.opened) 0 l.level.first (length l.fn.opened);
   opens : AllOpen (rows l.opened) 0 l.level.until l.thread;
-  within : AreWithin (rows l.opened) (length l.nodes.items);
+  within : AreWithin (rows l.opened) (length l.found.nodes.items);
   threads : length l.opened ≡ length l.fn.opened;
-  nodes : length l.nodes.items ≡ g.S.Successors.size l.graph;
-  until : l.level.until ≤ length l.nodes.items;
-  level : IsLevel l.nodes.items l.level;
-  reached : AreReached (g.S.Successors.noted l.graph) l.nodes.items;
-  adds : Adds l.level.number l.fn.nodes.items l.nodes.items;
-  kept : (t : ℕ) → Keeps (g.S.Successors.noted l.fn.graph t) (g.S.Successors.noted l.graph t);
+  nodes : length l.found.nodes.items ≡ g.S.Successors.size l.graph;
+  until : l.level.until ≤ length l.found.nodes.items;
+  level : IsLevel l.found.nodes.items l.level;
+  reached : AreReached (g.S.Successors.noted l.graph) l.found.refusals.items l.found.nodes.items;
+  adds : Adds l.level.number l.fn.found.nodes.items l.found.nodes.items;
+  kept : (t : ℕ) (refused : Bool) → Keeps (g.S.Successors.noted l.fn.graph t refused) (g.S.Successors.noted l.graph t refused);
   stay : Stay (g.S.Successors.nodes l.fn.graph) (g.S.Successors.nodes l.graph);
   sound : g.S.Successors.is_sound l.graph;
   origin : g.S.Successors.origin l.graph ≡ g.S.Successors.origin l.fn.graph;

@@ -14,55 +14,55 @@ with_both-requires-clause-own c = λ f at. (c.requires.thread f at, (c.requires.
 
 pub with_both-requires-clause-thread : goal.with_both-requires-clause-thread
 with_both-requires-clause-thread c =
-    let f = element_below_length_exists c.args.flats.now.items c.args.node c.requires.node in (c.requires.turn f.0 f.1).is.to
+    let f = element_below_length_exists c.args.flats.now.items c.args.way.node c.requires.node in (c.requires.turn f.0 f.1).is.to
 
 pub with_both-requires-clause-spot : goal.with_both-requires-clause-spot
 with_both-requires-clause-spot c =
-    let f = element_below_length_exists c.args.flats.now.items c.args.node c.requires.node in (c.requires.turn f.0 f.1).is.after
+    let f = element_below_length_exists c.args.flats.now.items c.args.way.node c.requires.node in (c.requires.turn f.0 f.1).is.after
 
 pub node_of-requires-clause-is : goal.node_of-requires-clause-is
 node_of-requires-clause-is c =
     let flats = c.args.flats.now in
-    let f = element_below_length_exists flats.items c.args.node c.requires.node in
+    let f = element_below_length_exists flats.items c.args.way.node c.requires.node in
     record {
       within = c.in_ok-new.ensures.within;
       flat = subst IsFlat (sym (c.in_ok-new.ensures.flat f.0 f.1))
-          (both_flat flats.items flats.shared f.0 c.args.thread c.args.node c.args.turn c.requires.nodes f.1 (c.requires.thread f.0 f.1)
+          (both_flat flats.items flats.shared f.0 c.args.way.thread c.args.way.refused c.args.way.node c.args.turn c.requires.nodes f.1 (c.requires.thread f.0 f.1)
           (c.thread_number.ensures.flat f.0 f.1) (c.requires.turn f.0 f.1));
     }
 
 pub node_of-requires-clause-like : goal.node_of-requires-clause-like
 node_of-requires-clause-like c = λ u k there.
     let flats = c.args.flats.now in
-    let f = element_below_length_exists flats.items c.args.node c.requires.node in
+    let f = element_below_length_exists flats.items c.args.way.node c.requires.node in
     subst (λ z. IsLike z k) (sym (c.in_ok-new.ensures.flat f.0 f.1))
-    (both_like flats.items flats.shared f.0 c.args.thread c.args.node c.args.turn c.requires.nodes f.1 (c.requires.thread f.0 f.1)
+    (both_like flats.items flats.shared f.0 c.args.way.thread c.args.way.refused c.args.way.node c.args.turn c.requires.nodes f.1 (c.requires.thread f.0 f.1)
     (c.thread_number.ensures.flat f.0 f.1) (c.requires.turn f.0 f.1) u k there)
 
 pub node_of-requires-clause-rest : goal.node_of-requires-clause-rest
 node_of-requires-clause-rest c =
     let flats = c.args.flats.now in
-    let f = element_below_length_exists flats.items c.args.node c.requires.node in
+    let f = element_below_length_exists flats.items c.args.way.node c.requires.node in
     subst AllRest (sym (c.in_ok-new.ensures.flat f.0 f.1))
-    (both_rests flats.items flats.shared f.0 c.args.thread c.args.node c.args.turn c.requires.nodes f.1 (c.requires.thread f.0 f.1)
+    (both_rests flats.items flats.shared f.0 c.args.way.thread c.args.way.refused c.args.way.node c.args.turn c.requires.nodes f.1 (c.requires.thread f.0 f.1)
     (c.thread_number.ensures.flat f.0 f.1) (c.requires.turn f.0 f.1))
 
 pub returns-clause-reached : goal.returns-clause-reached
-returns-clause-reached c = λ guest all.
+returns-clause-reached c = λ guest profile all.
     let flats = c.args.flats.now in
-    let f = element_below_length_exists flats.items c.args.node c.requires.node in
-    c.node_of.ensures.reached guest all
-    (subst (IsReached guest) (sym (c.in_ok-new.ensures.flat f.0 f.1))
-    (both_reached flats.items flats.shared f.0 c.args.thread c.args.node c.args.turn c.requires.nodes f.1 (c.requires.thread f.0 f.1)
-    (c.thread_number.ensures.flat f.0 f.1) (c.requires.turn f.0 f.1) guest (all c.args.node f.0 f.1)))
+    let f = element_below_length_exists flats.items c.args.way.node c.requires.node in
+    c.node_of.ensures.reached guest profile all
+    (subst (IsReached guest profile) (sym (c.in_ok-new.ensures.flat f.0 f.1))
+    (both_reached flats.items flats.shared f.0 c.args.way.thread c.args.way.refused c.args.way.node c.args.turn c.requires.nodes f.1 (c.requires.thread f.0 f.1)
+    (c.thread_number.ensures.flat f.0 f.1) (c.requires.turn f.0 f.1) guest profile (all c.args.way.node f.0 f.1)))
 
 pub returns-clause-leads : goal.returns-clause-leads
 returns-clause-leads c =
     let flats = c.args.flats.now in
-    let f = element_below_length_exists flats.items c.args.node c.requires.node in
+    let f = element_below_length_exists flats.items c.args.way.node c.requires.node in
     let h = flat_in flats.shared c.in_ok-new.new in
     let new = c.node_of.new.flats.items in
-    if_ok_weaker (λ w. (k : Flat) → slice_get new w ≡ Some k → LookAlike h k) (λ w. LeadsFrom new c.args.thread c.args.node (Some w)) c.node_of.result
-    (λ w alike. both_leads flats.items flats.shared f.0 c.args.thread c.args.node c.args.turn c.requires.nodes f.1 (c.requires.thread f.0 f.1)
+    if_ok_weaker (λ w. (k : Flat) → slice_get new w ≡ Some k → LookAlike h k) (λ w. LeadsFrom new c.args.way.thread c.args.way.refused c.args.way.node (Some w)) c.node_of.result
+    (λ w alike. both_leads flats.items flats.shared f.0 c.args.way.thread c.args.way.refused c.args.way.node c.args.turn c.requires.nodes f.1 (c.requires.thread f.0 f.1)
     (c.thread_number.ensures.flat f.0 f.1) (c.requires.turn f.0 f.1) new w c.node_of.ensures.stay
     (λ k is. subst (λ z. LookAlike z k) (c.in_ok-new.ensures.flat f.0 f.1) (alike k is))) c.node_of.ensures.alike

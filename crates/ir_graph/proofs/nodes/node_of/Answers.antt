@@ -30,6 +30,6 @@ returns-clause-alike c = λ f is.
     (subst (λ z. slice_get z c.len-node.result ≡ Some f) c.in_ok-push.ensures.ok is)
 
 pub returns-clause-reached : goal.returns-clause-reached
-returns-clause-reached c = λ guest all is.
+returns-clause-reached c = λ guest profile all is.
     let h = flat_in c.args.flats.now.shared c.args.new in
-    subst (AllReached guest) (sym c.in_ok-push.ensures.ok) (all_reached_after_state_added guest c.args.flats.now.items h all is)
+    subst (AllReached guest profile) (sym c.in_ok-push.ensures.ok) (all_reached_after_state_added guest profile c.args.flats.now.items h all is)

@@ -3,6 +3,7 @@ use Rattle.std.specs.Prelude.{slice_get, IfSome}
 use Rattle.ir_explore.specs.declared.stop.Stop.{Stop}
 use Rattle.ir_flat.specs.Flat.{Flat}
 use Rattle.ir_image.specs.Guest.{Guest}
+use Rattle.ir_thread.specs.declared.profile.Profile.{Profile}
 use Rattle.ir_graph.specs.declared.known.Turn.{Turn}
 use Rattle.ir_graph.specs.Ahead.{IsTurnOf}
 use Rattle.ir_graph.specs.Reached.{AllReached}
@@ -11,23 +12,23 @@ use Rattle.ir_graph.proofs.Both.{turns_grown, if_err_weaker}
 use Rattle.ir_graph.proofs.nodes.successor.Goals as goal
 
 pub returns-in_err-turn-clause-reached : goal.returns-in_err-turn-clause-reached
-returns-in_err-turn-clause-reached c = λ guest all. subst (AllReached guest) (sym c.turn_of.ensures.items) all
+returns-in_err-turn-clause-reached c = λ guest profile all. subst (AllReached guest profile) (sym c.turn_of.ensures.items) all
 
 pub node_by-requires-clause-turn : goal.node_by-requires-clause-turn
 node_by-requires-clause-turn c = λ f at.
     let new = c.turn_of.new.flats in
-    let here = subst (λ z. slice_get z c.args.node ≡ Some f) c.turn_of.ensures.items at in
-    let one = subst (λ z. IfSome z (λ (x : Turn). (f : Flat) → slice_get new.items c.args.node ≡ Some f
-    → IsTurnOf c.args.code.now new.shared f c.args.thread x)) c.in-Some.is c.in_ok-turn.ensures.turn in
-    subst (λ z. IsTurnOf z new.shared f c.args.thread c.in-Some.turn) (sym (c.requires.code f here)) (one f at)
+    let here = subst (λ z. slice_get z c.args.way.node ≡ Some f) c.turn_of.ensures.items at in
+    let one = subst (λ z. IfSome z (λ (x : Turn). (f : Flat) → slice_get new.items c.args.way.node ≡ Some f
+    → IsTurnOf c.args.code.now new.shared f c.args.way.thread c.args.way.refused x)) c.in-Some.is c.in_ok-turn.ensures.turn in
+    subst (λ z. IsTurnOf z new.shared f c.args.way.thread c.args.way.refused c.in-Some.turn) (sym (c.requires.code f here)) (one f at)
 
 pub returns-in-Ok-clause-reached : goal.returns-in-Ok-clause-reached
-returns-in-Ok-clause-reached c = λ guest all.
-    c.node_by.ensures.reached guest (subst (AllReached guest) (sym c.turn_of.ensures.items) all)
+returns-in-Ok-clause-reached c = λ guest profile all.
+    c.node_by.ensures.reached guest profile (subst (AllReached guest profile) (sym c.turn_of.ensures.items) all)
 
 pub returns-in-Err-clause-reached : goal.returns-in-Err-clause-reached
-returns-in-Err-clause-reached c = λ guest all.
-    c.node_by.ensures.reached guest (subst (AllReached guest) (sym c.turn_of.ensures.items) all)
+returns-in-Err-clause-reached c = λ guest profile all.
+    c.node_by.ensures.reached guest profile (subst (AllReached guest profile) (sym c.turn_of.ensures.items) all)
 
 pub returns-clause-turns : goal.returns-clause-turns
 returns-clause-turns c =
@@ -35,14 +36,14 @@ returns-clause-turns c =
     c.turn_of.ensures.turns
 
 pub returns-clause-reached : goal.returns-clause-reached
-returns-clause-reached c = λ guest all.
-    c.node_by_steps.ensures.reached guest (subst (AllReached guest) (sym c.turn_of.ensures.items) all)
+returns-clause-reached c = λ guest profile all.
+    c.node_by_steps.ensures.reached guest profile (subst (AllReached guest profile) (sym c.turn_of.ensures.items) all)
 
 pub returns-clause-stopped : goal.returns-clause-stopped
 returns-clause-stopped c =
     let new = c.node_by_steps.new.flats.items in
-    if_err_weaker (λ (stop : Stop). (guest : Guest) → AllReached guest c.turn_of.new.flats.items
-    → MayStop guest new c.args.bounds.nodes c.args.bounds.private stop)
-    (λ (stop : Stop). (guest : Guest) → AllReached guest c.args.flats.now.items → MayStop guest new c.args.bounds.nodes c.args.bounds.private stop)
-    c.node_by_steps.result (λ stop may guest all. may guest (subst (AllReached guest) (sym c.turn_of.ensures.items) all))
+    if_err_weaker (λ (stop : Stop). (guest : Guest) (profile : Profile) → AllReached guest profile c.turn_of.new.flats.items
+    → MayStop guest profile new c.args.bounds.nodes c.args.bounds.private stop)
+    (λ (stop : Stop). (guest : Guest) (profile : Profile) → AllReached guest profile c.args.flats.now.items → MayStop guest profile new c.args.bounds.nodes c.args.bounds.private stop)
+    c.node_by_steps.result (λ stop may guest profile all. may guest profile (subst (AllReached guest profile) (sym c.turn_of.ensures.items) all))
     c.node_by_steps.ensures.stopped

@@ -1,4 +1,4 @@
-use Rattle.std.proofs.Common.{◌+◌, refl, subst, arith}
+use Rattle.std.proofs.Common.{◌+◌, false, refl, subst, arith}
 use Rattle.ir_graph.specs.Plain.{IsFair, GoesPlain}
 use Rattle.ir_graph.specs.Stops.{IsRefused}
 use Rattle.ir_graph.specs.Turn.{GoesAlone}
@@ -10,7 +10,7 @@ use Rattle.ir_graph.proofs.rest.run_to_rest.Goals as goal
 pub private-init : goal.private-init
 private-init c = record {
   goes = goes_plain_reflexive c.args.flat.now;
-  alone = goes_alone_no_steps c.args.flat.now c.args.thread;
+  alone = λ refused. goes_alone_no_steps c.args.flat.now c.args.thread refused;
   others = λ u ne. refl;
   thread = c.requires;
   within = omega arith;
@@ -47,10 +47,10 @@ returns-then-taken-limit-clause-others c =
     (others_stay_after_private_steps c.private.flat c.run_to_ask-steps.new.self c.args.thread c.run_to_ask-steps.result.0 c.run_to_ask-steps.ensures.went)
 
 pub returns-then-rests-clause-alone : goal.returns-then-rests-clause-alone
-returns-then-rests-clause-alone c =
-    goes_alone_append c.args.flat.now c.private.flat c.run_to_ask-steps.new.self c.args.thread c.private.taken c.run_to_ask-steps.result.0 0 0
-    c.private.invariant.alone
-    (goes_alone_by_private_steps c.private.flat c.run_to_ask-steps.new.self c.args.thread c.run_to_ask-steps.result.0 c.run_to_ask-steps.ensures.went)
+returns-then-rests-clause-alone c = λ refused.
+    goes_alone_append c.args.flat.now c.private.flat c.run_to_ask-steps.new.self c.args.thread refused c.private.taken
+    c.run_to_ask-steps.result.0 0 0 (c.private.invariant.alone refused)
+    (goes_alone_by_private_steps c.private.flat c.run_to_ask-steps.new.self c.args.thread refused c.run_to_ask-steps.result.0 c.run_to_ask-steps.ensures.went)
 
 pub private-preserved : goal.private-preserved
 private-preserved c =
@@ -67,9 +67,10 @@ private-preserved c =
     let goes : GoesPlain start h = goes_plain_transitive start g h went (goes_plain_by_fair_step g h t 0 fair one.admitted one.taken one.code one.threads one.objects) in
     record {
       goes = goes;
-      alone = goes_alone_append start g h t (c.private.taken + n) 1 0 0
-          (goes_alone_append start f g t c.private.taken n 0 0 c.private.invariant.alone (goes_alone_by_private_steps f g t n w))
-          (goes_alone_by_fair_step g h t fair one.admitted one.taken one.code one.threads one.objects);
+      alone = λ refused.
+          goes_alone_append start g h t refused (c.private.taken + n) 1 0 0
+          (goes_alone_append start f g t refused c.private.taken n 0 0 (c.private.invariant.alone refused)
+          (goes_alone_by_private_steps f g t refused n w)) (goes_alone_by_fair_step g h t refused fair one.admitted one.taken one.code one.threads one.objects);
       others = others_stay_transitive start g h t (others_stay_transitive start f g t c.private.invariant.others (others_stay_after_private_steps f g t n w))
           (others_stay_after_step g h t 0 one.taken);
       thread = let a = goes.threads in let b = c.requires in omega (arith, a, b);
@@ -90,8 +91,8 @@ returns-then-taken-limit-clause-stopped c =
     let g = c.run_to_ask-steps.new.self in
     let t = c.args.thread in (
       refl,
-      subst (λ z. GoesAlone f g t z 0) c.if-taken-limit.true
-          (goes_alone_append f c.private.flat g t c.private.taken c.run_to_ask-steps.result.0 0 0 c.private.invariant.alone
-          (goes_alone_by_private_steps c.private.flat g t c.run_to_ask-steps.result.0 c.run_to_ask-steps.ensures.went)),
+      subst (λ z. GoesAlone f g t false z 0) c.if-taken-limit.true
+          (goes_alone_append f c.private.flat g t false c.private.taken c.run_to_ask-steps.result.0 0 0 (c.private.invariant.alone false)
+          (goes_alone_by_private_steps c.private.flat g t false c.run_to_ask-steps.result.0 c.run_to_ask-steps.ensures.went)),
       subst IsFair c.run_to_ask-steps.ensures.asked (c.in-Ok.ensures.plain c.if-rests.false),
     )

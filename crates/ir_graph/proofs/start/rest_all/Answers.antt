@@ -27,6 +27,6 @@ loop-thread-preserved c =
     }
 
 pub returns-in-Err-clause-stopped : goal.returns-in-Err-clause-stopped
-returns-in-Err-clause-stopped c = λ guest is.
-    is_stop_after_start guest c.args.limit c.loop-thread.thread c.in-Err.stop c.args.flat.now c.loop-thread.flat c.run_to_rest.new.flat is
+returns-in-Err-clause-stopped c = λ guest profile is.
+    is_stop_after_start guest profile c.args.limit c.loop-thread.thread c.in-Err.stop c.args.flat.now c.loop-thread.flat c.run_to_rest.new.flat is
     c.loop-thread.invariant.goes c.run_to_rest.ensures.goes c.in-Err.ensures.stopped

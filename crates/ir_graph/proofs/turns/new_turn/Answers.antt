@@ -1,5 +1,6 @@
-use Rattle.std.proofs.Common.{◌≡◌, Some, sym, ◌∙◌, subst}
+use Rattle.std.proofs.Common.{◌≡◌, Some, refl, sym, ◌∙◌, subst}
 use Rattle.std.specs.Prelude.{slice_get}
+use Rattle.ir_graph.specs.Plain.{IsNoTry}
 use Rattle.ir_graph.proofs.Both.{found_turn_is_turn_of_thread}
 use Rattle.ir_graph.proofs.Grown.{element_below_length_exists}
 use Rattle.ir_graph.proofs.LoneSteps.{form_kept_by_turn}
@@ -7,11 +8,11 @@ use Rattle.ir_graph.proofs.turns.new_turn.Goals as goal
 
 pub turn_beside-requires : goal.turn_beside-requires
 turn_beside-requires c =
-    let f = element_below_length_exists c.args.flats.now.items c.args.node c.requires.node in
-    let own = c.in-Some.ensures.object f.0 f.1 in
+    let f = element_below_length_exists c.args.flats.now.items c.args.way.node c.requires.node in
+    let own = c.in-Some-spot.ensures.object f.0 f.1 in
     record {
       flat = f.0;
-      thread = c.args.thread;
+      thread = c.args.way.thread;
       is = c.thread_number-from.ensures.flat f.0 f.1;
       runs = c.requires.code f.0 f.1;
       has_thread = c.requires.thread f.0 f.1;
@@ -22,7 +23,7 @@ turn_beside-requires c =
 
 pub add_thread-requires : goal.add_thread-requires
 add_thread-requires c =
-    sym (form_kept_by_turn c.args.code.now c.in-Enter.number c.in_ok-own.own c.turn_beside.new.thread c.object-beside.result c.turn_beside.new.object
+    sym (form_kept_by_turn c.args.code.now c.in-Some.number c.args.way.refused c.in_ok-own.own c.turn_beside.new.thread c.object-beside.result c.turn_beside.new.object
     (c.turn_beside.ensures c.if-not-turn_beside.false))
     ∙ c.in_ok-own.ensures.form
 
@@ -40,12 +41,13 @@ returns-clause-grows c = record {
 
 pub returns-clause-turn : goal.returns-clause-turn
 returns-clause-turn c = λ f at.
-    let here = subst (λ z. slice_get z c.args.node ≡ Some f) (c.add_object.ensures.items ∙ c.add_thread.ensures.items) at in
-    let own = c.in-Some.ensures.object f here in
+    let here = subst (λ z. slice_get z c.args.way.node ≡ Some f) (c.add_object.ensures.items ∙ c.add_thread.ensures.items) at in
+    let own = c.in-Some-spot.ensures.object f here in
     found_turn_is_turn_of_thread c.args.code.now c.args.flats.now.shared c.add_thread.new.self.shared c.add_object.new.self.shared c.add_thread.ensures.grows
-    c.add_object.ensures.grows f c.args.thread
-    (record { from = c.thread_number-from.result; object = c.in-Enter.number; spot = c.in-Some.spot; to = c.in_ok-to.to; after = c.in_ok-after.after })
+    c.add_object.ensures.grows f c.args.way.thread c.args.way.refused
+    (record { from = c.thread_number-from.result; object = c.in-Some.number; tries = c.in-Some.tries; refused = c.args.way.refused; spot = c.in-Some-spot.spot; to = c.in_ok-to.to; after = c.in_ok-after.after }) refl
     c.in_ok-own.own c.turn_beside.new.thread c.object-beside.result c.turn_beside.new.object c.thread_number-from.ensures.within
-    c.in_ok-own.ensures.found (c.thread_number-from.ensures.thread f here) c.in-Some.ensures.within c.object-beside.ensures own.0 own.1
+    c.in_ok-own.ensures.found (c.thread_number-from.ensures.thread f here) c.in-Some-spot.ensures.within c.object-beside.ensures own.0 own.1
     c.in_ok-to.ensures.within c.in_ok-to.ensures.found c.in_ok-after.ensures.within c.in_ok-after.ensures.found
+    (λ no. subst IsNoTry c.ask.ensures.value (c.in-Some.ensures no))
     (c.turn_beside.ensures c.if-not-turn_beside.false)

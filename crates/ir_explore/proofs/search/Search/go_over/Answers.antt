@@ -12,14 +12,14 @@ returns-in_err-take_level-clause-has g c =
     let noted = g.S.Successors.noted c.args.graph.now in
     let more = g.S.Successors.noted c.take_level.new.graph in
     let v = c.args.self.now.opened in
-    let new = c.take_level.new.nodes.items in
+    let new = c.take_level.new.found.nodes.items in
     let level = c.args.self.now.level in
     let size = g.S.Successors.size c.take_level.new.graph in
     let same = with_items_is v c.take_level.new.opened (c.take_level.ensures.threads ∙ ap length c.deref_mut.ensures.value ∙ sym v.ok.0) in
     let many : length (rows c.take_level.new.opened) ≡ length (rows v.items) =
     length_of_rows c.take_level.new.opened ∙ c.take_level.ensures.threads ∙ ap length c.deref_mut.ensures.value ∙ sym (length_of_rows v.items) in
-    subst (λ z. HasGone more (length (rows z)) size new level.number) (sym same)
-    (has_part noted more (g.S.Successors.size c.args.graph.now) c.args.self.now.nodes.items new (rows v.items) level c.requires.between
+    subst (λ z. HasGone more (length (rows z)) size new c.take_level.new.found.refusals.items level.number) (sym same)
+    (has_part noted more (g.S.Successors.size c.args.graph.now) c.args.self.now.found.nodes.items new c.args.self.now.found.refusals.items c.take_level.new.found.refusals.items (rows v.items) level c.requires.between
     c.take_level.ensures.kept c.take_level.ensures.adds c.take_level.ensures.reached (length (rows c.take_level.new.opened)) size many
     c.take_level.ensures.few)
 
@@ -28,14 +28,14 @@ returns-clause-has g c =
     let noted = g.S.Successors.noted c.args.graph.now in
     let more = g.S.Successors.noted c.take_level.new.graph in
     let v = c.args.self.now.opened in
-    let new = c.take_level.new.nodes.items in
+    let new = c.take_level.new.found.nodes.items in
     let level = c.args.self.now.level in
     let size = g.S.Successors.size c.take_level.new.graph in
     let same = with_items_is v c.take_level.new.opened (c.take_level.ensures.threads ∙ ap length c.deref_mut.ensures.value ∙ sym v.ok.0) in
     let many : length (rows c.take_level.new.opened) ≡ length (rows v.items) =
     length_of_rows c.take_level.new.opened ∙ c.take_level.ensures.threads ∙ ap length c.deref_mut.ensures.value ∙ sym (length_of_rows v.items) in
-    subst (λ z. HasGone more (length (rows z)) size new level.number) (sym same)
-    (has_part noted more (g.S.Successors.size c.args.graph.now) c.args.self.now.nodes.items new (rows v.items) level c.requires.between
+    subst (λ z. HasGone more (length (rows z)) size new c.take_level.new.found.refusals.items level.number) (sym same)
+    (has_part noted more (g.S.Successors.size c.args.graph.now) c.args.self.now.found.nodes.items new c.args.self.now.found.refusals.items c.take_level.new.found.refusals.items (rows v.items) level c.requires.between
     c.take_level.ensures.kept c.take_level.ensures.adds c.take_level.ensures.reached (length (rows c.take_level.new.opened)) size many
     c.take_level.ensures.few)
 
@@ -44,7 +44,7 @@ returns-clause-between g c =
     let noted = g.S.Successors.noted c.args.graph.now in
     let more = g.S.Successors.noted c.take_level.new.graph in
     let v = c.args.self.now.opened in
-    let new = c.take_level.new.nodes.items in
+    let new = c.take_level.new.found.nodes.items in
     let level = c.args.self.now.level in
     let size = g.S.Successors.size c.take_level.new.graph in
     let same = with_items_is v c.take_level.new.opened (c.take_level.ensures.threads ∙ ap length c.deref_mut.ensures.value ∙ sym v.ok.0) in
@@ -52,9 +52,9 @@ returns-clause-between g c =
     let many : length (rows c.take_level.new.opened) ≡ length (rows v.items) =
     length_of_rows c.take_level.new.opened ∙ c.take_level.ensures.threads ∙ wide in
     let next : Level = record { number = level.number + 1; first = level.until; until = c.len.result } in
-    subst (λ z. IsBetween more size new (rows z) next) (sym same)
-    (between_more noted more (g.S.Successors.size c.args.graph.now) c.args.self.now.nodes.items new (rows v.items) level c.requires.between
+    subst (λ z. IsBetween more size new c.take_level.new.found.refusals.items (rows z) next) (sym same)
+    (between_more noted more (g.S.Successors.size c.args.graph.now) c.args.self.now.found.nodes.items new c.args.self.now.found.refusals.items c.take_level.new.found.refusals.items (rows v.items) level c.requires.between
     c.take_level.ensures.kept c.take_level.ensures.adds c.take_level.ensures.reached size (rows c.take_level.new.opened) next
     c.in_ok-take_level.ensures.followed
     (subst (AllOpen (rows c.take_level.new.opened) 0 level.until) wide c.in_ok-take_level.ensures.opens) c.in_ok-take_level.ensures.rows
-    many c.in_ok-take_level.ensures.nodes refl refl (c.len.ensures ∙ c.take_level.new.nodes.ok.0) c.requires.more)
+    many c.in_ok-take_level.ensures.nodes refl refl (c.len.ensures ∙ c.take_level.new.found.nodes.ok.0) c.requires.more)

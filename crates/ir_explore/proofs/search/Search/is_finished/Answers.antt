@@ -5,4 +5,4 @@ use Rattle.ir_explore.proofs.search.Search.is_finished.Goals as goal
 
 pub returns-clause-finished : goal.returns-clause-finished
 returns-clause-finished c = λ over noted size between.
-    finished_asked noted size c.args.self.now.nodes.items (rows c.args.self.now.opened.items) c.args.self.now.level between (leb-true c.args.self.now.level.until c.args.self.now.level.first over)
+    finished_asked noted size c.args.self.now.found.nodes.items c.args.self.now.found.refusals.items (rows c.args.self.now.opened.items) c.args.self.now.level between (leb-true c.args.self.now.level.until c.args.self.now.level.first over)
