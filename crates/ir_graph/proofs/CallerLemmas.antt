@@ -2,7 +2,7 @@
 -- runs of steps that concern no other thread
 pub use Rattle.ir_graph.proofs.Plain.{plain_ahead, goes_plain_reflexive, goes_plain_transitive, goes_plain_by_fair_step, goes_plain_by_private_steps, resting_thread_is_live, like_reflexive, like_transitive, like_symmetric, like_after_plain_steps, like_after_step}
 -- where threads lead
-pub use Rattle.ir_graph.proofs.Leads.{seen_at_rest, no_seen_step_if_no_step, no_seen_step_if_done, step_leads_to_alike_node, begins_by_plain_steps}
+pub use Rattle.ir_graph.proofs.Leads.{seen_at_rest, no_seen_step_if_no_step, no_seen_step_if_done, way_leads_to_alike_node, begins_by_plain_steps}
 -- a thread that goes on alone
 pub use Rattle.ir_graph.proofs.Turn.{goes_alone_no_steps, goes_alone_append, goes_alone_by_entry, like_after_going_alone}
 -- runs of a guest from its start

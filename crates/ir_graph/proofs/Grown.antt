@@ -152,12 +152,42 @@ is_graph_after_note guest profile flats old new threads thread way node to g onl
     was : (t : ℕ) (refused : Bool) (v : ℕ) → t ≡ thread → refused ≡ way → v ≡ node → old t refused v ≡ None
     was t refused v a b c = (λ i. old (a i) (b i) (c i)) ∙ fresh
 
+-- so is a graph that has grown, once more is noted of the rows of its ways
+pub is_graph_after_way_noted : (guest : Guest) (profile : Profile) (old flats : List Flat) (rows refusals new tries : List (Vec (Option (Option ℕ))))
+    (thread : ℕ) (way : Bool) (node : ℕ) (to : Option ℕ) → IsGraph guest profile old (noted_by rows refusals) (length rows) → Stay old flats
+    → AreNodes flats → AllReached guest profile flats → length old ≤ length flats
+    → ((t : ℕ) (refused : Bool) (v : ℕ) → (noted_by new tries t refused v ≡ noted_by rows refusals t refused v)
+    ⊎ ((t ≡ thread) × (refused ≡ way) × (v ≡ node) × (noted_by new tries t refused v ≡ Some to)))
+    → length new ≡ length rows → noted_by rows refusals thread way node ≡ None → node < length old → ((w : ℕ) → to ≡ Some w → w < length flats)
+    → LeadsFrom flats thread way node to → IsGraph guest profile flats (noted_by new tries) (length new)
+is_graph_after_way_noted guest profile old flats rows refusals new tries thread way node to g stay nodes reached grown only same fresh inside within leads =
+    subst (IsGraph guest profile flats (noted_by new tries)) (sym same)
+    (is_graph_after_note guest profile flats (noted_by rows refusals) (noted_by new tries) (length rows) thread way node to
+    (is_graph_after_nodes_added guest profile old flats (noted_by rows refusals) (length rows) g stay nodes reached grown) only fresh
+    (omega (arith, inside, grown)) within leads)
+
 -- each node has all threads
 pub thread_count_of_node : (guest : Guest) (profile : Profile) (flats : List Flat) (noted : ℕ → BothWays) (threads v : ℕ) (f : Flat)
     → IsGraph guest profile flats noted threads → slice_get flats v ≡ Some f → length f.threads ≡ threads
 thread_count_of_node guest profile flats noted threads v f g is =
     let first = element_below_length_exists flats 0 g.some in
     (g.nodes.like 0 v first.0 f first.1 is).threads ∙ g.many first.0 first.1
+
+-- where nothing is noted of it, a number is a thread's
+pub thread_is_below_if_free : (guest : Guest) (profile : Profile) (flats : List Flat) (noted : ℕ → BothWays) (threads t : ℕ) (refused : Bool)
+    (v w : ℕ) (f : Flat) → IsGraph guest profile flats noted threads → noted t refused v ≡ None → slice_get flats w ≡ Some f → t < length f.threads
+thread_is_below_if_free guest profile flats noted threads t refused v w f g free is = elim (cases_lt t threads) [
+  | inl l ↦ subst (λ n. t < n) (sym (thread_count_of_node guest profile flats noted threads w f g is)) l
+  | inr l ↦ absurd (cc (sym free ∙ g.past t refused v l))
+]
+
+-- what is so of rows is so of equal ones
+pub is_graph_of_equal_rows : (guest : Guest) (profile : Profile) (flats : List Flat) (new tries : List (Vec (Option (Option ℕ))))
+    {rows refusals : List (Vec (Option (Option ℕ)))} → rows ≡ new → refusals ≡ tries
+    → IsGraph guest profile flats (noted_by new tries) (length new) → IsGraph guest profile flats (noted_by rows refusals) (length rows)
+is_graph_of_equal_rows guest profile flats new tries {rows} {refusals} same also g =
+    subst (λ z. IsGraph guest profile flats (noted_by z refusals) (length z)) (sym same)
+    (subst (λ z. IsGraph guest profile flats (noted_by new z) (length new)) (sym also) g)
 
 -- each node has the guest's code
 pub code_of_node : (guest : Guest) (profile : Profile) (flats : List Flat) (noted : ℕ → BothWays) (threads v : ℕ) (f : Flat)

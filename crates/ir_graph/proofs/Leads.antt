@@ -218,12 +218,12 @@ way_leads_to_alike_node f g h k t refused rests may can is code goes alike answe
         ap is_refusal (seen_act_at_rest f answers t (result_by refused) rests) ∙ act_by_way (ask_of f.code (thread_of f t)) refused rests may,
       ),
       λ e same by there.
-      let here : Can (seen_by f.code) (seen_of f answers) (t, e.1) = subst (λ z. Can (seen_by f.code) (seen_of f answers) (z, e.1)) same there in
-      let way : IsStepBy f answers refused (t, e.1) = subst (λ z. IsStepBy f answers refused (z, e.1)) same by in
-      subst (λ z. LeadsTo (seen_by f.code) (told_by f.code) (Alike f.code) (seen_of f answers) (z, e.1) (seen_of k answers)) (sym same)
-      (leads_to_by_equal_act (seen_by f.code) (told_by f.code) (Alike f.code) (seen_of f answers) t (result_by refused) e.1 (seen_of k answers)
-      (seen_act_at_rest f answers t (result_by refused) rests ∙ seen_act_by_way f answers t e.1 refused rests way here
-      ∙ sym (seen_act_at_rest f answers t e.1 rests)) base),
+          let here : Can (seen_by f.code) (seen_of f answers) (t, e.1) = subst (λ z. Can (seen_by f.code) (seen_of f answers) (z, e.1)) same there in
+          let way : IsStepBy f answers refused (t, e.1) = subst (λ z. IsStepBy f answers refused (z, e.1)) same by in
+          subst (λ z. LeadsTo (seen_by f.code) (told_by f.code) (Alike f.code) (seen_of f answers) (z, e.1) (seen_of k answers)) (sym same)
+          (leads_to_by_equal_act (seen_by f.code) (told_by f.code) (Alike f.code) (seen_of f answers) t (result_by refused) e.1 (seen_of k answers)
+          (seen_act_at_rest f answers t (result_by refused) rests ∙ seen_act_by_way f answers t e.1 refused rests way here
+          ∙ sym (seen_act_at_rest f answers t e.1 rests)) base),
     )
 
 -- from the start the threads go on alone to what is at rest

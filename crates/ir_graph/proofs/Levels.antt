@@ -1,18 +1,19 @@
 -- A node's level is at most the number of switches of each way to it.
-use Rattle.std.proofs.Common.{◌≡◌, ℕ, zero, suc, ◌+◌, ◌<◌, ◌≤◌, true, cond, eq-eqb, ne_eqb, Some, List, [], ◌∷◌, inl, inr, sym, ap, ◌∙◌, subst, arith}
+use Rattle.std.proofs.Common.{◌≡◌, ℕ, zero, suc, ◌+◌, ◌<◌, ◌≤◌, Bool, true, cond, eq-eqb, ne_eqb, Some, List, [], ◌∷◌, inl, inr, sym, ap, ◌∙◌, subst, arith}
 use Rattle.std.specs.Prelude.{slice_get}
 use Rattle.std.proofs.lemmas.Bool.{cases_eq, cases_lt}
 use Rattle.std.proofs.lemmas.Option.{same_Some}
 use Rattle.ir_explore.specs.declared.origin.Origin.{Origin}
-use Rattle.ir_explore.specs.Following.{Leading, GoesTo}
+use Rattle.ir_explore.specs.Following.{Leading, BothWays, GoesTo}
 use Rattle.ir_explore.specs.Levels.{Covered, AreGoneOver}
 use Rattle.ir_explore.specs.Meaning.{Steps}
 use Rattle.ir_runs.specs.Machine.{Machine}
-use Rattle.ir_runs.specs.Run.{State, Step, Can}
+use Rattle.ir_runs.specs.Run.{State, Step, act, Can}
 use Rattle.ir_states.specs.Nodes.{Path}
+use Rattle.ir_states.specs.Orders.{is_refusal}
 use Rattle.ir_states.specs.Outcomes.{changes, switches}
 
-module _ {T : Type 0} (m : Machine T) (state_of : ℕ → State T) (noted : ℕ → Leading) (threads size : ℕ)
+module _ {T : Type 0} (m : Machine T) (state_of : ℕ → State T) (noted : ℕ → BothWays) (threads size : ℕ)
     (idle : (v : ℕ) → v < size → (e : Step) → threads ≤ e.0 → Can m (state_of v) e → ⊥) (origins : List Origin) where
   goes_there : (leading : Leading) (Those : ℕ → Type 0) (v x : ℕ) → leading v ≡ Some (Some x) → GoesTo leading Those v → Those x
   goes_there leading Those v x to g = elim g [
@@ -30,15 +31,17 @@ module _ {T : Type 0} (m : Machine T) (state_of : ℕ → State T) (noted : ℕ 
     | inl within ↦ elim (cases_eq u t) [
       | inl same ↦
           let e : changes t (u ∷ ts) ≡ changes t ts = ap (λ b. cond b (changes t ts) (suc (changes u ts))) (eq-eqb u t same) in
-          let there = goes_there (noted t) (λ z. h.levels k z t ≡ true) v x (subst (λ z. noted z v ≡ Some (Some x)) same to)
-          (h.followed k v t (omega (arith, most)) few is) in
+          let way : Bool = is_refusal (act m (state_of v) (u, r)) in
+          let there = goes_there (noted t way) (λ z. h.levels k z t ≡ true) v x (subst (λ z. noted z way v ≡ Some (Some x)) same to)
+          (h.followed k v t (omega (arith, most)) few is way) in
           let p = path_level c h ts k x t w few there (omega (arith, most, e)) path in
           (p.0, p.1, subst (λ z. h.levels (z + k) w p.0 ≡ true) (sym e) p.2)
       | inr other ↦
           let e : changes t (u ∷ ts) ≡ suc (changes u ts) = ap (λ b. cond b (changes t ts) (suc (changes u ts))) (ne_eqb u t other) in
           let turned = h.turned k v t u few within is (omega (arith, most, e)) in
-          let there = goes_there (noted u) (λ z. h.levels (suc k) z u ≡ true) v x to
-          (h.followed (suc k) v u (omega (arith, most, e)) within turned) in
+          let way : Bool = is_refusal (act m (state_of v) (u, r)) in
+          let there = goes_there (noted u way) (λ z. h.levels (suc k) z u ≡ true) v x to
+          (h.followed (suc k) v u (omega (arith, most, e)) within turned way) in
           let p = path_level c h ts (suc k) x u w within there (omega (arith, most, e)) path in
           let f : changes u ts + suc k ≡ changes t (u ∷ ts) + k = omega (arith, e) in
           (p.0, p.1, subst (λ z. h.levels z w p.0 ≡ true) f p.2)
@@ -58,7 +61,8 @@ module _ {T : Type 0} (m : Machine T) (state_of : ℕ → State T) (noted : ℕ 
     | inr low ↦ elim (cases_lt t threads) [
       | inr many ↦ absurd (idle 0 l (t, r) many can)
       | inl few ↦
-          let there = goes_there (noted t) (λ z. h.levels 0 z t ≡ true) 0 x to (h.followed 0 0 t (omega arith) few (h.opens t few)) in
+          let way : Bool = is_refusal (act m (state_of 0) (t, r)) in
+          let there = goes_there (noted t way) (λ z. h.levels 0 z t ≡ true) 0 x to (h.followed 0 0 t (omega arith) few (h.opens t few) way) in
           let p = path_level c h ts 0 x t w few there (omega (arith, low)) path in
           let m = h.within (changes t ts + 0) w p.0 (omega (arith, low)) p.1 p.2 in
           let one : m.0 ≡ n = same_Some m.0 n (sym m.1 ∙ at) in

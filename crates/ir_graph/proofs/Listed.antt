@@ -1,28 +1,31 @@
 -- What a search over a guest's graph has listed.
-use Rattle.std.proofs.Common.{◌≡◌, ℕ, ◌<◌, ◌≤◌, Option, Some, None, List, [], inl, inr, length, get_or, refl, sym, ap, ◌∙◌, subst, arith}
+use Rattle.std.proofs.Common.{◌≡◌, ℕ, ◌<◌, ◌≤◌, Bool, Some, None, List, [], inl, inr, length, get_or, refl, sym, ap, ◌∙◌, subst, arith}
 use Rattle.std.specs.Prelude.{slice_get}
 use Rattle.std.proofs.lemmas.Bool.{cases_lt}
 use Rattle.std.proofs.lemmas.Option.{slice_get-get_or}
 use Rattle.ir_image.specs.Guest.{Guest}
 use Rattle.ir_explore.specs.declared.origin.Origin.{Origin}
+use Rattle.ir_explore.specs.declared.origin.Refusal.{Refusal}
+use Rattle.ir_explore.specs.Following.{BothWays}
 use Rattle.ir_explore.specs.Levels.{AreAsked, Covered}
 use Rattle.ir_explore.specs.Meaning.{Means, Steps}
 use Rattle.ir_explore.specs.Origins.{first_origin, AreReached}
 use Rattle.ir_explore.proofs.CallerLemmas.{asked_finished, covered_covers, place_of_element_is_below_length}
 use Rattle.ir_runs.specs.Machine as machines
 use Rattle.ir_runs.specs.Run as run
-use Rattle.ir_runs.specs.Run.{Step, Can}
+use Rattle.ir_runs.specs.Run.{Step, act, Can}
 use Rattle.ir_states.specs.Counting.{IsAtRest}
 use Rattle.ir_states.specs.Nodes.{LeadsTo}
+use Rattle.ir_states.specs.Orders.{is_refusal}
 use Rattle.ir_states.specs.Outcomes.{IsFinished, Covers}
 use Rattle.ir_states.specs.Sources.{plain}
 use Rattle.ir_thread.specs.State.{ThreadState, thread_machine}
-use Rattle.ir_thread.specs.declared.profile.Profile.TheVariants.{One}
+use Rattle.ir_thread.specs.declared.profile.Profile.{Profile}
 use Rattle.ir_seen.specs.Seen.{seen_start}
 use Rattle.ir_seen.proofs.CallerLemmas.{seen_machine_is_view, guest_all, guest_outcome_within_is_done_node}
 use Rattle.ir_flat.specs.Flat.{Flat, machine, tables, thread_of}
 use Rattle.ir_graph.specs.Graph.{IsGraph}
-use Rattle.ir_graph.specs.Nodes.{told, seen_by, told_by, Alike, seen_of}
+use Rattle.ir_graph.specs.Nodes.{told, seen_by, told_by, Alike, seen_of, HasStepBy, IsStepBy}
 use Rattle.ir_graph.specs.Outcomes.{outcome_of, AllListed, WithinListed, AllShown}
 use Rattle.ir_graph.proofs.Grown.{thread_count_of_node}
 use Rattle.ir_graph.specs.Reached.{beginning}
@@ -46,8 +49,8 @@ outcome_of_alike_states code u v alike = λ i. record {
     output_at : (t : ℕ) → (u.now t).0.output ≡ (v.now t).0.output
     output_at t = elim (alike.threads t) [ inl e ↦ ap (λ z. z.0.output) e | inr d ↦ d.3 ]
 
-module _ (guest : Guest) (flats : List Flat) (noted : ℕ → ℕ → Option (Option ℕ)) (threads : ℕ) (g : IsGraph guest flats noted threads)
-    (past : (t v : ℕ) → threads ≤ t → noted t v ≡ Some None) (answers : ℕ → List ℕ) where
+module _ (guest : Guest) (profile : Profile) (flats : List Flat) (noted : ℕ → BothWays) (threads : ℕ)
+    (g : IsGraph guest profile flats noted threads) (answers : ℕ → List ℕ) where
   abbrev pub flat_of : ℕ → Flat
   flat_of v = get_or flats v empty_flat
 
@@ -65,33 +68,39 @@ module _ (guest : Guest) (flats : List Flat) (noted : ℕ → ℕ → Option (Op
   never v t l many e same =
       subst (λ z. Can (seen_by z) (state_of v) e → ⊥) (code_at v l)
       (no_seen_step_if_done (flat_of v) answers t
-      (ask_past_threads_is_done (flat_of v) t (let a = thread_count_of_node guest flats noted threads v (flat_of v) g (at v l) in omega (arith, a, many))) e same)
+      (ask_past_threads_is_done (flat_of v) t (let a = thread_count_of_node guest profile flats noted threads v (flat_of v) g (at v l) in omega (arith, a, many))) e same)
 
-  leads_at : (t v w : ℕ) → v < length flats → t < threads → noted t v ≡ Some (Some w) → (e : Step) → e.0 ≡ t
-      → LeadsTo (seen_by guest.code) (told_by guest.code) (Alike guest.code) (state_of v) e (state_of w)
-  leads_at t v w l few is e same =
-      subst (λ z. LeadsTo (seen_by z) (told_by z) (Alike z) (state_of v) e (state_of w)) (code_at v l)
-      (g.leads t v (Some w) few is (flat_of v) (flat_of w) (at v l) (at w (g.within t v w few is)) answers e same)
+  leads_at : (t : ℕ) (refused : Bool) (v w : ℕ) → v < length flats → t < threads → noted t refused v ≡ Some (Some w)
+      → HasStepBy (flat_of v) answers t refused × ((e : Step) → e.0 ≡ t → IsStepBy (flat_of v) answers refused e
+      → Can (seen_by (flat_of v).code) (state_of v) e
+      → LeadsTo (seen_by (flat_of v).code) (told_by (flat_of v).code) (Alike (flat_of v).code) (state_of v) e (state_of w))
+  leads_at t refused v w l few is =
+      g.leads t refused v (Some w) few is (flat_of v) (flat_of w) (at v l) (at w (g.within t refused v w few is)) answers
 
-  pub graph_means : Means (seen_by guest.code) (told_by guest.code) (Alike guest.code) (seen_start guest One answers) state_of noted threads
+  pub graph_means : Means (seen_by guest.code) (told_by guest.code) (Alike guest.code) (seen_start guest profile answers) state_of noted threads
       (length flats)
   graph_means = record {
     begins = g.begins (flat_of 0) (at 0 g.some) answers;
     at_rest = λ v l. subst (λ z. IsAtRest (seen_by z) (state_of v)) (code_at v l)
         (seen_at_rest (flat_of v) answers (g.nodes.rest v (flat_of v) (at v l)));
     idle = λ v l e many. never v e.0 l many e refl;
-    stays = λ t v l is e same. elim (cases_lt t threads) [
-      | inl few ↦ subst (λ z. Can (seen_by z) (state_of v) e → ⊥) (code_at v l)
-          (g.leads t v None few is (flat_of v) (at v l) answers e same)
-      | inr many ↦ never v t l many e same
+    stays = λ t refused v l is e same. elim (cases_lt t threads) [
+      | inl few ↦
+          subst (λ z. is_refusal (act (seen_by z) (state_of v) e) ≡ refused → Can (seen_by z) (state_of v) e → ⊥) (code_at v l)
+          (g.leads t refused v None few is (flat_of v) (at v l) answers e same)
+      | inr many ↦ λ by. never v t l many e same
     ];
-    can = λ t v w l is. elim (cases_lt t threads) [
-      | inl few ↦ (0, (leads_at t v w l few is (t, 0) refl).can)
-      | inr many ↦ absurd (cc (sym (past t v many) ∙ is))
+    can = λ t refused v w l is. elim (cases_lt t threads) [
+      | inl few ↦
+          subst (λ z. (r : ℕ) × Can (seen_by z) (state_of v) (t, r) × (is_refusal (act (seen_by z) (state_of v) (t, r)) ≡ refused)) (code_at v l)
+          (leads_at t refused v w l few is).0
+      | inr many ↦ absurd (cc (sym (g.past t refused v many) ∙ is))
     ];
-    leads = λ t v w l is e same can. elim (cases_lt t threads) [
-      | inl few ↦ leads_at t v w l few is e same
-      | inr many ↦ absurd (cc (sym (past t v many) ∙ is))
+    leads = λ t refused v w l is e same. elim (cases_lt t threads) [
+      | inl few ↦
+          subst (λ z. is_refusal (act (seen_by z) (state_of v) e) ≡ refused → Can (seen_by z) (state_of v) e
+          → LeadsTo (seen_by z) (told_by z) (Alike z) (state_of v) e (state_of w)) (code_at v l) ((leads_at t refused v w l few is).1 e same)
+      | inr many ↦ λ by can. absurd (cc (sym (g.past t refused v many) ∙ is))
     ];
   }
 
@@ -107,48 +116,48 @@ module _ (guest : Guest) (flats : List Flat) (noted : ℕ → ℕ → Option (Op
       subst (λ z. run.asked (machine (flat_of v)) (tables (flat_of v)) t ≡ machines.Done → run.asked (seen_by z) (state_of v) t ≡ machines.Done)
       (code_at v l) ((seen_machine_is_view (flat_of v).code).done (thread_of (flat_of v) t)).0 (done t)
 
-pub all_listed_if_all_asked : (guest : Guest) (flats : List Flat) (noted : ℕ → ℕ → Option (Option ℕ)) (threads : ℕ) → IsGraph guest flats noted threads
-    → ((t v : ℕ) → threads ≤ t → noted t v ≡ Some None) → (origins : List Origin) → AreReached noted origins
-    → length origins ≡ length flats → AreAsked noted threads (length flats) → AllListed guest flats
-all_listed_if_all_asked guest flats noted threads g past origins reached all asked answers budget steps counted =
-    let means = graph_means guest flats noted threads g past answers in
-    let f : IsFinished (seen_by guest.code) (told_by guest.code) (Alike guest.code) (seen_start guest One answers)
-    (state_of guest flats noted threads g past answers) (λ v. v < length flats)
-    (Steps (seen_by guest.code) (state_of guest flats noted threads g past answers) noted (length flats)) 0 =
-    asked_finished (seen_by guest.code) (told_by guest.code) (Alike guest.code) (seen_start guest One answers)
-    (state_of guest flats noted threads g past answers) noted threads (length flats) means origins reached all g.some asked in
-    let r = guest_all guest One told answers (state_of guest flats noted threads g past answers) (λ v. v < length flats)
-    (Steps (seen_by guest.code) (state_of guest flats noted threads g past answers) noted (length flats)) 0 f outcome_of
+pub all_listed_if_all_asked : (guest : Guest) (profile : Profile) (flats : List Flat) (noted : ℕ → BothWays) (threads : ℕ) → IsGraph guest profile flats noted threads
+    → (origins : List Origin) (refusals : List Refusal) → AreReached noted refusals origins
+    → length origins ≡ length flats → AreAsked noted threads (length flats) → AllListed guest profile flats
+all_listed_if_all_asked guest profile flats noted threads g origins refusals reached all asked answers budget steps counted =
+    let means = graph_means guest profile flats noted threads g answers in
+    let f : IsFinished (seen_by guest.code) (told_by guest.code) (Alike guest.code) (seen_start guest profile answers)
+    (state_of guest profile flats noted threads g answers) (λ v. v < length flats)
+    (Steps (seen_by guest.code) (state_of guest profile flats noted threads g answers) noted (length flats)) 0 =
+    asked_finished (seen_by guest.code) (told_by guest.code) (Alike guest.code) (seen_start guest profile answers)
+    (state_of guest profile flats noted threads g answers) noted threads (length flats) means origins refusals reached all g.some asked in
+    let r = guest_all guest profile told answers (state_of guest profile flats noted threads g answers) (λ v. v < length flats)
+    (Steps (seen_by guest.code) (state_of guest profile flats noted threads g answers) noted (length flats)) 0 f outcome_of
     (outcome_of_alike_states guest.code) budget steps counted in (
       r.0,
-      flat_of guest flats noted threads g past answers r.0,
+      flat_of guest profile flats noted threads g answers r.0,
       (
-        at guest flats noted threads g past answers r.0 r.1,
-        really_done guest flats noted threads g past answers r.0 r.1 r.2,
+        at guest profile flats noted threads g answers r.0 r.1,
+        really_done guest profile flats noted threads g answers r.0 r.1 r.2,
         r.3,
       ),
     )
 
-pub within_listed_if_covered : (guest : Guest) (flats : List Flat) (noted : ℕ → ℕ → Option (Option ℕ)) (threads : ℕ) → IsGraph guest flats noted threads
-    → ((t v : ℕ) → threads ≤ t → noted t v ≡ Some None) → (origins : List Origin) → slice_get origins 0 ≡ Some first_origin
-    → length origins ≤ length flats → (c : ℕ) → Covered noted threads origins c → WithinListed guest flats origins c
-within_listed_if_covered guest flats noted threads g past origins first few c covered answers budget steps counted less =
-    let means = graph_means guest flats noted threads g past answers in
-    let covers : Covers (seen_by guest.code) (told_by guest.code) (Alike guest.code) (seen_start guest One answers)
-    (state_of guest flats noted threads g past answers) _ 0 c =
-    covered_covers (seen_by guest.code) (told_by guest.code) (Alike guest.code) (seen_start guest One answers)
-    (state_of guest flats noted threads g past answers) noted threads (length flats) means origins c covered first few in
-    let r = guest_outcome_within_is_done_node guest One told answers (state_of guest flats noted threads g past answers) _ 0 c covers outcome_of
+pub within_listed_if_covered : (guest : Guest) (profile : Profile) (flats : List Flat) (noted : ℕ → BothWays) (threads : ℕ) → IsGraph guest profile flats noted threads
+    → (origins : List Origin) → slice_get origins 0 ≡ Some first_origin
+    → length origins ≤ length flats → (c : ℕ) → Covered noted threads origins c → WithinListed guest profile flats origins c
+within_listed_if_covered guest profile flats noted threads g origins first few c covered answers budget steps counted less =
+    let means = graph_means guest profile flats noted threads g answers in
+    let covers : Covers (seen_by guest.code) (told_by guest.code) (Alike guest.code) (seen_start guest profile answers)
+    (state_of guest profile flats noted threads g answers) _ 0 c =
+    covered_covers (seen_by guest.code) (told_by guest.code) (Alike guest.code) (seen_start guest profile answers)
+    (state_of guest profile flats noted threads g answers) noted threads (length flats) means origins c covered first few in
+    let r = guest_outcome_within_is_done_node guest profile told answers (state_of guest profile flats noted threads g answers) _ 0 c covers outcome_of
     (outcome_of_alike_states guest.code) budget steps counted less in
     let v = r.2 in
     let n = r.4.1 in
     let l : v < length flats = (let a = place_of_element_is_below_length origins v n.0 n.1 in omega (arith, a, few)) in (
       v,
-      flat_of guest flats noted threads g past answers v,
+      flat_of guest profile flats noted threads g answers v,
       n.0,
       (
-        at guest flats noted threads g past answers v l,
-        really_done guest flats noted threads g past answers v l r.5,
+        at guest profile flats noted threads g answers v l,
+        really_done guest profile flats noted threads g answers v l r.5,
         r.6,
       ),
       n.1,
@@ -156,10 +165,10 @@ within_listed_if_covered guest flats noted threads g past origins first few c co
     )
 
 -- a listed state where all are done is where a complete run ends
-pub all_shown_by_graph : (guest : Guest) (flats : List Flat) (noted : ℕ → ℕ → Option (Option ℕ)) (threads : ℕ) → IsGraph guest flats noted threads
-    → AllShown guest flats
-all_shown_by_graph guest flats noted threads g v f at done answers =
+pub all_shown_by_graph : (guest : Guest) (profile : Profile) (flats : List Flat) (noted : ℕ → BothWays) (threads : ℕ) → IsGraph guest profile flats noted threads
+    → AllShown guest profile flats
+all_shown_by_graph guest profile flats noted threads g v f at done answers =
     let r = g.reached v f at in
-    let really : run.IsDone (thread_machine guest.code) (run.end (thread_machine guest.code) (beginning guest) r.steps) =
+    let really : run.IsDone (thread_machine guest.code) (run.end (thread_machine guest.code) (beginning guest profile) r.steps) =
     subst (run.IsDone (thread_machine guest.code)) r.ends (subst (λ z. run.IsDone (thread_machine z) (tables f)) r.like.code done) in
-    (r.steps, done_quiet_run_is_counted guest r.steps answers r.quiet really, (at, done, ap outcome_of r.ends))
+    (r.steps, done_quiet_run_is_counted guest profile r.steps answers r.quiet really, (at, done, ap outcome_of r.ends))

@@ -4,23 +4,24 @@ use Rattle.std.specs.Global.{Vec}
 use Rattle.std.specs.Prelude.{Result, Ok, Err, OnOk, IfOk, IfErr}
 use Rattle.ir_image.specs.Guest.{Guest}
 use Rattle.ir_explore.specs.declared.origin.Origin.{Origin}
+use Rattle.ir_explore.specs.declared.origin.Refusal.{Refusal}
+use Rattle.ir_thread.specs.declared.profile.Profile.{Profile}
 use Rattle.ir_explore.specs.Levels.{AreAsked, AreGoneOver, Covered}
 use Rattle.ir_explore.specs.Searching.{HasGone}
 use Rattle.ir_explore.proofs.CallerLemmas.{covered_below_gone_over_level}
 use Rattle.ir_flat.specs.Flat.{Flat}
 use Rattle.ir_graph.specs.Graph.{IsGraph}
 use Rattle.ir_graph.specs.Hangs.{AllStand, AreWays, AreMarked}
-use Rattle.ir_graph.specs.Notes.{noted_in}
+use Rattle.ir_graph.specs.Notes.{noted_by}
 use Rattle.ir_graph.specs.Outcomes.{AllListed}
 use Rattle.ir_graph.specs.Searched.{AreSearched}
-use Rattle.ir_graph.proofs.Grown.{noted_in_past_threads}
 use Rattle.ir_graph.proofs.Hangs.{are_marked, all_stand}
 use Rattle.ir_graph.proofs.Listed.{all_listed_if_all_asked, within_listed_if_covered}
 
-module _ (guest : Guest) (flats : List Flat) (rows : List (Vec (Option (Option ℕ)))) (origins : List Origin) (threads levels : ℕ)
-    (graph : IsGraph guest flats (noted_in rows) (length rows)) (same : threads ≡ length rows)
-    (has : HasGone (noted_in rows) threads (length flats) origins levels) where
-  pub searched_by : AreSearched guest flats origins levels
+module _ (guest : Guest) (profile : Profile) (flats : List Flat) (rows tries : List (Vec (Option (Option ℕ)))) (origins : List Origin)
+    (refusals : List Refusal) (threads levels : ℕ) (graph : IsGraph guest profile flats (noted_by rows tries) (length rows))
+    (same : threads ≡ length rows) (has : HasGone (noted_by rows tries) threads (length flats) origins refusals levels) where
+  pub searched_by : AreSearched guest profile flats origins levels
   searched_by = record {
     states = graph.nodes;
     reached = graph.reached;
@@ -28,25 +29,25 @@ module _ (guest : Guest) (flats : List Flat) (rows : List (Vec (Option (Option �
     rising = has.rising;
     most = has.most;
     within = λ c less.
-        within_listed_if_covered guest flats (noted_in rows) (length rows) graph (λ t v l. noted_in_past_threads rows t v l) origins has.first has.few c
-        (subst (λ z. Covered (noted_in rows) z origins c) same (covered_below_gone_over_level (noted_in rows) threads origins levels c less has.gone));
+        within_listed_if_covered guest profile flats (noted_by rows tries) (length rows) graph origins has.first has.few c
+        (subst (λ z. Covered (noted_by rows tries) z origins c) same (covered_below_gone_over_level (noted_by rows tries) threads origins levels c less has.gone));
   }
 
-  module _ (all : length origins ≡ length flats) (asked : AreAsked (noted_in rows) threads (length flats)) where
-    asked_each : AreAsked (noted_in rows) (length rows) (length flats)
-    asked_each = subst (λ z. AreAsked (noted_in rows) z (length flats)) same asked
+  module _ (all : length origins ≡ length flats) (asked : AreAsked (noted_by rows tries) threads (length flats)) where
+    asked_each : AreAsked (noted_by rows tries) (length rows) (length flats)
+    asked_each = subst (λ z. AreAsked (noted_by rows tries) z (length flats)) same asked
 
-    pub listed_by : AllListed guest flats
-    listed_by = all_listed_if_all_asked guest flats (noted_in rows) (length rows) graph (λ t v l. noted_in_past_threads rows t v l) origins has.reached all asked_each
+    pub listed_by : AllListed guest profile flats
+    listed_by = all_listed_if_all_asked guest profile flats (noted_by rows tries) (length rows) graph origins refusals has.reached all asked_each
 
-    pub stand_by : AllStand guest flats origins
+    pub stand_by : AllStand guest profile flats origins
     stand_by =
-        all_stand guest flats (noted_in rows) (length rows) graph (λ t v l. noted_in_past_threads rows t v l) origins has.reached all asked_each levels
-        (subst (λ z. AreGoneOver (noted_in rows) z origins levels) same has.gone) has.most has.first
+        all_stand guest profile flats (noted_by rows tries) (length rows) graph origins refusals has.reached all asked_each levels
+        (subst (λ z. AreGoneOver (noted_by rows tries) z origins levels) same has.gone) has.most has.first
 
-    pub marked_by : (marks : List Bool) → AreWays (noted_in rows) (length rows) flats marks → AreMarked flats marks
+    pub marked_by : (marks : List Bool) → AreWays (noted_by rows tries) (length rows) flats marks → AreMarked flats marks
     marked_by marks ways =
-        are_marked guest flats (noted_in rows) (length rows) graph (λ t v l. noted_in_past_threads rows t v l) origins has.reached all asked_each marks ways
+        are_marked guest profile flats (noted_by rows tries) (length rows) graph origins refusals has.reached all asked_each marks ways
 
 -- what follows from what is so on success
 pub on_ok : {A E P Q : Type 0} (r : Result A E) → (P → Q) → OnOk r P → OnOk r Q

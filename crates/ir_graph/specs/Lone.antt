@@ -5,7 +5,6 @@ use Rattle.ir_object.specs.Cell.{Cell}
 use Rattle.ir_object.specs.Standing.{Admitted, CanLeave}
 use Rattle.ir_object.specs.Word.{IsFields, entered, left_by}
 use Rattle.ir_object.specs.declared.fields.Fields.{Fields}
-use Rattle.ir_runs.specs.declared.access.Access.{Access}
 use Rattle.ir_runs.specs.declared.access.Access.TheVariants.{Writing}
 use Rattle.ir_thread.specs.State.{ThreadState, ask_of, after_ask}
 use Rattle.ir_thread.specs.declared.ask.Ask.{Ask}

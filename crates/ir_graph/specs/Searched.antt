@@ -35,14 +35,14 @@ pub record IsSearch (s : States) : Type 0 where
 
 -- it stands between two levels
 abbrev pub StandsBetween : States → Type 0
-StandsBetween s = IsBetween (noted_by s.graph.rows.items s.graph.refusals.items) (length s.graph.flats.items) s.search.nodes.items s.search.refusals.items (rows s.search.opened.items) s.search.level
+StandsBetween s = IsBetween (noted_by s.graph.rows.items s.graph.refusals.items) (length s.graph.flats.items) s.search.found.nodes.items s.search.found.refusals.items (rows s.search.opened.items) s.search.level
 
 -- so many levels are gone over
 abbrev pub HasLevels : States → ℕ → Type 0
-HasLevels s n = HasGone (noted_by s.graph.rows.items s.graph.refusals.items) (length (rows s.search.opened.items)) (length s.graph.flats.items) s.search.nodes.items s.search.refusals.items n
+HasLevels s n = HasGone (noted_by s.graph.rows.items s.graph.refusals.items) (length (rows s.search.opened.items)) (length s.graph.flats.items) s.search.found.nodes.items s.search.found.refusals.items n
 
 -- each outcome of the guest is that of a listed state; its runs that count stand at listed states
 pub record IsWhole (s : States) : Type 0 where
   pub all : AllListed s.graph.image.now s.graph.profile s.graph.flats.items
-  pub nodes : length s.search.nodes.items ≡ length s.graph.flats.items
-  pub stand : AllStand s.graph.image.now s.graph.profile s.graph.flats.items s.search.nodes.items
+  pub nodes : length s.search.found.nodes.items ≡ length s.graph.flats.items
+  pub stand : AllStand s.graph.image.now s.graph.profile s.graph.flats.items s.search.found.nodes.items

@@ -51,11 +51,7 @@ impl Ahead {
     {
         let i = self.firsts.number(from as u64, self.turns.len())?;
         let turn = self.turns[i];
-        if turn.from == from {
-            Some(turn)
-        } else {
-            None
-        }
+        if turn.from == from { Some(turn) } else { None }
     }
 
     /// The turn of a thread beside an object, if it is known.
@@ -66,7 +62,9 @@ impl Ahead {
         ensures refused { IfSome result (λ turn. turn.refused ≡ refused) }
         ensures spot { IfSome result (λ turn. turn.spot ≡ spot) }
     {
-        let i = self.hints.number(key(from, refused, spot), self.turns.len())?;
+        let i = self
+            .hints
+            .number(key(from, refused, spot), self.turns.len())?;
         let turn = self.turns[i];
         if turn.from == from
             && turn.object == object
@@ -87,10 +85,8 @@ impl Ahead {
         ensures { (self.new ≡ self.old) ⊎ (self.new ≡ self.old ++ turn ∷ []) }
     {
         self.firsts.note(turn.from as u64, self.turns.len())?;
-        self.hints.note(
-            key(turn.from, turn.refused, turn.spot),
-            self.turns.len(),
-        )?;
+        self.hints
+            .note(key(turn.from, turn.refused, turn.spot), self.turns.len())?;
         self.turns.push(turn)?;
         Ok(())
     }

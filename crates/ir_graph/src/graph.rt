@@ -61,12 +61,7 @@ impl<'a> Successors for Graph<'a> {
         }
     }
 
-    fn next(
-        &mut self,
-        thread: usize,
-        refused: bool,
-        node: usize,
-    ) -> Result<Option<usize>, Stop> {
+    fn next(&mut self, thread: usize, refused: bool, node: usize) -> Result<Option<usize>, Stop> {
         if let Some(next) = self.known(thread, refused, node) {
             return Ok(next);
         }

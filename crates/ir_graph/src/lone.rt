@@ -38,13 +38,7 @@ fn is_about(object: u8, asked: Ask) -> bool
 
 // The thread takes the step that it asked, which is about this object or none; a try is refused or enters.
 #[tactic(auto, unfolding(ir_thread::specs::State::after_reply))]
-fn take_beside(
-    code: &Code,
-    thread: &mut Thread,
-    object: &mut Object,
-    asked: Ask,
-    refused: bool,
-)
+fn take_beside(code: &Code, thread: &mut Thread, object: &mut Object, asked: Ask, refused: bool)
     requires asked { asked ≡ ask_of code.now thread.old }
     requires may { MayTake refused object.old asked }
     ensures thread { thread.new ≡ after_ask code.now thread.old asked (answer_from refused object.old asked) }

@@ -62,12 +62,7 @@ fn node_of<'a>(flats: &mut Store<'a>, new: Node<'a>, most: usize) -> Result<usiz
 }
 
 // The node where a turn of a thread leads.
-fn node_by<'a>(
-    flats: &mut Store<'a>,
-    way: Way,
-    turn: Turn,
-    most: usize,
-) -> Result<usize, Stop>
+fn node_by<'a>(flats: &mut Store<'a>, way: Way, turn: Turn, most: usize) -> Result<usize, Stop>
     requires nodes { AreNodes flats.old.items }
     requires node { way.node < length flats.old.items }
     requires thread { (f : Flat) → slice_get flats.old.items way.node ≡ Some f → way.thread < length f.threads }
@@ -104,11 +99,7 @@ fn way_result(refused: bool, asked: Ask) -> Option<u32>
 }
 
 // The node where a thread leads by its steps, one by one.
-fn node_by_steps<'a>(
-    flats: &mut Store<'a>,
-    way: Way,
-    bounds: Bounds,
-) -> Result<Option<usize>, Stop>
+fn node_by_steps<'a>(flats: &mut Store<'a>, way: Way, bounds: Bounds) -> Result<Option<usize>, Stop>
     requires nodes { AreNodes flats.old.items }
     requires node { way.node < length flats.old.items }
     requires thread { (f : Flat) → slice_get flats.old.items way.node ≡ Some f → way.thread < length f.threads }

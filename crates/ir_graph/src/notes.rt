@@ -135,6 +135,7 @@ pub fn note_way(
     ensures only { (t : ℕ) (refused : Bool) (v : ℕ) → (noted_by rows.new refusals.new t refused v ≡ noted_by rows.old refusals.old t refused v)
         ⊎ ((t ≡ way.thread) × (refused ≡ way.refused) × (v ≡ way.node) × (noted_by rows.new refusals.new t refused v ≡ Some next)) }
     ensures threads { length rows.new ≡ length rows.old }
+    ensures refusals { length refusals.new ≡ length refusals.old }
 {
     if way.refused {
         note(refusals, nodes, way.thread, way.node, next)

@@ -76,14 +76,14 @@ impl<'a> States<'a> {
         ensures profile { self.new.graph.profile ≡ self.old.graph.profile }
         ensures bounds { self.new.graph.bounds ≡ self.old.graph.bounds }
         ensures stay { Stay self.old.graph.flats.items self.new.graph.flats.items }
-        ensures adds { Adds self.old.search.level.number self.old.search.nodes.items self.new.search.nodes.items }
+        ensures adds { Adds self.old.search.level.number self.old.search.found.nodes.items self.new.search.found.nodes.items }
         // Once it has gone over it
         ensures between { OnOk result (StandsBetween self.new) }
         ensures next { OnOk result (self.new.search.level.number ≡ suc self.old.search.level.number) }
-        ensures searched { OnOk result (AreSearched self.new.graph.image.now self.new.graph.profile self.new.graph.flats.items self.new.search.nodes.items self.new.search.level.number) }
+        ensures searched { OnOk result (AreSearched self.new.graph.image.now self.new.graph.profile self.new.graph.flats.items self.new.search.found.nodes.items self.new.search.level.number) }
         // Else it has found some states of it
         ensures level { OnErr result (self.new.search.level ≡ self.old.search.level) }
-        ensures part { AreSearched self.new.graph.image.now self.new.graph.profile self.new.graph.flats.items self.new.search.nodes.items self.old.search.level.number }
+        ensures part { AreSearched self.new.graph.image.now self.new.graph.profile self.new.graph.flats.items self.new.search.found.nodes.items self.old.search.level.number }
         ensures stopped { IfErr result (λ stop. MayStop self.new.graph.image.now self.new.graph.profile self.new.graph.flats.items self.new.graph.bounds.nodes self.new.graph.bounds.private stop) }
     {
         self.search.go_over(&mut self.graph, observer)

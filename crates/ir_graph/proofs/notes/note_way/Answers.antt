@@ -1,4 +1,4 @@
-use Rattle.std.proofs.Common.{◌≡◌, true, false, None, subst}
+use Rattle.std.proofs.Common.{◌≡◌, None, subst}
 use Rattle.ir_graph.specs.Notes.{noted_by}
 use Rattle.ir_graph.proofs.Grown.{noted_row_exists_if_free}
 use Rattle.ir_graph.proofs.notes.note_way.Goals as goal

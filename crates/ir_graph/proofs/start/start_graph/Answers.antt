@@ -1,7 +1,6 @@
 use Rattle.std.proofs.Common.{◌≡◌, ℕ, ◌<◌, None, [], ◌∷◌, ◌++◌, length, sym, ap, ◌∙◌, subst, arith}
 use Rattle.ir_flat.proofs.CallerLemmas.{length_of_start_threads}
-use Rattle.ir_thread.specs.declared.profile.Profile.{Profile}
-use Rattle.ir_thread.specs.declared.profile.Profile.TheVariants.{One, Two}
+use Rattle.ir_thread.specs.declared.profile.Profile.TheVariants.{Two}
 use Rattle.ir_graph.specs.Graph.{IsGraph}
 use Rattle.ir_graph.specs.Notes.{noted_by, noted_in}
 use Rattle.ir_graph.specs.Plain.{GoesPlain}

@@ -1,76 +1,84 @@
-use Rattle.std.proofs.Common.{◌≡◌, ℕ, ◌⊎◌, Some, length, sym, ap, ◌∙◌, subst, arith}
+use Rattle.std.proofs.Common.{◌≡◌, ◌⊎◌, ℕ, Bool, Some, length, sym, ap, ◌∙◌, subst}
 use Rattle.std.proofs.lemmas.List.{with_items_is}
 use Rattle.ir_graph.specs.Ahead.{AreTurns}
-use Rattle.ir_graph.specs.Graph.{IsGraph}
-use Rattle.ir_graph.specs.Notes.{noted_in}
-use Rattle.ir_graph.proofs.Grown.{is_graph_after_nodes_added, is_graph_after_note, thread_count_of_node, code_of_node, noted_in_past_threads}
+use Rattle.ir_graph.specs.Notes.{noted_by}
+use Rattle.ir_graph.proofs.Grown.{is_graph_after_nodes_added, is_graph_after_way_noted, is_graph_of_equal_rows, thread_is_below_if_free, code_of_node}
 use Rattle.ir_graph.proofs.graph.GraphSuccessors.next.Goals as goal
-
-pub returns-then-thread-len-clause-found : goal.returns-then-thread-len-clause-found
-returns-then-thread-len-clause-found c =
-    noted_in_past_threads c.args.self.now.rows.items c.args.thread c.args.node
-    (let a = c.if-thread-len.true in let b = c.len.ensures in let d = c.args.self.now.rows.ok.0 in omega (arith, a, b, d))
 
 pub successor-requires-clause-thread : goal.successor-requires-clause-thread
 successor-requires-clause-thread c = λ f is.
-    let many = thread_count_of_node c.args.self.now.image.now c.args.self.now.flats.items (noted_in c.args.self.now.rows.items)
-    (length c.args.self.now.rows.items) c.args.node f c.requires.sound.0 is in
-    let a = c.if-thread-len.false in let b = c.len.ensures in let d = c.args.self.now.rows.ok.0 in omega (arith, a, b, d, many)
+    let g = c.args.self.now in
+    thread_is_below_if_free g.image.now g.profile g.flats.items (noted_by g.rows.items g.refusals.items) (length g.rows.items) c.args.thread
+    c.args.refused c.args.node c.args.node f c.requires.sound.0 (sym c.known.ensures ∙ c.in_default.is) is
 
 pub successor-requires-clause-code : goal.successor-requires-clause-code
 successor-requires-clause-code c = λ f is.
-    code_of_node c.args.self.now.image.now c.args.self.now.flats.items (noted_in c.args.self.now.rows.items) (length c.args.self.now.rows.items)
-    c.args.node f c.requires.sound.0 is
-    ∙ sym c.code.ensures.value
+    let g = c.args.self.now in
+    code_of_node g.image.now g.profile g.flats.items (noted_by g.rows.items g.refusals.items) (length g.rows.items) c.args.node f
+    c.requires.sound.0 is
+    ∙ sym c.code-code.ensures.value
 
 pub successor-requires-clause-turns : goal.successor-requires-clause-turns
 successor-requires-clause-turns c =
-    subst (λ z. AreTurns z c.args.self.now.flats.shared c.args.self.now.ahead) (sym c.code.ensures.value) c.requires.sound.1
+    subst (λ z. AreTurns z c.args.self.now.flats.shared c.args.self.now.ahead) (sym c.code-code.ensures.value) c.requires.sound.1
 
 pub returns-in_err-next-clause-sound : goal.returns-in_err-next-clause-sound
-returns-in_err-next-clause-sound c = (
-  is_graph_after_nodes_added c.args.self.now.image.now c.args.self.now.flats.items c.successor.new.flats.items (noted_in c.args.self.now.rows.items)
-      (length c.args.self.now.rows.items) c.requires.sound.0 c.successor.ensures.stay c.successor.ensures.nodes
-      (c.successor.ensures.reached c.args.self.now.image.now c.requires.sound.0.reached) c.successor.ensures.grown,
-  subst (λ z. AreTurns z c.successor.new.flats.shared c.successor.new.ahead) c.code.ensures.value c.successor.ensures.turns,
-)
+returns-in_err-next-clause-sound c =
+    let g = c.args.self.now in
+    let grown = c.successor.ensures in (
+      is_graph_after_nodes_added g.image.now g.profile g.flats.items c.successor.new.flats.items (noted_by g.rows.items g.refusals.items)
+          (length g.rows.items) c.requires.sound.0 grown.stay grown.nodes (grown.reached g.image.now g.profile c.requires.sound.0.reached) grown.grown,
+      subst (λ z. AreTurns z c.successor.new.flats.shared c.successor.new.ahead) c.code-code.ensures.value grown.turns,
+    )
 
-pub returns-in_err-note-clause-sound : goal.returns-in_err-note-clause-sound
-returns-in_err-note-clause-sound c =
-    let v = c.args.self.now.rows in
-    let guest = c.args.self.now.image.now in
+pub returns-in_err-note_way-clause-sound : goal.returns-in_err-note_way-clause-sound
+returns-in_err-note_way-clause-sound c =
+    let g = c.args.self.now in
     let flats = c.successor.new.flats.items in
+    let grown = c.successor.ensures in
+    let new = c.note_way.new.rows in
+    let tries = c.note_way.new.refusals in
     let value = c.deref_mut.ensures.value in
-    let threads : length c.note.new.rows ≡ length v.items = c.note.ensures.threads ∙ ap length value in
-    let same = with_items_is v c.note.new.rows (threads ∙ sym v.ok.0) in
-    let more = is_graph_after_nodes_added guest c.args.self.now.flats.items flats (noted_in v.items) (length v.items) c.requires.sound.0 c.successor.ensures.stay
-    c.successor.ensures.nodes
-    (c.successor.ensures.reached c.args.self.now.image.now c.requires.sound.0.reached) c.successor.ensures.grown in
-    let only = subst (λ z. (t v : ℕ) → (noted_in c.note.new.rows t v ≡ noted_in z t v)
-    ⊎ ((t ≡ c.args.thread) × (v ≡ c.args.node) × (noted_in c.note.new.rows t v ≡ Some c.in_ok-next.next))) value c.note.ensures.only in
-    let noted = is_graph_after_note guest flats (noted_in v.items) (noted_in c.note.new.rows) (length v.items) c.args.thread c.args.node c.in_ok-next.next
-    more only (let a = c.requires.node in let b = c.successor.ensures.grown in omega (arith, a, b)) c.in_ok-next.ensures.within
-    c.in_ok-next.ensures.leads in (
-      subst (λ z. IsGraph guest flats (noted_in z) (length z)) (sym same) (subst (IsGraph guest flats (noted_in c.note.new.rows)) (sym threads) noted),
-      subst (λ z. AreTurns z c.successor.new.flats.shared c.successor.new.ahead) c.code.ensures.value c.successor.ensures.turns,
+    let values = c.deref_mut-2.ensures.value in
+    let threads : length new ≡ length g.rows.items = c.note_way.ensures.threads ∙ ap length value in
+    let many : length tries ≡ length g.refusals.items = c.note_way.ensures.refusals ∙ ap length values in
+    let same = with_items_is g.rows new (threads ∙ sym g.rows.ok.0) in
+    let also = with_items_is g.refusals tries (many ∙ sym g.refusals.ok.0) in
+    let only = subst (λ z. (t : ℕ) (refused : Bool) (v : ℕ) → (noted_by new tries t refused v ≡ noted_by z g.refusals.items t refused v)
+    ⊎ ((t ≡ c.args.thread) × (refused ≡ c.args.refused) × (v ≡ c.args.node) × (noted_by new tries t refused v ≡ Some c.in_ok-next.next))) value
+    (subst (λ z. (t : ℕ) (refused : Bool) (v : ℕ) → (noted_by new tries t refused v ≡ noted_by c.deref_mut.result.now z t refused v)
+    ⊎ ((t ≡ c.args.thread) × (refused ≡ c.args.refused) × (v ≡ c.args.node) × (noted_by new tries t refused v ≡ Some c.in_ok-next.next))) values
+    c.note_way.ensures.only) in
+    let noted = is_graph_after_way_noted g.image.now g.profile g.flats.items flats g.rows.items g.refusals.items new tries c.args.thread
+    c.args.refused c.args.node c.in_ok-next.next c.requires.sound.0 grown.stay grown.nodes
+    (grown.reached g.image.now g.profile c.requires.sound.0.reached) grown.grown only threads (sym c.known.ensures ∙ c.in_default.is)
+    c.requires.node c.in_ok-next.ensures.within c.in_ok-next.ensures.leads in (
+      is_graph_of_equal_rows g.image.now g.profile flats new tries same also noted,
+      subst (λ z. AreTurns z c.successor.new.flats.shared c.successor.new.ahead) c.code-code.ensures.value grown.turns,
     )
 
 pub returns-clause-sound : goal.returns-clause-sound
 returns-clause-sound c =
-    let v = c.args.self.now.rows in
-    let guest = c.args.self.now.image.now in
+    let g = c.args.self.now in
     let flats = c.successor.new.flats.items in
+    let grown = c.successor.ensures in
+    let new = c.note_way.new.rows in
+    let tries = c.note_way.new.refusals in
     let value = c.deref_mut.ensures.value in
-    let threads : length c.note.new.rows ≡ length v.items = c.note.ensures.threads ∙ ap length value in
-    let same = with_items_is v c.note.new.rows (threads ∙ sym v.ok.0) in
-    let more = is_graph_after_nodes_added guest c.args.self.now.flats.items flats (noted_in v.items) (length v.items) c.requires.sound.0 c.successor.ensures.stay
-    c.successor.ensures.nodes
-    (c.successor.ensures.reached c.args.self.now.image.now c.requires.sound.0.reached) c.successor.ensures.grown in
-    let only = subst (λ z. (t v : ℕ) → (noted_in c.note.new.rows t v ≡ noted_in z t v)
-    ⊎ ((t ≡ c.args.thread) × (v ≡ c.args.node) × (noted_in c.note.new.rows t v ≡ Some c.in_ok-next.next))) value c.note.ensures.only in
-    let noted = is_graph_after_note guest flats (noted_in v.items) (noted_in c.note.new.rows) (length v.items) c.args.thread c.args.node c.in_ok-next.next
-    more only (let a = c.requires.node in let b = c.successor.ensures.grown in omega (arith, a, b)) c.in_ok-next.ensures.within
-    c.in_ok-next.ensures.leads in (
-      subst (λ z. IsGraph guest flats (noted_in z) (length z)) (sym same) (subst (IsGraph guest flats (noted_in c.note.new.rows)) (sym threads) noted),
-      subst (λ z. AreTurns z c.successor.new.flats.shared c.successor.new.ahead) c.code.ensures.value c.successor.ensures.turns,
+    let values = c.deref_mut-2.ensures.value in
+    let threads : length new ≡ length g.rows.items = c.note_way.ensures.threads ∙ ap length value in
+    let many : length tries ≡ length g.refusals.items = c.note_way.ensures.refusals ∙ ap length values in
+    let same = with_items_is g.rows new (threads ∙ sym g.rows.ok.0) in
+    let also = with_items_is g.refusals tries (many ∙ sym g.refusals.ok.0) in
+    let only = subst (λ z. (t : ℕ) (refused : Bool) (v : ℕ) → (noted_by new tries t refused v ≡ noted_by z g.refusals.items t refused v)
+    ⊎ ((t ≡ c.args.thread) × (refused ≡ c.args.refused) × (v ≡ c.args.node) × (noted_by new tries t refused v ≡ Some c.in_ok-next.next))) value
+    (subst (λ z. (t : ℕ) (refused : Bool) (v : ℕ) → (noted_by new tries t refused v ≡ noted_by c.deref_mut.result.now z t refused v)
+    ⊎ ((t ≡ c.args.thread) × (refused ≡ c.args.refused) × (v ≡ c.args.node) × (noted_by new tries t refused v ≡ Some c.in_ok-next.next))) values
+    c.note_way.ensures.only) in
+    let noted = is_graph_after_way_noted g.image.now g.profile g.flats.items flats g.rows.items g.refusals.items new tries c.args.thread
+    c.args.refused c.args.node c.in_ok-next.next c.requires.sound.0 grown.stay grown.nodes
+    (grown.reached g.image.now g.profile c.requires.sound.0.reached) grown.grown only threads (sym c.known.ensures ∙ c.in_default.is)
+    c.requires.node c.in_ok-next.ensures.within c.in_ok-next.ensures.leads in (
+      is_graph_of_equal_rows g.image.now g.profile flats new tries same also noted,
+      subst (λ z. AreTurns z c.successor.new.flats.shared c.successor.new.ahead) c.code-code.ensures.value grown.turns,
     )

@@ -20,8 +20,11 @@ returns-clause-is g c =
 pub returns-clause-image : goal.returns-clause-image
 returns-clause-image g c = ap (λ z. z.0) c.go_over.ensures.origin
 
+pub returns-clause-profile : goal.returns-clause-profile
+returns-clause-profile g c = ap (λ z. z.1) c.go_over.ensures.origin
+
 pub returns-clause-bounds : goal.returns-clause-bounds
-returns-clause-bounds g c = λ i. record { nodes = c.go_over.ensures.limit i; private = (ap (λ z. z.1) c.go_over.ensures.origin) i }
+returns-clause-bounds g c = λ i. record { nodes = c.go_over.ensures.limit i; private = (ap (λ z. z.2) c.go_over.ensures.origin) i }
 
 pub returns-clause-searched : goal.returns-clause-searched
 returns-clause-searched g c =
@@ -32,7 +35,8 @@ returns-clause-searched g c =
     let threads : length (rows search.opened.items) ≡ length graph.rows.items =
     c.go_over.ensures.threads ∙ c.requires.is.threads ∙ c.requires.is.graph.number ∙ ap (λ z. length z.entries) (sym image) ∙ sym sound.number in
     on_ok c.go_over.result
-    (λ between. searched_by graph.image.now graph.flats.items graph.rows.items search.nodes.items (length (rows search.opened.items))
+    (λ between. searched_by graph.image.now graph.profile graph.flats.items graph.rows.items graph.refusals.items search.found.nodes.items
+    search.found.refusals.items (length (rows search.opened.items))
     search.level.number sound threads between.has) c.go_over.ensures.between
 
 pub returns-clause-part : goal.returns-clause-part
@@ -43,13 +47,14 @@ returns-clause-part g c =
     let sound = c.go_over.ensures.sound.0 in
     let threads : length (rows search.opened.items) ≡ length graph.rows.items =
     c.go_over.ensures.threads ∙ c.requires.is.threads ∙ c.requires.is.graph.number ∙ ap (λ z. length z.entries) (sym image) ∙ sym sound.number in
-    searched_by graph.image.now graph.flats.items graph.rows.items search.nodes.items (length (rows search.opened.items))
+    searched_by graph.image.now graph.profile graph.flats.items graph.rows.items graph.refusals.items search.found.nodes.items
+    search.found.refusals.items (length (rows search.opened.items))
     c.args.self.now.search.level.number sound threads c.go_over.ensures.has
 
 pub returns-clause-stopped : goal.returns-clause-stopped
 returns-clause-stopped g c =
     let graph = c.go_over.new.graph in
     if_err c.go_over.result (λ stop why. elim why [
-      | inl e ↦ may_stop_by_memory graph.image.now graph.flats.items graph.bounds.nodes graph.bounds.private stop e
+      | inl e ↦ may_stop_by_memory graph.image.now graph.profile graph.flats.items graph.bounds.nodes graph.bounds.private stop e
       | inr may ↦ may
     ]) c.go_over.ensures.stopped
