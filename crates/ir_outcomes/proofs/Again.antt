@@ -56,7 +56,7 @@ is_again_after_going_alone guest profile turns before f g t refused n e a turn =
     ap (λ z. entering (thread_machine guest.code) z more) (sym a.ends)
     ∙ ap (λ z. entering (thread_machine z) (tables f) more) (sym a.like.code) ∙ turn.enters in
     let enters : entering (thread_machine guest.code) (beginning guest profile) (steps_of turns ++ replicate n (t, result_by refused))
-        ≡ before ++ replicate e t =
+    ≡ before ++ replicate e t =
     entering_append (thread_machine guest.code) (beginning guest profile) (steps_of turns) more ∙ (λ i. a.enters i ++ late i) in record {
       like = like_transitive (start_flat guest most_budget profile) f g a.like (like_after_going_alone f g t refused n e turn);
       quiet = subst (IsQuietRun guest.code (beginning guest profile)) (sym steps)

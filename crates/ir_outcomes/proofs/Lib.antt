@@ -3,3 +3,4 @@ mod Showing
 mod Listed
 mod Steps
 mod Lost
+pub mod CallerLemmas

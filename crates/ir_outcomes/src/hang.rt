@@ -75,11 +75,7 @@ fn lead(alloc: Global, states: &States<'_>, node: usize) -> Result<Shown, Stop>
 ///
 /// # Errors
 /// Out of memory. No turns were found that lead to it.
-pub fn find_hang(
-    alloc: Global,
-    states: &States<'_>,
-    marks: &[bool],
-) -> Result<Option<Shown>, Stop>
+pub fn find_hang(alloc: Global, states: &States<'_>, marks: &[bool]) -> Result<Option<Shown>, Stop>
     requires allowed { IsAllowed states.now.graph.profile states.now.graph.image.now }
     requires reached { AllReached states.now.graph.image.now states.now.graph.profile states.now.graph.flats.items }
     requires few { length states.now.search.found.nodes.items ≤ length states.now.graph.flats.items }

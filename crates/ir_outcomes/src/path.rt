@@ -36,12 +36,7 @@ pub fn path_to(alloc: Global, origins: &[Origin], node: usize) -> Result<Vec<Ori
 ///
 /// # Errors
 /// Out of memory. `Order` where the table has no such number.
-pub fn refusals_to(
-    alloc: Global,
-    table: &[Refusal],
-    number: usize,
-) -> Result<Vec<Refusal>, Stop>
-{
+pub fn refusals_to(alloc: Global, table: &[Refusal], number: usize) -> Result<Vec<Refusal>, Stop> {
     let mut refusals = Vec::new(alloc);
     let mut left = number;
     'back: while left > 0 {

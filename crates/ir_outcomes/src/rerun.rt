@@ -4,7 +4,7 @@ ghost use Rattle.std.specs.Prelude.{◌≡◌, ◌⊎◌, ℕ, Bool, ◌<◌, �
 ghost use Rattle.ir_image.specs.Guest.{Guest};
 ghost use Rattle.ir_explore.specs.declared.stop.Stop.TheVariants.{Memory, Order};
 ghost use Rattle.ir_flat.specs.Flat.{thread_of, start_flat};
-ghost use Rattle.ir_graph.specs.Plain.{Rests};
+ghost use Rattle.ir_graph.specs.Plain.{Rests, result_by};
 ghost use Rattle.ir_graph.specs.Turn.{GoesAlone};
 ghost use Rattle.ir_record.specs.Recording.{turns_of_items};
 ghost use Rattle.ir_thread.specs.State.{IsAllowed, ask_of, most_budget};
@@ -39,6 +39,13 @@ fn add_steps(steps: u64, more: u64, thread: usize) -> Result<u64, Stop>
     }
 }
 
+// The result of a try that is refused, or that enters. In a step that is no try it is looked at by nothing.
+fn try_result(refused: bool) -> u32
+    ensures { result ≡ result_by refused }
+{
+    if refused { 0 } else { 1 }
+}
+
 // A thread that rests takes one step, an entry or a try that is refused or enters, and runs on alone to where it rests again; how many steps
 // that takes.
 fn enter(flat: &mut Flat<'_>, thread: usize, refused: bool, limit: u64) -> Result<u64, Stop>
@@ -47,12 +54,8 @@ fn enter(flat: &mut Flat<'_>, thread: usize, refused: bool, limit: u64) -> Resul
     ensures alone { IfOk result (λ steps. GoesAlone flat.old flat.new thread refused steps 1) }
     ensures rests { OnOk result (Rests (ask_of flat.new.code (thread_of flat.new thread))) }
 {
-    let entered = if refused {
-        flat.step(thread, 0)
-    } else {
-        flat.step(thread, 1)
-    };
-    if let Err(_) = entered {
+    let tried = try_result(refused);
+    if let Err(_) = flat.step(thread, tried) {
         return Err(Stop::Order(0));
     }
     let steps = run_to_rest(flat, thread, limit)?;
@@ -110,7 +113,8 @@ fn add_refusal(
         refused: true,
         steps: 1,
     };
-    add_leg(flat, items, tries, limit)
+    add_leg(flat, items, tries, limit)?;
+    Ok(())
 }
 
 // A thread of the guest has a turn.
@@ -135,7 +139,8 @@ fn add_turn(
         refused: false,
         steps: origin.entries as usize,
     };
-    add_leg(flat, items, entries, limit)
+    add_leg(flat, items, entries, limit)?;
+    Ok(())
 }
 
 // The guest takes the turns of a path, the last of which comes first.

@@ -34,7 +34,7 @@ show_new-shown-requires-clause-has g c =
     subst (λ z. HasShown s.graph.image.now z s.graph.flats.items s.search.found.nodes.items old.list.seen old.list.listed.items old.list.outcomes.items)
     (sym c.go_over-searched.ensures.profile)
     (subst (λ z. HasShown z old.states.graph.profile s.graph.flats.items s.search.found.nodes.items old.list.seen old.list.listed.items
-        old.list.outcomes.items) (sym c.go_over-searched.ensures.image)
+    old.list.outcomes.items) (sym c.go_over-searched.ensures.image)
     (shown_among old.states.graph.image.now old.states.graph.profile old.states.graph.flats.items s.graph.flats.items old.states.search.found.nodes.items s.search.found.nodes.items
     old.list.seen old.list.listed.items old.list.outcomes.items going.has
     (let a = going.few in let b = going.between.all in omega (arith, a, b)) going.few c.go_over-searched.ensures.stay
