@@ -1,5 +1,5 @@
--- What callers may cite of a guest's outcomes.
--- before the first level
+-- What callers may cite of the outcomes of a guest.
+-- before the first level nothing is listed
 pub use Rattle.ir_outcomes.proofs.Listed.{none_explored}
--- levels that are left to go over
+-- fewer levels are left once one is gone over
 pub use Rattle.ir_outcomes.proofs.Steps.{left_less}

@@ -8,10 +8,12 @@ use Rattle.ir_explore.specs.declared.origin.Origin.{Origin}
 use Rattle.ir_explore.specs.Following.{IsOpen}
 use Rattle.ir_explore.specs.Origins.{AreRising}
 use Rattle.ir_explore.specs.Ways.{shut}
-use Rattle.ir_record.specs.Recording.{order_of_turns}
+use Rattle.ir_record.specs.Recording.{turns_of_items}
+use Rattle.ir_record.specs.Refusing.{Turn}
 use Rattle.ir_runs.specs.Run.{Step}
 use Rattle.ir_states.specs.Outcomes.{switches}
 use Rattle.ir_thread.specs.State.{most_budget}
+use Rattle.ir_thread.specs.declared.profile.Profile.{Profile}
 use Rattle.ir_flat.specs.Flat.{Flat}
 use Rattle.ir_graph.specs.Hangs.{CanEndFrom, IsHangOf, AreMarked, AllStand}
 use Rattle.ir_graph.specs.Nodes.{LookAlike}
@@ -23,27 +25,27 @@ use Rattle.ir_outcomes.specs.Explored.{switches_by, AreHangs}
 use Rattle.ir_outcomes.specs.Hang.{IsFirst}
 use Rattle.ir_outcomes.specs.Shown.{IsShownAt, IsHangShown}
 use Rattle.ir_outcomes.specs.declared.shown.Shown.{Shown}
-use Rattle.ir_outcomes.proofs.Showing.{quiet_run_is_in_turn}
+use Rattle.ir_outcomes.proofs.Showing.{quiet_run_is_in_turns}
 
-pub shown_at_if_again_within : (guest : Guest) (order : List ℕ) (most level : ℕ) (f g : Flat) → IsAgainWithin guest order most g → most ≤ suc level
-    → IsLike g f → LookAlike g f → IsShownAt guest f level order
-shown_at_if_again_within guest order most level f g w few like looks =
+pub shown_at_if_again_within : (guest : Guest) (profile : Profile) (turns : List Turn) (most level : ℕ) (f g : Flat)
+    → IsAgainWithin guest profile turns most g → most ≤ suc level → IsLike g f → LookAlike g f → IsShownAt guest profile f level turns
+shown_at_if_again_within guest profile turns most level f g w few like looks =
     let a = w.again in record {
-      counting = λ answers. quiet_run_is_counting guest (steps_of order) answers a.quiet;
-      in_turn = quiet_run_is_in_turn guest.code (beginning guest) order a.quiet;
+      counting = λ answers. quiet_run_is_counting guest profile (steps_of turns) answers a.quiet;
+      in_turns = quiet_run_is_in_turns guest.code (beginning guest profile) turns a.quiet;
       stands = λ answers can.
-          can_end_if_quiet_run_can guest (steps_of order) answers f g a.quiet a.ends a.like.code like.code looks can;
+          can_end_if_quiet_run_can guest profile (steps_of turns) answers f g a.quiet a.ends a.like.code like.code looks can;
       few = let l = w.few in let e = ap switches a.enters in omega (arith, l, e, few);
     }
 
-hang_shown_if_cannot_end : (guest : Guest) (f : Flat) (level : ℕ) (order : List ℕ) → IsShownAt guest f level order
-    → ((answers : ℕ → List ℕ) → CanEndFrom f answers → ⊥) → IsHangShown guest level order
-hang_shown_if_cannot_end guest f level order s lost =
-    let hangs : (answers : ℕ → List ℕ) → IsHangOf guest most_budget answers (steps_of order) =
+hang_shown_if_cannot_end : (guest : Guest) (profile : Profile) (f : Flat) (level : ℕ) (turns : List Turn) → IsShownAt guest profile f level turns
+    → ((answers : ℕ → List ℕ) → CanEndFrom f answers → ⊥) → IsHangShown guest profile level turns
+hang_shown_if_cannot_end guest profile f level turns s lost =
+    let hangs : (answers : ℕ → List ℕ) → IsHangOf guest most_budget profile answers (steps_of turns) =
     λ answers. (s.counting answers, λ can. lost answers (s.stands answers can)) in record {
       hangs = hangs;
-      never = λ answers budget more c. hang_never_completes guest most_budget answers (steps_of order) (hangs answers) budget more c;
-      in_turn = s.in_turn;
+      never = λ answers budget more c. hang_never_completes guest profile most_budget answers (steps_of turns) (hangs answers) budget more c;
+      in_turns = s.in_turns;
       few = s.few;
     }
 
@@ -99,11 +101,11 @@ no_hang_without_marks marks None few first = refl
 no_hang_without_marks marks (Some x) few first =
     let l = slice_get_within marks x.node false (first x refl).0 in absurd (omega (arith, l, few))
 
-module _ (guest : Guest) (flats : List Flat) (origins : List Origin) (marks : List Bool) (marked : AreMarked flats marks)
-    (stand : AllStand guest flats origins) where
+module _ (guest : Guest) (profile : Profile) (flats : List Flat) (origins : List Origin) (marks : List Bool) (marked : AreMarked flats marks)
+    (stand : AllStand guest profile flats origins) where
   -- a run that hangs stands at a state that isn't marked
-  lost_at : (answers : ℕ → List ℕ) (budget : ℕ) (steps : List Step) → IsHangOf guest budget answers steps
-      → (v : ℕ) × (n : Origin) × (v < length marks) × (slice_get origins v ≡ Some n) × (n.level ≤ switches_by guest budget steps)
+  lost_at : (answers : ℕ → List ℕ) (budget : ℕ) (steps : List Step) → IsHangOf guest budget profile answers steps
+      → (v : ℕ) × (n : Origin) × (v < length marks) × (slice_get origins v ≡ Some n) × (n.level ≤ switches_by guest budget profile steps)
       × (IsOpen marks v → ⊥)
   lost_at answers budget steps h =
       let r = stand answers budget steps h.0 in (
@@ -115,7 +117,7 @@ module _ (guest : Guest) (flats : List Flat) (origins : List Origin) (marks : Li
         λ is. h.1 (r.6.1 (marked.marked r.0 r.1 r.3 is answers)),
       )
 
-  no_hangs : ((v : ℕ) → v < length marks → IsOpen marks v) → AreHangs guest flats (shut marks) None
+  no_hangs : ((v : ℕ) → v < length marks → IsOpen marks v) → AreHangs guest profile flats (shut marks) None
   no_hangs all =
       let zero_is = shut_is_zero_if_all_open marks all in record {
         marks = marks;
@@ -132,27 +134,27 @@ module _ (guest : Guest) (flats : List Flat) (origins : List Origin) (marks : Li
 
   one_hang : AreRising origins → (x : Shown) → IsFirst marks x.node
       → ((n : Origin) → slice_get origins x.node ≡ Some n → x.level ≡ n.level) → length flats ≤ length origins
-      → ((f : Flat) → slice_get flats x.node ≡ Some f → IsShownAt guest f x.level (order_of_turns x.turns.items))
-      → AreHangs guest flats (shut marks) (Some x)
+      → ((f : Flat) → slice_get flats x.node ≡ Some f → IsShownAt guest profile f x.level (turns_of_items x.turns.items))
+      → AreHangs guest profile flats (shut marks) (Some x)
   one_hang rising x first level wide shown =
       let some = shut_is_positive_if_some_closed marks x.node first.0 in
       let l : x.node < length flats =
       (let a = slice_get_within marks x.node false first.0 in let b = marked.all in omega (arith, a, b)) in
       let f = element_below_length_exists flats x.node l in
       let n = element_below_length_exists origins x.node (omega (arith, l, wide)) in
-      let here : IsHangShown guest x.level (order_of_turns x.turns.items) =
-      hang_shown_if_cannot_end guest f.0 x.level (order_of_turns x.turns.items) (shown f.0 f.1)
+      let here : IsHangShown guest profile x.level (turns_of_items x.turns.items) =
+      hang_shown_if_cannot_end guest profile f.0 x.level (turns_of_items x.turns.items) (shown f.0 f.1)
       (λ answers can. closed_place_is_not_open marks x.node first.0 (marked.other x.node f.0 f.1 answers can)) in record {
         marks = marks;
         marked = marked;
         count = refl;
         exact = (
           λ h. some,
-          λ less. ((λ t. []), most_budget, steps_of (order_of_turns x.turns.items), here.hangs (λ t. [])),
+          λ less. ((λ t. []), most_budget, steps_of (turns_of_items x.turns.items), here.hangs (λ t. [])),
         );
         some = λ less. (x, refl);
         shown = λ y is.
-            subst (λ z. IsHangShown guest z.level (order_of_turns z.turns.items)) (same_Some x y is) here;
+            subst (λ z. IsHangShown guest profile z.level (turns_of_items z.turns.items)) (same_Some x y is) here;
         fewest = λ y is answers budget steps h.
             let r = lost_at answers budget steps h in
             let e = level n.0 n.1 in
@@ -168,7 +170,7 @@ module _ (guest : Guest) (flats : List Flat) (origins : List Origin) (marks : Li
       → ((x : Shown) → hang ≡ Some x → IsFirst marks x.node)
       → ((x : Shown) → hang ≡ Some x → (n : Origin) → slice_get origins x.node ≡ Some n → x.level ≡ n.level)
       → ((x : Shown) → hang ≡ Some x → (f : Flat) → slice_get flats x.node ≡ Some f
-      → IsShownAt guest f x.level (order_of_turns x.turns.items))
-      → AreHangs guest flats (shut marks) hang
+      → IsShownAt guest profile f x.level (turns_of_items x.turns.items))
+      → AreHangs guest profile flats (shut marks) hang
   are_hangs rising wide None none first level shown = no_hangs (none refl)
   are_hangs rising wide (Some x) none first level shown = one_hang rising x (first x refl) (level x refl) wide (shown x refl)

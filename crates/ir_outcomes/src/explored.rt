@@ -5,13 +5,13 @@ ghost use Rattle.ir_explore.specs.declared.stop.Stop.TheVariants.{Memory};
 ghost use Rattle.ir_graph.specs.Stops.{IsStop};
 ghost use Rattle.ir_outcomes.specs.Explored.{IsExplored};
 ghost use Rattle.ir_thread.specs.State.{IsAllowed};
-ghost use Rattle.ir_thread.specs.declared.profile.Profile.TheVariants.{One};
 
 use crate::exploring::Exploring;
 use crate::shown::Shown;
 use ir_explore::{Ended, Observer, Stop};
 use ir_graph::{Bounds, States};
 use ir_image::Image;
+use ir_thread::Profile;
 use std::alloc::Global;
 
 /// What was found out about a guest.
@@ -31,24 +31,25 @@ pub struct Explored<'a> {
     pub hang: Option<Shown>,
 }
 
-/// The different outcomes of a guest whose threads call no environment, each with an order that leads to it, by rising number of switches
+/// The different outcomes of a guest whose threads call no environment, each with turns that lead to it, by rising number of switches
 /// from thread to thread: of `most` switches, if they aren't all found before. The observer is told how far the search is.
 ///
 /// # Errors
-/// Some thread doesn't come to its first entry, or out of memory before the first level.
+/// Some thread doesn't come to its first entry or try, or out of memory before the first level.
 pub fn explore<'a, O: Observer>(
     alloc: Global,
     image: &'a Image,
+    profile: Profile,
     bounds: Bounds,
     most: usize,
     observer: &O,
 ) -> Result<Explored<'a>, Stop>
-    requires allowed { IsAllowed One image.now }
+    requires allowed { IsAllowed profile image.now }
     requires some { 1 ≤ bounds.nodes }
-    ensures explored { IfOk result (λ found. IsExplored image.now bounds most found) }
-    ensures refused { IfErr result (λ why. (why ≡ Memory) ⊎ IsStop image.now bounds.private why) }
+    ensures explored { IfOk result (λ found. IsExplored image.now profile bounds most found) }
+    ensures refused { IfErr result (λ why. (why ≡ Memory) ⊎ IsStop image.now profile bounds.private why) }
 {
-    let mut exploring = Exploring::start(alloc, image, bounds, most)?;
+    let mut exploring = Exploring::start(alloc, image, profile, bounds, most)?;
     'levels: while exploring.goes_on() {
         exploring.go_over(observer);
     }

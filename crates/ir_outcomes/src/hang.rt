@@ -1,4 +1,4 @@
-//! A state that can't be brought to an end, with an order that leads to it.
+//! A state that can't be brought to an end, with turns that lead to it.
 
 ghost use Rattle.std.specs.Prelude.{◌≡◌, ◌⊎◌, ℕ, ◌<◌, ◌≤◌, false, Some, None, length, slice_get, IfOk, IfErr};
 ghost use Rattle.ir_explore.specs.declared.stop.Stop.TheVariants.{Memory, Order};
@@ -7,9 +7,8 @@ ghost use Rattle.ir_explore.specs.Following.{IsOpen};
 ghost use Rattle.ir_explore.specs.Ways.{shut};
 ghost use Rattle.ir_flat.specs.Flat.{Flat};
 ghost use Rattle.ir_graph.specs.Reached.{AllReached};
-ghost use Rattle.ir_record.specs.Recording.{order_of_turns};
+ghost use Rattle.ir_record.specs.Recording.{turns_of_items};
 ghost use Rattle.ir_thread.specs.State.{IsAllowed};
-ghost use Rattle.ir_thread.specs.declared.profile.Profile.TheVariants.{One};
 ghost use Rattle.ir_outcomes.specs.Hang.{IsFirst, IsOrder};
 ghost use Rattle.ir_outcomes.specs.Shown.{IsShownAt};
 ghost use Rattle.ir_outcomes.specs.declared.shown.Shown.{Shown};
@@ -17,10 +16,8 @@ ghost use Rattle.ir_outcomes.specs.declared.shown.Shown.{Shown};
 use crate::path::path_to;
 use crate::rerun::run_to_node;
 use crate::shown::Shown;
-use ir_explore::{Origin, Stop};
-use ir_graph::same_state;
-use ir_image::Image;
-use ir_store::Store;
+use ir_explore::Stop;
+use ir_graph::{States, same_state};
 use std::alloc::Global;
 
 /// How many of the states aren't marked.
@@ -49,62 +46,49 @@ fn first_lost(marks: &[bool]) -> Option<usize>
     None
 }
 
-// An order that leads to a node.
-fn lead<'a>(
-    alloc: Global,
-    image: &'a Image,
-    flats: &Store<'a>,
-    origins: &[Origin],
-    node: usize,
-    limit: u64,
-) -> Result<Shown, Stop>
-    requires allowed { IsAllowed One image.now }
-    requires reached { AllReached image.now flats.now.items }
-    requires node { node < length flats.now.items }
-    requires origin { node < length origins.now }
+// Turns that lead to a node.
+fn lead(alloc: Global, states: &States<'_>, node: usize) -> Result<Shown, Stop>
+    requires allowed { IsAllowed states.now.graph.profile states.now.graph.image.now }
+    requires reached { AllReached states.now.graph.image.now states.now.graph.profile states.now.graph.flats.items }
+    requires node { node < length states.now.graph.flats.items }
+    requires origin { node < length states.now.search.found.nodes.items }
     ensures refused { IfErr result (λ stop. (stop ≡ Memory) ⊎ (stop ≡ Order node)) }
     ensures node { IfOk result (λ shown. shown.node ≡ node) }
-    ensures level { IfOk result (λ shown. (n : Origin) → slice_get origins.now node ≡ Some n → shown.level ≡ n.level) }
-    ensures shown { IfOk result (λ shown. (f : Flat) → slice_get flats.now.items node ≡ Some f → IsShownAt image.now f shown.level (order_of_turns shown.turns.items)) }
+    ensures level { IfOk result (λ shown. (n : Origin) → slice_get states.now.search.found.nodes.items node ≡ Some n → shown.level ≡ n.level) }
+    ensures shown { IfOk result (λ shown. (f : Flat) → slice_get states.now.graph.flats.items node ≡ Some f → IsShownAt states.now.graph.image.now states.now.graph.profile f shown.level (turns_of_items shown.turns.items)) }
 {
+    let origins = states.search.found.nodes.as_slice();
     let path = path_to(alloc, origins, node)?;
-    let (flat, turns) = run_to_node(alloc, image, path.as_slice(), node, limit)?;
-    let kept = flats.get(node)?;
+    let (flat, turns) = run_to_node(alloc, states, path.as_slice(), node)?;
+    let kept = states.graph.flats.get(node)?;
     if !same_state(alloc, &flat, &kept)? {
         return Err(Stop::Order(node));
     }
     Ok(Shown {
         node,
-        level: origins[node].level,
+        level: origins[node].level as usize,
         turns,
     })
 }
 
-/// The first state that isn't marked, with an order that leads to it.
+/// The first state that isn't marked, with turns that lead to it.
 ///
 /// # Errors
-/// Out of memory. No order was found.
-pub fn find_hang<'a>(
-    alloc: Global,
-    image: &'a Image,
-    flats: &Store<'a>,
-    origins: &[Origin],
-    marks: &[bool],
-    limit: u64,
-) -> Result<Option<Shown>, Stop>
-    requires allowed { IsAllowed One image.now }
-    requires reached { AllReached image.now flats.now.items }
-    requires few { length origins.now ≤ length flats.now.items }
-    requires marks { length marks.now ≤ length origins.now }
+/// Out of memory. No turns were found that lead to it.
+pub fn find_hang(alloc: Global, states: &States<'_>, marks: &[bool]) -> Result<Option<Shown>, Stop>
+    requires allowed { IsAllowed states.now.graph.profile states.now.graph.image.now }
+    requires reached { AllReached states.now.graph.image.now states.now.graph.profile states.now.graph.flats.items }
+    requires few { length states.now.search.found.nodes.items ≤ length states.now.graph.flats.items }
+    requires marks { length marks.now ≤ length states.now.search.found.nodes.items }
     ensures refused { IfErr result (λ stop. (stop ≡ Memory) ⊎ IsOrder stop) }
     ensures none { IfOk result (λ hang. hang ≡ None → (v : ℕ) → v < length marks.now → IsOpen marks.now v) }
     ensures first { IfOk result (λ hang. (x : Shown) → hang ≡ Some x → IsFirst marks.now x.node) }
-    ensures level { IfOk result (λ hang. (x : Shown) → hang ≡ Some x → (n : Origin) → slice_get origins.now x.node ≡ Some n → x.level ≡ n.level) }
-    ensures shown { IfOk result (λ hang. (x : Shown) → hang ≡ Some x → (f : Flat) → slice_get flats.now.items x.node ≡ Some f → IsShownAt image.now f x.level (order_of_turns x.turns.items)) }
+    ensures level { IfOk result (λ hang. (x : Shown) → hang ≡ Some x → (n : Origin) → slice_get states.now.search.found.nodes.items x.node ≡ Some n → x.level ≡ n.level) }
+    ensures shown { IfOk result (λ hang. (x : Shown) → hang ≡ Some x → (f : Flat) → slice_get states.now.graph.flats.items x.node ≡ Some f → IsShownAt states.now.graph.image.now states.now.graph.profile f x.level (turns_of_items x.turns.items)) }
 {
     let Some(node) = first_lost(marks) else {
         return Ok(None);
     };
-    let shown = lead(alloc, image, flats, origins, node, limit)?;
+    let shown = lead(alloc, states, node)?;
     Ok(Some(shown))
 }

@@ -1,4 +1,4 @@
-//! The different outcomes of a guest, each with an order of its threads that leads to it.
+//! The different outcomes of a guest, each with turns of its threads that lead to it.
 #![tactic(auto)]
 
 mod explored;

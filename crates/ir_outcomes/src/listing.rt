@@ -8,7 +8,6 @@ ghost use Rattle.ir_outcomes.specs.Explored.{AreExplored};
 ghost use Rattle.ir_outcomes.specs.Exploring.{HasShown};
 ghost use Rattle.ir_outcomes.specs.Hang.{IsOrder};
 ghost use Rattle.ir_thread.specs.State.{IsAllowed};
-ghost use Rattle.ir_thread.specs.declared.profile.Profile.TheVariants.{One};
 
 use crate::shown::{Shown, show};
 use ir_explore::Stop;
@@ -30,11 +29,11 @@ pub struct Listing {
 
 // A node's outcome is shown, if all threads are done there and it is new.
 fn add_node(alloc: Global, states: &States<'_>, list: &mut Listing, node: usize) -> Result<(), Stop>
-    requires allowed { IsAllowed One states.now.graph.image.now }
-    requires searched { AreSearched states.now.graph.image.now states.now.graph.flats.items states.now.search.nodes.items states.now.search.level.number }
-    requires node { node < length states.now.search.nodes.items }
-    requires has { HasShown states.now.graph.image.now states.now.graph.flats.items states.now.search.nodes.items node list.old.listed.items list.old.outcomes.items }
-    ensures has { OnOk result (HasShown states.now.graph.image.now states.now.graph.flats.items states.now.search.nodes.items (suc node) list.new.listed.items list.new.outcomes.items) }
+    requires allowed { IsAllowed states.now.graph.profile states.now.graph.image.now }
+    requires searched { AreSearched states.now.graph.image.now states.now.graph.profile states.now.graph.flats.items states.now.search.found.nodes.items states.now.search.level.number }
+    requires node { node < length states.now.search.found.nodes.items }
+    requires has { HasShown states.now.graph.image.now states.now.graph.profile states.now.graph.flats.items states.now.search.found.nodes.items node list.old.listed.items list.old.outcomes.items }
+    ensures has { OnOk result (HasShown states.now.graph.image.now states.now.graph.profile states.now.graph.flats.items states.now.search.found.nodes.items (suc node) list.new.listed.items list.new.outcomes.items) }
     ensures same { OnErr result (list.new.outcomes.items ≡ list.old.outcomes.items) }
     ensures stay { Stay list.old.outcomes.items list.new.outcomes.items }
     ensures refused { IfErr result (λ why. (why ≡ Memory) ⊎ IsOrder why) }
@@ -44,9 +43,7 @@ fn add_node(alloc: Global, states: &States<'_>, list: &mut Listing, node: usize)
     if !new {
         return Ok(());
     }
-    let origins = states.search.nodes.as_slice();
-    let limit = states.graph.bounds.private;
-    let shown = show(alloc, states.graph.image, flats, origins, node, limit)?;
+    let shown = show(alloc, states, node)?;
     list.listed.push(node)?;
     list.outcomes.push(shown)?;
     Ok(())
@@ -55,28 +52,28 @@ fn add_node(alloc: Global, states: &States<'_>, list: &mut Listing, node: usize)
 /// The new outcomes among the states that were found since the last call are shown.
 ///
 /// # Errors
-/// Out of memory, or some order leads to its state no second time. Then only the outcomes before are shown.
+/// Out of memory, or some turns lead to their state no second time. Then only the outcomes before are shown.
 pub fn show_new(alloc: Global, states: &States<'_>, list: &mut Listing) -> Result<(), Stop>
-    requires allowed { IsAllowed One states.now.graph.image.now }
-    requires searched { AreSearched states.now.graph.image.now states.now.graph.flats.items states.now.search.nodes.items states.now.search.level.number }
-    requires few { list.old.seen ≤ length states.now.search.nodes.items }
-    requires has { HasShown states.now.graph.image.now states.now.graph.flats.items states.now.search.nodes.items list.old.seen list.old.listed.items list.old.outcomes.items }
+    requires allowed { IsAllowed states.now.graph.profile states.now.graph.image.now }
+    requires searched { AreSearched states.now.graph.image.now states.now.graph.profile states.now.graph.flats.items states.now.search.found.nodes.items states.now.search.level.number }
+    requires few { list.old.seen ≤ length states.now.search.found.nodes.items }
+    requires has { HasShown states.now.graph.image.now states.now.graph.profile states.now.graph.flats.items states.now.search.found.nodes.items list.old.seen list.old.listed.items list.old.outcomes.items }
     // What is listed is right, and complete up to a number of switches.
-    ensures explored { AreExplored states.now.graph.image.now states.now.graph.flats.items list.new.levels list.new.outcomes.items }
+    ensures explored { AreExplored states.now.graph.image.now states.now.graph.profile states.now.graph.flats.items list.new.levels list.new.outcomes.items }
     ensures stay { Stay list.old.outcomes.items list.new.outcomes.items }
     // Once all are shown
-    ensures has { OnOk result (HasShown states.now.graph.image.now states.now.graph.flats.items states.now.search.nodes.items list.new.seen list.new.listed.items list.new.outcomes.items) }
-    ensures seen { OnOk result (list.new.seen ≡ length states.now.search.nodes.items) }
+    ensures has { OnOk result (HasShown states.now.graph.image.now states.now.graph.profile states.now.graph.flats.items states.now.search.found.nodes.items list.new.seen list.new.listed.items list.new.outcomes.items) }
+    ensures seen { OnOk result (list.new.seen ≡ length states.now.search.found.nodes.items) }
     ensures levels { OnOk result (list.new.levels ≡ states.now.search.level.number) }
     ensures refused { IfErr result (λ why. (why ≡ Memory) ⊎ IsOrder why) }
 {
-    for node in list.seen..states.search.nodes.len() {
+    for node in list.seen..states.search.found.nodes.len() {
         if let Err(why) = add_node(alloc, states, list, node) {
-            list.levels = states.search.nodes[node].level;
+            list.levels = states.search.found.nodes[node].level as usize;
             return Err(why);
         }
     }
-    list.seen = states.search.nodes.len();
+    list.seen = states.search.found.nodes.len();
     list.levels = states.search.level.number;
     Ok(())
 }

@@ -4,7 +4,7 @@ ghost use Rattle.std.specs.Prelude.{◌≡◌, ◌⊎◌, ℕ, suc, ◌<◌, ◌
 ghost use Rattle.ir_explore.specs.declared.stop.Stop.TheVariants.{Memory, Order};
 ghost use Rattle.ir_explore.specs.declared.origin.Origin.{Origin};
 
-use ir_explore::{Origin, Stop};
+use ir_explore::{Origin, Refusal, Stop};
 use std::alloc::Global;
 
 /// The turns that led to a node, the last first: one more at most than its level says.
@@ -24,9 +24,33 @@ pub fn path_to(alloc: Global, origins: &[Origin], node: usize) -> Result<Vec<Ori
         if origin.level == 0 {
             return Ok(path);
         }
-        if origin.from >= origins.len() || origins[origin.from].level >= origin.level {
+        let from = origin.from as usize;
+        if from >= origins.len() || origins[from].level >= origin.level {
             return Err(Stop::Order(node));
         }
-        at = origin.from;
+        at = from;
     }
+}
+
+/// The refused tries of a turn, the last first, from this number of the table on.
+///
+/// # Errors
+/// Out of memory. `Order` where the table has no such number.
+pub fn refusals_to(alloc: Global, table: &[Refusal], number: usize) -> Result<Vec<Refusal>, Stop> {
+    let mut refusals = Vec::new(alloc);
+    let mut left = number;
+    'back: while left > 0 {
+        let place = left - 1;
+        if place >= table.len() {
+            return Err(Stop::Order(0));
+        }
+        let refusal = table[place];
+        let before = refusal.before as usize;
+        if before >= left {
+            return Err(Stop::Order(0));
+        }
+        refusals.push(refusal)?;
+        left = before;
+    }
+    Ok(refusals)
 }

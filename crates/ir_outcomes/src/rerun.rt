@@ -1,26 +1,33 @@
 //! A guest that is run once more, turn by turn.
 
-ghost use Rattle.std.specs.Prelude.{◌≡◌, ◌⊎◌, ℕ, ◌<◌, ◌+◌, ◌++◌, List, [], length, replicate, IfOk, IfErr, OnOk};
+ghost use Rattle.std.specs.Prelude.{◌≡◌, ◌⊎◌, ℕ, Bool, ◌<◌, ◌+◌, ◌++◌, List, [], length, replicate, IfOk, IfErr, OnOk};
 ghost use Rattle.ir_image.specs.Guest.{Guest};
 ghost use Rattle.ir_explore.specs.declared.stop.Stop.TheVariants.{Memory, Order};
 ghost use Rattle.ir_flat.specs.Flat.{thread_of, start_flat};
-ghost use Rattle.ir_graph.specs.Plain.{Rests};
+ghost use Rattle.ir_graph.specs.Plain.{Rests, result_by};
 ghost use Rattle.ir_graph.specs.Turn.{GoesAlone};
-ghost use Rattle.ir_record.specs.Recording.{order_of_turns};
+ghost use Rattle.ir_record.specs.Recording.{turns_of_items};
 ghost use Rattle.ir_thread.specs.State.{IsAllowed, ask_of, most_budget};
-ghost use Rattle.ir_thread.specs.declared.profile.Profile.TheVariants.{One};
+ghost use Rattle.ir_thread.specs.declared.profile.Profile.{Profile};
 ghost use Rattle.ir_outcomes.specs.Again.{IsAgain, IsAgainWithin};
 
-use ir_explore::{Origin, Stop};
+use crate::path::refusals_to;
+use ir_explore::{Origin, Refusal, Stop};
 use ir_flat::Flat;
-use ir_graph::run_to_rest;
-use ir_image::Image;
-use ir_record::Turns;
-use ir_thread::Profile;
+use ir_graph::{States, run_to_rest};
+use ir_record::Item;
 use std::alloc::Global;
 
 // As many steps as a thread may take.
 const MOST_BUDGET: u64 = 1_000_000_000_000;
+
+// So many steps of a thread from where it rests, in which its tries are refused or enter, each up to where it rests again.
+#[derive(Clone, Copy)]
+struct Leg {
+    thread: usize,
+    refused: bool,
+    steps: usize,
+}
 
 // The steps of a thread, and then so many more.
 fn add_steps(steps: u64, more: u64, thread: usize) -> Result<u64, Stop>
@@ -32,14 +39,23 @@ fn add_steps(steps: u64, more: u64, thread: usize) -> Result<u64, Stop>
     }
 }
 
-// A thread that rests makes one entry, and runs on alone to its next; how many steps that takes.
-fn enter(flat: &mut Flat<'_>, thread: usize, limit: u64) -> Result<u64, Stop>
+// The result of a try that is refused, or that enters. In a step that is no try it is looked at by nothing.
+fn try_result(refused: bool) -> u32
+    ensures { result ≡ result_by refused }
+{
+    if refused { 0 } else { 1 }
+}
+
+// A thread that rests takes one step, an entry or a try that is refused or enters, and runs on alone to where it rests again; how many steps
+// that takes.
+fn enter(flat: &mut Flat<'_>, thread: usize, refused: bool, limit: u64) -> Result<u64, Stop>
     requires thread { thread < length flat.old.threads }
     requires rests { Rests (ask_of flat.old.code (thread_of flat.old thread)) }
-    ensures alone { IfOk result (λ steps. GoesAlone flat.old flat.new thread steps 1) }
+    ensures alone { IfOk result (λ steps. GoesAlone flat.old flat.new thread refused steps 1) }
     ensures rests { OnOk result (Rests (ask_of flat.new.code (thread_of flat.new thread))) }
 {
-    if let Err(_) = flat.step(thread, 0) {
+    let tried = try_result(refused);
+    if let Err(_) = flat.step(thread, tried) {
         return Err(Stop::Order(0));
     }
     let steps = run_to_rest(flat, thread, limit)?;
@@ -47,62 +63,115 @@ fn enter(flat: &mut Flat<'_>, thread: usize, limit: u64) -> Result<u64, Stop>
     Ok(all)
 }
 
-// A thread runs on alone to its next entry, and then makes so many; how many steps that takes.
-fn take_entries(flat: &mut Flat<'_>, thread: usize, entries: usize, limit: u64) -> Result<u64, Stop>
-    requires { thread < length flat.old.threads }
-    ensures { IfOk result (λ steps. GoesAlone flat.old flat.new thread steps entries) }
+// A thread runs on alone to where it rests, and then takes the steps of a leg; how many steps that takes.
+fn take_leg(flat: &mut Flat<'_>, leg: Leg, limit: u64) -> Result<u64, Stop>
+    requires { leg.thread < length flat.old.threads }
+    ensures { IfOk result (λ steps. GoesAlone flat.old flat.new leg.thread leg.refused steps leg.steps) }
 {
-    let mut steps = run_to_rest(flat, thread, limit)?;
-    for _ in 0..entries {
-        let more = enter(flat, thread, limit)?;
-        steps = add_steps(steps, more, thread)?;
+    let mut steps = run_to_rest(flat, leg.thread, limit)?;
+    for _ in 0..leg.steps {
+        let more = enter(flat, leg.thread, leg.refused, limit)?;
+        steps = add_steps(steps, more, leg.thread)?;
     }
     Ok(steps)
 }
 
 // So does a thread of the guest, and its steps are noted.
-fn add_turn(
-    flat: &mut Flat<'_>,
-    turns: &mut Vec<Turns>,
-    thread: usize,
-    entries: usize,
-    limit: u64,
-) -> Result<(), Stop>
-    ensures { OnOk result ((guest : Guest) (before : List ℕ) → IsAgain guest (order_of_turns turns.old.items) before flat.old → IsAgain guest (order_of_turns turns.new.items) (before ++ replicate entries thread) flat.new) }
+fn add_leg(flat: &mut Flat<'_>, items: &mut Vec<Item>, leg: Leg, limit: u64) -> Result<(), Stop>
+    ensures { OnOk result ((guest : Guest) (profile : Profile) (before : List ℕ) → IsAgain guest profile (turns_of_items items.old.items) before flat.old → IsAgain guest profile (turns_of_items items.new.items) (before ++ replicate leg.steps leg.thread) flat.new) }
 {
-    if thread >= flat.threads().len() {
+    if leg.thread >= flat.threads().len() {
         return Err(Stop::Order(0));
     }
-    let count = take_entries(flat, thread, entries, limit)?;
-    turns.push(Turns {
-        thread: thread as u8,
+    let count = take_leg(flat, leg, limit)?;
+    items.push(Item {
+        thread: leg.thread as u8,
         count,
+        refused: leg.refused,
     })?;
+    Ok(())
+}
+
+// A thread of the guest makes some entries, and then its try is refused.
+fn add_refusal(
+    flat: &mut Flat<'_>,
+    items: &mut Vec<Item>,
+    thread: usize,
+    refusal: Refusal,
+    limit: u64,
+) -> Result<(), Stop>
+    ensures { OnOk result ((guest : Guest) (profile : Profile) (before : List ℕ) → IsAgain guest profile (turns_of_items items.old.items) before flat.old → (n : ℕ) × IsAgain guest profile (turns_of_items items.new.items) (before ++ replicate n thread) flat.new) }
+{
+    let entries = Leg {
+        thread,
+        refused: false,
+        steps: refusal.entries as usize,
+    };
+    add_leg(flat, items, entries, limit)?;
+    let tries = Leg {
+        thread,
+        refused: true,
+        steps: 1,
+    };
+    add_leg(flat, items, tries, limit)?;
+    Ok(())
+}
+
+// A thread of the guest has a turn.
+fn add_turn(
+    alloc: Global,
+    flat: &mut Flat<'_>,
+    items: &mut Vec<Item>,
+    table: &[Refusal],
+    origin: Origin,
+    limit: u64,
+) -> Result<(), Stop>
+    ensures { OnOk result ((guest : Guest) (profile : Profile) (before : List ℕ) → IsAgain guest profile (turns_of_items items.old.items) before flat.old → (n : ℕ) × IsAgain guest profile (turns_of_items items.new.items) (before ++ replicate n origin.thread) flat.new) }
+{
+    let thread = origin.thread as usize;
+    let refusals = refusals_to(alloc, table, origin.refusals as usize)?;
+    for k in 0..refusals.len() {
+        let refusal = refusals[refusals.len() - 1 - k];
+        add_refusal(flat, items, thread, refusal, limit)?;
+    }
+    let entries = Leg {
+        thread,
+        refused: false,
+        steps: origin.entries as usize,
+    };
+    add_leg(flat, items, entries, limit)?;
     Ok(())
 }
 
 // The guest takes the turns of a path, the last of which comes first.
 fn add_path(
+    alloc: Global,
     flat: &mut Flat<'_>,
-    turns: &mut Vec<Turns>,
+    items: &mut Vec<Item>,
+    table: &[Refusal],
     path: &[Origin],
     limit: u64,
 ) -> Result<(), Stop>
-    ensures { OnOk result ((guest : Guest) → IsAgain guest (order_of_turns turns.old.items) [] flat.old → IsAgainWithin guest (order_of_turns turns.new.items) (length path.now) flat.new) }
+    ensures { OnOk result ((guest : Guest) (profile : Profile) → IsAgain guest profile (turns_of_items items.old.items) [] flat.old → IsAgainWithin guest profile (turns_of_items items.new.items) (length path.now) flat.new) }
 {
     for k in 0..path.len() {
         let origin = path[path.len() - 1 - k];
-        add_turn(flat, turns, origin.thread, origin.entries, limit)?;
+        add_turn(alloc, flat, items, table, origin, limit)?;
     }
     Ok(())
 }
 
-// Each thread runs on alone to its next entry.
-fn add_rests(flat: &mut Flat<'_>, turns: &mut Vec<Turns>, limit: u64) -> Result<(), Stop>
-    ensures { OnOk result ((guest : Guest) (most : ℕ) → IsAgainWithin guest (order_of_turns turns.old.items) most flat.old → IsAgainWithin guest (order_of_turns turns.new.items) most flat.new) }
+// Each thread runs on alone to its next entry or try.
+fn add_rests(flat: &mut Flat<'_>, items: &mut Vec<Item>, limit: u64) -> Result<(), Stop>
+    ensures { OnOk result ((guest : Guest) (profile : Profile) (most : ℕ) → IsAgainWithin guest profile (turns_of_items items.old.items) most flat.old → IsAgainWithin guest profile (turns_of_items items.new.items) most flat.new) }
 {
     for thread in 0..flat.threads().len() {
-        add_turn(flat, turns, thread, 0, limit)?;
+        let none = Leg {
+            thread,
+            refused: false,
+            steps: 0,
+        };
+        add_leg(flat, items, none, limit)?;
     }
     Ok(())
 }
@@ -110,18 +179,19 @@ fn add_rests(flat: &mut Flat<'_>, turns: &mut Vec<Turns>, limit: u64) -> Result<
 // The guest after the turns of a path, the last of which comes first, and the steps that its threads took.
 fn run_again<'a>(
     alloc: Global,
-    image: &'a Image,
+    states: &States<'a>,
     path: &[Origin],
-    limit: u64,
-) -> Result<(Flat<'a>, Vec<Turns>), Stop>
-    requires { IsAllowed One image.now }
-    ensures { IfOk result (λ run. IsAgainWithin image.now (order_of_turns run.1.items) (length path.now) run.0) }
+) -> Result<(Flat<'a>, Vec<Item>), Stop>
+    requires { IsAllowed states.now.graph.profile states.now.graph.image.now }
+    ensures { IfOk result (λ run. IsAgainWithin states.now.graph.image.now states.now.graph.profile (turns_of_items run.1.items) (length path.now) run.0) }
 {
-    let mut flat = Flat::start(alloc, image, MOST_BUDGET, Profile::One)?;
-    let mut turns = Vec::new(alloc);
-    add_path(&mut flat, &mut turns, path, limit)?;
-    add_rests(&mut flat, &mut turns, limit)?;
-    Ok((flat, turns))
+    let limit = states.graph.bounds.private;
+    let mut flat = Flat::start(alloc, states.graph.image, MOST_BUDGET, states.graph.profile)?;
+    let mut items = Vec::new(alloc);
+    let table = states.search.found.refusals.as_slice();
+    add_path(alloc, &mut flat, &mut items, table, path, limit)?;
+    add_rests(&mut flat, &mut items, limit)?;
+    Ok((flat, items))
 }
 
 /// The guest after the turns of a path that led to a node, the last of which comes first, and the steps that its threads took.
@@ -130,16 +200,15 @@ fn run_again<'a>(
 /// Out of memory, or `Order` of the node.
 pub fn run_to_node<'a>(
     alloc: Global,
-    image: &'a Image,
+    states: &States<'a>,
     path: &[Origin],
     node: usize,
-    limit: u64,
-) -> Result<(Flat<'a>, Vec<Turns>), Stop>
-    requires { IsAllowed One image.now }
-    ensures again { IfOk result (λ run. IsAgainWithin image.now (order_of_turns run.1.items) (length path.now) run.0) }
+) -> Result<(Flat<'a>, Vec<Item>), Stop>
+    requires { IsAllowed states.now.graph.profile states.now.graph.image.now }
+    ensures again { IfOk result (λ run. IsAgainWithin states.now.graph.image.now states.now.graph.profile (turns_of_items run.1.items) (length path.now) run.0) }
     ensures refused { IfErr result (λ stop. (stop ≡ Memory) ⊎ (stop ≡ Order node)) }
 {
-    match run_again(alloc, image, path, limit) {
+    match run_again(alloc, states, path) {
         Ok(run) => Ok(run),
         Err(Stop::Memory) => Err(Stop::Memory),
         Err(_) => Err(Stop::Order(node)),

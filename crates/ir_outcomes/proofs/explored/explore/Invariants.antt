@@ -6,6 +6,7 @@ abbrev pub invariant-levels : goal.invariant-levels
 invariant-levels g l = record {
   is : IsExploring l.exploring;
   image : l.exploring.states.graph.image.now ≡ l.image;
+  profile : l.exploring.states.graph.profile ≡ l.fn.profile;
   bounds : l.exploring.states.graph.bounds ≡ l.fn.bounds;
   most : l.exploring.most ≡ l.most;
 }

@@ -1,13 +1,13 @@
 use Rattle.std.proofs.Common.{[], refl, arith}
-use Rattle.ir_record.specs.Recording.{order_of_turns}
+use Rattle.ir_record.specs.Recording.{turns_of_items}
 use Rattle.ir_outcomes.proofs.Again.{again_within_step}
 use Rattle.ir_outcomes.proofs.rerun.add_path.Goals as goal
 
 pub loop-k-init : goal.loop-k-init
-loop-k-init c = λ guest again. (record { entries = []; again = again; few = omega arith }, λ _. refl)
+loop-k-init c = λ guest profile again. (record { entries = []; again = again; few = omega arith }, λ _. refl)
 
 pub loop-k-preserved : goal.loop-k-preserved
-loop-k-preserved c = λ guest again.
-    let was = c.loop-k.invariant guest again in
-    again_within_step guest (order_of_turns c.loop-k.turns.items) (order_of_turns c.add_turn.new.turns.items) c.loop-k.flat c.add_turn.new.flat _ _
-    c.loop-k.k was.0 was.1 (c.in_ok-add_turn.ensures guest)
+loop-k-preserved c = λ guest profile again.
+    let was = c.loop-k.invariant guest profile again in
+    again_within_step guest profile (turns_of_items c.loop-k.items.items) (turns_of_items c.add_turn.new.items.items) c.loop-k.flat c.add_turn.new.flat _
+    c.loop-k.k was.0 was.1 (c.in_ok-add_turn.ensures guest profile)

@@ -18,9 +18,9 @@ returns-clause-explored c =
           let going = is.going f.0 in
           let over = f.1 in
           let until = going.between.until in
-          let some = place_of_element_is_below_length s.search.nodes.items 0 first_origin going.between.has.first in
+          let some = place_of_element_is_below_length s.search.found.nodes.items 0 first_origin going.between.has.first in
           let later : 0 < level.first = omega (arith, over, until, some) in
-          all_outcomes s.graph.image.now s.graph.flats.items s.search.nodes.items level.number e.list.seen e.list.listed.items e.list.outcomes.items
+          all_outcomes s.graph.image.now s.graph.profile s.graph.flats.items s.search.found.nodes.items level.number e.list.seen e.list.listed.items e.list.outcomes.items
           (going.searched later) going.few going.has (going.seen later) f.2.all f.2.nodes;
       hangs = c.ending-ended.ensures.hangs;
       unknown = c.ending-ended.ensures.unknown;
@@ -40,7 +40,7 @@ returns-clause-explored c =
             | inl over ↦ absurd (omega (arith, over, more))
             | inr all ↦
                 let number : level.number ≡ suc e.most = omega (arith, all, most) in
-                let n = subst (λ k. BeginsAt s.search.nodes.items k level.first) number ((is.going f.0).between.stands level.first (omega arith) more) in
+                let n = subst (λ k. BeginsAt s.search.found.nodes.items k level.first) number ((is.going f.0).between.stands level.first (omega arith) more) in
                 (level.first, n.0, n.1, n.2)
           ];
       stopped = c.ending-ended.ensures.stopped;

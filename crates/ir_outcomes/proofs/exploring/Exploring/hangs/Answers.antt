@@ -1,6 +1,4 @@
 use Rattle.std.proofs.Common.{◌≡◌, ℕ, ◌<◌, Some, None, length, sym, ap, ◌∙◌, subst, arith}
-use Rattle.std.specs.Prelude.{slice_get}
-use Rattle.ir_explore.specs.declared.origin.Origin.{Origin}
 use Rattle.ir_explore.specs.Following.{IsOpen}
 use Rattle.ir_explore.specs.Ways.{shut}
 use Rattle.ir_outcomes.specs.Explored.{AreHangs}
@@ -13,15 +11,14 @@ pub returns-clause-hangs : goal.returns-clause-hangs
 returns-clause-hangs c =
     let s = c.args.self.now.states in
     let guest = s.graph.image.now in
+    let profile = s.graph.profile in
     let flats = s.graph.flats.items in
-    let origins = s.search.nodes.items in
+    let origins = s.search.found.nodes.items in
     let marks = c.in_ok-marks.marks.items in
     let hang = c.in_ok-hang.hang in
     let between = (c.requires.is.going c.requires.stop).between in
-    let none = subst (λ z. hang ≡ None → (v : ℕ) → v < length z → IsOpen z v) c.as_slice-3.ensures.value c.in_ok-hang.ensures.none in
-    let first = subst (λ z. (x : Shown) → hang ≡ Some x → IsFirst z x.node) c.as_slice-3.ensures.value c.in_ok-hang.ensures.first in
-    let level = subst (λ z. (x : Shown) → hang ≡ Some x → (n : Origin) → slice_get z x.node ≡ Some n → x.level ≡ n.level)
-    c.as_slice-2.ensures.value c.in_ok-hang.ensures.level in
-    subst (λ n. AreHangs guest flats n hang) (sym (c.count_lost-lost.ensures ∙ ap shut c.as_slice.ensures.value))
-    (are_hangs guest flats origins marks c.in_ok-marks.ensures c.requires.whole.stand between.has.rising
-    (let a = between.all in omega (arith, a)) hang none first level c.in_ok-hang.ensures.shown)
+    let none = subst (λ z. hang ≡ None → (v : ℕ) → v < length z → IsOpen z v) c.as_slice-2.ensures.value c.in_ok-hang.ensures.none in
+    let first = subst (λ z. (x : Shown) → hang ≡ Some x → IsFirst z x.node) c.as_slice-2.ensures.value c.in_ok-hang.ensures.first in
+    subst (λ n. AreHangs guest profile flats n hang) (sym (c.count_lost-lost.ensures ∙ ap shut c.as_slice.ensures.value))
+    (are_hangs guest profile flats origins marks c.in_ok-marks.ensures c.requires.whole.stand between.has.rising
+    (let a = between.all in omega (arith, a)) hang none first c.in_ok-hang.ensures.level c.in_ok-hang.ensures.shown)

@@ -3,11 +3,11 @@ use Rattle.ir_flat.specs.Flat.{thread_of}
 use Rattle.ir_graph.specs.Plain.{Rests}
 use Rattle.ir_graph.specs.Turn.{GoesAlone}
 use Rattle.ir_thread.specs.State.{ask_of}
-use Rattle.ir_outcomes.proofs.rerun.take_entries.Given as goal
+use Rattle.ir_outcomes.proofs.rerun.take_leg.Given as goal
 
 abbrev pub invariant-loop : goal.invariant-loop
 invariant-loop l = record {
-  alone : GoesAlone l.fn.flat l.flat l.thread l.steps l.counter;
-  rests : Rests (ask_of l.flat.code (thread_of l.flat l.thread));
-  thread : l.thread < length l.flat.threads;
+  alone : GoesAlone l.fn.flat l.flat l.leg.thread l.leg.refused l.steps l.counter;
+  rests : Rests (ask_of l.flat.code (thread_of l.flat l.leg.thread));
+  thread : l.leg.thread < length l.flat.threads;
 }

@@ -1,0 +1,12 @@
+use Rattle.std.proofs.Common.{◌++◌, sym, subst, replicate}
+use Rattle.ir_record.specs.Recording.{turns_of_items}
+use Rattle.ir_outcomes.specs.Again.{IsAgain}
+use Rattle.ir_outcomes.proofs.Again.{is_again_after_turns_noted}
+use Rattle.ir_outcomes.proofs.rerun.add_leg.Goals as goal
+
+pub returns : goal.returns
+returns c = λ guest profile before again.
+    subst (λ z. IsAgain guest profile (turns_of_items z) (before ++ replicate c.args.leg.steps c.args.leg.thread) c.take_leg.new.flat)
+    (sym c.in_ok-push.ensures.items)
+    (is_again_after_turns_noted guest profile c.args.items.now.items _ before c.args.flat.now c.take_leg.new.flat c.args.leg.steps again
+    c.in_ok-count.ensures)
