@@ -21,7 +21,7 @@ use Rattle.ir_log.specs.Logged.{Logged}
 use Rattle.ir_log.specs.Logging.{label_of}
 use Rattle.ir_trace.specs.Recorded.{Recorded, IsEvent}
 use Rattle.ir_record.specs.Gathered.{AreThreadTraces}
-use Rattle.ir_record.specs.Progress.{Progress, TookTurns, IsReady, log_at, no_log, Took}
+use Rattle.ir_record.specs.Progress.{Progress, TookTurns, IsReady, log_at, no_log}
 use Rattle.ir_record.specs.Refusing.{Turn, plain_turns}
 use Rattle.ir_record.specs.Worlds.{answers_at, Answered, NoneFailed}
 use Rattle.ir_record.specs.Recording.{IsRecordingByTurns}

@@ -10,6 +10,7 @@ mod Asking
 mod Ready
 mod Tally
 mod Running
+mod Single
 mod Joining
 mod Following
 mod Gathering

@@ -1,6 +1,7 @@
 //! Recording: runs of a guest, and their traces.
 #![tactic(auto)]
 
+mod alone;
 mod by_threads;
 mod follow;
 mod gather;

@@ -105,7 +105,8 @@ impl<W: World> Recorder<'_, W> {
         Ok(pass)
     }
 
-    // Rounds until no thread has a step. `ahead` has a place for each thread, of which none is ahead, and so has `asks`.
+    // Rounds until no thread has a step. `ahead` has a place for each thread, of which none is ahead, and so has `asks`. If there is one
+    // thread alone, a round is its turn.
     pub fn rounds(&mut self, ahead: &mut Vec<u64>, asks: &mut Vec<Ask>) -> Result<(), Failed>
         requires ready { CanGoOn W.answers W.broken self.old }
         requires level { ahead.old.items ≡ replicate (length self.old.tape.flat.threads) 0 }
@@ -117,6 +118,9 @@ impl<W: World> Recorder<'_, W> {
         ensures stopped { IfErr result (λ f. (count : ℕ) × StopsIn W.answers (rounds (length self.old.tape.flat.threads) count) (tables self.old.tape.flat) self.old self.new.worlds.items f) }
         ensures kept { AreSameWorlds W.origin self.old.worlds.items self.new.worlds.items }
     {
+        if self.tape.flat.threads().len() == 1 {
+            return self.turns_alone();
+        }
         self.ask_all(asks);
         'rounds: loop {
             let pass = self.round(ahead, asks)?;

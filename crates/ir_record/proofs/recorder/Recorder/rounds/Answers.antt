@@ -1,4 +1,4 @@
-use Rattle.std.proofs.Common.{ℕ, suc, length, map, replicate, sym, ap, ◌∙◌, subst, refl}
+use Rattle.std.proofs.Common.{◌≡◌, ℕ, suc, arith, length, map, replicate, sym, ap, ◌∙◌, subst, refl}
 use Rattle.std.proofs.lemmas.Bool.{not-false, not-true}
 use Rattle.std.proofs.lemmas.List.{length-replicate}
 use Rattle.std.specs.List.{range_with_len}
@@ -10,6 +10,7 @@ use Rattle.ir_record.specs.Recorders.{progress_of}
 use Rattle.ir_record.proofs.Going.{Rounding, reached, ahead_of_reached_state, no_rounds_change_nothing, one_more_round_after_rounds, caught, all_over}
 use Rattle.ir_record.proofs.Joining.{rounds_with_round_added}
 use Rattle.ir_record.proofs.Skipping.{RoundThenSkips, round_then_skipped_rounds}
+use Rattle.ir_record.proofs.Single.{rounds_taken_alone, rounds_stopped_alone}
 use Rattle.ir_record.proofs.recorder.Recorder.rounds.Given as given
 use Rattle.ir_record.proofs.Stopped.{if_err_holds_of_error, stopped_after_turns_ahead}
 use Rattle.ir_record.proofs.recorder.Recorder.rounds.Goals as goal
@@ -77,3 +78,17 @@ returns-in_err-pass-clause-stopped g c = if_err_holds_of_error _ c.from_residual
           (ahead_of_reached_state (rounds n p.0) (tables a.flat) a b (replicate n 0) c.rounds.ahead.items p.1)))),
     )
     )
+
+pub returns-then-threads-eq1-clause-took : goal.returns-then-threads-eq1-clause-took
+returns-then-threads-eq1-clause-took g c =
+    let e : length c.threads.result.now ≡ length c.args.self.now.tape.flat.threads = ap (λ xs. length xs) c.threads.ensures.value in
+    let one : length c.args.self.now.tape.flat.threads ≡ 1 = omega (arith, e, c.if-threads-eq1.true) in
+    rounds_taken_alone c.turns_alone.result (length c.args.self.now.tape.flat.threads) (progress_of g.W.World.answers c.args.self.now)
+    (progress_of g.W.World.answers c.turns_alone.new.self) one c.turns_alone.ensures.took
+
+pub returns-then-threads-eq1-clause-stopped : goal.returns-then-threads-eq1-clause-stopped
+returns-then-threads-eq1-clause-stopped g c =
+    let e : length c.threads.result.now ≡ length c.args.self.now.tape.flat.threads = ap (λ xs. length xs) c.threads.ensures.value in
+    let one : length c.args.self.now.tape.flat.threads ≡ 1 = omega (arith, e, c.if-threads-eq1.true) in
+    rounds_stopped_alone c.turns_alone.result (length c.args.self.now.tape.flat.threads) (tables c.args.self.now.tape.flat)
+    (progress_of g.W.World.answers c.args.self.now) (map g.W.World.answers c.turns_alone.new.self.worlds.items) one c.turns_alone.ensures.stopped
