@@ -1,3 +1,4 @@
+mod Paths
 mod Again
 mod Showing
 mod Listed
