@@ -18,7 +18,7 @@ use Rattle.ir_object.specs.Cell.{Cell}
 use Rattle.ir_outcomes.specs.Explored.{switches_by, IsAt, AreExplored, AreAll}
 use Rattle.ir_outcomes.specs.declared.shown.Shown.{Shown}
 use Rattle.ir_thread.specs.State.{most_budget}
-use Rattle.ir_thread.specs.declared.profile.Profile.TheVariants.{One}
+use Rattle.ir_thread.specs.declared.profile.Profile.{Profile}
 use Rattle.ir_explore_run.specs.Conditions.{first_of, seen_outcome, fulfils_each, NeverFulfils, NeverWithin, NoneBefore, OutcomesDecide}
 
 -- ---- the outcome of a state
@@ -55,18 +55,18 @@ pub outcomes_decide : OutcomesDecide
 outcomes_decide guest c f threads objects words = ap (fulfils c) (outcome_is_seen guest f threads objects words)
 
 -- whether a state's outcome fulfils each condition
-pub reached_state_fulfils_as_outcome : (guest : Guest) (cs : List Condition) (f : Flat) → IsReached guest f → IsFlat f
+pub reached_state_fulfils_as_outcome : (guest : Guest) (profile : Profile) (cs : List Condition) (f : Flat) → IsReached guest profile f → IsFlat f
     → list_all (λ c. fulfils c (conditions.outcome_of f)) cs ≡ fulfils_each guest cs (outcome_of (tables f))
-reached_state_fulfils_as_outcome guest cs f reached flat =
+reached_state_fulfils_as_outcome guest profile cs f reached flat =
     ap (λ z. list_all (λ c. fulfils c z) cs)
-    (outcome_is_seen guest f (reached.like.threads ∙ length_of_start_threads guest most_budget One 0 (length guest.entries))
+    (outcome_is_seen guest f (reached.like.threads ∙ length_of_start_threads guest most_budget profile 0 (length guest.entries))
     (reached.like.objects ∙ length_of_start_cells guest 0 (object_count guest)) (λ o l. (flat.objects o l).words))
 
 -- the same of conditions as the code has them
-pub reached_state_fulfils_declared_conditions : (guest : Guest) (cs : List declared.Condition) (f : Flat) → IsReached guest f → IsFlat f
+pub reached_state_fulfils_declared_conditions : (guest : Guest) (profile : Profile) (cs : List declared.Condition) (f : Flat) → IsReached guest profile f → IsFlat f
     → list_all (λ c. fulfils (as_condition c) (conditions.outcome_of f)) cs ≡ fulfils_each guest (map as_condition cs) (outcome_of (tables f))
-reached_state_fulfils_declared_conditions guest cs f reached flat = sym (list_all-map (λ x. fulfils x (conditions.outcome_of f)) as_condition cs)
-    ∙ reached_state_fulfils_as_outcome guest (map as_condition cs) f reached flat
+reached_state_fulfils_declared_conditions guest profile cs f reached flat = sym (list_all-map (λ x. fulfils x (conditions.outcome_of f)) as_condition cs)
+    ∙ reached_state_fulfils_as_outcome guest profile (map as_condition cs) f reached flat
 
 -- ---- what the list says of runs
 
@@ -87,27 +87,27 @@ none_before_step guest cs flats outcomes n x f before at not i y g less there = 
     same e = cc e
 
 -- no run of few switches does
-pub never_within_if_none_before : (guest : Guest) (cs : List Condition) (flats : List Flat) (outcomes : List Shown) (levels : ℕ)
-    → AreExplored guest flats levels outcomes → NoneBefore guest cs flats outcomes (length outcomes) → NeverWithin guest cs levels
-never_within_if_none_before guest cs flats outcomes levels e none answers budget steps counted less =
-    let h = e.covered (switches_by guest budget steps) less answers budget steps counted (omega arith) in
+pub never_within_if_none_before : (guest : Guest) (profile : Profile) (cs : List Condition) (flats : List Flat) (outcomes : List Shown) (levels : ℕ)
+    → AreExplored guest profile flats levels outcomes → NoneBefore guest cs flats outcomes (length outcomes) → NeverWithin guest profile cs levels
+never_within_if_none_before guest profile cs flats outcomes levels e none answers budget steps counted less =
+    let h = e.covered (switches_by guest budget profile steps) less answers budget steps counted (omega arith) in
     ap (fulfils_each guest cs) (sym h.4) ∙ none h.0 h.1 h.2 (place_of_element_is_below_length outcomes h.0 h.1 h.3.0) h.3
 
 -- if all are listed, no run does
-pub never_fulfils_if_none_before : (guest : Guest) (cs : List Condition) (flats : List Flat) (outcomes : List Shown) → AreAll guest flats outcomes
-    → NoneBefore guest cs flats outcomes (length outcomes) → NeverFulfils guest cs
-never_fulfils_if_none_before guest cs flats outcomes all none x is =
+pub never_fulfils_if_none_before : (guest : Guest) (profile : Profile) (cs : List Condition) (flats : List Flat) (outcomes : List Shown) → AreAll guest profile flats outcomes
+    → NoneBefore guest cs flats outcomes (length outcomes) → NeverFulfils guest profile cs
+never_fulfils_if_none_before guest profile cs flats outcomes all none x is =
     let h = (all x).0 is in
     ap (fulfils_each guest cs) (sym h.4) ∙ none h.0 h.1 h.2 (place_of_element_is_below_length outcomes h.0 h.1 h.3.0) h.3
 
 -- before the first that does, no run of fewer switches does
-pub never_within_level_of_first : (guest : Guest) (cs : List Condition) (flats : List Flat) (outcomes : List Shown) (levels place : ℕ) (x : Shown)
-    → AreExplored guest flats levels outcomes → slice_get outcomes place ≡ Some x → NoneBefore guest cs flats outcomes place
-    → NeverWithin guest cs x.level
-never_within_level_of_first guest cs flats outcomes levels place x e at none answers budget steps counted less =
+pub never_within_level_of_first : (guest : Guest) (profile : Profile) (cs : List Condition) (flats : List Flat) (outcomes : List Shown) (levels place : ℕ) (x : Shown)
+    → AreExplored guest profile flats levels outcomes → slice_get outcomes place ≡ Some x → NoneBefore guest cs flats outcomes place
+    → NeverWithin guest profile cs x.level
+never_within_level_of_first guest profile cs flats outcomes levels place x e at none answers budget steps counted less =
     let most = e.most place x at in
-    let h = e.covered (switches_by guest budget steps) (omega (arith, less, most)) answers budget steps counted (omega arith) in
-    let few : h.1.level ≤ switches_by guest budget steps = e.fewest h.0 h.1 h.2 h.3 answers budget steps counted (sym h.4) in
+    let h = e.covered (switches_by guest budget profile steps) (omega (arith, less, most)) answers budget steps counted (omega arith) in
+    let few : h.1.level ≤ switches_by guest budget profile steps = e.fewest h.0 h.1 h.2 h.3 answers budget steps counted (sym h.4) in
     let before : h.0 < place = elim (cases_lt h.0 place) [
       | inl l ↦ l
       | inr m ↦ absurd (let l = least h.0 h.1 h.3.0 m in omega (arith, l, few, less))

@@ -8,6 +8,7 @@ use Rattle.ir_explore.specs.Following.{Stay}
 use Rattle.ir_explore.proofs.CallerLemmas.{place_of_element_is_below_length}
 use Rattle.ir_files.proofs.CallerLemmas.{appends_prefix_after_whole_text}
 use Rattle.ir_stream.specs.Answers.{AppendsPrefix}
+use Rattle.ir_thread.specs.declared.profile.Profile.{Profile}
 use Rattle.ir_outcomes.specs.declared.shown.Shown.{Shown}
 use Rattle.ir_files.specs.Writers.{Writer, Took, Failed}
 use Rattle.ir_files.specs.declared.exit_status.ExitStatus.{ExitStatus}
@@ -23,20 +24,20 @@ use Rattle.ir_explore_run.specs.declared.plan.ExplorePlan.{ExplorePlan}
 use Rattle.ir_explore_run.proofs.Joined.{texts_of_no_outcome, texts_among_more}
 
 -- before the first outcome nothing is printed
-pub nothing_is_part : (guest : Guest) → IsPart guest []
-nothing_is_part guest = record {
+pub nothing_is_part : (guest : Guest) (profile : Profile) → IsPart guest profile []
+nothing_is_part guest profile = record {
   flats = [];
   outcomes = [];
   levels = 0;
-  explored = none_explored guest [];
+  explored = none_explored guest profile [];
   texts = texts_of_no_outcome (objects_of guest) [] [];
 }
 
 -- the lines of the outcomes that a search has found
-pub printed_outcomes_are_part : (guest : Guest) (o : Objects) (e : Exploring) (text : List ℕ) → o ≡ objects_of guest
-    → AreExplored guest e.states.graph.flats.items e.list.levels e.list.outcomes.items
-    → HasPrinted o e (length e.list.outcomes.items) text → IsPart guest text
-printed_outcomes_are_part guest o e text same explored printed = record {
+pub printed_outcomes_are_part : (guest : Guest) (profile : Profile) (o : Objects) (e : Exploring) (text : List ℕ) → o ≡ objects_of guest
+    → AreExplored guest profile e.states.graph.flats.items e.list.levels e.list.outcomes.items
+    → HasPrinted o e (length e.list.outcomes.items) text → IsPart guest profile text
+printed_outcomes_are_part guest profile o e text same explored printed = record {
   flats = e.states.graph.flats.items;
   outcomes = e.list.outcomes.items;
   levels = e.list.levels;
@@ -47,7 +48,7 @@ printed_outcomes_are_part guest o e text same explored printed = record {
 -- out of memory before anything is printed
 pub stops_before_first_line : (guest : Guest) (plan : ExplorePlan) (w : Writer) → w.before ≡ w.after → StopsPrinting NoMem guest plan w
 stops_before_first_line guest plan w same =
-    inl ([], nothing_is_part guest, subst (λ z. Took (record w { after = z }) []) same (Appends-nil w.before))
+    inl ([], nothing_is_part guest plan.profile, subst (λ z. Took (record w { after = z }) []) same (Appends-nil w.before))
 
 -- the writer fails in a whole answer
 pub stops_in_answer : (guest : Guest) (plan : ExplorePlan) (answered : ExitStatus) (text : List ℕ) (w : Writer) → IsAnswerAbout guest plan answered text

@@ -43,6 +43,6 @@ vain_text_if_none_found guest plan cs k answered text s printed = let a = s.whol
   answered = answered;
   printed = printed;
   none = s.first;
-  never = λ e. never_fulfils_if_none_before guest cs k.flats k.outcomes (a.all e) s.first;
-  within = never_within_if_none_before guest cs k.flats k.outcomes k.levels a.explored s.first;
+  never = λ e. never_fulfils_if_none_before guest plan.profile cs k.flats k.outcomes (a.all e) s.first;
+  within = never_within_if_none_before guest plan.profile cs k.flats k.outcomes k.levels a.explored s.first;
 }

@@ -11,7 +11,7 @@ use Rattle.ir_outcomes.specs.Explored.{outcome_by, switches_by, IsOutcomeOf, IsA
 use Rattle.ir_outcomes.specs.declared.shown.Shown.{Shown}
 use Rattle.ir_runs.specs.Run.{Step}
 use Rattle.ir_seen.specs.Seen.{IsCounted}
-use Rattle.ir_thread.specs.declared.profile.Profile.TheVariants.{One}
+use Rattle.ir_thread.specs.declared.profile.Profile.{Profile}
 
 -- what f gives of the first n numbers
 abbrev pub first_of : {A : Type 0} → ℕ → (ℕ → A) → List A
@@ -32,13 +32,13 @@ fulfils_each guest conditions x = list_all (λ c. fulfils c (seen_outcome guest 
 
 -- no complete run of the guest comes to an outcome that does, whatever its budget and whatever the world answers; runs in which a budget is
 -- spent or a log is full aside
-abbrev pub NeverFulfils : Guest → List Condition → Type 0
-NeverFulfils guest conditions = (x : Outcome) → IsOutcomeOf guest x → fulfils_each guest conditions x ≡ false
+abbrev pub NeverFulfils : Guest → Profile → List Condition → Type 0
+NeverFulfils guest profile conditions = (x : Outcome) → IsOutcomeOf guest profile x → fulfils_each guest conditions x ≡ false
 
 -- no such run of fewer switches than so many does
-abbrev pub NeverWithin : Guest → List Condition → ℕ → Type 0
-NeverWithin guest conditions most = (answers : ℕ → List ℕ) (budget : ℕ) (steps : List Step) → IsCounted guest budget One told answers steps
-    → switches_by guest budget steps < most → fulfils_each guest conditions (outcome_by guest budget steps) ≡ false
+abbrev pub NeverWithin : Guest → Profile → List Condition → ℕ → Type 0
+NeverWithin guest profile conditions most = (answers : ℕ → List ℕ) (budget : ℕ) (steps : List Step) → IsCounted guest budget profile told answers steps
+    → switches_by guest budget profile steps < most → fulfils_each guest conditions (outcome_by guest budget profile steps) ≡ false
 
 -- none of the first n that are listed does
 abbrev pub NoneBefore : Guest → List Condition → List Flat → List Shown → ℕ → Type 0

@@ -7,8 +7,10 @@ use Rattle.ir_image.specs.Guest.{Guest, guest_at}
 use Rattle.ir_image.specs.declared.image_err.ImageErr.{ImageErr}
 use Rattle.ir_image.specs.declared.image_err.ImageErr.TheVariants as image
 use Rattle.ir_record_run.specs.Faults.{image_words}
+use Rattle.ir_record_run.specs.Faults as record_run
+use Rattle.ir_record_run.specs.declared.record_fault.RecordFault.TheVariants as record_run_fault
 use Rattle.ir_thread.specs.State.{IsAllowed}
-use Rattle.ir_thread.specs.declared.profile.Profile.TheVariants.{One}
+use Rattle.ir_thread.specs.declared.profile.Profile.{Profile}
 use Rattle.ir_explore_run.specs.Printing.{EndsEarly}
 use Rattle.ir_explore_run.specs.Texts.{IsAnswerAbout}
 use Rattle.ir_explore_run.specs.declared.plan.ExplorePlan.{ExplorePlan}
@@ -34,31 +36,31 @@ fault_status Write = status.Failed
 -- a fault in words
 abbrev pub fault_words : ExploreFault → List ℕ
 fault_words (Image e) = image_words e
-fault_words TooLarge = codes "only guests of at most 8 threads and 16 objects are explored"
+fault_words TooLarge = record_run.fault_words record_run_fault.TooLarge
 fault_words NoMem = codes "memory ran out"
 fault_words Write = codes "standard output can't be written"
 
--- these bytes encode the guest, which the first profile allows
-abbrev pub IsExplorable : List ℕ → Guest → Type 0
-IsExplorable bytes guest = (guest_at bytes ≡ Ok guest) × IsAllowed One guest
+-- these bytes encode the guest, which the profile allows
+abbrev pub IsExplorable : List ℕ → Profile → Guest → Type 0
+IsExplorable bytes profile guest = (guest_at bytes ≡ Ok guest) × IsAllowed profile guest
 
 -- the answer about the guest that these bytes encode was written whole
 pub record Answers (bytes : List ℕ) (plan : ExplorePlan) (answered : ExitStatus) (w : Writer) : Type 0 where
   pub guest : Guest
-  pub is : IsExplorable bytes guest
+  pub is : IsExplorable bytes plan.profile guest
   pub text : List ℕ
   pub answer : IsAnswerAbout guest plan answered text
   pub took : Took w text
 
 -- why the answer about a guest isn't printed whole: out of memory, or the writer failed, while outcomes were printed, or in all of the answer
 abbrev pub StopsPrinting : ExploreFault → Guest → ExplorePlan → Writer → Type 0
-StopsPrinting e guest plan w = EndsEarly e guest w
+StopsPrinting e guest plan w = EndsEarly e guest plan.profile w
     ⊎ ((e ≡ Write) × (answered : ExitStatus) × (text : List ℕ) × IsAnswerAbout guest plan answered text × Failed w text)
 
 -- Why there is no answer, or not all of it. The image is refused for its first fault, or its guest is too large: then nothing is written. Or memory
 -- ran out, before anything was written or while outcomes were printed; or the writer failed.
 abbrev pub HasNone : ExploreFault → List ℕ → ExplorePlan → Writer → Type 0
 HasNone (Image e) bytes plan w = (guest_at bytes ≡ Err e) × Took w []
-HasNone TooLarge bytes plan w = ((guest : Guest) × (guest_at bytes ≡ Ok guest) × (IsAllowed One guest → ⊥)) × Took w []
-HasNone NoMem bytes plan w = Took w [] ⊎ ((guest : Guest) × IsExplorable bytes guest × StopsPrinting NoMem guest plan w)
-HasNone Write bytes plan w = (guest : Guest) × IsExplorable bytes guest × StopsPrinting Write guest plan w
+HasNone TooLarge bytes plan w = ((guest : Guest) × (guest_at bytes ≡ Ok guest) × (IsAllowed plan.profile guest → ⊥)) × Took w []
+HasNone NoMem bytes plan w = Took w [] ⊎ ((guest : Guest) × IsExplorable bytes plan.profile guest × StopsPrinting NoMem guest plan w)
+HasNone Write bytes plan w = (guest : Guest) × IsExplorable bytes plan.profile guest × StopsPrinting Write guest plan w

@@ -59,7 +59,6 @@ why_text (stop.Private t) = codes "private " ++ decimal t
 why_text (stop.Log t) = codes "log " ++ decimal t
 why_text (stop.Order v) = codes "order " ++ decimal v
 why_text (stop.World t) = codes "world " ++ decimal t
-why_text (stop.Try t) = codes "try " ++ decimal t
 why_text stop.Memory = codes "memory"
 
 -- up to how many switches the outcomes are complete, if so many levels are gone over

@@ -14,13 +14,15 @@ use Rattle.ir_graph.specs.Reached.{AllReached}
 use Rattle.ir_graph.specs.Stops.{IsStop, MayStop}
 use Rattle.ir_image.specs.Guest.{Guest, object_count, object_words}
 use Rattle.ir_object.specs.Cell.{Cell}
-use Rattle.ir_order.specs.Spelling.{Spells}
+use Rattle.ir_order.specs.Spelling.{SpellsTurns}
 use Rattle.ir_outcomes.specs.Explored.{IsAt, AreExplored, AreAll, AreHangs}
 use Rattle.ir_outcomes.specs.Hang.{IsOrder}
 use Rattle.ir_outcomes.specs.declared.explored.Explored.{Explored}
 use Rattle.ir_outcomes.specs.declared.shown.Shown.{Shown}
-use Rattle.ir_record.specs.Recording.{order_of_turns}
+use Rattle.ir_record.specs.Recording.{turns_of_items}
+use Rattle.ir_record.specs.Refusing.{Turn}
 use Rattle.ir_thread.specs.State.{ThreadState}
+use Rattle.ir_thread.specs.declared.profile.Profile.{Profile}
 use Rattle.ir_explore_run.specs.declared.started.Started.{Started}
 use Rattle.ir_explore_run.specs.declared.plan.ExplorePlan.{ExplorePlan}
 use Rattle.ir_explore_run.specs.Lines.{outcome_line, thread_text, object_line, hang_line, ended_text, counts_text, hangs_text, last_line}
@@ -41,10 +43,10 @@ objects_text words first now (suc n) =
     objects_text words first now n
     ++ object_text n (take words (slice_index_or first n empty).words) (take words (slice_index_or now n empty).words)
 
--- the list spells this order, and is empty where the order is
-pub record IsListOf (list order : List ℕ) : Type 0 where
-  pub spells : order ≢ [] → Spells list order
-  pub none : order ≡ [] → list ≡ []
+-- the list spells these turns, and is empty where there are none
+pub record IsListOf (list : List ℕ) (turns : List Turn) : Type 0 where
+  pub spells : turns ≢ [] → SpellsTurns list turns
+  pub none : turns ≡ [] → list ≡ []
 
 -- the objects of a guest at first, and how many words each has
 pub record Objects : Type 0 where
@@ -60,7 +62,7 @@ objects_in s = record { words = s.words; first = s.first.now }
 
 -- the lines of an outcome, by its number
 abbrev pub IsOutcomeText : Objects → Flat → ℕ → Shown → List ℕ → Type 0
-IsOutcomeText o f number x text = (list : List ℕ) × IsListOf list (order_of_turns x.turns.items)
+IsOutcomeText o f number x text = (list : List ℕ) × IsListOf list (turns_of_items x.turns.items)
     × (text ≡ outcome_line number x.level list ++ (threads_text f.threads (length f.threads) ++ objects_text o.words o.first f.objects (length f.objects)))
 
 -- the lines of all outcomes
@@ -72,12 +74,12 @@ pub record AreTexts (o : Objects) (flats : List Flat) (outcomes : List Shown) (m
   pub joined : text ≡ flat_map (λ own. own) texts
 
 -- the outcomes of a guest that were found so far are printed
-pub record IsPart (guest : Guest) (text : List ℕ) : Type 0 where
+pub record IsPart (guest : Guest) (profile : Profile) (text : List ℕ) : Type 0 where
   pub flats : List Flat
   pub outcomes : List Shown
   -- those of runs with fewer switches are all among them
   pub levels : ℕ
-  pub explored : AreExplored guest flats levels outcomes
+  pub explored : AreExplored guest profile flats levels outcomes
   pub texts : AreTexts (objects_of guest) flats outcomes (length outcomes) text
 
 -- the exit status of a search that ended so
@@ -89,7 +91,7 @@ status_of (Stopped why) = status.NotSo
 -- the line of a hang, if one is known
 abbrev pub IsHangText : Option Shown → List ℕ → Type 0
 IsHangText None text = text ≡ []
-IsHangText (Some x) text = (list : List ℕ) × IsListOf list (order_of_turns x.turns.items) × (text ≡ hang_line x.level list)
+IsHangText (Some x) text = (list : List ℕ) × IsListOf list (turns_of_items x.turns.items) × (text ≡ hang_line x.level list)
 
 -- the last line: how the search ended, and how many outcomes, states and hangs there are
 abbrev pub end_line : Ended → ℕ → ℕ → ℕ → ℕ → List ℕ
@@ -98,7 +100,7 @@ end_line ended levels outcomes states hangs =
 
 -- why there is nothing to print of a search: it didn't begin
 abbrev pub IsReason : Guest → ExplorePlan → Stop → Type 0
-IsReason guest plan why = (why ≡ Memory) ⊎ IsStop guest plan.bounds.private why
+IsReason guest plan why = (why ≡ Memory) ⊎ IsStop guest plan.profile plan.bounds.private why
 
 -- what was found out about a guest
 pub record Known : Type 0 where
@@ -129,13 +131,13 @@ known_of e = record {
 -- hangs is known too, and only there. The search stopped early only for what the plan says, or where an order that was found led to its state no
 -- second time.
 pub record AreKnown (guest : Guest) (plan : ExplorePlan) (k : Known) : Type 0 where
-  pub explored : AreExplored guest k.flats k.levels k.outcomes
-  pub all : k.ended ≡ Finished → AreAll guest k.flats k.outcomes
-  pub reached : AllReached guest k.flats
-  pub hanging : k.ended ≡ Finished → AreHangs guest k.flats k.hangs k.hang
+  pub explored : AreExplored guest plan.profile k.flats k.levels k.outcomes
+  pub all : k.ended ≡ Finished → AreAll guest plan.profile k.flats k.outcomes
+  pub reached : AllReached guest plan.profile k.flats
+  pub hanging : k.ended ≡ Finished → AreHangs guest plan.profile k.flats k.hangs k.hang
   pub unknown : (k.ended ≡ Finished → ⊥) → k.hang ≡ None
   pub covered : k.ended ≡ Covered → k.levels ≡ suc plan.switches
-  pub stopped : (why : Stop) → k.ended ≡ Stopped why → MayStop guest k.flats plan.bounds.nodes plan.bounds.private why ⊎ IsOrder why
+  pub stopped : (why : Stop) → k.ended ≡ Stopped why → MayStop guest plan.profile k.flats plan.bounds.nodes plan.bounds.private why ⊎ IsOrder why
 
 -- a hang is printed if one is known, and then how the search ended
 pub record IsEnding (k : Known) (answered : ExitStatus) (text : List ℕ) : Type 0 where

@@ -7,7 +7,6 @@ ghost use Rattle.ir_graph.specs.Reached.{AllReached};
 ghost use Rattle.ir_image.specs.Guest.{Guest};
 ghost use Rattle.ir_outcomes.specs.Explored.{AreExplored};
 ghost use Rattle.ir_thread.specs.State.{IsAllowed};
-ghost use Rattle.ir_thread.specs.declared.profile.Profile.TheVariants.{One};
 ghost use Rattle.ir_explore_run.specs.Conditions.{NoneBefore, IsFulfilled};
 ghost use Rattle.ir_explore_run.specs.Texts.{IsReason, IsStopped, AreKnown, IsEnding, IsKnownText, known_of, status_of};
 ghost use Rattle.ir_explore_run.specs.Until.{IsHitText};
@@ -21,7 +20,7 @@ use ir_explore::{Ended, Stop};
 use ir_files::ExitStatus;
 use ir_flat::Flat;
 use ir_image::Image;
-use ir_order::list_of;
+use ir_order::list_of_items;
 use ir_outcomes::Explored;
 use ir_thread::Profile;
 use std::alloc::{AllocError, Global};
@@ -65,11 +64,11 @@ pub fn known_text(
     plan: ExplorePlan,
     explored: &Explored<'_>,
 ) -> Result<(Vec<u8>, ExitStatus), AllocError>
-    requires allowed { IsAllowed One image.now }
+    requires allowed { IsAllowed plan.profile image.now }
     requires known { AreKnown image.now plan (known_of explored.now) }
     ensures { IfOk result (λ answer. IsKnownText image.now (known_of explored.now) answer.1 answer.0.items) }
 {
-    let start = Flat::start(alloc, image, 0, Profile::One)?;
+    let start = Flat::start(alloc, image, 0, plan.profile)?;
     let flats = &explored.states.graph.flats;
     let outcomes = explored.outcomes.as_slice();
     let started = Started {
@@ -102,17 +101,18 @@ pub fn stopped_text(alloc: Global, why: Stop) -> Result<(Vec<u8>, ExitStatus), A
 pub fn hit_text(
     alloc: Global,
     image: &Image,
+    profile: Profile,
     explored: &Explored<'_>,
     place: usize,
 ) -> Result<(Vec<u8>, String), AllocError>
-    requires allowed { IsAllowed One image.now }
-    requires explored { AreExplored image.now explored.now.states.graph.flats.items explored.now.levels explored.now.outcomes.items }
-    requires reached { AllReached image.now explored.now.states.graph.flats.items }
+    requires allowed { IsAllowed profile image.now }
+    requires explored { AreExplored image.now profile explored.now.states.graph.flats.items explored.now.levels explored.now.outcomes.items }
+    requires reached { AllReached image.now profile explored.now.states.graph.flats.items }
     requires place { place < length explored.now.outcomes.items }
     ensures { IfOk result (λ told. (conditions : List Condition) → NoneBefore image.now conditions explored.now.states.graph.flats.items explored.now.outcomes.items place
-        → IsFulfilled image.now conditions explored.now.states.graph.flats.items explored.now.outcomes.items place → IsHitText image.now conditions (string_bytes told.1) told.0.items) }
+        → IsFulfilled image.now conditions explored.now.states.graph.flats.items explored.now.outcomes.items place → IsHitText image.now profile conditions (string_bytes told.1) told.0.items) }
 {
-    let start = Flat::start(alloc, image, 0, Profile::One)?;
+    let start = Flat::start(alloc, image, 0, profile)?;
     let flats = &explored.states.graph.flats;
     let outcomes = explored.outcomes.as_slice();
     let started = Started {
@@ -123,7 +123,7 @@ pub fn hit_text(
     let _ = image.entries();
     let mut text = outcomes_text(alloc, started, flats, outcomes, 0, place + 1)?;
     let shown = &outcomes[place];
-    let list = list_of(alloc, shown.turns.as_slice())?;
+    let list = list_of_items(alloc, shown.turns.as_slice())?;
     let line = found_line(alloc, place + 1, shown.level, list.as_str())?;
     text.extend_from_slice(line.as_bytes())?;
     Ok((text, list))

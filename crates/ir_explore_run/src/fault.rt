@@ -15,7 +15,7 @@ use std::alloc::{AllocError, AllocFailed};
 pub enum ExploreFault {
     /// The image is refused.
     Image(ImageErr),
-    /// The guest has more threads or objects than the first profile allows.
+    /// The guest has more threads or objects than the profile allows.
     TooLarge,
     /// Out of memory.
     NoMem,
@@ -50,8 +50,7 @@ impl ExploreFault {
     {
         match self {
             ExploreFault::Image(why) => RecordFault::of_image(why).words(),
-            ExploreFault::TooLarge =>
-                "only guests of at most 8 threads and 16 objects are explored",
+            ExploreFault::TooLarge => RecordFault::TooLarge.words(),
             ExploreFault::NoMem => "memory ran out",
             ExploreFault::Write => "standard output can't be written",
         }

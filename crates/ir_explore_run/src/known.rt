@@ -2,7 +2,6 @@
 
 ghost use Rattle.std.specs.Prelude.{IfOk, IfErr};
 ghost use Rattle.ir_thread.specs.State.{IsAllowed};
-ghost use Rattle.ir_thread.specs.declared.profile.Profile.TheVariants.{One};
 ghost use Rattle.ir_explore_run.specs.Texts.{IsReason, AreKnown, known_of};
 
 use crate::plan::ExplorePlan;
@@ -21,10 +20,17 @@ pub fn known<'a, W: Observer>(
     plan: ExplorePlan,
     observer: &W,
 ) -> Result<Explored<'a>, Stop>
-    requires { IsAllowed One image.now }
+    requires { IsAllowed plan.profile image.now }
     ensures known { IfOk result (λ e. AreKnown image.now plan (known_of e)) }
     ensures refused { IfErr result (λ why. IsReason image.now plan why) }
 {
-    let explored = explore(alloc, image, plan.bounds, plan.switches, observer)?;
+    let explored = explore(
+        alloc,
+        image,
+        plan.profile,
+        plan.bounds,
+        plan.switches,
+        observer,
+    )?;
     Ok(explored)
 }

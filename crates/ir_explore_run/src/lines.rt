@@ -113,7 +113,6 @@ fn why_text(alloc: Global, stop: Stop) -> Result<String, AllocError>
         Stop::Log(thread) => format!(in alloc; "log {thread}"),
         Stop::Order(node) => format!(in alloc; "order {node}"),
         Stop::World(thread) => format!(in alloc; "world {thread}"),
-        Stop::Try(thread) => format!(in alloc; "try {thread}"),
         Stop::Memory => String::from_str(alloc, "memory"),
     }
 }

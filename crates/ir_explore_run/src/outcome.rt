@@ -9,7 +9,7 @@ use crate::lines::{outcome_line, put_object, put_thread};
 use crate::started::Started;
 use ir_flat::Flat;
 use ir_object::Object;
-use ir_order::list_of;
+use ir_order::list_of_items;
 use ir_outcomes::Shown;
 use ir_thread::Thread;
 use std::alloc::{AllocError, Global};
@@ -69,7 +69,7 @@ pub fn outcome_text(
     requires { length flat.now.objects ≡ length started.first.now }
     ensures { IfOk result (λ text. IsOutcomeText (objects_in started.entry) flat.now number shown.now text.items) }
 {
-    let list = list_of(alloc, shown.turns.as_slice())?;
+    let list = list_of_items(alloc, shown.turns.as_slice())?;
     let line = outcome_line(alloc, number, shown.level, list.as_str())?;
     let mut text = Vec::from_slice(alloc, line.as_bytes())?;
     put_threads(alloc, &mut text, flat.threads())?;

@@ -5,6 +5,7 @@ ghost use Rattle.std.specs.Prelude.{◌≡◌, ◌≤◌};
 use ir_chaos::Condition;
 use ir_graph::Bounds;
 use ir_record_run::ParsedImage;
+use ir_thread::Profile;
 
 /// How far a guest is explored.
 #[derive(Clone, Copy, Debug)]
@@ -13,16 +14,19 @@ pub struct ExplorePlan {
     pub bounds: Bounds,
     /// The most switches of the thread that enters.
     pub switches: usize,
+    /// Which system calls there are.
+    pub profile: Profile,
     ghost some: { 1 ≤ bounds.nodes },
 }
 
 impl ExplorePlan {
-    /// At most so many states, steps of a thread up to its next entry, and switches.
-    pub fn new(states: usize, private: u64, switches: usize) -> ExplorePlan
+    /// At most so many states, steps of a thread up to its next entry, and switches; and which system calls there are.
+    pub fn new(states: usize, private: u64, switches: usize, profile: Profile) -> ExplorePlan
         requires { 1 ≤ states }
         ensures states { result.bounds.nodes ≡ states }
         ensures private { result.bounds.private ≡ private }
         ensures switches { result.switches ≡ switches }
+        ensures profile { result.profile ≡ profile }
     {
         ExplorePlan {
             bounds: Bounds {
@@ -30,6 +34,7 @@ impl ExplorePlan {
                 private,
             },
             switches,
+            profile,
         }
     }
 }

@@ -7,7 +7,6 @@ ghost use Rattle.ir_flat.specs.Flat.{Flat};
 ghost use Rattle.ir_outcomes.specs.Exploring.{IsExploring};
 ghost use Rattle.ir_stream.specs.Answers.{AppendsPrefix};
 ghost use Rattle.ir_thread.specs.State.{IsAllowed};
-ghost use Rattle.ir_thread.specs.declared.profile.Profile.TheVariants.{One};
 ghost use Rattle.ir_explore_run.specs.Printing.{HasPrinted, EndsEarly};
 ghost use Rattle.ir_explore_run.specs.Texts.{AreTexts, objects_in, objects_of};
 ghost use Rattle.ir_explore_run.specs.declared.fault.ExploreFault.TheVariants.{NoMem, Write};
@@ -55,13 +54,14 @@ pub fn print_levels<W: Observer, O: Sink>(
     observer: &W,
     out: &mut O,
 ) -> Result<(), ExploreFault>
-    requires allowed { IsAllowed One exploring.old.states.graph.image.now }
+    requires allowed { IsAllowed exploring.old.states.graph.profile exploring.old.states.graph.image.now }
     requires is { IsExploring exploring.old }
     requires none { length exploring.old.list.outcomes.items ≡ 0 }
     requires started { objects_in started ≡ objects_of exploring.old.states.graph.image.now }
     requires works { O.broken out.old ≡ false }
     ensures is { IsExploring exploring.new }
     ensures image { exploring.new.states.graph.image.now ≡ exploring.old.states.graph.image.now }
+    ensures profile { exploring.new.states.graph.profile ≡ exploring.old.states.graph.profile }
     ensures bounds { exploring.new.states.graph.bounds ≡ exploring.old.states.graph.bounds }
     ensures most { exploring.new.most ≡ exploring.old.most }
     // Once all are gone over
@@ -69,7 +69,7 @@ pub fn print_levels<W: Observer, O: Sink>(
     ensures printed { OnOk result ((text : List ℕ) × HasPrinted (objects_in started.entry) exploring.new (length exploring.new.list.outcomes.items) text × Appends (O.written out.old) (O.written out.new) text) }
     ensures works { OnOk result (O.broken out.new ≡ false) }
     // If not
-    ensures failed { IfErr result (λ e. EndsEarly e exploring.old.states.graph.image.now (writer_of (O.written out.old) (O.written out.new) (O.broken out.new))) }
+    ensures failed { IfErr result (λ e. EndsEarly e exploring.old.states.graph.image.now exploring.old.states.graph.profile (writer_of (O.written out.old) (O.written out.new) (O.broken out.new))) }
 {
     'levels: while exploring.goes_on() {
         let printed = exploring.list.outcomes.len();

@@ -1,13 +1,15 @@
 //! `ir explore`: the bytes of an image in, the outcomes of its guest out.
 
-ghost use Rattle.std.specs.Prelude.{◌≡◌, ◌⊎◌, ℕ, List, IfOk, IfErr, false};
+ghost use Rattle.std.specs.Prelude.{◌≡◌, ◌⊎◌, ℕ, List, IfOk, IfErr, false, true};
 ghost use Rattle.std.specs.Io.KnownBytes.{Appends};
 ghost use Rattle.ir_files.specs.Writers.{writer_of, Reports, fault_text};
 ghost use Rattle.ir_thread.specs.State.{IsAllowed};
-ghost use Rattle.ir_thread.specs.declared.profile.Profile.TheVariants.{One};
 ghost use Rattle.ir_image.specs.Guest.{Guest};
 ghost use Rattle.ir_explore_run.specs.Faults.{Answers, HasNone, StopsPrinting, fault_status, fault_words};
-ghost use Rattle.ir_explore_run.specs.Texts.{IsAnswerAbout, IsReason, IsStopped};
+ghost use Rattle.ir_explore_run.specs.Texts.{IsAnswerAbout, IsEnding, IsReason, IsStopped, known_of};
+ghost use Rattle.ir_explore_run.specs.declared.fault.ExploreFault.TheVariants.{NoMem, Write};
+ghost use Rattle.ir_files.specs.declared.exit_status.ExitStatus.{ExitStatus};
+ghost use Rattle.ir_stream.specs.Answers.{AppendsPrefix};
 ghost use Rattle.ir_explore_run.specs.declared.fault.ExploreFault.{ExploreFault};
 ghost use Rattle.ir_explore_run.specs.declared.plan.ExplorePlan.{ExplorePlan};
 
@@ -20,9 +22,8 @@ use ir_explore::{Observer, Stop};
 use ir_files::{ExitStatus, tell};
 use ir_flat::Flat;
 use ir_image::{Image, read_image};
-use ir_outcomes::Exploring;
+use ir_outcomes::{Explored, Exploring};
 use ir_stream::{Sink, write_all};
-use ir_thread::Profile;
 use std::alloc::Global;
 
 // Prints that a search didn't begin, and why.
@@ -36,6 +37,22 @@ fn show_stop<O: Sink>(alloc: Global, why: Stop, out: &mut O) -> Result<ExitStatu
     Ok(answered)
 }
 
+// Prints what comes after the outcomes.
+fn print_ending<O: Sink>(
+    alloc: Global,
+    explored: &Explored<'_>,
+    out: &mut O,
+) -> Result<ExitStatus, ExploreFault>
+    requires { O.broken out.old ≡ false }
+    ensures ok { IfOk result (λ answered. (text : List ℕ) × IsEnding (known_of explored.now) answered text × Appends (O.written out.old) (O.written out.new) text) }
+    ensures fails { IfErr result (λ e. ((e ≡ NoMem) × (out.new ≡ out.old))
+        ⊎ ((e ≡ Write) × (O.broken out.new ≡ true) × (answered : ExitStatus) × (text : List ℕ) × IsEnding (known_of explored.now) answered text × AppendsPrefix (O.written out.old) (O.written out.new) text)) }
+{
+    let (text, answered) = ending_text(alloc, explored)?;
+    write_all(out, text.as_slice())?;
+    Ok(answered)
+}
+
 // Prints the answer about a guest, as it is found.
 fn show<W: Observer, O: Sink>(
     alloc: Global,
@@ -44,25 +61,29 @@ fn show<W: Observer, O: Sink>(
     observer: &W,
     out: &mut O,
 ) -> Result<ExitStatus, ExploreFault>
-    requires allowed { IsAllowed One image.now }
+    requires allowed { IsAllowed plan.profile image.now }
     requires works { O.broken out.old ≡ false }
     ensures ok { IfOk result (λ answered. (text : List ℕ) × IsAnswerAbout image.now plan answered text × Appends (O.written out.old) (O.written out.new) text) }
     ensures fails { IfErr result (λ e. StopsPrinting e image.now plan (writer_of (O.written out.old) (O.written out.new) (O.broken out.new))) }
 {
-    let mut exploring = match Exploring::start(alloc, image, plan.bounds, plan.switches) {
-        Ok(exploring) => exploring,
-        Err(why) => return show_stop(alloc, why, out),
-    };
-    let start = Flat::start(alloc, image, 0, Profile::One)?;
+    let start = Flat::start(alloc, image, 0, plan.profile)?;
     let started = Started {
         words: image.object_words(),
         first: start.objects(),
     };
+    let mut exploring = match Exploring::start(
+        alloc,
+        image,
+        plan.profile,
+        plan.bounds,
+        plan.switches,
+    ) {
+        Ok(exploring) => exploring,
+        Err(why) => return show_stop(alloc, why, out),
+    };
     print_levels(alloc, started, &mut exploring, observer, out)?;
     let explored = exploring.end();
-    let (text, answered) = ending_text(alloc, &explored)?;
-    write_all(out, text.as_slice())?;
-    Ok(answered)
+    print_ending(alloc, &explored, out)
 }
 
 // Prints the answer about the bytes of an image.
@@ -81,7 +102,7 @@ fn show_image<W: Observer, O: Sink>(
         Ok(image) => image,
         Err(why) => return Err(ExploreFault::of_image(why)),
     };
-    if !Profile::One.allows(&image) {
+    if !plan.profile.allows(&image) {
         return Err(ExploreFault::TooLarge);
     }
     show(alloc, &image, plan, observer, out)

@@ -4,7 +4,6 @@ ghost use Rattle.std.specs.Prelude.{◌≡◌, ◌≤◌, ◌<◌, None, true, f
 ghost use Rattle.ir_chaos.specs.Conditions.{as_condition};
 ghost use Rattle.ir_explore.specs.declared.search.Ended.TheVariants.{Covered};
 ghost use Rattle.ir_thread.specs.State.{IsAllowed};
-ghost use Rattle.ir_thread.specs.declared.profile.Profile.TheVariants.{One};
 ghost use Rattle.ir_explore_run.specs.Conditions.{IsFirst};
 ghost use Rattle.ir_explore_run.specs.Texts.{IsReason, AreKnown, known_of};
 ghost use Rattle.ir_explore_run.specs.Until.{IsSought};
@@ -36,18 +35,17 @@ fn search<'a, W: Observer>(
     plan: &UntilPlan<'_, '_, '_, W>,
     switches: usize,
 ) -> Result<Sought<'a>, Stop>
-    requires { IsAllowed One image.now }
+    requires { IsAllowed plan.now.explore.profile image.now }
     ensures known { IfOk result (λ s. AreKnown image.now (record plan.now.explore { switches = switches }) (known_of s.explored)) }
     ensures first { IfOk result (λ s. IsFirst image.now (map as_condition plan.now.conditions.now) s.explored.states.graph.flats.items s.explored.outcomes.items s.first) }
     ensures refused { IfErr result (λ why. IsReason image.now plan.now.explore why) }
 {
-    let bounds = plan.explore.bounds;
-    let explored = known(
-        alloc,
-        image,
-        ExplorePlan { bounds, switches },
-        plan.observer,
-    )?;
+    let explore = ExplorePlan {
+        bounds: plan.explore.bounds,
+        switches,
+        profile: plan.explore.profile,
+    };
+    let explored = known(alloc, image, explore, plan.observer)?;
     let flats = &explored.states.graph.flats;
     let first = first_fulfilling(flats, explored.outcomes.as_slice(), plan.conditions)?;
     Ok(Sought { explored, first })
@@ -84,7 +82,7 @@ pub fn seek<'a, W: Observer>(
     image: &'a Image,
     plan: &UntilPlan<'_, '_, '_, W>,
 ) -> Result<Sought<'a>, Stop>
-    requires { IsAllowed One image.now }
+    requires { IsAllowed plan.now.explore.profile image.now }
     ensures sought { IfOk result (λ s. IsSought image.now plan.now.explore (map as_condition plan.now.conditions.now) (known_of s.explored) s.first) }
     ensures refused { IfErr result (λ why. IsReason image.now plan.now.explore why) }
 {

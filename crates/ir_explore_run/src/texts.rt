@@ -13,7 +13,7 @@ use crate::outcome::outcome_text;
 use crate::started::Started;
 use crate::states::state_of;
 use ir_explore::Ended;
-use ir_order::list_of;
+use ir_order::list_of_items;
 use ir_outcomes::Shown;
 use ir_store::Store;
 use std::alloc::{AllocError, Global};
@@ -50,7 +50,7 @@ pub fn hang_text(alloc: Global, hang: &Option<Shown>) -> Result<String, AllocErr
     match hang {
         None => Ok(String::new(alloc)),
         Some(shown) => {
-            let list = list_of(alloc, shown.turns.as_slice())?;
+            let list = list_of_items(alloc, shown.turns.as_slice())?;
             hang_line(alloc, shown.level, list.as_str())
         }
     }

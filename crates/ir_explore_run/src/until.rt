@@ -13,7 +13,6 @@ ghost use Rattle.ir_record_run.specs.Recording.{lines_of};
 ghost use Rattle.ir_record_run.specs.declared.record_fault.RecordFault.{RecordFault};
 ghost use Rattle.ir_image.specs.Guest.{guest_at};
 ghost use Rattle.ir_thread.specs.State.{IsAllowed};
-ghost use Rattle.ir_thread.specs.declared.profile.Profile.TheVariants.{One};
 ghost use Rattle.ir_trace.specs.Encoding.{encoding};
 ghost use Rattle.ir_explore_run.specs.Faults.{fault_status, fault_words};
 ghost use Rattle.ir_explore_run.specs.Texts.{known_of};
@@ -23,7 +22,7 @@ ghost use Rattle.ir_explore_run.specs.declared.plan.ExplorePlan.{ExplorePlan};
 
 use crate::answer::{hit_text, known_text, stopped_text};
 use crate::fault::ExploreFault;
-use crate::plan::UntilPlan;
+use crate::plan::{ExplorePlan, UntilPlan};
 use crate::seek::{Sought, seek};
 use ir_explore::Observer;
 use ir_files::{ExitStatus, OutputSink, WholeSink, tell};
@@ -39,21 +38,21 @@ use std::thread::Threads;
 use std::time::Clock;
 
 // How an outcome is recorded by a list.
-fn recording(list: Option<&str>) -> RecordPlan<'_>
-    ensures { result ≡ recording (option_map (λ s. s.now) list.entry) }
+fn recording(profile: Profile, list: Option<&str>) -> RecordPlan<'_>
+    ensures { result ≡ recording profile (option_map (λ s. s.now) list.entry) }
 {
     RecordPlan {
         order: list,
         budget: MOST_BUDGET,
         random: 0,
         input: &[],
-        profile: Profile::One,
+        profile,
     }
 }
 
 // Why a guest isn't explored, by why it isn't recorded.
 fn refusal_of(why: RecordFault) -> ExploreFault
-    ensures { (image : List ℕ) (plan : ExplorePlan) (conditions : List Condition) (w : Writer) → Refuses why image (recording None) → Took w [] → HasNoAnswer result image plan conditions w }
+    ensures { (image : List ℕ) (plan : ExplorePlan) (conditions : List Condition) (w : Writer) → Refuses why image (recording plan.profile None) → Took w [] → HasNoAnswer result image plan conditions w }
 {
     match why {
         RecordFault::Image(why) => ExploreFault::Image(why),
@@ -64,12 +63,12 @@ fn refusal_of(why: RecordFault) -> ExploreFault
 }
 
 // The guest, if it is explored.
-fn guest_of<'a>(image: &'a ParsedImage<'_>) -> Result<&'a Image, ExploreFault>
+fn guest_of<'a>(image: &'a ParsedImage<'_>, explore: ExplorePlan) -> Result<&'a Image, ExploreFault>
     ensures exact { IfOk result (λ guest. guest_at image.now ≡ Ok guest.now) }
-    ensures allowed { IfOk result (λ guest. IsAllowed One guest.now) }
-    ensures refused { IfErr result (λ e. (plan : ExplorePlan) (conditions : List Condition) (w : Writer) → Took w [] → HasNoAnswer e image.now plan conditions w) }
+    ensures allowed { IfOk result (λ guest. IsAllowed explore.profile guest.now) }
+    ensures refused { IfErr result (λ e. (conditions : List Condition) (w : Writer) → Took w [] → HasNoAnswer e image.now explore conditions w) }
 {
-    match image.allowed(&recording(None)) {
+    match image.allowed(&recording(explore.profile, None)) {
         Ok(guest) => Ok(guest),
         Err(why) => Err(refusal_of(why)),
     }
@@ -89,14 +88,14 @@ fn sought_text<W>(
     plan: &UntilPlan<'_, '_, '_, W>,
     sought: &Sought<'_>,
 ) -> Result<Told, AllocError>
-    requires allowed { IsAllowed One image.now }
+    requires allowed { IsAllowed plan.now.explore.profile image.now }
     requires sought { IsSought image.now plan.now.explore (map as_condition plan.now.conditions.now) (known_of sought.now.explored) sought.now.first }
     ensures { IfOk result (λ told. IsUntilText image.now plan.now.explore (map as_condition plan.now.conditions.now) (option_map (λ s. string_bytes s) told.list) told.text.items) }
 {
     let explored = &sought.explored;
     match sought.first {
         Some(place) => {
-            let (text, list) = hit_text(alloc, image, explored, place)?;
+            let (text, list) = hit_text(alloc, image, plan.explore.profile, explored, place)?;
             Ok(Told {
                 text,
                 list: Some(list),
@@ -115,7 +114,7 @@ fn text_about<W: Observer>(
     image: &Image,
     plan: &UntilPlan<'_, '_, '_, W>,
 ) -> Result<Told, AllocError>
-    requires { IsAllowed One image.now }
+    requires { IsAllowed plan.now.explore.profile image.now }
     ensures { IfOk result (λ told. IsUntilText image.now plan.now.explore (map as_condition plan.now.conditions.now) (option_map (λ s. string_bytes s) told.list) told.text.items) }
 {
     match seek(alloc, image, plan) {
@@ -139,7 +138,7 @@ fn tell_sought<W: Observer, O: Sink>(
     ensures works { OnOk result (O.broken out.new ≡ false) }
     ensures fails { IfErr result (λ e. HasNoAnswer e plan.now.image.now plan.now.explore (map as_condition plan.now.conditions.now) (writer_of (O.written out.old) (O.written out.new) (O.broken out.new))) }
 {
-    let guest = match guest_of(plan.image) {
+    let guest = match guest_of(plan.image, plan.explore) {
         Ok(guest) => guest,
         Err(why) => return Err(why),
     };
@@ -175,7 +174,7 @@ where
     requires reports { E.broken faults.old ≡ false }
     // The outcomes up to the first that fulfils each condition were written, and of the run that is told of that one its trace, what its threads
     // printed, and their lines. No fault is reported.
-    ensures found { IfOk result (λ recorded. (text list : List ℕ) × (printed : List (List ℕ)) × IsFinding plan.now.image.now (map as_condition plan.now.conditions.now) list text recorded printed
+    ensures found { IfOk result (λ recorded. (text list : List ℕ) × (printed : List (List ℕ)) × IsFinding plan.now.image.now plan.now.explore.profile (map as_condition plan.now.conditions.now) list text recorded printed
         × Appends (W.written files.old.trace) (W.written files.new.trace) (encoding recorded)
         × TookEach (output_writer_of (P.taken files.old.outputs) (P.taken files.new.outputs) (P.broken files.new.outputs)) printed
         × Appends (O.written out.old) (O.written out.new) (text ++ lines_of recorded)) }
@@ -190,9 +189,9 @@ where
         ⊎ ((e : RecordFault) × (status ≡ recorded.fault_status e) × (text list : List ℕ) × (said : O)
         × IsUntil plan.now.image.now plan.now.explore (map as_condition plan.now.conditions.now) (Some list) text
         × Appends (O.written out.old) (O.written said) text
-        × IsReported e plan.now.image.now (recording (Some list)) (unwritten_of (W.called files.new.trace) (W.cause files.new.trace)) (unwritten_of (P.called files.new.outputs) (P.cause files.new.outputs))
+        × IsReported e plan.now.image.now (recording plan.now.explore.profile (Some list)) (unwritten_of (W.called files.new.trace) (W.cause files.new.trace)) (unwritten_of (P.called files.new.outputs) (P.cause files.new.outputs))
         (writer_of (E.written faults.old) (E.written faults.new) (E.broken faults.new))
-        × Stops e plan.now.image.now (recording (Some list))
+        × Stops e plan.now.image.now (recording plan.now.explore.profile (Some list))
         (writer_of (W.written files.old.trace) (W.written files.new.trace) (W.broken files.new.trace))
         (output_writer_of (P.taken files.old.outputs) (P.taken files.new.outputs) (P.broken files.new.outputs))
         (writer_of (O.written said) (O.written out.new) (O.broken out.new))
@@ -206,7 +205,7 @@ where
             return Err(why.status());
         }
     };
-    let how = recording(Some(list.as_str()));
+    let how = recording(plan.explore.profile, Some(list.as_str()));
     let recording = Recording {
         image: plan.image,
         plan: &how,

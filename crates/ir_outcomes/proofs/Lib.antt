@@ -1,4 +1,8 @@
+<<<<<<< HEAD
 pub mod CallerLemmas
+=======
+mod Paths
+>>>>>>> h2/tries_search
 mod Again
 mod Showing
 mod Listed

@@ -1,3 +1,4 @@
+pub mod Path
 pub mod Again
 pub mod Shown
 pub mod Explored

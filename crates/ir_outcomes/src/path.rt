@@ -3,6 +3,8 @@
 ghost use Rattle.std.specs.Prelude.{◌≡◌, ◌⊎◌, ℕ, suc, ◌<◌, ◌≤◌, Some, length, slice_get, IfOk, IfErr};
 ghost use Rattle.ir_explore.specs.declared.stop.Stop.TheVariants.{Memory, Order};
 ghost use Rattle.ir_explore.specs.declared.origin.Origin.{Origin};
+ghost use Rattle.ir_explore.specs.Origins.{Spells};
+ghost use Rattle.ir_outcomes.specs.Path.{IsPathTo, ways_of};
 
 use ir_explore::{Origin, Refusal, Stop};
 use std::alloc::Global;
@@ -13,6 +15,7 @@ use std::alloc::Global;
 /// Out of memory. `Order` where they lead to no first node.
 pub fn path_to(alloc: Global, origins: &[Origin], node: usize) -> Result<Vec<Origin>, Stop>
     requires { node < length origins.now }
+    ensures path { IfOk result (λ path. IsPathTo origins.now node path.items) }
     ensures few { IfOk result (λ path. (n : Origin) → slice_get origins.now node ≡ Some n → length path.items ≤ suc n.level) }
     ensures refused { IfErr result (λ stop. (stop ≡ Memory) ⊎ (stop ≡ Order node)) }
 {
@@ -32,11 +35,14 @@ pub fn path_to(alloc: Global, origins: &[Origin], node: usize) -> Result<Vec<Ori
     }
 }
 
-/// The refused tries of a turn, the last first, from this number of the table on.
+/// The refused tries that the table has under a number, the last first.
 ///
 /// # Errors
 /// Out of memory. `Order` where the table has no such number.
-pub fn refusals_to(alloc: Global, table: &[Refusal], number: usize) -> Result<Vec<Refusal>, Stop> {
+pub fn refusals_to(alloc: Global, table: &[Refusal], number: usize) -> Result<Vec<Refusal>, Stop>
+    ensures ways { IfOk result (λ refusals. Spells table.now number (ways_of refusals.items)) }
+    ensures refused { IfErr result (λ stop. (stop ≡ Memory) ⊎ (stop ≡ Order 0)) }
+{
     let mut refusals = Vec::new(alloc);
     let mut left = number;
     'back: while left > 0 {

@@ -3,10 +3,10 @@ use Rattle.std.specs.Prelude.{◌≢◌, List, slice_get}
 use Rattle.std.specs.List.{slice_index_or}
 use Rattle.std.specs.String.{string_bytes}
 use Rattle.std.proofs.lemmas.Option.{same_Some, slice_get-get_or}
-use Rattle.ir_order.specs.Spelling.{Spells}
+use Rattle.ir_order.specs.Spelling.{SpellsTurns}
 use Rattle.ir_outcomes.specs.declared.shown.Shown.{Shown}
-use Rattle.ir_record.specs.Recording.{order_of_turns}
-use Rattle.ir_record.specs.declared.turns.Turns.{Turns}
+use Rattle.ir_record.specs.Recording.{turns_of_items}
+use Rattle.ir_record.specs.declared.item.Item.{Item}
 use Rattle.ir_explore_run.specs.Lines.{found_line}
 use Rattle.ir_explore_run.specs.Texts.{Objects, objects_of, AreTexts, known_of}
 use Rattle.ir_explore_run.proofs.Hits.{shown_order_is_not_empty, is_hit_if_shown_outcome_fulfils}
@@ -40,9 +40,9 @@ returns c = λ cs none (x, f, at, does).
     let same : y ≡ x = same_Some y x (sym here ∙ at.0) in
     let next : place + 1 ≡ suc place = omega arith in
     let turns = c.as_slice.ensures.value ∙ ap (λ (z : Shown). z.turns.items) same in
-    let some = shown_order_is_not_empty guest f x.level (order_of_turns x.turns.items) c.entries.ensures.within.some_thread (c.requires.explored.shown place x f at) in
-    let spells : Spells list (order_of_turns x.turns.items) =
-    subst (λ (ts : List Turns). order_of_turns ts ≢ [] → Spells list (order_of_turns ts)) turns c.in_ok-list.ensures.spelled some in
+    let some = shown_order_is_not_empty guest c.args.profile f x.level (turns_of_items x.turns.items) c.entries.ensures.within.some_thread (c.requires.explored.shown place x f at) in
+    let spells : SpellsTurns list (turns_of_items x.turns.items) =
+    subst (λ (ts : List Item). turns_of_items ts ≢ [] → SpellsTurns list (turns_of_items ts)) turns c.in_ok-list.ensures.spelled some in
     record {
       known = known_of c.args.explored.now;
       explored = c.requires.explored;
@@ -51,7 +51,7 @@ returns c = λ cs none (x, f, at, does).
       state = f;
       at = at;
       first = none;
-      hit = is_hit_if_shown_outcome_fulfils guest cs flats outcomes c.args.explored.now.levels place x f list c.requires.explored at none does spells;
+      hit = is_hit_if_shown_outcome_fulfils guest c.args.profile cs flats outcomes c.args.explored.now.levels place x f list c.requires.explored at none does spells;
       lines = lines;
       texts = subst (λ z. AreTexts z flats outcomes (suc place) lines) first
           (subst (λ z. AreTexts own flats z (suc place) lines) value

@@ -9,6 +9,7 @@ abbrev pub invariant-levels : goal.invariant-levels
 invariant-levels g l = record {
   is : IsExploring l.exploring;
   image : l.exploring.states.graph.image.now ≡ l.fn.exploring.states.graph.image.now;
+  profile : l.exploring.states.graph.profile ≡ l.fn.exploring.states.graph.profile;
   bounds : l.exploring.states.graph.bounds ≡ l.fn.exploring.states.graph.bounds;
   most : l.exploring.most ≡ l.fn.exploring.most;
   works : g.O.Sink.broken l.out ≡ false;

@@ -13,7 +13,7 @@ returns-clause-first g c =
     let guest = c.args.image.now in
     let cs = map as_condition c.args.plan.now.conditions.now in
     subst (λ z. IsFirst guest cs c.in_ok-explored.explored.states.graph.flats.items z c.in_ok-first.first) c.as_slice.ensures.value
-    (c.in_ok-first.ensures guest c.in_ok-explored.ensures.known.reached)
+    (c.in_ok-first.ensures guest c.args.plan.now.explore.profile c.in_ok-explored.ensures.known.reached)
 
 pub returns-clause-known : goal.returns-clause-known
 returns-clause-known g c =
