@@ -4,7 +4,7 @@ ghost use Rattle.std.specs.Prelude.{◌≤◌, IfOk};
 
 use crate::asked::{Asked, Print};
 use crate::conditions::outcome_conditions_of;
-use crate::recording::{OUTPUT, output_arg};
+use crate::recording::{OUTPUT, output_arg, profile_arg, profile_in};
 use crate::values::{IMAGE, TRACE, UNTIL, file_arg, given_text, text_of};
 use clap::{Arg, ArgAction, ArgMatches, Command};
 use ir_explore_run::ExplorePlan;
@@ -14,8 +14,10 @@ use std::alloc::{AllocError, Global};
 /// What follows the help of `ir explore`.
 pub const EXPLORE_AFTER: &str =
     "The outcome of a run is how each thread ended, with which code, what it printed, and the words of each object. Each different
-outcome of the guest is printed once, by rising number of switches: how often another thread makes the next entry.
-  outcome K switches C order LIST                `ir record --order LIST` records a run that has it, in a budget that suffices
+outcome of the guest is printed once, as it is found, by rising number of switches: how often another thread makes the next
+entry, or tries to. A try may be refused, which is `T!` in LIST, or enter if no thread is in the object.
+  outcome K switches C order LIST                `ir record --order LIST` with the same profile records a run that has it, in a
+                                                 budget that suffices
   thread T end E code C out N                    each thread; then the N bytes that it printed, up to 32 a line
   object O words W0 W1 ..                        each object whose words aren't its first words
   hang switches C order LIST                     LIST leads to where no run comes to an end any more, if there is such a place
@@ -26,20 +28,21 @@ The last line says how the search ended, by K outcomes and N states in which eac
   stopped WHY covered C outcomes K states N      it stopped before: what is printed is right, and complete up to C switches; `-`
                                                  is for not at all. WHY is `states`, there are as many as there may be; `private
                                                  T`, thread T took as many steps without an entry as it may; `world T`, thread T
-                                                 calls CLOCK, RANDOM or INPUT, or `try T`, TRY_WRITE, which can't be explored
-                                                 yet; `log T`, a log is full; `order N`; or `memory`
+                                                 calls CLOCK, RANDOM or INPUT, which can't be explored yet; `log T`, a log is
+                                                 full; `order N`; or `memory`
 Runs in which a budget is spent or a log is full have no outcome. What a thread has changed in its private memory is kept
 once for all states in which the thread is the same. At a terminal standard error shows once a second how many states were
 found, after how many switches, and how many outcomes by the end of the level before.
 With TRACE and COND the outcomes are printed up to the first that fulfils each COND, and the search ends there. Then come
   found outcome K switches C order LIST          no complete run of fewer than C switches has an outcome that fulfils them
-and the lines of `ir record`. TRACE is written as `ir record IMAGE TRACE --order LIST --budget 1000000000000` writes it.
+and the lines of `ir record`. TRACE is written as `ir record IMAGE TRACE --order LIST --budget 1000000000000` writes it, with
+the same profile.
 If none fulfils them, the lines are those without COND, and TRACE isn't written. After `finished` no complete run of the guest
 has an outcome that does, and after `covered C` and `stopped WHY covered C` none of at most C switches. COND is one argument, as in
 `ir hunt`: `end T E`, `code T V`, `word O I V`, `out T TEXT`, `fault`, or one of them after `!`.
 Exit status: 0 finished or covered, 1 a file that can't be read or written, memory or standard output that can't be written,
-2 bad arguments, 3 a refused image, or a guest with more than 8 threads or 16 objects, or a COND about what the guest hasn't,
-5 stopped. With COND: 0 found, 5 none was found.
+2 bad arguments, 3 a refused image, or a guest with more threads or objects than the profile takes, or a COND about what the
+guest hasn't, 5 stopped. With COND: 0 found, 5 none was found.
 ";
 
 const STATES: &str = "states";
@@ -120,6 +123,7 @@ pub fn with_arguments<'a>(alloc: Global, command: Command<'a>) -> Result<Command
         .arg(states_arg(alloc))?
         .arg(switches_arg(alloc))?
         .arg(private_arg(alloc))?
+        .arg(profile_arg(alloc))?
         .arg(output_arg(alloc).requires_arg(UNTIL)?)
 }
 
@@ -179,7 +183,16 @@ fn plan_of(
         Ok(switches) => switches,
         Err(why) => return Ok(Err(why)),
     };
-    Ok(Ok(ExplorePlan::new(states as usize, private, switches)))
+    let profile = match profile_in(alloc, matches)? {
+        Ok(profile) => profile,
+        Err(why) => return Ok(Err(why)),
+    };
+    Ok(Ok(ExplorePlan::new(
+        states as usize,
+        private,
+        switches,
+        profile,
+    )))
 }
 
 /// What its arguments ask for.

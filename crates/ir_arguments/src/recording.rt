@@ -69,7 +69,8 @@ fn random_arg<'a>(alloc: Global) -> Arg<'a> {
         .help("Where random words start, at most 18446744073709551615")
 }
 
-fn profile_arg<'a>(alloc: Global) -> Arg<'a> {
+/// The option that says which system calls there are.
+pub fn profile_arg<'a>(alloc: Global) -> Arg<'a> {
     Arg::new(alloc, PROFILE)
         .long(PROFILE)
         .value_name("P")
@@ -127,6 +128,18 @@ fn no_profile(alloc: Global, option: &str, value: &str) -> Result<String, AllocE
     format!(in alloc; "--{option}: '{value}' is neither 1 nor 2")
 }
 
+/// The profile that its option names, or else what is wrong with it.
+pub fn profile_in(
+    alloc: Global,
+    matches: &ArgMatches<'_>,
+) -> Result<Result<Profile, String>, AllocError> {
+    let profile = matches.get_str(PROFILE).unwrap_or_default();
+    match profile_of(profile) {
+        Some(calls) => Ok(Ok(calls)),
+        None => Ok(Err(no_profile(alloc, PROFILE, profile)?)),
+    }
+}
+
 /// The values of these options, or else what is wrong with one.
 pub fn options_of(
     alloc: Global,
@@ -140,9 +153,9 @@ pub fn options_of(
     let Some(start) = number_within(0, u64::MAX, random) else {
         return Ok(Err(no_number(alloc, RANDOM, random, u64::MAX)?));
     };
-    let profile = matches.get_str(PROFILE).unwrap_or_default();
-    let Some(calls) = profile_of(profile) else {
-        return Ok(Err(no_profile(alloc, PROFILE, profile)?));
+    let calls = match profile_in(alloc, matches)? {
+        Ok(calls) => calls,
+        Err(why) => return Ok(Err(why)),
     };
     Ok(Ok(RecordingOptions {
         budget: most,

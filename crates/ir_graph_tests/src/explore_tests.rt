@@ -6,6 +6,7 @@ use ir_asm::assemble;
 use ir_explore::Unobserved;
 use ir_explore_run::{ExplorePlan, explore_run};
 use ir_image::write_image;
+use ir_thread::Profile;
 use std::test::Fail;
 
 const BOTH: &[u8] = b"outcome 1 switches 1 order 1x25,0x25
@@ -58,7 +59,11 @@ fn explored(rt: &HostRuntime, text: &str, plan: ExplorePlan) -> Result<(u8, Page
 
 #[test]
 fn a_lost_update_is_printed_with_both_orders(rt: HostRuntime) -> Result<(), Fail> {
-    let (status, out, faults) = explored(&rt, LOST_UPDATE, ExplorePlan::new(100, 1000, 100))?;
+    let (status, out, faults) = explored(
+        &rt,
+        LOST_UPDATE,
+        ExplorePlan::new(100, 1000, 100, Profile::One),
+    )?;
     assert_eq!(rt; out.bytes.as_slice(), BOTH);
     assert_eq!(rt; status, 0);
     assert!(rt; faults.bytes.is_empty());
@@ -67,7 +72,11 @@ fn a_lost_update_is_printed_with_both_orders(rt: HostRuntime) -> Result<(), Fail
 
 #[test]
 fn with_one_switch_the_first_is_printed(rt: HostRuntime) -> Result<(), Fail> {
-    let (status, out, _) = explored(&rt, LOST_UPDATE, ExplorePlan::new(100, 1000, 1))?;
+    let (status, out, _) = explored(
+        &rt,
+        LOST_UPDATE,
+        ExplorePlan::new(100, 1000, 1, Profile::One),
+    )?;
     assert_eq!(rt; out.bytes.as_slice(), FIRST);
     assert_eq!(rt; status, 0);
     Ok(())
@@ -75,7 +84,11 @@ fn with_one_switch_the_first_is_printed(rt: HostRuntime) -> Result<(), Fail> {
 
 #[test]
 fn too_many_states_stop_it(rt: HostRuntime) -> Result<(), Fail> {
-    let (status, out, _) = explored(&rt, LOST_UPDATE, ExplorePlan::new(3, 1000, 100))?;
+    let (status, out, _) = explored(
+        &rt,
+        LOST_UPDATE,
+        ExplorePlan::new(3, 1000, 100, Profile::One),
+    )?;
     assert!(rt; out.bytes.as_slice().starts_with(b"stopped states covered "));
     assert_eq!(rt; status, 5);
     Ok(())
@@ -83,7 +96,11 @@ fn too_many_states_stop_it(rt: HostRuntime) -> Result<(), Fail> {
 
 #[test]
 fn a_thread_that_goes_on_for_ever_stops_it(rt: HostRuntime) -> Result<(), Fail> {
-    let (status, out, _) = explored(&rt, ENDLESS_LOOP, ExplorePlan::new(100, 1000, 100))?;
+    let (status, out, _) = explored(
+        &rt,
+        ENDLESS_LOOP,
+        ExplorePlan::new(100, 1000, 100, Profile::One),
+    )?;
     assert_eq!(rt;
         out.bytes.as_slice(),
         b"stopped private 0 covered - outcomes 0 states 0\n".as_slice()
@@ -94,7 +111,7 @@ fn a_thread_that_goes_on_for_ever_stops_it(rt: HostRuntime) -> Result<(), Fail> 
 
 #[test]
 fn what_is_printed_by_threads_is_shown(rt: HostRuntime) -> Result<(), Fail> {
-    let (status, out, _) = explored(&rt, PRINTS, ExplorePlan::new(100, 1000, 100))?;
+    let (status, out, _) = explored(&rt, PRINTS, ExplorePlan::new(100, 1000, 100, Profile::One))?;
     assert_eq!(rt; out.bytes.as_slice(), PRINTED);
     assert_eq!(rt; status, 0);
     Ok(())
@@ -102,7 +119,7 @@ fn what_is_printed_by_threads_is_shown(rt: HostRuntime) -> Result<(), Fail> {
 
 #[test]
 fn a_thread_that_waits_for_what_never_comes_hangs(rt: HostRuntime) -> Result<(), Fail> {
-    let (status, out, _) = explored(&rt, POLLS, ExplorePlan::new(100, 1000, 100))?;
+    let (status, out, _) = explored(&rt, POLLS, ExplorePlan::new(100, 1000, 100, Profile::One))?;
     assert_eq!(rt; out.bytes.as_slice(), HANGING);
     assert_eq!(rt; status, 0);
     Ok(())
@@ -112,7 +129,7 @@ fn a_thread_that_waits_for_what_never_comes_hangs(rt: HostRuntime) -> Result<(),
 fn bytes_that_are_no_image_are_refused(rt: HostRuntime) {
     let mut out = empty_page(&rt, 1000, ENDLESS);
     let mut faults = empty_page(&rt, 1000, ENDLESS);
-    let plan = ExplorePlan::new(100, 1000, 100);
+    let plan = ExplorePlan::new(100, 1000, 100, Profile::One);
     let status = explore_run(
         rt.alloc(),
         b"no image",

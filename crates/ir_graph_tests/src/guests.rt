@@ -195,8 +195,15 @@ main:   addi a7, zero, 12
 pub fn guest(alloc: Global, text: &str) -> Result<Image, Fail>
     ensures { IfOk result (λ image. IsAllowed One image) }
 {
+    guest_of(alloc, text, Profile::One)
+}
+
+// The guest of a text, with the calls of a profile.
+pub fn guest_of(alloc: Global, text: &str, profile: Profile) -> Result<Image, Fail>
+    ensures { IfOk result (λ image. IsAllowed profile image) }
+{
     let image = assemble(alloc, text)?;
-    if !Profile::One.allows(&image) {
+    if !profile.allows(&image) {
         return Err(Fail::from("too many threads or objects"));
     }
     Ok(image)
@@ -210,7 +217,7 @@ pub fn explored<'a>(alloc: Global, image: &'a Image, switches: usize) -> Result<
         nodes: 200,
         private: 1000,
     };
-    match explore(alloc, image, bounds, switches, &Unobserved) {
+    match explore(alloc, image, Profile::One, bounds, switches, &Unobserved) {
         Ok(found) => Ok(found),
         Err(_) => Err(Fail::from("no search")),
     }

@@ -4,6 +4,7 @@ use crate::guests::{LOST_UPDATE, LOST_WAKE_UP, guest};
 use ir_explore::{Ended, Unobserved};
 use ir_graph::Bounds;
 use ir_outcomes::explore;
+use ir_thread::Profile;
 use std::test::Fail;
 
 const BOUNDS: Bounds = Bounds {
@@ -15,7 +16,7 @@ const BOUNDS: Bounds = Bounds {
 fn a_lost_wake_up_hangs_after_one_switch(rt: HostRuntime) -> Result<(), Fail> {
     let alloc = rt.alloc();
     let image = guest(alloc, LOST_WAKE_UP)?;
-    let Ok(found) = explore(alloc, &image, BOUNDS, 100, &Unobserved) else {
+    let Ok(found) = explore(alloc, &image, Profile::One, BOUNDS, 100, &Unobserved) else {
         return Err(Fail::from("no search"));
     };
     assert!(rt; found.ended == Ended::Finished);
@@ -37,7 +38,7 @@ fn a_lost_wake_up_hangs_after_one_switch(rt: HostRuntime) -> Result<(), Fail> {
 fn a_lost_update_never_hangs(rt: HostRuntime) -> Result<(), Fail> {
     let alloc = rt.alloc();
     let image = guest(alloc, LOST_UPDATE)?;
-    let Ok(found) = explore(alloc, &image, BOUNDS, 100, &Unobserved) else {
+    let Ok(found) = explore(alloc, &image, Profile::One, BOUNDS, 100, &Unobserved) else {
         return Err(Fail::from("no search"));
     };
     assert_eq!(rt; found.hangs, 0);
@@ -49,7 +50,7 @@ fn a_lost_update_never_hangs(rt: HostRuntime) -> Result<(), Fail> {
 fn hangs_are_sought_only_once_it_is_finished(rt: HostRuntime) -> Result<(), Fail> {
     let alloc = rt.alloc();
     let image = guest(alloc, LOST_WAKE_UP)?;
-    let Ok(found) = explore(alloc, &image, BOUNDS, 1, &Unobserved) else {
+    let Ok(found) = explore(alloc, &image, Profile::One, BOUNDS, 1, &Unobserved) else {
         return Err(Fail::from("no search"));
     };
     assert!(rt; found.ended == Ended::Covered);

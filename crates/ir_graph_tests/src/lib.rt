@@ -11,3 +11,5 @@ mod hang_tests;
 mod page;
 #[cfg(test)]
 mod states_tests;
+#[cfg(test)]
+mod try_tests;
