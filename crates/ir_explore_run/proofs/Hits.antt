@@ -11,7 +11,7 @@ use Rattle.ir_graph.specs.Outcomes.{outcome_of}
 use Rattle.ir_graph.specs.Plain.{result_by}
 use Rattle.ir_graph.specs.Reached.{beginning}
 use Rattle.ir_image.specs.Guest.{Guest, guest_at}
-use Rattle.ir_order.proofs.CallerLemmas.{complete_runs_have_steps, recordings_are_of_the_run}
+use Rattle.ir_order.proofs.CallerLemmas.{complete_runs_have_steps, recordings_in_turns}
 use Rattle.ir_order.specs.Spelling.{SpellsTurns}
 use Rattle.ir_outcomes.specs.Again.{steps_of}
 use Rattle.ir_outcomes.specs.Explored.{IsAt, AreExplored}
@@ -100,6 +100,6 @@ recording_of_hit_is_finding image profile cs list text trace outputs guest is fo
   guest = guest;
   is = is;
   found = found;
-  recorded = recordings_are_of_the_run image guest (recording profile (Some list)) list found.hit.turns found.hit.run trace outputs is refl found.hit.spelled
+  recorded = recordings_in_turns image guest (recording profile (Some list)) list found.hit.turns found.hit.run trace outputs is refl found.hit.spelled
       found.hit.planned r;
 }

@@ -13,12 +13,13 @@ use Rattle.ir_outcomes.specs.declared.shown.Shown.{Shown}
 use Rattle.ir_files.specs.Writers.{Writer, Took, Failed}
 use Rattle.ir_files.specs.declared.exit_status.ExitStatus.{ExitStatus}
 use Rattle.ir_image.specs.Guest.{Guest}
-use Rattle.ir_outcomes.specs.Explored.{AreExplored}
+use Rattle.ir_outcomes.specs.Explored.{AreExplored, IsExplored}
+use Rattle.ir_outcomes.specs.declared.explored.Explored.{Explored}
 use Rattle.ir_outcomes.specs.declared.exploring.Exploring.{Exploring}
 use Rattle.ir_outcomes.proofs.CallerLemmas.{none_explored}
 use Rattle.ir_explore_run.specs.Faults.{StopsPrinting}
-use Rattle.ir_explore_run.specs.Printing.{HasPrinted, EndsEarly}
-use Rattle.ir_explore_run.specs.Texts.{Objects, objects_of, IsPart, IsAnswerAbout}
+use Rattle.ir_explore_run.specs.Printing.{HasPrinted}
+use Rattle.ir_explore_run.specs.Texts.{Objects, objects_of, AreTexts, IsPart, AreKnown, known_of, IsEnding, IsAnswerAbout}
 use Rattle.ir_explore_run.specs.declared.fault.ExploreFault.TheVariants.{NoMem, Write}
 use Rattle.ir_explore_run.specs.declared.plan.ExplorePlan.{ExplorePlan}
 use Rattle.ir_explore_run.proofs.Joined.{texts_of_no_outcome, texts_among_more}
@@ -78,3 +79,35 @@ pub failed_after_taken_text : (w : Writer) (mid : Option (List ℕ)) (done text 
     → w.failed ≡ true → Failed w (done ++ text)
 failed_after_taken_text w mid done text took prefix broken =
     (appends_prefix_after_whole_text {A = ℕ} {E = ℕ} (Err 0) w.before mid w.after done text took prefix, broken)
+
+-- what is known of a guest once it is explored
+pub explored_is_known : (guest : Guest) (plan : ExplorePlan) (e : Explored) → IsExplored guest plan.profile plan.bounds plan.switches e
+    → AreKnown guest plan (known_of e)
+explored_is_known guest plan e is = record {
+  explored = is.explored;
+  all = is.all;
+  reached = is.reached;
+  hanging = is.hangs;
+  unknown = is.unknown;
+  covered = is.covered;
+  stopped = is.stopped;
+}
+
+-- the lines of all outcomes and then how the search ended are the answer
+pub answer_of_lines_and_ending : (guest : Guest) (plan : ExplorePlan) (o : Objects) (s : Exploring) (e : Explored) (lines last : List ℕ)
+    (answered : ExitStatus) → o ≡ objects_of guest → e.states.graph.flats.items ≡ s.states.graph.flats.items
+    → e.outcomes.items ≡ s.list.outcomes.items → IsExplored guest plan.profile plan.bounds plan.switches e
+    → HasPrinted o s (length s.list.outcomes.items) lines → IsEnding (known_of e) answered last → IsAnswerAbout guest plan answered (lines ++ last)
+answer_of_lines_and_ending guest plan o s e lines last answered same flats outcomes is printed ending = inl (
+  known_of e,
+  explored_is_known guest plan e is,
+  record {
+    lines = lines;
+    texts = subst (λ z. AreTexts (objects_of guest) z e.outcomes.items (length e.outcomes.items) lines) (sym flats)
+        (subst (λ z. AreTexts (objects_of guest) s.states.graph.flats.items z (length z) lines) (sym outcomes)
+        (subst (λ z. HasPrinted z s (length s.list.outcomes.items) lines) same printed));
+    last_lines = last;
+    ending = ending;
+    whole = refl;
+  },
+)

@@ -1,5 +1,5 @@
 -- Outcomes that are printed while a search for them goes on.
-use Rattle.std.specs.Prelude.{◌≡◌, ℕ, List}
+use Rattle.std.specs.Prelude.{ℕ, List}
 use Rattle.ir_files.specs.Writers.{Writer, Took, Failed}
 use Rattle.ir_image.specs.Guest.{Guest}
 use Rattle.ir_outcomes.specs.declared.exploring.Exploring.{Exploring}

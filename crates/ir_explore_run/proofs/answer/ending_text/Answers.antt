@@ -1,4 +1,4 @@
-use Rattle.std.proofs.Common.{◌≡◌, ◌++◌, length, ap, ◌∙◌}
+use Rattle.std.proofs.Common.{◌≡◌, ◌++◌, length, ◌∙◌}
 use Rattle.std.specs.String.{string_bytes}
 use Rattle.ir_explore_run.specs.Texts.{end_line}
 use Rattle.ir_explore_run.proofs.answer.ending_text.Goals as goal

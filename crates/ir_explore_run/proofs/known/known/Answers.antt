@@ -1,12 +1,5 @@
+use Rattle.ir_explore_run.proofs.Printed.{explored_is_known}
 use Rattle.ir_explore_run.proofs.known.known.Goals as goal
 
 pub returns-clause-known : goal.returns-clause-known
-returns-clause-known g c = record {
-  explored = c.in_ok-explored.ensures.explored.explored;
-  all = c.in_ok-explored.ensures.explored.all;
-  reached = c.in_ok-explored.ensures.explored.reached;
-  hanging = c.in_ok-explored.ensures.explored.hangs;
-  unknown = c.in_ok-explored.ensures.explored.unknown;
-  covered = c.in_ok-explored.ensures.explored.covered;
-  stopped = c.in_ok-explored.ensures.explored.stopped;
-}
+returns-clause-known g c = explored_is_known c.args.image.now c.args.plan c.in_ok-explored.explored c.in_ok-explored.ensures.explored
