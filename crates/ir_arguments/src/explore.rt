@@ -14,22 +14,24 @@ use std::alloc::{AllocError, Global};
 /// What follows the help of `ir explore`.
 pub const EXPLORE_AFTER: &str =
     "The outcome of a run is how each thread ended, with which code, what it printed, and the words of each object. Each different
-outcome of the guest is printed once, as it is found, by rising number of switches: how often another thread makes the next
-entry, or tries to. A try may be refused, which is `T!` in LIST, or enter if no thread is in the object.
+outcome of the guest is printed once, without TRACE as it is found, by rising number of switches: how often another thread makes
+the next entry, or tries to. A try may be refused, which is `T!` in LIST, or enter if no thread is in the object.
   outcome K switches C order LIST                `ir record --order LIST` with the same profile records a run that has it, in a
                                                  budget that suffices
   thread T end E code C out N                    each thread; then the N bytes that it printed, up to 32 a line
   object O words W0 W1 ..                        each object whose words aren't its first words
   hang switches C order LIST                     LIST leads to where no run comes to an end any more, if there is such a place
-The last line says how the search ended, by K outcomes and N states in which each thread is before an entry or done:
+The last line says how the search ended, by K outcomes and N states in which each thread is before an entry or a try, or
+done:
   finished outcomes K states N hangs H           all outcomes are printed: each complete run of the guest has one of them. From H
                                                  states no run comes to an end any more
   covered C outcomes K states N                  all outcomes of runs of at most C switches are, as --switches C wants
   stopped WHY covered C outcomes K states N      it stopped before: what is printed is right, and complete up to C switches; `-`
                                                  is for not at all. WHY is `states`, there are as many as there may be; `private
-                                                 T`, thread T took as many steps without an entry as it may; `world T`, thread T
-                                                 calls CLOCK, RANDOM or INPUT, which can't be explored yet; `log T`, a log is
-                                                 full; `order N`; or `memory`
+                                                 T`, thread T took as many steps without an entry or a try as it may; `world T`,
+                                                 thread T calls CLOCK, RANDOM or INPUT, which can't be explored yet; `log T`, a
+                                                 log is full; `order N`; or `memory`
+Without a last line, after a fault, what is printed is right, but nothing says how complete it is.
 Runs in which a budget is spent or a log is full have no outcome. What a thread has changed in its private memory is kept
 once for all states in which the thread is the same. At a terminal standard error shows once a second how many states were
 found, after how many switches, and how many outcomes by the end of the level before.
@@ -111,7 +113,7 @@ fn private_arg<'a>(alloc: Global) -> Arg<'a> {
         .value_name("N")
         .default_value("1000000")
         .allow_negative_numbers(true)
-        .help("The most steps of a thread up to its next entry, from 1 to 1000000000000")
+        .help("The most steps of a thread up to its next entry or try, from 1 to 1000000000000")
 }
 
 /// The command with its arguments.
@@ -187,12 +189,7 @@ fn plan_of(
         Ok(profile) => profile,
         Err(why) => return Ok(Err(why)),
     };
-    Ok(Ok(ExplorePlan::new(
-        states as usize,
-        private,
-        switches,
-        profile,
-    )))
+    Ok(Ok(ExplorePlan::new(states as usize, private, switches, profile)))
 }
 
 /// What its arguments ask for.
