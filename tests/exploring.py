@@ -376,7 +376,26 @@ def check_examples(folder):
         wants(name, lines[-1], f"finished outcomes {outcomes} states {states} hangs 0")
 
 
-# `ir explore` with conditions, in a folder with two images: what it is called with, its status, and the last lines that it prints. TRACE is
+# Two threads that try once. Each ends with code 1 if it entered, else with code 2.
+TRIES = """        .objects 1
+        .thread main
+        .thread main
+main:   addi a0, zero, 0
+        addi a7, zero, 13       # TRY_WRITE
+        ecall
+        beq a0, zero, no
+        addi a0, zero, 0
+        addi a7, zero, 9
+        ecall
+        addi a0, zero, 1
+        addi a7, zero, 1
+        ecall
+no:     addi a0, zero, 2
+        addi a7, zero, 1
+        ecall
+"""
+
+# `ir explore` with conditions, in a folder with three images: what it is called with, its status, and the last lines that it prints. TRACE is
 # written only with status 0.
 UNTIL = (
     ("lost.img", ["!word 0 0 2"], 0, ["found outcome 2 switches 2 order 0x13,1x25,0x12",
@@ -391,12 +410,16 @@ UNTIL = (
     ("lost.img --switches 2", ["!word 0 0 2"], 0, ["thread 1 end 1 code 0 steps 25 events 2"]),
     ("lost.img --states 3", ["!word 0 0 2"], 5, []),
     ("counter.img", ["!word 0 0 4"], 5, ["finished outcomes 1 states 16 hangs 0"]),
+    ("tries.img --profile 2", ["code 0 2", "code 1 2"], 0, ["found outcome 4 switches 1 order 1x2,1!x5,0x2,0!x5",
+                                                            "thread 0 end 1 code 2 steps 7 events 1", "thread 1 end 1 code 2 steps 7 events 1"]),
+    ("tries.img --profile 2", ["code 0 3"], 5, ["finished outcomes 4 states 9 hangs 0"]),
 )
 # What is refused, with its status and what standard error says.
 NO_UNTIL = (
     ("lost.img x.trc", 2, "--until"),
     ("lost.img --until fault", 2, "TRACE"),
     ("lost.img --output x", 2, "--until"),
+    ("lost.img --profile 3", 2, "neither 1 nor 2"),
     ("lost.img x.trc --until budget", 2, "no budget ends a run"),
     ("lost.img x.trc --until '!budget'", 2, "no budget ends a run"),
     ("lost.img x.trc --until stale", 2, "`ir hunt` looks for it"),
@@ -424,7 +447,8 @@ def check_until(folder, row):
     wants(f"trace of {row}", (folder / "until.trc").exists(), status == 0)
     if status == 0:
         order = next(line.split()[-1] for line in lines if line.startswith("found "))
-        again = run(["record", image, "again.trc", "--order", order, "--budget", str(10**12)], folder)
+        profile = more[more.index("--profile"):][:2] if "--profile" in more else []
+        again = run(["record", image, "again.trc", "--order", order, "--budget", str(10**12), *profile], folder)
         wants(f"recording of {order}", again.stdout.decode().splitlines(), lines[-len(again.stdout.splitlines()):])
         wants(f"trace by {order}", (folder / "until.trc").read_bytes(), (folder / "again.trc").read_bytes())
 
@@ -455,6 +479,16 @@ def check_until_failures(folder):
     wants("outputs", (ended.returncode, sorted(path.name for path in folder.glob("k.[0-9]"))), (0, ["k.0", "k.1"]))
 
 
+def check_as_found(folder):
+    """The first outcome is printed while a long search goes on."""
+    assembled(folder, "long", source_of([ROUND * 3] * 4, 1))
+    words = [program(), "explore", "long.img", "--states", "3000000"]
+    with subprocess.Popen(words, cwd=folder, stdout=subprocess.PIPE) as search:
+        first, running = search.stdout.readline(), search.poll() is None
+        search.kill()
+    wants("the first line of a long search", (first[:10], running), (b"outcome 1 ", True))
+
+
 def main():
     parser = parser_of(__doc__)
     parser.add_argument("--guests", type=int, default=500, help="how many random guests")
@@ -467,10 +501,11 @@ def main():
         folder = Path(place)
         for name, example in (("lost", "lost_update"), ("counter", "counter")):
             assembled(folder, name, examples()[example])
+        assembled(folder, "tries", TRIES)
         (folder / "ir").symlink_to(program())
         checks = [lambda: check_examples(folder), lambda: check_guest(folder, LOST_WAKE_UP, 1),
                   *(lambda row=row: check_until(folder, row) for row in UNTIL),
-                  *(lambda row=row: check_no_until(folder, row) for row in NO_UNTIL), lambda: check_until_failures(folder),
+                  *(lambda row=row: check_no_until(folder, row) for row in NO_UNTIL), lambda: check_until_failures(folder), lambda: check_as_found(folder),
                   *(lambda row=row: check_on_paper(folder, row) for row in ON_PAPER),
                   *(lambda: check_guest(folder, *random_guest(chance)) for _ in range(asked.guests)),
                   *(lambda: check_guest(folder, *random_guest(chance, 0.6)) for _ in range(asked.tries))]
