@@ -3,6 +3,7 @@
 ghost use Rattle.std.specs.Prelude.{◌≡◌, ◌⊎◌, ℕ, Bool, ◌<◌, ◌+◌, ◌++◌, List, [], length, replicate, IfOk, IfErr, OnOk};
 ghost use Rattle.ir_image.specs.Guest.{Guest};
 ghost use Rattle.ir_explore.specs.declared.stop.Stop.TheVariants.{Memory, Order};
+ghost use Rattle.ir_explore.specs.Origins.{AreWaysOf};
 ghost use Rattle.ir_flat.specs.Flat.{thread_of, start_flat};
 ghost use Rattle.ir_graph.specs.Plain.{Rests, result_by};
 ghost use Rattle.ir_graph.specs.Turn.{GoesAlone};
@@ -100,7 +101,7 @@ fn add_refusal(
     refusal: Refusal,
     limit: u64,
 ) -> Result<(), Stop>
-    ensures { OnOk result ((guest : Guest) (profile : Profile) (before : List ℕ) → IsAgain guest profile (turns_of_items items.old.items) before flat.old → (n : ℕ) × IsAgain guest profile (turns_of_items items.new.items) (before ++ replicate n thread) flat.new) }
+    ensures { OnOk result ((guest : Guest) (profile : Profile) (before : List ℕ) → IsAgain guest profile (turns_of_items items.old.items) before flat.old → IsAgain guest profile (turns_of_items items.new.items) (before ++ replicate (refusal.entries + 1) thread) flat.new) }
 {
     let entries = Leg {
         thread,
@@ -126,7 +127,7 @@ fn add_turn(
     origin: Origin,
     limit: u64,
 ) -> Result<(), Stop>
-    ensures { OnOk result ((guest : Guest) (profile : Profile) (before : List ℕ) → IsAgain guest profile (turns_of_items items.old.items) before flat.old → (n : ℕ) × IsAgain guest profile (turns_of_items items.new.items) (before ++ replicate n origin.thread) flat.new) }
+    ensures { OnOk result ((guest : Guest) (profile : Profile) (before : List ℕ) → IsAgain guest profile (turns_of_items items.old.items) before flat.old → (ways : List Bool) × AreWaysOf table.now origin ways × IsAgain guest profile (turns_of_items items.new.items) (before ++ replicate (length ways) origin.thread) flat.new) }
 {
     let thread = origin.thread as usize;
     let refusals = refusals_to(alloc, table, origin.refusals as usize)?;
