@@ -40,7 +40,7 @@ finished outcomes 0 states 1 hangs 1
 ";
 
 // What is printed of a guest: the exit status, the lines and the faults.
-fn explored(rt: &HostRuntime, text: &str, plan: ExplorePlan) -> Result<(u8, Page, Page), Fail> {
+pub fn printed(rt: &HostRuntime, text: &str, plan: ExplorePlan) -> Result<(u8, Page, Page), Fail> {
     let alloc = rt.alloc();
     let image = assemble(alloc, text)?;
     let bytes = write_image(alloc, &image)?;
@@ -59,7 +59,7 @@ fn explored(rt: &HostRuntime, text: &str, plan: ExplorePlan) -> Result<(u8, Page
 
 #[test]
 fn a_lost_update_is_printed_with_both_orders(rt: HostRuntime) -> Result<(), Fail> {
-    let (status, out, faults) = explored(
+    let (status, out, faults) = printed(
         &rt,
         LOST_UPDATE,
         ExplorePlan::new(100, 1000, 100, Profile::One),
@@ -72,7 +72,7 @@ fn a_lost_update_is_printed_with_both_orders(rt: HostRuntime) -> Result<(), Fail
 
 #[test]
 fn with_one_switch_the_first_is_printed(rt: HostRuntime) -> Result<(), Fail> {
-    let (status, out, _) = explored(
+    let (status, out, _) = printed(
         &rt,
         LOST_UPDATE,
         ExplorePlan::new(100, 1000, 1, Profile::One),
@@ -84,7 +84,7 @@ fn with_one_switch_the_first_is_printed(rt: HostRuntime) -> Result<(), Fail> {
 
 #[test]
 fn too_many_states_stop_it(rt: HostRuntime) -> Result<(), Fail> {
-    let (status, out, _) = explored(
+    let (status, out, _) = printed(
         &rt,
         LOST_UPDATE,
         ExplorePlan::new(3, 1000, 100, Profile::One),
@@ -96,7 +96,7 @@ fn too_many_states_stop_it(rt: HostRuntime) -> Result<(), Fail> {
 
 #[test]
 fn a_thread_that_goes_on_for_ever_stops_it(rt: HostRuntime) -> Result<(), Fail> {
-    let (status, out, _) = explored(
+    let (status, out, _) = printed(
         &rt,
         ENDLESS_LOOP,
         ExplorePlan::new(100, 1000, 100, Profile::One),
@@ -111,7 +111,7 @@ fn a_thread_that_goes_on_for_ever_stops_it(rt: HostRuntime) -> Result<(), Fail> 
 
 #[test]
 fn what_is_printed_by_threads_is_shown(rt: HostRuntime) -> Result<(), Fail> {
-    let (status, out, _) = explored(&rt, PRINTS, ExplorePlan::new(100, 1000, 100, Profile::One))?;
+    let (status, out, _) = printed(&rt, PRINTS, ExplorePlan::new(100, 1000, 100, Profile::One))?;
     assert_eq!(rt; out.bytes.as_slice(), PRINTED);
     assert_eq!(rt; status, 0);
     Ok(())
@@ -119,7 +119,7 @@ fn what_is_printed_by_threads_is_shown(rt: HostRuntime) -> Result<(), Fail> {
 
 #[test]
 fn a_thread_that_waits_for_what_never_comes_hangs(rt: HostRuntime) -> Result<(), Fail> {
-    let (status, out, _) = explored(&rt, POLLS, ExplorePlan::new(100, 1000, 100, Profile::One))?;
+    let (status, out, _) = printed(&rt, POLLS, ExplorePlan::new(100, 1000, 100, Profile::One))?;
     assert_eq!(rt; out.bytes.as_slice(), HANGING);
     assert_eq!(rt; status, 0);
     Ok(())

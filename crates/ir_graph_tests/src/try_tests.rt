@@ -3,13 +3,12 @@
 ghost use Rattle.ir_thread.specs.State.{IsAllowed};
 ghost use Rattle.ir_thread.specs.declared.profile.Profile.TheVariants.{Two};
 
+use crate::explore_tests::printed;
 use crate::guests::guest_of;
-use crate::page::{ENDLESS, Page, empty_page};
-use ir_asm::assemble;
 use ir_explore::{Ended, Unobserved};
-use ir_explore_run::{ExplorePlan, explore_run};
+use ir_explore_run::ExplorePlan;
 use ir_graph::Bounds;
-use ir_image::{Image, write_image};
+use ir_image::Image;
 use ir_outcomes::{Explored, explore};
 use ir_thread::Profile;
 use std::alloc::Global;
@@ -114,21 +113,9 @@ finished outcomes 4 states 9 hangs 0
 
 #[test]
 fn a_refused_try_has_a_mark_in_the_list(rt: HostRuntime) -> Result<(), Fail> {
-    let alloc = rt.alloc();
-    let image = assemble(alloc, TRY_ONCE)?;
-    let bytes = write_image(alloc, &image)?;
-    let mut out: Page = empty_page(&rt, 2000, ENDLESS);
-    let mut faults = empty_page(&rt, 1000, ENDLESS);
     let plan = ExplorePlan::new(100, 1000, 100, Profile::Two);
-    let status = explore_run(
-        alloc,
-        bytes.as_slice(),
-        plan,
-        &Unobserved,
-        &mut out,
-        &mut faults,
-    );
+    let (status, out, _) = printed(&rt, TRY_ONCE, plan)?;
     assert_eq!(rt; out.bytes.as_slice(), FOUR);
-    assert_eq!(rt; status.number(), 0);
+    assert_eq!(rt; status, 0);
     Ok(())
 }
