@@ -48,17 +48,24 @@ def counted(name, body, units, body_steps=None):
     return Guest(name, [f"lui t0, {units}", *loop, *END], 1 + (units << 12) * once + len(END))
 
 
-def of_one_thread():
-    """Guests of one thread that differ in what they do in a turn."""
-    yield counted("counted loop", [], 12200)
+def bodies():
+    """What guests of one thread do in a turn, in which they differ: a name, the body, the turns in units of 4,096, and the steps of a body
+    that jumps."""
     # Word t0 of an array of 64 KiB, from its last to its first, again and again.
     place = ["lui a1, 0x100", "slli a0, t0, 18", "srli a0, a0, 16", "add a0, a0, a1"]
-    yield counted("loads and stores", [*place, "lw a2, 0(a0)", "addi a2, a2, 1", "sw a2, 0(a0)"], 3000)
-    yield counted("multiply and divide", ["mul a0, t0, t0", "mulh a1, a0, t0", "div a2, a0, t0", "remu a3, a0, t0"], 4000)
     forks = ["bne t0, zero, .+8", "ecall", "blt t0, zero, .+8", "bgeu t0, zero, .+8", "ecall"]
-    yield counted("branches", forks, 4000, 3)
     calls = ["jal ra, .+12", "jal zero, .+16", "ecall", "addi a0, a0, 1", "jalr zero, 0(ra)"]
-    yield counted("calls", calls, 4000, 4)
+    yield "counted loop", [], 12200, None
+    yield "loads and stores", [*place, "lw a2, 0(a0)", "addi a2, a2, 1", "sw a2, 0(a0)"], 3000, None
+    yield "multiply and divide", ["mul a0, t0, t0", "mulh a1, a0, t0", "div a2, a0, t0", "remu a3, a0, t0"], 4000, None
+    yield "branches", forks, 4000, 3
+    yield "calls", calls, 4000, 4
+
+
+def of_one_thread():
+    """Guests of one thread that differ in what they do in a turn."""
+    for name, body, units, steps in bodies():
+        yield counted(name, body, units, steps)
 
 
 def entering(turns, units=32):
@@ -94,6 +101,16 @@ def side_by_side():
     yield entering_its_own(46).named("4 threads, an object each, an entry each 100 steps", 4, 4)
     yield entering(496, 4).named("8 threads, one object, an entry each 999 steps", 8, 1)
     yield entering(4).named("4 threads, one object, an entry each 15 steps", 4, 1)
+
+
+def private_alone():
+    """One thread of those that do private work only."""
+    return counted("", [], 3050).named("one thread, private work only", 1)
+
+
+def own_object_alone():
+    """One thread of those with an object each."""
+    return entering_its_own(46).named("one thread, an entry each 100 steps", 1, 1)
 
 
 def call(number, *arguments):

@@ -7,7 +7,7 @@ A guest is one thread with a loop around the operation. It is run with n turns a
 difference, without that of an empty loop, is the operation's cost, so that the figures repeat to the last digit for
 the same program. What sets a call's arguments counts with the call, at the cost of plain instructions. Prints a
 table: a row for each operation; a column for recording in order, recording by threads, fitting, and moving to the end.
-If valgrind isn't installed it says so, and ends with status 0.
+Then what a step costs on average in each guest of one thread that bench/speed.py times, with its loop. If valgrind isn't installed it says so, and ends with status 0.
 """
 import argparse
 import os
@@ -20,7 +20,7 @@ from concurrent.futures import ThreadPoolExecutor
 from itertools import product
 from pathlib import Path
 
-from guests import call
+from guests import bodies, call, counted
 
 # Turns of the shorter guest, in units of 4,096. The longer takes fewer than 2^19 steps, so that opening keeps no state on its way, and a move
 # to the end goes all the way.
@@ -52,7 +52,7 @@ def source(statements, before, units):
     return "\n".join([*lines, *call(1, 0)]) + "\n"
 
 
-def counted(words, lines=""):
+def host_instructions(words, lines=""):
     """The host instructions of a command."""
     run = subprocess.run(["valgrind", "--tool=callgrind", f"--callgrind-out-file={os.devnull}", *words], input=lines,
                          text=True, capture_output=True, check=False)
@@ -62,29 +62,44 @@ def counted(words, lines=""):
     return int(found[1])
 
 
-def cost(program, folder, operation, units):
+def cost(program, place, text):
     """What recording, fitting and moving cost for a guest: a count for each mode."""
-    name, statements, _, before = operation
-    place = Path(folder) / f"{OPERATIONS.index(operation)}-{units}"
-    text, image, trace = (place.with_suffix(suffix) for suffix in (".s", ".img", ".trc"))
-    text.write_text(source(statements, before, units), encoding="ascii")
-    subprocess.run([program, "asm", text, image], check=True)
-    in_order = counted([program, "record", image, trace, "--order", "0", *RECORD])
-    by_threads = counted([program, "record", image, trace, *RECORD])
-    fitting = counted([program, "debug", image, trace])
-    return in_order, by_threads, fitting, counted([program, "debug", image, trace], "end\n") - fitting
+    source_file, image, trace = (place.with_suffix(suffix) for suffix in (".s", ".img", ".trc"))
+    source_file.write_text(text, encoding="ascii")
+    subprocess.run([program, "asm", source_file, image], check=True)
+    in_order = host_instructions([program, "record", image, trace, "--order", "0", *RECORD])
+    by_threads = host_instructions([program, "record", image, trace, *RECORD])
+    fitting = host_instructions([program, "debug", image, trace])
+    return in_order, by_threads, fitting, host_instructions([program, "debug", image, trace], "end\n") - fitting
+
+
+def costs_of(program, jobs, texts):
+    """The cost of each of these guests."""
+    with tempfile.TemporaryDirectory() as folder, ThreadPoolExecutor(jobs) as pool:
+        return list(pool.map(lambda row: cost(program, Path(folder) / str(row[0]), row[1]), enumerate(texts)))
+
+
+def beyond(costs, turns):
+    """What each of these turns costs, by guests of n and of 2n turns: a row for each pair."""
+    return [[(more - few) / turns for few, more in zip(*pair)] for pair in zip(costs[::2], costs[1::2])]
 
 
 def table(program, jobs):
     """The cost of each operation beyond an empty turn, a row for each; the first is the empty turn itself."""
-    with tempfile.TemporaryDirectory() as folder, ThreadPoolExecutor(jobs) as pool:
-        sizes = list(product(OPERATIONS, (UNITS, 2 * UNITS)))
-        counts = list(pool.map(lambda size: cost(program, folder, *size), sizes))
-    turns = UNITS << 12
-    each = [[(more - few) / turns for few, more in zip(*pair)] for pair in zip(counts[::2], counts[1::2])]
+    texts = [source(statements, before, units) for (_, statements, _, before), units in product(OPERATIONS, (UNITS, 2 * UNITS))]
+    each = beyond(costs_of(program, jobs, texts), UNITS << 12)
     yield OPERATIONS[0][0], each[0]
     for (name, _, count, _), costs in zip(OPERATIONS[1:], each[1:]):
         yield name, [(with_it - without) / count for with_it, without in zip(costs, each[0])]
+
+
+def averages(program, jobs):
+    """What a step costs on average in each guest of one thread that is timed, with its loop; and the average over these guests."""
+    pairs = [[counted(name, body, units, steps) for units in (UNITS, 2 * UNITS)] for name, body, _, steps in bodies()]
+    costs = costs_of(program, jobs, [guest.source() for pair in pairs for guest in pair])
+    rows = [[cost / (more.steps - few.steps) for cost in row] for (few, more), row in zip(pairs, beyond(costs, 1))]
+    yield from ((few.name, row) for (few, _), row in zip(pairs, rows))
+    yield "their average", [sum(column) / len(rows) for column in zip(*rows)]
 
 
 def main():
@@ -95,10 +110,11 @@ def main():
     if not shutil.which("valgrind"):
         print("host instructions aren't counted: valgrind isn't installed")
         return
-    print("host instructions of each operation")
-    print(f"{'operation':24}" + "".join(f"{mode:>12}" for mode in MODES))
-    for name, costs in table(str(arguments.program.resolve()), arguments.jobs):
-        print(f"{name:24}" + "".join(f"{count:>12.1f}" for count in costs), flush=True)
+    program = str(arguments.program.resolve())
+    for head, rows in (("operation", table), ("a step of", averages)):
+        print(f"{head:24}" + "".join(f"{mode:>12}" for mode in MODES))
+        for name, costs in rows(program, arguments.jobs):
+            print(f"{name:24}" + "".join(f"{count:>12.1f}" for count in costs), flush=True)
 
 
 if __name__ == "__main__":

@@ -9,6 +9,7 @@ is taken off. Without PART all are measured:
 speeds      guests of 8 * 10^7 steps and more: by a session, by steps many at a time, and with each step asked and taken by itself
 traces      recording in order from file to file, fitting what was recorded, and replaying it from its start to its end
 by_threads  recording and replay by real threads beside the same in order
+processes   replay by one process and by four that share nothing: what the machine gives
 contended   the same of guests whose threads meet at one object, with thread switches; opening; the slowest of 50 moves to the end
 sessions    answers a second
 continuing  moves back, searches both ways and checkpoints, in milliseconds, the best of three; memory
@@ -165,22 +166,6 @@ def traces(programs):
         print(f"{guest.name:40}{steps:>12}" + "".join(f"{rate:>10.0f}" for rate in rates), flush=True)
 
 
-def by_threads(programs):
-    """Recording and replay by real threads beside the same in order. A replay is from the start to the end, without the fit before it. A
-    recording is from an image to a trace in memory, without the start of the program."""
-    print("by real threads beside in order, millions of steps of all threads a second")
-    print(f"{'guest':52}{'steps':>12}{'record':>10}{'threads':>10}{'ratio':>8}{'replay':>10}{'threads':>10}{'ratio':>8}")
-    base = programs.best([programs.bench], b"record\n" + programs.digits_of(guests.EMPTY), lambda out: True)
-    for guest in guests.side_by_side():
-        steps, image = guest.all_steps(), programs.digits_of(guest)
-        trace, _ = programs.record(guest)
-        both = image + trace.read_bytes().hex().encode() + b"\n"
-        times = [programs.best_of_bench(mode, image, steps) - base for mode in (b"record", b"record-threads")]
-        times += [programs.best_replay(mode, both, steps) for mode in (b"replay", b"replay-threads")]
-        a, b, c, d = (steps / seconds / 1e6 for seconds in times)
-        print(f"{guest.name:52}{steps:>12}{a:>10.0f}{b:>10.0f}{b / a:>8.2f}{c:>10.0f}{d:>10.0f}{d / c:>8.2f}", flush=True)
-
-
 def switches(words, data):
     """How often the threads of a command over this input were switched."""
     with subprocess.Popen(words, stdin=subprocess.PIPE, stdout=subprocess.DEVNULL) as run:
@@ -188,6 +173,49 @@ def switches(words, data):
         run.stdin.close()
         used = os.wait4(run.pid, 0)[2]
     return used.ru_nvcsw + used.ru_nivcsw
+
+
+def by_threads(programs):
+    """Recording and replay by real threads beside the same in order, with thread switches. A replay is from the start to the end, without the
+    fit before it. A recording is from an image to a trace in memory, without the start of the program."""
+    print("by real threads beside in order, millions of steps of all threads a second; switches of threads")
+    heads = ("record", "threads", "ratio", "switches", "replay", "threads", "ratio", "switches")
+    print(f"{'guest':52}{'steps':>12}" + "".join(f"{head:>10}" for head in heads))
+    base = programs.best([programs.bench], b"record\n" + programs.digits_of(guests.EMPTY), lambda out: True)
+    for guest in guests.side_by_side():
+        steps, image = guest.all_steps(), programs.digits_of(guest)
+        trace, _ = programs.record(guest)
+        both = image + trace.read_bytes().hex().encode() + b"\n"
+        times = [programs.best_of_bench(mode, image, steps) - base for mode in (b"record", b"record-threads")]
+        times += [programs.best_replay(mode, both, steps) for mode in (b"replay", b"replay-threads")]
+        counts = [switches([programs.bench], mode + b"\n" + data) for mode, data in ((b"record-threads", image), (b"replay-threads", both))]
+        a, b, c, d = (steps / seconds / 1e6 for seconds in times)
+        print(f"{guest.name:52}{steps:>12}{a:>10.0f}{b:>10.0f}{b / a:>10.2f}{counts[0]:>10}{c:>10.0f}{d:>10.0f}{d / c:>10.2f}{counts[1]:>10}",
+              flush=True)
+
+
+def replay_of_each(programs, data, many):
+    """The seconds that this many processes take, each of which replays the same guest in order: the slowest of them, by its own clock."""
+    runs = [subprocess.Popen([programs.bench], stdin=subprocess.PIPE, stdout=subprocess.PIPE) for _ in range(many)]
+    for run in runs:
+        run.stdin.write(b"replay\n" + data)
+        run.stdin.close()
+    outs = [run.stdout.read() for run in runs]
+    if any(run.wait() != 0 for run in runs):
+        sys.exit("replay: a process failed")
+    return max(int(out.split()[0]) / 1e6 for out in outs)
+
+
+def processes(programs):
+    """What the machine gives: processes of one thread each, which share nothing, replay at once what one of them replays alone. No replay by
+    threads can do more steps a second than these."""
+    print("replay in order by one process and by four at once, millions of steps of all a second: the most that four threads can reach here")
+    print(f"{'guest':52}{'steps':>12}{'one':>10}{'four':>10}{'ratio':>10}")
+    for guest in (guests.private_alone(), guests.own_object_alone()):
+        data = programs.digits_of(guest) + programs.record(guest)[0].read_bytes().hex().encode() + b"\n"
+        one, four = (min(replay_of_each(programs, data, many) for _ in range(5)) for many in (1, 4))
+        a, b = guest.steps / one / 1e6, 4 * guest.steps / four / 1e6
+        print(f"{guest.name:52}{guest.steps:>12}{a:>10.0f}{b:>10.0f}{b / a:>10.2f}", flush=True)
 
 
 def ends_of(programs, files):
@@ -331,7 +359,7 @@ def assembling(programs):
         print(f"{size:<24}{size // 4:>12}{took:>10.3f}{size / took:>12.0f}", flush=True)
 
 
-PARTS = {part.__name__: part for part in (speeds, traces, by_threads, contended, sessions, continuing, coherence, tries, assembling)}
+PARTS = {part.__name__: part for part in (speeds, traces, by_threads, processes, contended, sessions, continuing, coherence, tries, assembling)}
 
 
 def main():

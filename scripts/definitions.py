@@ -1,10 +1,11 @@
 #!/usr/bin/env python3
-"""Makes docs/internals/definitions.md: what the headline rests on, in files and lines, and an index of the definitions of specs/.
+"""Makes two pages of the definitions in specs/: docs/internals/headline.md, the relations by which the main theorem is read, as they are; and
+docs/internals/definitions.md, what the headline rests on, in files and lines, and an index of all definitions.
 
 python3 scripts/definitions.py [--check]
 
-With --check it writes nothing and prints a line for each page that differs, and then fails; scripts/rooms.py prints these lines too. The page
-itself has to be as it would be made. The tables of docs/internals/theorem.md have to name the files to which the contracts of PARTS lead. Each
+With --check it writes nothing and prints a line for each page that differs, and then fails; scripts/rooms.py prints these lines too. The pages
+themselves have to be as they would be made. The tables of docs/internals/theorem.md have to name the files to which the contracts of PARTS lead. Each
 call and each edit that docs/internals/contracts.md names has to be one of some crate. Each crate has to have its words in
 docs/internals/architecture.md.
 
@@ -18,10 +19,12 @@ import sys
 from dataclasses import dataclass, field
 from functools import cache
 from pathlib import Path
+from textwrap import wrap
 
 TOP = Path(__file__).resolve().parent.parent
 PAGES = TOP / "docs" / "internals"
 PAGE = PAGES / "definitions.md"
+FIRST_PAGE = PAGES / "headline.md"
 MOST_WORDS = 30
 
 # Each part of the headline: its name, its heading in theorem.md, and the functions and traits whose contracts it is.
@@ -39,6 +42,30 @@ PARTS = [
     ("`fit`, beside these", "### Fit", {"ir_fit/src/fitting.rt": ["fit"]}),
     ("`advance`, beside these", "### Advance", {"ir_replay/src/moves.rt": ["advance", "advance_in_order"]}),
 ]
+
+# The first page: its parts, each with what comes before the definitions and their places.
+FIRST = [
+    ("A session", """`session` of [sessions.rt](../../crates/ir_debug/src/sessions.rt) reads `input` and writes. If no device fails and memory doesn't run out, its
+contract says `Session`: there is a transcript for the lines up to the first that quits, and the writer took its text, whatever threads replayed.""",
+     [("ir_debug", "Session", "Session"), ("ir_debug", "Session", "Transcript"), ("ir_debug", "Session", "SessionText"),
+      ("ir_stream", "Answers", "LinesAnswered")]),
+    ("What opens", """The bytes of image and trace are judged. A trace opens a ready machine exactly if some complete run of the guest has it. A step of a run can be taken
+after those before it; of what a complete run is the trace, `IsWhole` says.""",
+     [("ir_debug", "Machine", "Opens"), ("ir_debug", "Machine", "OpensFit"), ("ir_fit", "Fit", "IsRunOf"), ("ir_runs", "Verdicts", "IsWhole"),
+      ("ir_fit", "Fit", "IsRefused"), ("ir_fit", "Fit", "IsRefusal")]),
+    ("What a line is answered", """`Desk` is the small machine: the guest with its trace, a position of each thread, points and kept cuts. What it answers is said for each run with the
+trace. `CarriesOut` has a row for each command; what is shown is read off the run at the cut (`shown`).""",
+     [("ir_debug", "Machine", "Replies"), ("ir_debug", "Machine", "RepliesBy"), ("ir_debug", "Machine", "AnswersBy")]),
+    ("Where a move leads", """A move takes the least consistent cut with the thread at the position, or backwards the greatest. `cont` and `rcont` stop at the first hit, or the last.""",
+     [("ir_debug", "Machine", "StopsAt"), ("ir_debug", "Machine", "Leads"), ("ir_debug", "Machine", "Continues")]),
+]
+
+FIRST_HEAD = """# The headline
+
+The relations by which the [main theorem](theorem.md) is read, word for word as they are in `specs/`. `python3 scripts/definitions.py` makes this page.
+`A × B` is and, `A ⊎ B` or, `A → ⊥` not; `(x : T) × P` is that there is an x, `(x : T) → P` that it holds of each.
+[Notation](theorem.md#how-to-read-it) has the rest. A record says each of its fields.
+"""
 
 # What a law says all of: who believes the law needn't read the definition. The file of the law and its name.
 PINNED = {("ir_isa", "Decoded", "instruction_of"): ("ir_isa/src/laws.rt", "found_by_code")}
@@ -296,6 +323,23 @@ def index():
                 yield f"| {f'**`{item}`**' if (crate, name, item) in headline else f'`{item}`'} | {cell(found)} |"
 
 
+def quoted(crate, name, item):
+    """A definition with its comment, as its file has it, without what marks it as public."""
+    found = module(crate, name).definitions[item]
+    says = wrap(found.says, 138, initial_indent="-- ", subsequent_indent="-- ")
+    return "\n".join([*says, *(re.sub(r"^(\s*)(?:abbrev |unfoldable )?pub ", r"\1", line) for line in found.lines)])
+
+
+def first_page():
+    """The first page as it has to be."""
+    text = FIRST_HEAD
+    for heading, says, places in FIRST:
+        files = dict.fromkeys(f"[{name}](../../crates/{crate}/specs/{name}.antt) of {crate}" for crate, name, _ in places)
+        blocks = "\n\n".join(quoted(*place) for place in places)
+        text += f"\n## {heading}\n\n{says}\n\nFrom {', '.join(files)}:\n\n```\n{blocks}\n```\n"
+    return text
+
+
 def page():
     """The page as it has to be."""
     return HEAD + "\n".join(counts()) + "\n" + INDEX + "\n".join(index()) + "\n"
@@ -357,8 +401,9 @@ def name_faults():
 
 def faults():
     """What differs on the pages, a line each."""
-    if not PAGE.exists() or PAGE.read_text(encoding="utf-8") != page():
-        yield f"{PAGE.relative_to(TOP)}: isn't what specs/ says: run python3 scripts/definitions.py"
+    for path, text in ((PAGE, page()), (FIRST_PAGE, first_page())):
+        if not path.exists() or path.read_text(encoding="utf-8") != text:
+            yield f"{path.relative_to(TOP)}: isn't what specs/ says: run python3 scripts/definitions.py"
     yield from table_faults()
     yield from double_faults()
     yield from name_faults()
@@ -373,6 +418,7 @@ def main():
         print(__doc__)
         return 2
     PAGE.write_text(page(), encoding="utf-8")
+    FIRST_PAGE.write_text(first_page(), encoding="utf-8")
     return 0
 
 
