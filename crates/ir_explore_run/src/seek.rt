@@ -10,7 +10,7 @@ ghost use Rattle.ir_explore_run.specs.Until.{IsSought};
 
 use crate::conditions::first_fulfilling;
 use crate::known::known;
-use crate::plan::{ExplorePlan, UntilPlan};
+use crate::plan::UntilPlan;
 use ir_explore::{Ended, Observer, Stop};
 use ir_image::Image;
 use ir_outcomes::Explored;
@@ -32,7 +32,7 @@ pub struct Sought<'a> {
 fn search<'a, W: Observer>(
     alloc: Global,
     image: &'a Image,
-    plan: &UntilPlan<'_, '_, '_, W>,
+    plan: &UntilPlan<'a, '_, '_, W>,
     switches: usize,
 ) -> Result<Sought<'a>, Stop>
     requires { IsAllowed plan.now.explore.profile image.now }
@@ -40,12 +40,8 @@ fn search<'a, W: Observer>(
     ensures first { IfOk result (λ s. IsFirst image.now (map as_condition plan.now.conditions.now) s.explored.states.graph.flats.items s.explored.outcomes.items s.first) }
     ensures refused { IfErr result (λ why. IsReason image.now plan.now.explore why) }
 {
-    let explore = ExplorePlan {
-        bounds: plan.explore.bounds,
-        switches,
-        profile: plan.explore.profile,
-    };
-    let explored = known(alloc, image, explore, plan.observer)?;
+    let explore = plan.explore.within(switches);
+    let explored = known(alloc, image, &explore, plan.observer)?;
     let flats = &explored.states.graph.flats;
     let first = first_fulfilling(flats, explored.outcomes.as_slice(), plan.conditions)?;
     Ok(Sought { explored, first })
@@ -80,13 +76,13 @@ fn widened(switches: usize, most: usize) -> usize
 pub fn seek<'a, W: Observer>(
     alloc: Global,
     image: &'a Image,
-    plan: &UntilPlan<'_, '_, '_, W>,
+    plan: &UntilPlan<'a, '_, '_, W>,
 ) -> Result<Sought<'a>, Stop>
     requires { IsAllowed plan.now.explore.profile image.now }
     ensures sought { IfOk result (λ s. IsSought image.now plan.now.explore (map as_condition plan.now.conditions.now) (known_of s.explored) s.first) }
     ensures refused { IfErr result (λ why. IsReason image.now plan.now.explore why) }
 {
-    let most = plan.explore.switches;
+    let most = plan.explore.most();
     let mut switches = FIRST.min(most);
     'wider: loop {
         let sought = search(alloc, image, plan, switches)?;
