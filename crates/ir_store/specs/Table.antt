@@ -35,6 +35,10 @@ threads_at table numbers = map (λ n. (slice_index_or table n idle_beside).0) nu
 abbrev pub sources_at : List (ThreadState × Source) → List ℕ → List Source
 sources_at table numbers = map (λ n. (slice_index_or table n idle_beside).1) numbers
 
+-- the thread at place t of these numbers, beside what answers it
+abbrev pub beside_at : List (ThreadState × Source) → List ℕ → ℕ → ThreadState × Source
+beside_at table numbers t = (slice_index_or (threads_at table numbers) t idle, slice_index_or (sources_at table numbers) t no_source)
+
 -- whether all threads have ended and hold nothing
 abbrev pub all_over : List ThreadState → Bool
 all_over [] = true
