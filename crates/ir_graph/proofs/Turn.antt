@@ -7,21 +7,22 @@ use Rattle.ir_runs.specs.Machine as machines
 use Rattle.ir_runs.specs.Machine.{Machine, Admits, target, act_of}
 use Rattle.ir_runs.specs.Run.{State, Step, asked, Can, after, end, IsRun}
 use Rattle.ir_runs.proofs.CallerLemmas.{end_append}
-use Rattle.ir_states.specs.Counting.{is_own, GoesAhead, entering}
+use Rattle.ir_states.specs.Counting.{IsAnswered, is_own, GoesAhead, entering}
+use Rattle.ir_states.specs.Views.{beside}
 use Rattle.ir_states.specs.Orders.{IsAlone}
-use Rattle.ir_states.specs.Sources.{Giving, sourced, plain}
+use Rattle.ir_states.specs.Sources.{Giving, answer_of, sourced, plain}
 use Rattle.ir_states.proofs.CallerLemmas.{counting_run_is_run, entering_append, goes_ahead_enters_nothing, plain_end}
 use Rattle.ir_thread.specs.State.{ask_of, shared_ask}
 use Rattle.ir_thread.specs.declared.ask.Ask.{Ask}
 use Rattle.ir_thread.specs.declared.ask.Ask.TheVariants as ask
-use Rattle.ir_sources.specs.Sources.{Source}
+use Rattle.ir_sources.specs.Sources.{Source, given}
 use Rattle.ir_flat.specs.Alone.{WentAlone}
 use Rattle.ir_flat.specs.Flat.{Flat, tables, machine, thread_of}
 use Rattle.ir_store.specs.Nodes.{SourcedFlat, source_of}
-use Rattle.ir_graph.specs.Plain.{full_by, sources_by, full_of, sourced_flat, IsAnsweredRun, IsPlainRun, GoesPlain, Rests, IsLike, result_by}
+use Rattle.ir_graph.specs.Plain.{full_by, sources_by, full_of, sourced_flat, IsAnsweredRun, IsPlainRun, GoesPlain, IsFair, Rests, IsLike, result_by}
 use Rattle.ir_graph.specs.Turn.{EachTries, GoesAlone}
 use Rattle.ir_graph.proofs.Full.{answered_run_append, plain_run_is_answered}
-use Rattle.ir_graph.proofs.Plain.{step_at_rest, step_at_rest_is_answered_run, rest_ask_is_not_own, goes_plain_by_private_steps, like_after_run}
+use Rattle.ir_graph.proofs.Plain.{step_at_rest, step_at_rest_is_answered_run, rest_ask_is_not_own, TakesStep, fair_step_is_plain_run, private_steps_are_plain_run, like_after_run}
 
 pub replicate_of_sum : {A : Type 0} (x : A) (n k : ℕ) → replicate (n + k) x ≡ replicate n x ++ replicate k x
 replicate_of_sum x zero k = let e : zero + k ≡ k = omega arith in ap (λ z. replicate z x) e
@@ -90,21 +91,31 @@ plain_run_tries_nothing code refused s (e ∷ run) goes = (
 )
 
 -- steps of one thread that concern no other
-pub goes_alone_by_plain_run : (s u : SourcedFlat) (t : ℕ) (refused : Bool) → (goes : GoesPlain s u) → IsAlone t goes.ahead
-    → GoesAlone s u t refused (length goes.ahead) 0
-goes_alone_by_plain_run s u t refused goes alone = record {
-  run = goes.ahead;
+pub goes_alone_by_plain_run : (s u : SourcedFlat) (t : ℕ) (refused : Bool) (run : List Step) → IsPlainRun s.flat.code (full_of s) run → IsAlone t run
+    → full_of u ≡ end (full_by s.flat.code) (full_of s) run → u.flat.code ≡ s.flat.code → length u.flat.threads ≡ length s.flat.threads
+    → length u.flat.objects ≡ length s.flat.objects → length u.sources ≡ length s.sources → GoesAlone s u t refused (length run) 0
+goes_alone_by_plain_run s u t refused run plain alone ends code threads objects sources = record {
+  run = run;
   many = refl;
   alone = alone;
-  answered = plain_run_is_answered s.flat.code (full_of s) goes.ahead goes.plain;
-  tries = plain_run_tries_nothing s.flat.code refused (full_of s) goes.ahead goes.plain.0;
-  ends = goes.ends;
-  enters = goes_ahead_enters_nothing (full_by s.flat.code) (sources_by s.flat.code) (full_of s) goes.ahead goes.plain.0;
-  code = goes.code;
-  threads = goes.threads;
-  objects = goes.objects;
-  sources = goes.sources;
+  answered = plain_run_is_answered s.flat.code (full_of s) run plain;
+  tries = plain_run_tries_nothing s.flat.code refused (full_of s) run plain.0;
+  ends = ends;
+  enters = goes_ahead_enters_nothing (full_by s.flat.code) (sources_by s.flat.code) (full_of s) run plain.0;
+  code = code;
+  threads = threads;
+  objects = objects;
+  sources = sources;
 }
+
+-- one step of a thread that may go on
+pub goes_alone_by_fair_step : (s u : SourcedFlat) (t r : ℕ) (refused : Bool) → IsFair (ask_of s.flat.code (thread_of s.flat t))
+    → IsAnswered (shared_ask (ask_of s.flat.code (thread_of s.flat t)))
+    (answer_of given (shared_ask (ask_of s.flat.code (thread_of s.flat t))) (source_of s t)) r
+    → TakesStep s u t r → GoesAlone s u t refused 1 0
+goes_alone_by_fair_step s u t r refused fair answered step =
+    goes_alone_by_plain_run s u t refused ((t, r) ∷ []) (fair_step_is_plain_run s t r fair step.can answered) (refl, tt) step.is step.code step.threads
+    step.objects step.sources
 
 repeated_steps_are_alone : (t r n : ℕ) → IsAlone t (replicate n (t, r))
 repeated_steps_are_alone t r zero = tt
@@ -114,9 +125,10 @@ repeated_steps_are_alone t r (suc n) = (refl, repeated_steps_are_alone t r n)
 pub goes_alone_by_private_steps : (f g : Flat) (sources : List Source) (t : ℕ) (refused : Bool) (n : ℕ) → WentAlone f g t n
     → GoesAlone (sourced_flat f sources) (sourced_flat g sources) t refused n 0
 goes_alone_by_private_steps f g sources t refused n w =
+    let p = private_steps_are_plain_run f.code (tables f) (source_of (sourced_flat f sources)) t n w.runs w.each in
     subst (λ z. GoesAlone (sourced_flat f sources) (sourced_flat g sources) t refused z 0) (length-replicate {A = Step} n (t, 0))
-    (goes_alone_by_plain_run (sourced_flat f sources) (sourced_flat g sources) t refused (goes_plain_by_private_steps f g sources t n w)
-    (repeated_steps_are_alone t 0 n))
+    (goes_alone_by_plain_run (sourced_flat f sources) (sourced_flat g sources) t refused (replicate n (t, 0)) p.0 (repeated_steps_are_alone t 0 n)
+    (ap (λ z. beside z (source_of (sourced_flat f sources))) w.ends ∙ sym p.1) w.code w.threads w.objects refl)
 
 -- one step of a thread that rests
 pub goes_alone_by_entry : (f g : Flat) (sources : List Source) (t : ℕ) (refused : Bool) → Rests (ask_of f.code (thread_of f t))
