@@ -17,5 +17,6 @@ mod Searched
 pub mod CallerLemmas
 mod Forms
 mod LoneSteps
+mod KnownTurns
 mod Over
 mod Both
