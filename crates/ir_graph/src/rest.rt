@@ -98,7 +98,7 @@ fn run_thread(
 /// It takes as many steps without an entry or a try, calls for the time once more than can be counted, has a full log or a spent budget.
 pub fn run_to_rest(state: &mut SourcedFlat<'_>, thread: usize, limit: u64) -> Result<u64, Stop>
     requires thread { thread < length state.old.flat.threads }
-    requires sources { length state.old.sources ≡ length state.old.flat.threads }
+    requires source { thread < length state.old.sources }
     ensures goes { GoesPlain state.old state.new }
     ensures alone { IfOk result (λ steps. (refused : Bool) → GoesAlone state.old state.new thread refused steps 0) }
     ensures within { IfOk result (λ steps. steps ≤ limit) }
