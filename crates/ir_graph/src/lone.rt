@@ -161,7 +161,14 @@ pub fn turn_beside(
     let Some(asked) = first_ask(code, &own.thread, object, number, refused) else {
         return false;
     };
-    let took = take_beside(code, &mut own.thread, &mut own.source, object, asked, refused);
+    let took = take_beside(
+        code,
+        &mut own.thread,
+        &mut own.source,
+        object,
+        asked,
+        refused,
+    );
     if !took {
         return false;
     }
