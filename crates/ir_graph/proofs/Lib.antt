@@ -1,3 +1,4 @@
+mod Full
 mod Plain
 mod Alike
 mod Leads
