@@ -1,8 +1,10 @@
+mod Full
 mod Plain
 mod Alike
 mod Leads
 mod Reached
 mod Turn
+mod Beside
 mod Stops
 mod OneOutcome
 mod Found
@@ -17,5 +19,6 @@ mod Searched
 pub mod CallerLemmas
 mod Forms
 mod LoneSteps
+mod KnownTurns
 mod Over
 mod Both

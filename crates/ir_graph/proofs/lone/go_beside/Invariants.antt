@@ -6,7 +6,7 @@ abbrev pub invariant-beside : goal.invariant-beside
 invariant-beside l = record {
   within : l.left ≤ l.limit;
   beside : AreBeside l.code l.number l.thread l.object;
-  goes : (k : ℕ) × GoesLone l.code l.number k l.fn.thread l.fn.object l.thread l.object;
+  goes : (k : ℕ) × GoesLone l.code l.number k (l.fn.thread, l.fn.source) l.fn.object (l.thread, l.source) l.object;
 }
 
 abbrev pub decreases-beside : goal.decreases-beside
