@@ -2,8 +2,8 @@
 use Rattle.std.specs.Prelude.{◌≡◌, ℕ, ◌<◌, Bool, false, List, length}
 use Rattle.std.specs.List.{slice_index_or, AllByRecursion}
 use Rattle.ir_thread.specs.State.{ask_of}
-use Rattle.ir_flat.specs.Flat.{Flat, idle, thread_of, cell_of}
-use Rattle.ir_store.specs.Nodes.{Shared, cell_in}
+use Rattle.ir_flat.specs.Flat.{cell_of}
+use Rattle.ir_store.specs.Nodes.{Shared, SourcedFlat, cell_in, idle_beside, sourced_thread}
 use Rattle.ir_graph.specs.Lone.{TakesTurn}
 use Rattle.ir_graph.specs.Plain.{IsNoTry}
 use Rattle.ir_graph.specs.declared.known.Turn.{Turn}
@@ -14,17 +14,17 @@ pub record IsTurn (code : List ℕ) (shared : Shared) (turn : Turn) : Type 0 whe
   pub to : turn.to < length shared.threads
   pub spot : turn.spot.words < length shared.words
   pub after : turn.after.words < length shared.words
-  pub tries : turn.tries ≡ false → IsNoTry (ask_of code (slice_index_or shared.threads turn.from idle))
-  pub takes : TakesTurn code turn.object turn.refused (slice_index_or shared.threads turn.from idle) (cell_in shared.words turn.spot)
-      (slice_index_or shared.threads turn.to idle) (cell_in shared.words turn.after)
+  pub tries : turn.tries ≡ false → IsNoTry (ask_of code (slice_index_or shared.threads turn.from idle_beside).0)
+  pub takes : TakesTurn code turn.object turn.refused (slice_index_or shared.threads turn.from idle_beside) (cell_in shared.words turn.spot)
+      (slice_index_or shared.threads turn.to idle_beside) (cell_in shared.words turn.after)
 
 abbrev pub AreTurns : List ℕ → Shared → List Turn → Type 0
 AreTurns code shared turns = AllByRecursion (IsTurn code shared) turns
 
 -- it is the turn of thread t of a state, with a try refused or not
-pub record IsTurnOf (code : List ℕ) (shared : Shared) (f : Flat) (t : ℕ) (refused : Bool) (turn : Turn) : Type 0 where
+pub record IsTurnOf (code : List ℕ) (shared : Shared) (s : SourcedFlat) (t : ℕ) (refused : Bool) (turn : Turn) : Type 0 where
   pub is : IsTurn code shared turn
   pub way : turn.refused ≡ refused
-  pub object : turn.object < length f.objects
-  pub here : slice_index_or shared.threads turn.from idle ≡ thread_of f t
-  pub there : cell_in shared.words turn.spot ≡ cell_of f turn.object
+  pub object : turn.object < length s.flat.objects
+  pub here : slice_index_or shared.threads turn.from idle_beside ≡ sourced_thread s t
+  pub there : cell_in shared.words turn.spot ≡ cell_of s.flat turn.object

@@ -1,3 +1,4 @@
+pub mod Setup
 pub mod Plain
 pub mod Nodes
 pub mod Notes

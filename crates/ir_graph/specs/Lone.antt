@@ -6,19 +6,21 @@ use Rattle.ir_object.specs.Standing.{Admitted, CanLeave}
 use Rattle.ir_object.specs.Word.{IsFields, entered, left_by}
 use Rattle.ir_object.specs.declared.fields.Fields.{Fields}
 use Rattle.ir_runs.specs.declared.access.Access.TheVariants.{Writing}
-use Rattle.ir_thread.specs.State.{ThreadState, ask_of, after_ask}
+use Rattle.ir_states.specs.Sources.{left_of}
+use Rattle.ir_thread.specs.State.{ThreadState, ask_of, after_ask, shared_ask, is_result}
 use Rattle.ir_thread.specs.declared.ask.Ask.{Ask}
 use Rattle.ir_thread.specs.declared.ask.Ask.TheVariants as ask
 use Rattle.ir_thread.specs.declared.ask.Reply.{Reply}
 use Rattle.ir_thread.specs.declared.ask.Reply.TheVariants.{Go, Value}
+use Rattle.ir_sources.specs.Sources.{Source, given}
 use Rattle.ir_flat.specs.Flat.{Flat, IsFlat, thread_of, cell_of}
 use Rattle.ir_flat.specs.Next.{MayTry}
 use Rattle.ir_graph.specs.Plain.{IsFair, Rests, result_by}
 
--- an ask is about no object but this one, and nothing outside
+-- an ask is about no object but this one
 abbrev pub IsAbout : ℕ → Ask → Type 0
 IsAbout o ask.Private = Unit {0}
-IsAbout o (ask.Env kind) = ⊥
+IsAbout o (ask.Env kind) = Unit {0}
 IsAbout o (ask.Enter p access) = p ≡ o
 IsAbout o (ask.Try p) = p ≡ o
 IsAbout o (ask.Leave p access) = p ≡ o
@@ -28,18 +30,23 @@ IsAbout o ask.Print = Unit {0}
 IsAbout o (ask.End e) = Unit {0}
 IsAbout o ask.Done = ⊥
 
--- what the object answers; of a try it is known whether it is refused
-abbrev pub answer_from : Bool → Cell → Ask → Reply
-answer_from refused c ask.Private = Go
-answer_from refused c (ask.Env kind) = Go
-answer_from refused c (ask.Enter p access) = Go
-answer_from refused c (ask.Try p) = Value (result_by refused)
-answer_from refused c (ask.Leave p access) = Go
-answer_from refused c (ask.Get p index) = Value (slice_index c.words index)
-answer_from refused c (ask.Put p index value) = Go
-answer_from refused c ask.Print = Go
-answer_from refused c (ask.End e) = Go
-answer_from refused c ask.Done = Go
+-- what the source answers suits the call, if it is one
+abbrev pub IsGiven : Source → Ask → Type 0
+IsGiven source (ask.Env kind) = is_result kind (given kind source).0 ≡ true
+IsGiven source _ = Unit {0}
+
+-- what the object or the source answers; of a try it is known whether it is refused
+abbrev pub answer_from : Bool → Cell → Source → Ask → Reply
+answer_from refused c source ask.Private = Go
+answer_from refused c source (ask.Env kind) = Value (given kind source).0
+answer_from refused c source (ask.Enter p access) = Go
+answer_from refused c source (ask.Try p) = Value (result_by refused)
+answer_from refused c source (ask.Leave p access) = Go
+answer_from refused c source (ask.Get p index) = Value (slice_index c.words index)
+answer_from refused c source (ask.Put p index value) = Go
+answer_from refused c source ask.Print = Go
+answer_from refused c source (ask.End e) = Go
+answer_from refused c source ask.Done = Go
 
 -- the object after a try
 abbrev pub cell_after_try : Bool → Cell → Cell
@@ -59,17 +66,21 @@ cell_after refused c ask.Print = c
 cell_after refused c (ask.End e) = c
 cell_after refused c ask.Done = c
 
--- the thread and the object after the thread's next step
-abbrev pub lone_thread : List ℕ → Bool → ThreadState → Cell → ThreadState
-lone_thread code refused x c = after_ask code x (ask_of code x) (answer_from refused c (ask_of code x))
+-- the thread and its source, and the object, after the thread's next step
+abbrev pub lone_thread : List ℕ → Bool → ThreadState × Source → Cell → ThreadState × Source
+lone_thread code refused x c = (
+  after_ask code x.0 (ask_of code x.0) (answer_from refused c x.1 (ask_of code x.0)),
+  left_of given (shared_ask (ask_of code x.0)) x.1,
+)
 
-abbrev pub lone_cell : List ℕ → Bool → ThreadState → Cell → Cell
-lone_cell code refused x c = cell_after refused c (ask_of code x)
+abbrev pub lone_cell : List ℕ → Bool → ThreadState × Source → Cell → Cell
+lone_cell code refused x c = cell_after refused c (ask_of code x.0)
 
--- y and d are x and c after so many steps of the thread, none of which can be refused and all of which are about this object alone
-abbrev pub GoesLone : List ℕ → ℕ → ℕ → ThreadState → Cell → ThreadState → Cell → Type 0
+-- y and d are x and c after so many steps of the thread, none of which can be refused, all of which are about this object alone, and whose calls
+-- are answered by its source
+abbrev pub GoesLone : List ℕ → ℕ → ℕ → ThreadState × Source → Cell → ThreadState × Source → Cell → Type 0
 GoesLone code o zero x c y d = (x ≡ y) × (c ≡ d)
-GoesLone code o (suc k) x c y d = IsFair (ask_of code x) × IsAbout o (ask_of code x)
+GoesLone code o (suc k) x c y d = IsFair (ask_of code x.0) × IsAbout o (ask_of code x.0) × IsGiven x.1 (ask_of code x.0)
     × GoesLone code o k (lone_thread code false x c) (lone_cell code false x c) y d
 
 -- a thread that asks so can begin a turn with this object: it enters, or its try is refused or enters
@@ -79,11 +90,11 @@ MayBegin refused o fields (ask.Try p) = (p ≡ o) × MayTry fields (result_by re
 MayBegin refused o fields _ = ⊥
 
 -- a thread that rests enters this object, or tries to, and goes on, by steps about it alone, to where it rests again: x and c become y and d
-pub record TakesTurn (code : List ℕ) (o : ℕ) (refused : Bool) (x : ThreadState) (c : Cell) (y : ThreadState) (d : Cell) : Type 0 where
-  pub begins : MayBegin refused o c.fields (ask_of code x)
+pub record TakesTurn (code : List ℕ) (o : ℕ) (refused : Bool) (x : ThreadState × Source) (c : Cell) (y : ThreadState × Source) (d : Cell) : Type 0 where
+  pub begins : MayBegin refused o c.fields (ask_of code x.0)
   pub steps : ℕ
   pub goes : GoesLone code o steps (lone_thread code refused x c) (lone_cell code refused x c) y d
-  pub rests : Rests (ask_of code y)
+  pub rests : Rests (ask_of code y.0)
 
 -- a thread and an object of some state of a guest
 pub record AreBeside (code : List ℕ) (o : ℕ) (x : ThreadState) (c : Cell) : Type 0 where

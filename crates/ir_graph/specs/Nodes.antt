@@ -1,68 +1,66 @@
 -- The nodes of a guest's graph: its states at rest, as the threads see them.
-use Rattle.std.specs.Prelude.{◌≡◌, ℕ, ◌<◌, Bool, List, [], ◌∷◌, length, Option, Some, None, slice_get}
+use Rattle.std.specs.Prelude.{◌≡◌, ℕ, ◌<◌, Bool, List, length, Option, Some, None, slice_get}
 use Rattle.ir_runs.specs.Machine.{Machine}
 use Rattle.ir_runs.specs.Run as run
 use Rattle.ir_states.specs.Counting.{Answers}
 use Rattle.ir_states.specs.Looks.{Looks}
 use Rattle.ir_states.specs.Nodes.{LeadsTo}
 use Rattle.ir_states.specs.Orders.{is_refusal}
-use Rattle.ir_states.specs.Sources.{Giving, sourced, by_source}
+use Rattle.ir_states.specs.Sources.{sourced, by_source}
 use Rattle.ir_states.specs.Views.{viewed, beside}
 use Rattle.ir_thread.specs.State.{ThreadState, ask_of}
+use Rattle.ir_sources.specs.Sources.{Source, given}
 use Rattle.ir_flat.specs.Flat.{Flat, tables, thread_of}
 use Rattle.ir_seen.specs.Seen.{view, seen_machine, Same}
+use Rattle.ir_store.specs.Nodes.{SourcedFlat, source_of}
 use Rattle.ir_graph.specs.Plain.{Rests, IsLike}
 
--- what the world answers a thread, whatever it is: the answers of a list, in turn, and 0 after the last
-abbrev pub told : Giving (List ℕ)
-told kind [] = (0, [])
-told kind (answer ∷ answers) = (answer, answers)
+-- the threads that run this code, as a search sees them, each with its source beside it
+abbrev pub seen_by : List ℕ → Machine (ThreadState × Source)
+seen_by code = sourced (seen_machine code) given
 
--- the threads that run this code, as a search sees them
-abbrev pub seen_by : List ℕ → Machine (ThreadState × List ℕ)
-seen_by code = sourced (seen_machine code) told
-
-abbrev pub told_by : List ℕ → Answers (ThreadState × List ℕ)
-told_by code = by_source (seen_machine code) told
+-- each is answered by its own source
+abbrev pub answered_by : List ℕ → Answers (ThreadState × Source)
+answered_by code = by_source (seen_machine code) given
 
 -- states that look the same
-abbrev pub Alike : List ℕ → run.State (ThreadState × List ℕ) → run.State (ThreadState × List ℕ) → Type 0
+abbrev pub Alike : List ℕ → run.State (ThreadState × Source) → run.State (ThreadState × Source) → Type 0
 Alike code = Looks (Same code)
 
--- what is seen of a guest beside what its threads will be told
-abbrev pub seen_of : Flat → (ℕ → List ℕ) → run.State (ThreadState × List ℕ)
-seen_of f told = beside (viewed view (tables f)) told
+-- what is seen of a guest, each thread beside what answers it
+abbrev pub seen_of : SourcedFlat → run.State (ThreadState × Source)
+seen_of s = beside (viewed view (tables s.flat)) (source_of s)
 
 -- two moments of a guest look the same to every thread
-abbrev pub LookAlike : Flat → Flat → Type 0
-LookAlike f g = (answers : ℕ → List ℕ) → Alike f.code (seen_of f answers) (seen_of g answers)
+abbrev pub LookAlike : SourcedFlat → SourcedFlat → Type 0
+LookAlike s u = Alike s.flat.code (seen_of s) (seen_of u)
 
 -- each thread rests
 abbrev pub AllRest : Flat → Type 0
 AllRest f = (t : ℕ) → t < length f.threads → Rests (ask_of f.code (thread_of f t))
 
 -- states of one guest, at each of which all threads rest
-pub record AreNodes (flats : List Flat) : Type 0 where
-  pub rest : (v : ℕ) (f : Flat) → slice_get flats v ≡ Some f → AllRest f
-  pub like : (u v : ℕ) (f g : Flat) → slice_get flats u ≡ Some f → slice_get flats v ≡ Some g → IsLike f g
+pub record AreNodes (states : List SourcedFlat) : Type 0 where
+  pub rest : (v : ℕ) (s : SourcedFlat) → slice_get states v ≡ Some s → AllRest s.flat
+  pub like : (v w : ℕ) (s u : SourcedFlat) → slice_get states v ≡ Some s → slice_get states w ≡ Some u → IsLike s.flat u.flat
 
 -- no more than nodes were added
-abbrev pub Stay : List Flat → List Flat → Type 0
-Stay old new = (v : ℕ) (f : Flat) → slice_get old v ≡ Some f → slice_get new v ≡ Some f
+abbrev pub Stay : List SourcedFlat → List SourcedFlat → Type 0
+Stay old new = (v : ℕ) (s : SourcedFlat) → slice_get old v ≡ Some s → slice_get new v ≡ Some s
 
 -- the step of a state is a refused try, or it isn't
-abbrev pub IsStepBy : Flat → (ℕ → List ℕ) → Bool → run.Step → Type 0
-IsStepBy f answers refused e = is_refusal (run.act (seen_by f.code) (seen_of f answers) e) ≡ refused
+abbrev pub IsStepBy : SourcedFlat → Bool → run.Step → Type 0
+IsStepBy s refused e = is_refusal (run.act (seen_by s.flat.code) (seen_of s) e) ≡ refused
 
 -- thread t has such a step there
-abbrev pub HasStepBy : Flat → (ℕ → List ℕ) → ℕ → Bool → Type 0
-HasStepBy f answers t refused = (r : ℕ) × run.Can (seen_by f.code) (seen_of f answers) (t, r) × IsStepBy f answers refused (t, r)
+abbrev pub HasStepBy : SourcedFlat → ℕ → Bool → Type 0
+HasStepBy s t refused = (r : ℕ) × run.Can (seen_by s.flat.code) (seen_of s) (t, r) × IsStepBy s refused (t, r)
 
 -- Where thread t leads from node v by one of its two ways, its refused try or any other step: it has no such step there, or it has one, and
--- each leads to node w, whatever its world answers.
-abbrev pub LeadsFrom : List Flat → ℕ → Bool → ℕ → Option ℕ → Type 0
-LeadsFrom flats t refused v None = (f : Flat) → slice_get flats v ≡ Some f → (answers : ℕ → List ℕ) (e : run.Step) → e.0 ≡ t
-    → IsStepBy f answers refused e → run.Can (seen_by f.code) (seen_of f answers) e → ⊥
-LeadsFrom flats t refused v (Some w) = (f g : Flat) → slice_get flats v ≡ Some f → slice_get flats w ≡ Some g → (answers : ℕ → List ℕ)
-    → HasStepBy f answers t refused × ((e : run.Step) → e.0 ≡ t → IsStepBy f answers refused e → run.Can (seen_by f.code) (seen_of f answers) e
-    → LeadsTo (seen_by f.code) (told_by f.code) (Alike f.code) (seen_of f answers) e (seen_of g answers))
+-- each leads to node w.
+abbrev pub LeadsFrom : List SourcedFlat → ℕ → Bool → ℕ → Option ℕ → Type 0
+LeadsFrom states t refused v None = (s : SourcedFlat) → slice_get states v ≡ Some s → (e : run.Step) → e.0 ≡ t → IsStepBy s refused e
+    → run.Can (seen_by s.flat.code) (seen_of s) e → ⊥
+LeadsFrom states t refused v (Some w) = (s u : SourcedFlat) → slice_get states v ≡ Some s → slice_get states w ≡ Some u
+    → HasStepBy s t refused × ((e : run.Step) → e.0 ≡ t → IsStepBy s refused e → run.Can (seen_by s.flat.code) (seen_of s) e
+    → LeadsTo (seen_by s.flat.code) (answered_by s.flat.code) (Alike s.flat.code) (seen_of s) e (seen_of u))

@@ -1,16 +1,14 @@
 -- What the complete runs of a guest come to.
 use Rattle.std.specs.Prelude.{◌≡◌, ℕ, ◌≤◌, List, Option, Some, slice_get}
-use Rattle.ir_image.specs.Guest.{Guest}
 use Rattle.ir_explore.specs.declared.origin.Origin.{Origin}
 use Rattle.ir_runs.specs.Run as run
 use Rattle.ir_states.specs.Counting.{entering}
 use Rattle.ir_states.specs.Outcomes.{switches}
 use Rattle.ir_thread.specs.State.{ThreadState, most_budget, thread_machine}
 use Rattle.ir_thread.specs.declared.end.End.{End}
-use Rattle.ir_thread.specs.declared.profile.Profile.{Profile}
-use Rattle.ir_flat.specs.Flat.{Flat, machine, tables, start_flat}
-use Rattle.ir_seen.specs.Seen.{IsCounted}
-use Rattle.ir_graph.specs.Nodes.{told}
+use Rattle.ir_flat.specs.Flat.{machine, tables, start_flat}
+use Rattle.ir_store.specs.Nodes.{SourcedFlat}
+use Rattle.ir_graph.specs.Setup.{Setup, IsCountedOf}
 
 -- of each thread how it ended and what it printed, of each object its words
 pub record Outcome : Type 0 where
@@ -26,23 +24,22 @@ abbrev pub EndAlike : ThreadState → ThreadState → Type 0
 EndAlike x y = (x.ended ≡ y.ended) × (x.output ≡ y.output)
 
 -- A state of the list where all threads are done has the outcome of this complete run.
-abbrev pub IsListed : Guest → Profile → List Flat → ℕ → List run.Step → ℕ → Flat → Type 0
-IsListed guest profile flats budget steps v f = (slice_get flats v ≡ Some f) × run.IsDone (machine f) (tables f)
-    × (outcome_of (tables f) ≡ outcome_of (run.end (thread_machine guest.code) (tables (start_flat guest budget profile)) steps))
+abbrev pub IsListed : Setup → List SourcedFlat → ℕ → List run.Step → ℕ → SourcedFlat → Type 0
+IsListed x states budget steps v s = (slice_get states v ≡ Some s) × run.IsDone (machine s.flat) (tables s.flat)
+    × (outcome_of (tables s.flat) ≡ outcome_of (run.end (thread_machine x.guest.code) (tables (start_flat x.guest budget x.profile)) steps))
 
--- The outcome of each complete run is listed, whatever its budget and whatever the world answers; runs in which a budget is spent or a log is
--- full aside.
-abbrev pub AllListed : Guest → Profile → List Flat → Type 0
-AllListed guest profile flats = (answers : ℕ → List ℕ) (budget : ℕ) (steps : List run.Step) → IsCounted guest budget profile told answers steps
-    → (v : ℕ) × (f : Flat) × IsListed guest profile flats budget steps v f
+-- The outcome of each complete run is listed, whatever its budget; runs in which a budget is spent or a log is full aside.
+abbrev pub AllListed : Setup → List SourcedFlat → Type 0
+AllListed x states = (budget : ℕ) (steps : List run.Step) → IsCountedOf x budget steps
+    → (v : ℕ) × (s : SourcedFlat) × IsListed x states budget steps v s
 
 -- The same of the runs of at most c switches, at a node of level c at most.
-abbrev pub WithinListed : Guest → Profile → List Flat → List Origin → ℕ → Type 0
-WithinListed guest profile flats origins c = (answers : ℕ → List ℕ) (budget : ℕ) (steps : List run.Step) → IsCounted guest budget profile told answers steps
-    → switches (entering (thread_machine guest.code) (tables (start_flat guest budget profile)) steps) ≤ c
-    → (v : ℕ) × (f : Flat) × (n : Origin) × IsListed guest profile flats budget steps v f × (slice_get origins v ≡ Some n) × (n.level ≤ c)
+abbrev pub WithinListed : Setup → List SourcedFlat → List Origin → ℕ → Type 0
+WithinListed x states origins c = (budget : ℕ) (steps : List run.Step) → IsCountedOf x budget steps
+    → switches (entering (thread_machine x.guest.code) (tables (start_flat x.guest budget x.profile)) steps) ≤ c
+    → (v : ℕ) × (s : SourcedFlat) × (n : Origin) × IsListed x states budget steps v s × (slice_get origins v ≡ Some n) × (n.level ≤ c)
 
--- The outcome of each listed state where all threads are done is that of a complete run of the guest, whatever the world answers.
-abbrev pub AllShown : Guest → Profile → List Flat → Type 0
-AllShown guest profile flats = (v : ℕ) (f : Flat) → slice_get flats v ≡ Some f → run.IsDone (machine f) (tables f) → (answers : ℕ → List ℕ)
-    → (steps : List run.Step) × IsCounted guest most_budget profile told answers steps × IsListed guest profile flats most_budget steps v f
+-- The outcome of each listed state where all threads are done is that of a complete run of the guest.
+abbrev pub AllShown : Setup → List SourcedFlat → Type 0
+AllShown x states = (v : ℕ) (s : SourcedFlat) → slice_get states v ≡ Some s → run.IsDone (machine s.flat) (tables s.flat)
+    → (steps : List run.Step) × IsCountedOf x most_budget steps × IsListed x states most_budget steps v s

@@ -1,45 +1,62 @@
--- Steps that concern no other thread, and no world outside.
+-- Steps that concern no other thread.
 use Rattle.std.specs.Prelude.{◌≡◌, ◌≢◌, ℕ, Bool, true, false, List, [], ◌∷◌, length}
-use Rattle.ir_runs.specs.Machine as machine
-use Rattle.ir_runs.specs.Run.{State, Step, asked, Can, after, end}
-use Rattle.ir_thread.specs.State.{thread_machine}
-use Rattle.ir_thread.specs.State as thread
+use Rattle.ir_runs.specs.Machine.{Machine}
+use Rattle.ir_runs.specs.Run.{State, Step, end}
+use Rattle.ir_states.specs.Counting.{Answers, Counts, GoesAhead}
+use Rattle.ir_states.specs.Sources.{sourced, by_source}
+use Rattle.ir_states.specs.Views.{IsLiveRun, beside}
+use Rattle.ir_thread.specs.State.{ThreadState, thread_machine}
 use Rattle.ir_thread.specs.declared.ask.Ask.{Ask}
 use Rattle.ir_thread.specs.declared.ask.Ask.TheVariants as ask
 use Rattle.ir_thread.specs.declared.end.End.TheVariants as ending
+use Rattle.ir_sources.specs.Sources.{Source, given}
 use Rattle.ir_freeze.specs.Twins.{AreTwins}
 use Rattle.ir_seen.specs.Seen.{IsLive}
-use Rattle.ir_flat.specs.Flat.{Flat, tables, machine, thread_of}
+use Rattle.ir_flat.specs.Flat.{Flat, tables, thread_of}
+use Rattle.ir_store.specs.Nodes.{SourcedFlat, source_of}
 
--- whether an ask is none of an entry, a try, a call of the environment and the end
-abbrev pub is_plain : machine.Ask → Bool
-is_plain machine.Private = true
-is_plain (machine.Env kind) = false
-is_plain (machine.Enter object access) = false
-is_plain (machine.Try object) = false
-is_plain (machine.Leave object access) = true
-is_plain (machine.Get object index) = true
-is_plain (machine.Put object index value) = true
-is_plain machine.Done = false
+-- the threads that run this code, each with its source beside it
+abbrev pub full_by : List ℕ → Machine (ThreadState × Source)
+full_by code = sourced (thread_machine code) given
 
--- a run of such steps, whose threads are live
-abbrev pub IsPlainRun : List ℕ → State thread.ThreadState → List Step → Type 0
-IsPlainRun code s [] = Unit {0}
-IsPlainRun code s (e ∷ run) = Can (thread_machine code) s e × IsLive code (s.now e.0) × (is_plain (asked (thread_machine code) s e.0) ≡ true)
-    × IsPlainRun code (after (thread_machine code) s e) run
+-- each thread is answered by its own source
+abbrev pub sources_by : List ℕ → Answers (ThreadState × Source)
+sources_by code = by_source (thread_machine code) given
 
--- g is f after such steps
-pub record GoesPlain (f g : Flat) : Type 0 where
+-- a guest's threads and objects, each thread beside its source
+abbrev pub full_of : SourcedFlat → State (ThreadState × Source)
+full_of s = beside (tables s.flat) (source_of s)
+
+-- a guest's threads and objects with these sources
+abbrev pub sourced_flat : Flat → List Source → SourcedFlat
+sourced_flat f sources = record { flat = f; sources = sources }
+
+-- each thread that takes a step in the run is live before it
+abbrev pub AreLive : List ℕ → State (ThreadState × Source) → List Step → Type 0
+AreLive code s run = IsLiveRun (full_by code) (λ x. IsLive code x.0) s run
+
+-- a run of live threads, each of whose calls is answered by the thread's source
+abbrev pub IsAnsweredRun : List ℕ → State (ThreadState × Source) → List Step → Type 0
+IsAnsweredRun code s run = Counts (full_by code) (sources_by code) s run × AreLive code s run
+
+-- such a run of steps that concern no other thread: none is an entry or a try
+abbrev pub IsPlainRun : List ℕ → State (ThreadState × Source) → List Step → Type 0
+IsPlainRun code s run = GoesAhead (full_by code) (sources_by code) s run × AreLive code s run
+
+-- u is s after such steps
+pub record GoesPlain (s u : SourcedFlat) : Type 0 where
   pub ahead : List Step
-  pub plain : IsPlainRun f.code (tables f) ahead
-  pub ends : tables g ≡ end (machine f) (tables f) ahead
-  pub code : g.code ≡ f.code
-  pub threads : length g.threads ≡ length f.threads
-  pub objects : length g.objects ≡ length f.objects
+  pub plain : IsPlainRun s.flat.code (full_of s) ahead
+  pub ends : full_of u ≡ end (full_by s.flat.code) (full_of s) ahead
+  pub code : u.flat.code ≡ s.flat.code
+  pub threads : length u.flat.threads ≡ length s.flat.threads
+  pub objects : length u.flat.objects ≡ length s.flat.objects
+  pub sources : length u.sources ≡ length s.sources
 
--- the other threads are as they were
-abbrev pub OthersStay : Flat → Flat → ℕ → Type 0
-OthersStay f g t = (u : ℕ) → u ≢ t → thread_of g u ≡ thread_of f u
+-- the other threads, and what answers them, are as they were
+pub record OthersStay (s u : SourcedFlat) (t : ℕ) : Type 0 where
+  pub threads : (v : ℕ) → v ≢ t → thread_of u.flat v ≡ thread_of s.flat v
+  pub sources : (v : ℕ) → v ≢ t → source_of u v ≡ source_of s v
 
 -- two moments of one guest
 pub record IsLike (f g : Flat) : Type 0 where
@@ -59,6 +76,7 @@ Rests _ = ⊥
 abbrev pub IsFair : Ask → Type 0
 IsFair ask.Private = Unit {0}
 IsFair ask.Print = Unit {0}
+IsFair (ask.Env kind) = Unit {0}
 IsFair (ask.Leave object access) = Unit {0}
 IsFair (ask.Get object index) = Unit {0}
 IsFair (ask.Put object index value) = Unit {0}
@@ -67,10 +85,15 @@ IsFair (ask.End ending.LogFull) = ⊥
 IsFair (ask.End e) = Unit {0}
 IsFair _ = ⊥
 
--- the result of a step from rest: that of a refused try, or of one that enters; nothing looks at that of an entry
+-- the result of a refused try, or of one that enters; nothing looks at that of an entry
 abbrev pub result_by : Bool → ℕ
 result_by true = 0
 result_by false = 1
+
+-- the result of a step of a thread that asks so: what its source answers, or that of a try
+abbrev pub result_of : Bool → Ask → Source → ℕ
+result_of refused (ask.Env kind) source = (given kind source).0
+result_of refused _ source = result_by refused
 
 -- a thread that asks so doesn't try to enter
 abbrev pub IsNoTry : Ask → Type 0

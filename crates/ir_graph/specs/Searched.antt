@@ -1,12 +1,11 @@
 -- What a search over the states of a guest gives.
 use Rattle.std.specs.Prelude.{◌≡◌, ℕ, ◌<◌, ◌≤◌, List, Some, length, slice_get}
-use Rattle.ir_image.specs.Guest.{Guest}
 use Rattle.ir_explore.specs.declared.origin.Origin.{Origin}
 use Rattle.ir_explore.specs.Levels.{rows}
 use Rattle.ir_explore.specs.Origins.{AreRising}
 use Rattle.ir_explore.specs.Searching.{HasGone, IsBetween}
-use Rattle.ir_flat.specs.Flat.{Flat}
-use Rattle.ir_thread.specs.declared.profile.Profile.{Profile}
+use Rattle.ir_store.specs.Nodes.{SourcedFlat}
+use Rattle.ir_graph.specs.Setup.{Setup}
 use Rattle.ir_graph.specs.Ahead.{AreTurns}
 use Rattle.ir_graph.specs.Graph.{IsGraph}
 use Rattle.ir_graph.specs.Hangs.{AllStand}
@@ -18,18 +17,18 @@ use Rattle.ir_graph.specs.declared.states.States.{States}
 
 -- The states are those of this guest at rest, to each of which a run leads. Origins are known of the first of them, by rising levels, and so
 -- many levels are gone over.
-pub record AreSearched (guest : Guest) (profile : Profile) (flats : List Flat) (origins : List Origin) (levels : ℕ) : Type 0 where
-  pub states : AreNodes flats
-  pub reached : AllReached guest profile flats
-  pub few : length origins ≤ length flats
+pub record AreSearched (x : Setup) (states : List SourcedFlat) (origins : List Origin) (levels : ℕ) : Type 0 where
+  pub states : AreNodes states
+  pub reached : AllReached x states
+  pub few : length origins ≤ length states
   pub rising : AreRising origins
   pub most : (v : ℕ) (n : Origin) → slice_get origins v ≡ Some n → n.level ≤ levels
-  pub within : (c : ℕ) → c < levels → WithinListed guest profile flats origins c
+  pub within : (c : ℕ) → c < levels → WithinListed x states origins c
 
 -- a search over the graph of a guest
 pub record IsSearch (s : States) : Type 0 where
-  pub graph : IsGraph s.graph.image.now s.graph.profile s.graph.flats.items (noted_by s.graph.rows.items s.graph.refusals.items) (length s.graph.rows.items)
-  pub turns : AreTurns s.graph.image.now.code s.graph.flats.shared s.graph.ahead
+  pub graph : IsGraph s.graph.setup s.graph.flats.items (noted_by s.graph.rows.items s.graph.refusals.items) (length s.graph.rows.items)
+  pub turns : AreTurns s.graph.setup.guest.code s.graph.flats.shared s.graph.ahead
   pub room : length s.graph.flats.items ≤ s.graph.bounds.nodes
   pub threads : length (rows s.search.opened.items) ≡ length s.graph.rows.items
 
@@ -43,6 +42,6 @@ HasLevels s n = HasGone (noted_by s.graph.rows.items s.graph.refusals.items) (le
 
 -- each outcome of the guest is that of a listed state; its runs that count stand at listed states
 pub record IsWhole (s : States) : Type 0 where
-  pub all : AllListed s.graph.image.now s.graph.profile s.graph.flats.items
+  pub all : AllListed s.graph.setup s.graph.flats.items
   pub nodes : length s.search.found.nodes.items ≡ length s.graph.flats.items
-  pub stand : AllStand s.graph.image.now s.graph.profile s.graph.flats.items s.search.found.nodes.items
+  pub stand : AllStand s.graph.setup s.graph.flats.items s.search.found.nodes.items

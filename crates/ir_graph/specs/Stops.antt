@@ -1,14 +1,16 @@
 -- Why a search over the states of a guest stops.
-use Rattle.std.specs.Prelude.{◌≡◌, ℕ, false, List, length}
-use Rattle.ir_image.specs.Guest.{Guest}
+use Rattle.std.specs.Prelude.{◌≡◌, ℕ, ◌≤◌, ◌+◌, ◌^◌, false, List, length}
 use Rattle.ir_explore.specs.declared.stop.Stop.{Stop}
 use Rattle.ir_explore.specs.declared.stop.Stop.TheVariants.{Nodes, Private, Log, Order, World, Memory}
 use Rattle.ir_thread.specs.State.{ask_of}
-use Rattle.ir_thread.specs.declared.profile.Profile.{Profile}
+use Rattle.ir_runs.specs.declared.env_kind.EnvKind.TheVariants.{Clock}
 use Rattle.ir_thread.specs.declared.ask.Ask.{Ask}
 use Rattle.ir_thread.specs.declared.ask.Ask.TheVariants as ask
 use Rattle.ir_thread.specs.declared.end.End.TheVariants as ending
-use Rattle.ir_flat.specs.Flat.{Flat, thread_of}
+use Rattle.ir_sources.specs.Sources.{Source}
+use Rattle.ir_flat.specs.Flat.{thread_of}
+use Rattle.ir_store.specs.Nodes.{SourcedFlat, source_of}
+use Rattle.ir_graph.specs.Setup.{Setup}
 use Rattle.ir_graph.specs.Plain.{IsFair}
 use Rattle.ir_graph.specs.Reached.{IsReached}
 use Rattle.ir_graph.specs.Turn.{GoesAlone}
@@ -19,39 +21,39 @@ IsSpent (ask.End ending.BudgetSpent) = Unit {0}
 IsSpent (ask.End ending.LogFull) = Unit {0}
 IsSpent _ = ⊥
 
--- a thread that asks so calls the environment
-abbrev pub IsCall : Ask → Type 0
-IsCall (ask.Env kind) = Unit {0}
-IsCall _ = ⊥
+-- a thread that asks so calls for the time, and its count is at its end
+abbrev pub IsCall : Ask → Source → Type 0
+IsCall (ask.Env Clock) source = 2 ^ 32 ≤ source.ticks + 1
+IsCall _ source = ⊥
 
 -- why thread t, which asks so, is not followed
-abbrev pub IsRefused : ℕ → Ask → Stop → Type 0
-IsRefused t asked (Log u) = (u ≡ t) × IsSpent asked
-IsRefused t asked (World u) = (u ≡ t) × IsCall asked
-IsRefused t asked _ = ⊥
+abbrev pub IsRefused : ℕ → Ask → Source → Stop → Type 0
+IsRefused t asked source (Log u) = (u ≡ t) × IsSpent asked
+IsRefused t asked source (World u) = (u ≡ t) × IsCall asked source
+IsRefused t asked source _ = ⊥
 
--- why thread t, which went on alone from f to g, is not followed from there: it took so many steps and goes on, or by what it asks
-abbrev pub StopsAt : Flat → Flat → ℕ → ℕ → Stop → Type 0
-StopsAt f g t limit (Private u) = (u ≡ t) × GoesAlone f g t false limit 0 × IsFair (ask_of g.code (thread_of g t))
-StopsAt f g t limit (Log u) = IsRefused t (ask_of g.code (thread_of g t)) (Log u)
-StopsAt f g t limit (World u) = IsRefused t (ask_of g.code (thread_of g t)) (World u)
-StopsAt f g t limit _ = ⊥
+-- why thread t, which went on alone from s to u, is not followed from there: it took so many steps and goes on, or by what it asks
+abbrev pub StopsAt : SourcedFlat → SourcedFlat → ℕ → ℕ → Stop → Type 0
+StopsAt s u t limit (Private v) = (v ≡ t) × GoesAlone s u t false limit 0 × IsFair (ask_of u.flat.code (thread_of u.flat t))
+StopsAt s u t limit (Log v) = IsRefused t (ask_of u.flat.code (thread_of u.flat t)) (source_of u t) (Log v)
+StopsAt s u t limit (World v) = IsRefused t (ask_of u.flat.code (thread_of u.flat t)) (source_of u t) (World v)
+StopsAt s u t limit _ = ⊥
 
 -- runs of this guest lead to two states from the one of which a thread goes on to the other, where it is not followed
-pub record IsStop (guest : Guest) (profile : Profile) (limit : ℕ) (stop : Stop) : Type 0 where
-  pub from : Flat
-  pub at : Flat
+pub record IsStop (x : Setup) (limit : ℕ) (stop : Stop) : Type 0 where
+  pub from : SourcedFlat
+  pub at : SourcedFlat
   pub thread : ℕ
-  pub before : IsReached guest profile from
-  pub reached : IsReached guest profile at
+  pub before : IsReached x from
+  pub reached : IsReached x at
   pub stops : StopsAt from at thread limit stop
 
 -- Why a search over these states stops: there are as many as there may be, out of memory, or some thread is not followed. That no order led to a
 -- node once more is no reason.
-abbrev pub MayStop : Guest → Profile → List Flat → ℕ → ℕ → Stop → Type 0
-MayStop guest profile flats nodes limit Nodes = length flats ≡ nodes
-MayStop guest profile flats nodes limit Memory = Unit {0}
-MayStop guest profile flats nodes limit (Order v) = ⊥
-MayStop guest profile flats nodes limit (Private t) = IsStop guest profile limit (Private t)
-MayStop guest profile flats nodes limit (Log t) = IsStop guest profile limit (Log t)
-MayStop guest profile flats nodes limit (World t) = IsStop guest profile limit (World t)
+abbrev pub MayStop : Setup → List SourcedFlat → ℕ → ℕ → Stop → Type 0
+MayStop x states nodes limit Nodes = length states ≡ nodes
+MayStop x states nodes limit Memory = Unit {0}
+MayStop x states nodes limit (Order v) = ⊥
+MayStop x states nodes limit (Private t) = IsStop x limit (Private t)
+MayStop x states nodes limit (Log t) = IsStop x limit (Log t)
+MayStop x states nodes limit (World t) = IsStop x limit (World t)

@@ -1,16 +1,28 @@
 -- One thread that goes on alone.
-use Rattle.std.specs.Prelude.{◌≡◌, ℕ, Bool, length, replicate}
-use Rattle.ir_runs.specs.Run.{end}
+use Rattle.std.specs.Prelude.{◌≡◌, ℕ, Bool, List, [], ◌∷◌, length, replicate}
+use Rattle.ir_runs.specs.Machine.{Machine, Try}
+use Rattle.ir_runs.specs.Run.{State, Step, asked, after, end}
 use Rattle.ir_states.specs.Counting.{entering}
-use Rattle.ir_flat.specs.Flat.{Flat, tables, machine}
-use Rattle.ir_graph.specs.Plain.{result_by}
-use Rattle.ir_graph.specs.Reached.{IsQuietRun}
+use Rattle.ir_states.specs.Orders.{IsAlone}
+use Rattle.ir_store.specs.Nodes.{SourcedFlat}
+use Rattle.ir_graph.specs.Plain.{full_by, full_of, IsAnsweredRun, result_by}
 
--- g is f after so many steps of thread t, in which its tries are refused or enter, and so many of them are entries and tries
-pub record GoesAlone (f g : Flat) (t : ℕ) (refused : Bool) (steps entries : ℕ) : Type 0 where
-  pub quiet : IsQuietRun f.code (tables f) (replicate steps (t, result_by refused))
-  pub ends : tables g ≡ end (machine f) (tables f) (replicate steps (t, result_by refused))
-  pub enters : entering (machine f) (tables f) (replicate steps (t, result_by refused)) ≡ replicate entries t
-  pub code : g.code ≡ f.code
-  pub threads : length g.threads ≡ length f.threads
-  pub objects : length g.objects ≡ length f.objects
+-- each try of the run is refused, or enters
+abbrev pub EachTries : {T : Type 0} → Machine T → Bool → State T → List Step → Type 0
+EachTries m refused s [] = Unit {0}
+EachTries m refused s (e ∷ run) = ((o : ℕ) → asked m s e.0 ≡ Try o → e.1 ≡ result_by refused) × EachTries m refused (after m s e) run
+
+-- u is s after so many steps of thread t, in which its calls are answered by its source and its tries are refused or enter, and so many of them
+-- are entries and tries
+pub record GoesAlone (s u : SourcedFlat) (t : ℕ) (refused : Bool) (steps entries : ℕ) : Type 0 where
+  pub run : List Step
+  pub many : length run ≡ steps
+  pub alone : IsAlone t run
+  pub answered : IsAnsweredRun s.flat.code (full_of s) run
+  pub tries : EachTries (full_by s.flat.code) refused (full_of s) run
+  pub ends : full_of u ≡ end (full_by s.flat.code) (full_of s) run
+  pub enters : entering (full_by s.flat.code) (full_of s) run ≡ replicate entries t
+  pub code : u.flat.code ≡ s.flat.code
+  pub threads : length u.flat.threads ≡ length s.flat.threads
+  pub objects : length u.flat.objects ≡ length s.flat.objects
+  pub sources : length u.sources ≡ length s.sources

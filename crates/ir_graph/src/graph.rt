@@ -1,30 +1,26 @@
 //! The graph of a guest, as it grows.
 
 ghost use Rattle.std.specs.Prelude.{ℕ, length};
-ghost use Rattle.ir_flat.specs.Flat.{Flat};
-ghost use Rattle.ir_image.specs.Guest.{Guest};
 ghost use Rattle.ir_graph.specs.Ahead.{AreTurns};
 ghost use Rattle.ir_graph.specs.Graph.{IsGraph};
 ghost use Rattle.ir_graph.specs.Notes.{noted_by};
+ghost use Rattle.ir_graph.specs.Setup.{Setup};
 ghost use Rattle.ir_graph.specs.Stops.{MayStop};
-ghost use Rattle.ir_thread.specs.declared.profile.Profile.{Profile};
+ghost use Rattle.ir_store.specs.Nodes.{SourcedFlat};
 
 use crate::ahead::Ahead;
 use crate::nodes::{Bounds, successor};
 use crate::notes::{Row, known, note_way};
+use crate::setup::Setup;
 use crate::way::Way;
 use ir_explore::{Stop, Successors};
-use ir_image::Image;
 use ir_store::Store;
-use ir_thread::Profile;
 
-/// The graph of a guest whose threads call no environment: its states at rest, as the threads can tell them apart.
+/// The graph of a guest: its states at rest, as the threads can tell them apart.
 #[derive(Drop)]
 pub struct Graph<'a> {
-    /// The image of the guest.
-    pub image: &'a Image,
-    /// Which calls its threads make.
-    pub profile: Profile,
+    /// The guest, and what answers its threads.
+    pub setup: Setup<'a>,
     /// The states.
     pub flats: Store<'a>,
     /// How far the search may go.
@@ -35,23 +31,23 @@ pub struct Graph<'a> {
 }
 
 impl<'a> Successors for Graph<'a> {
-    ghost Origin = { Guest × Profile × ℕ };
+    ghost Origin = { Setup × ℕ };
 
-    ghost origin = { λ g. (g.image.now, g.profile, g.bounds.private) };
+    ghost origin = { λ g. (g.setup, g.bounds.private) };
 
     ghost size = { λ g. length g.flats.items };
 
     ghost most = { λ g. g.bounds.nodes };
 
-    ghost may_stop = { λ g. MayStop g.image.now g.profile g.flats.items g.bounds.nodes g.bounds.private };
+    ghost may_stop = { λ g. MayStop g.setup g.flats.items g.bounds.nodes g.bounds.private };
 
-    ghost Node = { Flat };
+    ghost Node = { SourcedFlat };
 
     ghost nodes = { λ g. g.flats.items };
 
     ghost noted = { λ g. noted_by g.rows.items g.refusals.items };
 
-    ghost is_sound = { λ g. IsGraph g.image.now g.profile g.flats.items (noted_by g.rows.items g.refusals.items) (length g.rows.items) × AreTurns g.image.now.code g.flats.shared g.ahead };
+    ghost is_sound = { λ g. IsGraph g.setup g.flats.items (noted_by g.rows.items g.refusals.items) (length g.rows.items) × AreTurns g.setup.guest.code g.flats.shared g.ahead };
 
     fn known(&self, thread: usize, refused: bool, node: usize) -> Option<Option<usize>> {
         if refused {
@@ -70,7 +66,7 @@ impl<'a> Successors for Graph<'a> {
             refused,
             node,
         };
-        let code = self.image.code();
+        let code = self.setup.image.code();
         let next = successor(&mut self.flats, &mut self.ahead, code, way, self.bounds)?;
         let nodes = self.flats.len();
         note_way(&mut self.rows, &mut self.refusals, nodes, way, next)?;

@@ -1,6 +1,6 @@
 //! States that no thread can tell apart.
 
-ghost use Rattle.std.specs.Prelude.{◌≡◌, ℕ, ◌<◌, List, [], true, false, length, IfOk, IsTrue, MatchOption, slice_index};
+ghost use Rattle.std.specs.Prelude.{◌≡◌, ℕ, ◌<◌, List, true, false, length, IfOk, IsTrue, MatchOption, slice_index};
 ghost use Rattle.std.specs.List.{slice_index_or};
 ghost use Rattle.ir_flat.specs.Room.{empty};
 ghost use Rattle.ir_freeze.specs.Twins.{AreTwins};
@@ -8,25 +8,35 @@ ghost use Rattle.ir_graph.specs.Plain.{IsLike};
 ghost use Rattle.ir_graph.specs.Nodes.{LookAlike};
 ghost use Rattle.ir_seen.specs.Seen.{Same, view};
 
-use ir_flat::Flat;
-use ir_freeze::{freeze, tells_apart};
+use ir_freeze::{freeze, over, tells_apart};
 use ir_object::Object;
-use ir_store::bounded;
+use ir_sources::Sources;
+use ir_store::{SourcedFlat, bounded};
 use ir_thread::Thread;
 use std::alloc::{AllocError, Global};
 
-// Whether two moments of a thread look the same: as bytes, beside the private memory of the first.
-fn same_thread(alloc: Global, first: &Thread, second: &Thread) -> Result<bool, AllocError>
+// Whether two moments of a thread look the same, beside what answers it: as bytes, beside the private memory of the first, and what is left of
+// the sources is the same, unless the thread is over.
+fn same_thread(
+    alloc: Global,
+    first: &Thread,
+    second: &Thread,
+    one: &Sources<'_>,
+    other: &Sources<'_>,
+) -> Result<bool, AllocError>
     requires { AreTwins first.now second.now }
-    ensures { IfOk result (λ same. same ≡ true → (code : List ℕ) → Same {S = List ℕ} code (view first.now, []) (view second.now, [])) }
+    ensures { IfOk result (λ same. same ≡ true → (code : List ℕ) → Same code (view first.now, one.now) (view second.now, other.now)) }
 {
+    if !over(first) && !one.same(other) {
+        return Ok(false);
+    }
     bounded(first);
     bounded(second);
     tells_apart();
     let start = first.mach().memory();
-    let one = freeze(alloc, start, first, &[])?;
-    let other = freeze(alloc, start, second, &[])?;
-    Ok(one.as_slice() == other.as_slice())
+    let bytes = freeze(alloc, start, first, &[])?;
+    let others = freeze(alloc, start, second, &[])?;
+    Ok(bytes.as_slice() == others.as_slice())
 }
 
 /// Whether the objects have the same words.
@@ -47,15 +57,23 @@ pub fn same_words(first: &[Object], second: &[Object]) -> bool
 ///
 /// # Errors
 /// Out of memory.
-pub fn same_state(alloc: Global, first: &Flat<'_>, second: &Flat<'_>) -> Result<bool, AllocError>
-    requires { IsLike first.now second.now }
+pub fn same_state(
+    alloc: Global,
+    first: &SourcedFlat<'_>,
+    second: &SourcedFlat<'_>,
+) -> Result<bool, AllocError>
+    requires like { IsLike first.now.flat second.now.flat }
+    requires sources { length first.now.sources ≡ length first.now.flat.threads }
+    requires others { length second.now.sources ≡ length second.now.flat.threads }
     ensures { IfOk result (λ same. same ≡ true → LookAlike first.now second.now) }
 {
-    if !same_words(first.objects(), second.objects()) {
+    if !same_words(first.flat.objects(), second.flat.objects()) {
         return Ok(false);
     }
-    for t in 0..first.threads().len() {
-        if !same_thread(alloc, &first.threads()[t], &second.threads()[t])? {
+    for t in 0..first.flat.threads().len() {
+        let one = &first.flat.threads()[t];
+        let other = &second.flat.threads()[t];
+        if !same_thread(alloc, one, other, &first.sources[t], &second.sources[t])? {
             return Ok(false);
         }
     }

@@ -2,15 +2,13 @@
 
 ghost use Rattle.std.specs.Prelude.{◌≡◌, ◌⊎◌, ℕ, suc, ◌<◌, ◌≤◌, true, Some, None, length, slice_get, IfOk, IfErr, IfSome, OnOk, OnErr, IsErrOf};
 ghost use Rattle.ir_explore.specs.declared.stop.Stop.TheVariants.{Nodes, Memory};
-ghost use Rattle.ir_flat.specs.Flat.{Flat};
 ghost use Rattle.ir_graph.specs.Ahead.{AreTurns, IsTurnOf};
 ghost use Rattle.ir_graph.specs.Nodes.{LookAlike, AllRest, AreNodes, Stay, LeadsFrom};
 ghost use Rattle.ir_graph.specs.Plain.{IsLike, IsNoTry, MayGo, result_by};
 ghost use Rattle.ir_graph.specs.Reached.{IsReached, AllReached};
 ghost use Rattle.ir_graph.specs.Stops.{MayStop};
-ghost use Rattle.ir_image.specs.Guest.{Guest};
-ghost use Rattle.ir_store.specs.Nodes.{Grows, IsNode, flat_in};
-ghost use Rattle.ir_thread.specs.declared.profile.Profile.{Profile};
+ghost use Rattle.ir_graph.specs.Setup.{Setup};
+ghost use Rattle.ir_store.specs.Nodes.{Grows, IsNode, SourcedFlat, sourced_in};
 
 use crate::ahead::Ahead;
 use crate::known::Turn;
@@ -35,16 +33,16 @@ pub struct Bounds {
 fn node_of<'a>(flats: &mut Store<'a>, new: Node<'a>, most: usize) -> Result<usize, Stop>
     requires nodes { AreNodes flats.old.items }
     requires is { IsNode flats.old.shared new }
-    requires like { (v : ℕ) (f : Flat) → slice_get flats.old.items v ≡ Some f → IsLike (flat_in flats.old.shared new) f }
-    requires rest { AllRest (flat_in flats.old.shared new) }
+    requires like { (v : ℕ) (s : SourcedFlat) → slice_get flats.old.items v ≡ Some s → IsLike (sourced_in flats.old.shared new).flat s.flat }
+    requires rest { AllRest (sourced_in flats.old.shared new).flat }
     requires room { length flats.old.items ≤ most }
     ensures nodes { AreNodes flats.new.items }
     ensures stay { Stay flats.old.items flats.new.items }
     ensures shared { flats.new.shared ≡ flats.old.shared }
-    ensures reached { (guest : Guest) (profile : Profile) → AllReached guest profile flats.old.items → IsReached guest profile (flat_in flats.old.shared new.entry) → AllReached guest profile flats.new.items }
+    ensures reached { (x : Setup) → AllReached x flats.old.items → IsReached x (sourced_in flats.old.shared new.entry) → AllReached x flats.new.items }
     ensures within { IfOk result (λ w. w < length flats.new.items) }
     ensures added { IfOk result (λ w. (length flats.new.items ≡ length flats.old.items) ⊎ ((w ≡ length flats.old.items) × (length flats.new.items ≡ suc (length flats.old.items)))) }
-    ensures alike { IfOk result (λ w. (f : Flat) → slice_get flats.new.items w ≡ Some f → LookAlike (flat_in flats.old.shared new.entry) f) }
+    ensures alike { IfOk result (λ w. (s : SourcedFlat) → slice_get flats.new.items w ≡ Some s → LookAlike (sourced_in flats.old.shared new.entry) s) }
     ensures grown { length flats.old.items ≤ length flats.new.items }
     ensures room { length flats.new.items ≤ most }
     ensures full { IsErrOf result Nodes → length flats.new.items ≡ most }
@@ -65,13 +63,13 @@ fn node_of<'a>(flats: &mut Store<'a>, new: Node<'a>, most: usize) -> Result<usiz
 fn node_by<'a>(flats: &mut Store<'a>, way: Way, turn: Turn, most: usize) -> Result<usize, Stop>
     requires nodes { AreNodes flats.old.items }
     requires node { way.node < length flats.old.items }
-    requires thread { (f : Flat) → slice_get flats.old.items way.node ≡ Some f → way.thread < length f.threads }
-    requires turn { (f : Flat) → slice_get flats.old.items way.node ≡ Some f → IsTurnOf f.code flats.old.shared f way.thread way.refused turn }
+    requires thread { (s : SourcedFlat) → slice_get flats.old.items way.node ≡ Some s → way.thread < length s.flat.threads }
+    requires turn { (s : SourcedFlat) → slice_get flats.old.items way.node ≡ Some s → IsTurnOf s.flat.code flats.old.shared s way.thread way.refused turn }
     requires room { length flats.old.items ≤ most }
     ensures nodes { AreNodes flats.new.items }
     ensures stay { Stay flats.old.items flats.new.items }
     ensures shared { flats.new.shared ≡ flats.old.shared }
-    ensures reached { (guest : Guest) (profile : Profile) → AllReached guest profile flats.old.items → AllReached guest profile flats.new.items }
+    ensures reached { (x : Setup) → AllReached x flats.old.items → AllReached x flats.new.items }
     ensures within { IfOk result (λ w. w < length flats.new.items) }
     ensures added { IfOk result (λ w. (length flats.new.items ≡ length flats.old.items) ⊎ ((w ≡ length flats.old.items) × (length flats.new.items ≡ suc (length flats.old.items)))) }
     ensures leads { IfOk result (λ w. LeadsFrom flats.new.items way.thread way.refused way.node (Some w)) }
@@ -102,32 +100,32 @@ fn way_result(refused: bool, asked: Ask) -> Option<u32>
 fn node_by_steps<'a>(flats: &mut Store<'a>, way: Way, bounds: Bounds) -> Result<Option<usize>, Stop>
     requires nodes { AreNodes flats.old.items }
     requires node { way.node < length flats.old.items }
-    requires thread { (f : Flat) → slice_get flats.old.items way.node ≡ Some f → way.thread < length f.threads }
+    requires thread { (s : SourcedFlat) → slice_get flats.old.items way.node ≡ Some s → way.thread < length s.flat.threads }
     requires room { length flats.old.items ≤ bounds.nodes }
     ensures nodes { AreNodes flats.new.items }
     ensures stay { Stay flats.old.items flats.new.items }
     ensures grows { Grows flats.old.shared flats.new.shared }
-    ensures reached { (guest : Guest) (profile : Profile) → AllReached guest profile flats.old.items → AllReached guest profile flats.new.items }
+    ensures reached { (x : Setup) → AllReached x flats.old.items → AllReached x flats.new.items }
     ensures within { IfOk result (λ next. (w : ℕ) → next ≡ Some w → w < length flats.new.items) }
     ensures added { IfOk result (λ next. (length flats.new.items ≡ length flats.old.items) ⊎ ((next ≡ Some (length flats.old.items)) × (length flats.new.items ≡ suc (length flats.old.items)))) }
     ensures leads { IfOk result (λ next. LeadsFrom flats.new.items way.thread way.refused way.node next) }
     ensures grown { length flats.old.items ≤ length flats.new.items }
     ensures room { length flats.new.items ≤ bounds.nodes }
     ensures full { IsErrOf result Nodes → length flats.new.items ≡ bounds.nodes }
-    ensures stopped { IfErr result (λ stop. (guest : Guest) (profile : Profile) → AllReached guest profile flats.old.items → MayStop guest profile flats.new.items bounds.nodes bounds.private stop) }
+    ensures stopped { IfErr result (λ stop. (x : Setup) → AllReached x flats.old.items → MayStop x flats.new.items bounds.nodes bounds.private stop) }
 {
-    let mut flat = flats.get(way.node)?;
-    let asked = flat.ask(way.thread);
+    let mut state = flats.get(way.node)?;
+    let asked = state.flat.ask(way.thread);
     let Some(answer) = way_result(way.refused, asked) else {
         return Ok(None);
     };
-    if let Err(_) = flat.take(way.thread, asked, answer) {
+    if let Err(_) = state.flat.take(way.thread, asked, answer) {
         return Ok(None);
     }
-    if let Err(stop) = run_to_rest(&mut flat, way.thread, bounds.private) {
+    if let Err(stop) = run_to_rest(&mut state, way.thread, bounds.private) {
         return Err(stop);
     }
-    let new = flats.by_numbers(&flat)?;
+    let new = flats.by_numbers(&state)?;
     match node_of(flats, new, bounds.nodes) {
         Ok(next) => Ok(Some(next)),
         Err(stop) => Err(stop),
@@ -147,21 +145,21 @@ pub fn successor<'a>(
 ) -> Result<Option<usize>, Stop>
     requires nodes { AreNodes flats.old.items }
     requires node { way.node < length flats.old.items }
-    requires thread { (f : Flat) → slice_get flats.old.items way.node ≡ Some f → way.thread < length f.threads }
-    requires code { (f : Flat) → slice_get flats.old.items way.node ≡ Some f → f.code ≡ code.now }
+    requires thread { (s : SourcedFlat) → slice_get flats.old.items way.node ≡ Some s → way.thread < length s.flat.threads }
+    requires code { (s : SourcedFlat) → slice_get flats.old.items way.node ≡ Some s → s.flat.code ≡ code.now }
     requires turns { AreTurns code.now flats.old.shared ahead.old }
     requires room { length flats.old.items ≤ bounds.nodes }
     ensures nodes { AreNodes flats.new.items }
     ensures stay { Stay flats.old.items flats.new.items }
     ensures turns { AreTurns code.now flats.new.shared ahead.new }
-    ensures reached { (guest : Guest) (profile : Profile) → AllReached guest profile flats.old.items → AllReached guest profile flats.new.items }
+    ensures reached { (x : Setup) → AllReached x flats.old.items → AllReached x flats.new.items }
     ensures within { IfOk result (λ next. (w : ℕ) → next ≡ Some w → w < length flats.new.items) }
     ensures added { IfOk result (λ next. (length flats.new.items ≡ length flats.old.items) ⊎ ((next ≡ Some (length flats.old.items)) × (length flats.new.items ≡ suc (length flats.old.items)))) }
     ensures leads { IfOk result (λ next. LeadsFrom flats.new.items way.thread way.refused way.node next) }
     ensures grown { length flats.old.items ≤ length flats.new.items }
     ensures room { length flats.new.items ≤ bounds.nodes }
     ensures full { IsErrOf result Nodes → length flats.new.items ≡ bounds.nodes }
-    ensures stopped { IfErr result (λ stop. (guest : Guest) (profile : Profile) → AllReached guest profile flats.old.items → MayStop guest profile flats.new.items bounds.nodes bounds.private stop) }
+    ensures stopped { IfErr result (λ stop. (x : Setup) → AllReached x flats.old.items → MayStop x flats.new.items bounds.nodes bounds.private stop) }
 {
     let number = flats.thread_number(way.node, way.thread);
     if flats.thread_over(number) {

@@ -1,10 +1,10 @@
 //! The different outcomes of the nodes that were found.
 
 ghost use Rattle.std.specs.Prelude.{◌≡◌, ℕ, suc, ◌<◌, ◌++◌, [], ◌∷◌, true, false, Some, length, slice_get, IfOk};
-ghost use Rattle.ir_flat.specs.Flat.{Flat};
 ghost use Rattle.ir_graph.specs.Listing.{HasOutcome, AreOutcomes};
 ghost use Rattle.ir_graph.specs.Nodes.{AreNodes};
 ghost use Rattle.ir_graph.specs.Plain.{IsLike};
+ghost use Rattle.ir_store.specs.Nodes.{SourcedFlat};
 
 use crate::ends::same_outcome;
 use ir_flat::Flat;
@@ -14,14 +14,14 @@ use std::alloc::AllocError;
 // Whether one of the listed nodes has the outcome of this state.
 fn is_listed(flats: &Store<'_>, listed: &[usize], flat: &Flat<'_>) -> Result<bool, AllocError>
     requires within { (i v : ℕ) → slice_get listed.now i ≡ Some v → v < length flats.now.items }
-    requires like { (v : ℕ) (f : Flat) → slice_get flats.now.items v ≡ Some f → IsLike f flat.now }
+    requires like { (v : ℕ) (s : SourcedFlat) → slice_get flats.now.items v ≡ Some s → IsLike s.flat flat.now }
     ensures found { IfOk result (λ found. found ≡ true → HasOutcome flats.now.items listed.now flat.now) }
     ensures other { IfOk result (λ found. found ≡ false → HasOutcome flats.now.items listed.now flat.now → ⊥) }
 {
     for i in 0..listed.len() {
         let node = listed[i];
         let kept = flats.get(node)?;
-        if same_outcome(&kept, flat) {
+        if same_outcome(&kept.flat, flat) {
             return Ok(true);
         }
     }
@@ -42,7 +42,7 @@ pub fn has_new_outcome(flats: &Store<'_>, listed: &[usize], node: usize) -> Resu
     if !flats.is_over(node) {
         return Ok(false);
     }
-    let flat = flats.get(node)?;
-    let found = is_listed(flats, listed, &flat)?;
+    let state = flats.get(node)?;
+    let found = is_listed(flats, listed, &state.flat)?;
     Ok(!found)
 }

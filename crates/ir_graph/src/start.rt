@@ -2,16 +2,14 @@
 
 ghost use Rattle.std.specs.Prelude.{◌≡◌, ◌⊎◌, ℕ, ◌<◌, ◌≤◌, [], ◌∷◌, None, length, IfOk, IfErr, OnOk};
 ghost use Rattle.ir_explore.specs.declared.stop.Stop.TheVariants.{Memory};
-ghost use Rattle.ir_flat.specs.Flat.{start_flat};
 ghost use Rattle.ir_graph.specs.Graph.{IsGraph};
 ghost use Rattle.ir_graph.specs.Nodes.{AllRest};
 ghost use Rattle.ir_graph.specs.Notes.{noted_by, noted_in};
 ghost use Rattle.ir_graph.specs.Plain.{GoesPlain};
+ghost use Rattle.ir_graph.specs.Setup.{Setup, start_of};
 ghost use Rattle.ir_graph.specs.Stops.{IsStop};
-ghost use Rattle.ir_image.specs.Guest.{Guest};
 ghost use Rattle.ir_mach.specs.Core.{memory_size};
-ghost use Rattle.ir_thread.specs.State.{IsAllowed, most_budget};
-ghost use Rattle.ir_thread.specs.declared.profile.Profile.{Profile};
+ghost use Rattle.ir_thread.specs.State.{IsAllowed};
 ghost use Rattle.ir_thread.specs.declared.profile.Profile.TheVariants.{One, Two};
 
 use crate::ahead::Ahead;
@@ -19,27 +17,25 @@ use crate::graph::Graph;
 use crate::nodes::Bounds;
 use crate::notes::Row;
 use crate::rest::run_to_rest;
+use crate::setup::Setup;
 use ir_explore::Stop;
-use ir_flat::Flat;
 use ir_image::Image;
-use ir_store::Store;
+use ir_store::{SourcedFlat, Store};
 use ir_thread::Profile;
 use std::alloc::{AllocError, Global};
-
-// As many steps as a thread may take.
-const MOST_BUDGET: u64 = 1_000_000_000_000;
 
 // The bytes of private memory.
 const MEMORY_SIZE: usize = 65_536;
 
 // Each thread runs on alone to its first entry or try.
-fn rest_all(flat: &mut Flat<'_>, limit: u64) -> Result<(), Stop>
-    ensures goes { GoesPlain flat.old flat.new }
-    ensures rest { OnOk result (AllRest flat.new) }
-    ensures stopped { IfErr result (λ stop. (guest : Guest) (profile : Profile) → flat.old ≡ start_flat guest most_budget profile → IsStop guest profile limit stop) }
+fn rest_all(state: &mut SourcedFlat<'_>, limit: u64) -> Result<(), Stop>
+    requires { length state.old.sources ≡ length state.old.flat.threads }
+    ensures goes { GoesPlain state.old state.new }
+    ensures rest { OnOk result (AllRest state.new.flat) }
+    ensures stopped { IfErr result (λ stop. (x : Setup) → state.old ≡ start_of x → IsStop x limit stop) }
 {
-    for thread in 0..flat.threads().len() {
-        if let Err(stop) = run_to_rest(flat, thread, limit) {
+    for thread in 0..state.flat.threads().len() {
+        if let Err(stop) = run_to_rest(state, thread, limit) {
             return Err(stop);
         }
     }
@@ -79,38 +75,35 @@ fn first_memory(alloc: Global, image: &Image) -> Result<Vec<u8>, AllocError>
     Ok(memory)
 }
 
-/// The graph of a guest whose threads make the calls of this profile: one node, where it comes to rest from its start.
+/// The graph of a guest: one node, where it comes to rest from its start.
 ///
 /// # Errors
 /// What `run_to_rest` gives, or out of memory.
 pub fn start_graph<'a>(
     alloc: Global,
-    image: &'a Image,
-    profile: Profile,
+    setup: &Setup<'a>,
     bounds: Bounds,
 ) -> Result<Graph<'a>, Stop>
-    requires allowed { IsAllowed profile image.now }
-    ensures stopped { IfErr result (λ stop. (stop ≡ Memory) ⊎ IsStop image.now profile bounds.private stop) }
-    ensures image { IfOk result (λ graph. graph.image.now ≡ image.now) }
-    ensures profile { IfOk result (λ graph. graph.profile ≡ profile) }
+    requires allowed { IsAllowed setup.now.profile setup.now.guest }
+    ensures stopped { IfErr result (λ stop. (stop ≡ Memory) ⊎ IsStop setup.now bounds.private stop) }
+    ensures setup { IfOk result (λ graph. graph.setup ≡ setup.now) }
     ensures one { IfOk result (λ graph. length graph.flats.items ≡ 1) }
     ensures bounds { IfOk result (λ graph. graph.bounds ≡ bounds) }
-    ensures threads { IfOk result (λ graph. length graph.rows.items ≡ length image.now.entries) }
-    ensures sound { IfOk result (λ graph. IsGraph image.now profile graph.flats.items (noted_by graph.rows.items graph.refusals.items) (length graph.rows.items)) }
+    ensures threads { IfOk result (λ graph. length graph.rows.items ≡ length setup.now.guest.entries) }
+    ensures sound { IfOk result (λ graph. IsGraph setup.now graph.flats.items (noted_by graph.rows.items graph.refusals.items) (length graph.rows.items)) }
     ensures none { IfOk result (λ graph. graph.ahead ≡ []) }
 {
-    let mut flat = Flat::start(alloc, image, MOST_BUDGET, profile)?;
-    rest_all(&mut flat, bounds.private)?;
-    let threads = flat.threads().len();
+    let mut state = setup.start(alloc)?;
+    rest_all(&mut state, bounds.private)?;
+    let threads = state.flat.threads().len();
     let rows = no_notes(alloc, threads)?;
-    let refusals = no_refusals(alloc, threads, profile)?;
-    let start = first_memory(alloc, image)?;
-    let mut flats = Store::new(alloc, image.form(), start.as_slice())?;
-    let first = flats.by_numbers(&flat)?;
+    let refusals = no_refusals(alloc, threads, setup.profile)?;
+    let start = first_memory(alloc, setup.image)?;
+    let mut flats = Store::new(alloc, setup.image.form(), start.as_slice())?;
+    let first = flats.by_numbers(&state)?;
     flats.push(first)?;
     Ok(Graph {
-        image,
-        profile,
+        setup: setup.copy(),
         flats,
         bounds,
         ahead: Ahead::new(alloc),

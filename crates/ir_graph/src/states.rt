@@ -12,10 +12,9 @@ ghost use Rattle.ir_thread.specs.State.{IsAllowed};
 use crate::graph::Graph;
 use crate::marks::mark_states;
 use crate::nodes::Bounds;
+use crate::setup::Setup;
 use crate::start::start_graph;
 use ir_explore::{Observer, Search, Stop};
-use ir_image::Image;
-use ir_thread::Profile;
 use std::alloc::{AllocError, Global};
 
 /// The states that were found, and how.
@@ -28,28 +27,26 @@ pub struct States<'a> {
 }
 
 impl<'a> States<'a> {
-    /// The first state of a guest whose threads make the calls of this profile: where it comes to rest from its start.
+    /// The first state of a guest: where it comes to rest from its start.
     ///
     /// # Errors
     /// Some thread doesn't come to its first entry or try, as `run_to_rest` says, or out of memory.
     pub fn start(
         alloc: Global,
-        image: &'a Image,
-        profile: Profile,
+        setup: &Setup<'a>,
         bounds: Bounds,
     ) -> Result<States<'a>, Stop>
-        requires allowed { IsAllowed profile image.now }
+        requires allowed { IsAllowed setup.now.profile setup.now.guest }
         requires some { 1 ≤ bounds.nodes }
-        ensures image { IfOk result (λ s. s.graph.image.now ≡ image.now) }
-        ensures profile { IfOk result (λ s. s.graph.profile ≡ profile) }
+        ensures setup { IfOk result (λ s. s.graph.setup ≡ setup.now) }
         ensures bounds { IfOk result (λ s. s.graph.bounds ≡ bounds) }
         ensures is { IfOk result IsSearch }
         ensures between { IfOk result StandsBetween }
         ensures number { IfOk result (λ s. s.search.level.number ≡ 0) }
         ensures first { IfOk result (λ s. s.search.level.first ≡ 0) }
-        ensures refused { IfErr result (λ stop. (stop ≡ Memory) ⊎ IsStop image.now profile bounds.private stop) }
+        ensures refused { IfErr result (λ stop. (stop ≡ Memory) ⊎ IsStop setup.now bounds.private stop) }
     {
-        let graph = start_graph(alloc, image, profile, bounds)?;
+        let graph = start_graph(alloc, setup, bounds)?;
         let search = Search::new(alloc, graph.rows.len())?;
         Ok(States { graph, search })
     }
@@ -72,19 +69,18 @@ impl<'a> States<'a> {
         requires between { StandsBetween self.old }
         requires more { self.old.search.level.first < self.old.search.level.until }
         ensures is { IsSearch self.new }
-        ensures image { self.new.graph.image.now ≡ self.old.graph.image.now }
-        ensures profile { self.new.graph.profile ≡ self.old.graph.profile }
+        ensures setup { self.new.graph.setup ≡ self.old.graph.setup }
         ensures bounds { self.new.graph.bounds ≡ self.old.graph.bounds }
         ensures stay { Stay self.old.graph.flats.items self.new.graph.flats.items }
         ensures adds { Adds self.old.search.level.number self.old.search.found.nodes.items self.new.search.found.nodes.items }
         // Once it has gone over it
         ensures between { OnOk result (StandsBetween self.new) }
         ensures next { OnOk result (self.new.search.level.number ≡ suc self.old.search.level.number) }
-        ensures searched { OnOk result (AreSearched self.new.graph.image.now self.new.graph.profile self.new.graph.flats.items self.new.search.found.nodes.items self.new.search.level.number) }
+        ensures searched { OnOk result (AreSearched self.new.graph.setup self.new.graph.flats.items self.new.search.found.nodes.items self.new.search.level.number) }
         // Else it has found some states of it
         ensures level { OnErr result (self.new.search.level ≡ self.old.search.level) }
-        ensures part { AreSearched self.new.graph.image.now self.new.graph.profile self.new.graph.flats.items self.new.search.found.nodes.items self.old.search.level.number }
-        ensures stopped { IfErr result (λ stop. MayStop self.new.graph.image.now self.new.graph.profile self.new.graph.flats.items self.new.graph.bounds.nodes self.new.graph.bounds.private stop) }
+        ensures part { AreSearched self.new.graph.setup self.new.graph.flats.items self.new.search.found.nodes.items self.old.search.level.number }
+        ensures stopped { IfErr result (λ stop. MayStop self.new.graph.setup self.new.graph.flats.items self.new.graph.bounds.nodes self.new.graph.bounds.private stop) }
     {
         self.search.go_over(&mut self.graph, observer)
     }

@@ -1,0 +1,82 @@
+//! A guest that is explored, and what answers its threads.
+
+ghost use Rattle.std.specs.Prelude.{◌≡◌, ℕ, IfOk, length};
+ghost use Rattle.ir_thread.specs.State.{IsAllowed};
+ghost use Rattle.ir_sources.specs.Sources.{seed_of, source};
+ghost use Rattle.ir_graph.specs.Setup.{Setup, first_sources, start_of};
+
+use ir_flat::Flat;
+use ir_image::Image;
+use ir_sources::Sources;
+use ir_store::SourcedFlat;
+use ir_thread::Profile;
+use std::alloc::{AllocError, Global};
+use std::marker::Model;
+
+// As many steps as a thread may take.
+const MOST_BUDGET: u64 = 1_000_000_000_000;
+
+/// A guest, which calls its threads make, and what answers them.
+#[derive(Drop)]
+pub struct Setup<'a> {
+    /// The image of the guest.
+    pub image: &'a Image,
+    /// Which calls its threads make.
+    pub profile: Profile,
+    /// The number that random words start from: those of thread T start from this plus T.
+    pub random: u64,
+    /// The input of each thread.
+    pub input: &'a [u8],
+}
+
+impl<'a> Model for Setup<'a> {
+    ghost Value = { Setup };
+
+    ghost view = { λ x. record { guest = x.image.now; profile = x.profile; random = x.random; input = x.input.now } };
+}
+
+impl<'a> Setup<'a> {
+    /// The same once more.
+    pub fn copy(&self) -> Setup<'a>
+        ensures { result ≡ self.now }
+    {
+        Setup {
+            image: self.image,
+            profile: self.profile,
+            random: self.random,
+            input: self.input,
+        }
+    }
+
+    // What answers a thread at first.
+    fn source(&self, thread: usize) -> Sources<'a>
+        ensures { result ≡ source (seed_of self.now.random thread) self.now.input }
+    {
+        Sources::new(self.random.wrapping_add(thread as u64), self.input)
+    }
+
+    // What answers each thread at first.
+    fn sources(&self, alloc: Global) -> Result<Vec<Sources<'a>>, AllocError>
+        ensures { IfOk result (λ sources. sources.items ≡ first_sources self.now) }
+    {
+        let threads = self.image.entries().len();
+        let mut sources = Vec::with_capacity(alloc, threads)?;
+        for thread in 0..threads {
+            sources.push(self.source(thread))?;
+        }
+        Ok(sources)
+    }
+
+    /// The guest where its runs begin, each thread with the highest budget.
+    ///
+    /// # Errors
+    /// Out of memory.
+    pub fn start(&self, alloc: Global) -> Result<SourcedFlat<'a>, AllocError>
+        requires { IsAllowed self.now.profile self.now.guest }
+        ensures { IfOk result (λ state. state ≡ start_of self.now) }
+    {
+        let flat = Flat::start(alloc, self.image, MOST_BUDGET, self.profile)?;
+        let sources = self.sources(alloc)?;
+        Ok(SourcedFlat { flat, sources })
+    }
+}
