@@ -7,7 +7,7 @@ use Rattle.ir_image.specs.Guest.{Guest}
 use Rattle.ir_explore_run.specs.Conditions.{IsFirst}
 use Rattle.ir_explore_run.specs.Texts.{Known, AreKnown, IsKnownText}
 use Rattle.ir_explore_run.specs.Until.{IsSought, IsVain}
-use Rattle.ir_explore_run.specs.declared.plan.ExplorePlan.{ExplorePlan}
+use Rattle.ir_explore_run.specs.Plan.{ExplorePlan}
 use Rattle.ir_explore_run.proofs.Fulfilled.{never_within_if_none_before, never_fulfils_if_none_before}
 
 -- what was found out up to a number of switches that is the plan's, or is all

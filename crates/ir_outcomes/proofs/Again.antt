@@ -17,7 +17,11 @@ use Rattle.ir_explore.proofs.CallerLemmas.{switches_after_repeated_turn, switche
 use Rattle.ir_record.specs.Recording.{turns_of_items}
 use Rattle.ir_record.specs.Refusing.{Turn, Tries, InTurns}
 use Rattle.ir_record.specs.declared.item.Item.{Item}
+use Rattle.ir_flat.proofs.CallerLemmas.{length_of_start_threads}
+use Rattle.ir_sources.specs.Sources.{source, seed_of}
+use Rattle.ir_thread.specs.State.{most_budget}
 use Rattle.std.proofs.lemmas.List.{flat_map_more, append-nil}
+use Rattle.std.proofs.lemmas.List.FromFn.{length-map-range_with_len}
 use Rattle.ir_outcomes.specs.Again.{IsAgain, IsAgainWithin}
 
 replicate_of_sum : (t n k : ℕ) → replicate (n + k) t ≡ replicate n t ++ replicate k t
@@ -73,6 +77,8 @@ start_is_run_again setup = record {
   in_turns = refl;
   ends = refl;
   enters = refl;
+  each = length-map-range_with_len (λ t. source (seed_of setup.random t) setup.input) 0 (length setup.guest.entries)
+      ∙ sym (length_of_start_threads setup.guest most_budget setup.profile 0 (length setup.guest.entries));
 }
 
 -- a thread goes on alone
@@ -105,6 +111,7 @@ is_again_after_going_alone setup turns before s u t refused n e a goes =
       in_turns = in_turns_append (full_by code) first turns (replicate n (t, refused)) a.steps goes.run a.in_turns in_turns;
       ends = ends;
       enters = entering_append (full_by code) first a.steps goes.run ∙ (λ i. a.enters i ++ late i);
+      each = goes.sources ∙ a.each ∙ sym goes.threads;
     }
 
 -- so it does with turns noted

@@ -113,7 +113,7 @@ module _ (setup : Setup) (flats : List SourcedFlat) (origins : List Origin) (mar
         let l = slice_get_within flats r.0 r.1 r.3 in let a = marked.all in omega (arith, l, a),
         r.4,
         r.5,
-        λ is. h.1 (r.6.1 (marked.marked r.0 r.1 r.3 is answers)),
+        λ is. h.1 (r.6.1 (marked.marked r.0 r.1 r.3 is)),
       )
 
   no_hangs : ((v : ℕ) → v < length marks → IsOpen marks v) → AreHangs setup flats (shut marks) None

@@ -13,7 +13,7 @@ ghost use Rattle.ir_outcomes.specs.Again.{IsAgain, IsAgainWithin};
 
 use crate::path::refusals_to;
 use ir_explore::{Origin, Refusal, Stop};
-use ir_graph::{States, first_state, run_to_rest};
+use ir_graph::{States, run_to_rest};
 use ir_record::Item;
 use ir_store::SourcedFlat;
 use std::alloc::Global;
@@ -61,7 +61,7 @@ fn enter(state: &mut SourcedFlat<'_>, thread: usize, refused: bool, limit: u64) 
     Ok(all)
 }
 
-// A thread runs on alone to where it rests, and then takes the steps of a leg; how many steps that takes.
+// A thread runs on alone to where it rests, and then takes the steps of a leg; how many steps that takes. Each call is answered by its source.
 fn take_leg(state: &mut SourcedFlat<'_>, leg: Leg, limit: u64) -> Result<u64, Stop>
     requires thread { leg.thread < length state.old.flat.threads }
     requires sources { length state.old.sources ≡ length state.old.flat.threads }
@@ -75,11 +75,12 @@ fn take_leg(state: &mut SourcedFlat<'_>, leg: Leg, limit: u64) -> Result<u64, St
     Ok(steps)
 }
 
-// So does a thread of the guest, and its steps are noted. Each call is answered by the thread's source.
+// So does a thread of the guest, and its steps are noted.
 fn add_leg(state: &mut SourcedFlat<'_>, items: &mut Vec<Item>, leg: Leg, limit: u64) -> Result<(), Stop>
     ensures { OnOk result ((setup : Setup) (before : List ℕ) → IsAgain setup (turns_of_items items.old.items) before state.old → IsAgain setup (turns_of_items items.new.items) (before ++ replicate leg.steps leg.thread) state.new) }
 {
-    if leg.thread >= state.flat.threads().len() {
+    let threads = state.flat.threads().len();
+    if leg.thread >= threads || state.sources.len() != threads {
         return Err(Stop::Order(0));
     }
     let count = take_leg(state, leg, limit)?;
@@ -185,7 +186,7 @@ fn run_again<'a>(
     ensures { IfOk result (λ run. IsAgainWithin states.now.graph.setup (turns_of_items run.1.items) (length path.now) run.0) }
 {
     let limit = states.graph.bounds.private;
-    let mut state = first_state(alloc, &states.graph.setup)?;
+    let mut state = states.graph.setup.start(alloc)?;
     let mut items = Vec::new(alloc);
     let table = states.search.found.refusals.as_slice();
     add_path(alloc, &mut state, &mut items, table, path, limit)?;

@@ -12,7 +12,7 @@ use Rattle.ir_explore_run.specs.Faults.{StopsPrinting}
 use Rattle.ir_explore_run.specs.Printing.{EndsEarly}
 use Rattle.ir_explore_run.specs.Texts.{Objects, objects_of, IsReason, IsStopped, IsEnding, IsAnswerAbout, known_of}
 use Rattle.ir_explore_run.specs.declared.fault.ExploreFault.TheVariants.{NoMem, Write}
-use Rattle.ir_explore_run.specs.declared.plan.ExplorePlan.{ExplorePlan}
+use Rattle.ir_explore_run.specs.Plan.{ExplorePlan}
 use Rattle.ir_explore_run.proofs.Printed.{stops_before_first_line, printed_outcomes_are_part, failed_after_taken_text, answer_of_lines_and_ending}
 use Rattle.ir_explore_run.proofs.run.show.Goals as goal
 

@@ -4,10 +4,10 @@ use Rattle.ir_outcomes.proofs.Again.{again_within_step}
 use Rattle.ir_outcomes.proofs.rerun.add_path.Goals as goal
 
 pub loop-k-init : goal.loop-k-init
-loop-k-init c = λ guest profile again. (record { entries = []; again = again; few = omega arith }, λ _. refl)
+loop-k-init c = λ setup again. (record { entries = []; again = again; few = omega arith }, λ _. refl)
 
 pub loop-k-preserved : goal.loop-k-preserved
-loop-k-preserved c = λ guest profile again.
-    let was = c.loop-k.invariant guest profile again in
-    again_within_step guest profile (turns_of_items c.loop-k.items.items) (turns_of_items c.add_turn.new.items.items) c.loop-k.flat c.add_turn.new.flat _
-    c.loop-k.k was.0 was.1 (c.in_ok-add_turn.ensures guest profile)
+loop-k-preserved c = λ setup again.
+    let was = c.loop-k.invariant setup again in
+    again_within_step setup (turns_of_items c.loop-k.items.items) (turns_of_items c.add_turn.new.items.items) c.loop-k.state c.add_turn.new.state _
+    c.loop-k.k was.0 was.1 (c.in_ok-add_turn.ensures setup)

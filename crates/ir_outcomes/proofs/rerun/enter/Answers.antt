@@ -6,16 +6,4 @@ use Rattle.ir_graph.proofs.CallerLemmas.{goes_alone_append, goes_alone_by_entry}
 use Rattle.ir_outcomes.proofs.rerun.enter.Goals as goal
 
 pub returns-clause-alone : goal.returns-clause-alone
-returns-clause-alone c =
-    let f = c.args.flat.now in
-    let g = c.step.new.self in
-    let h = c.run_to_rest.new.flat in
-    let t = c.args.thread in
-    let r = c.args.refused in
-    let one = c.in_default.ensures in
-    subst (λ z. GoesAlone f h t r z 1) (sym c.in_ok-all.ensures)
-    (goes_alone_append f g h t r 1 c.in_ok-steps.steps 1 0
-    (goes_alone_by_entry f g t r c.requires.rests
-    (subst (λ z. Can (machine f) (tables f) (t, z)) c.try_result-tried.ensures one.admitted)
-    (subst (λ z. tables g ≡ after (machine f) (tables f) (t, z)) c.try_result-tried.ensures one.taken) one.code one.threads one.objects)
-    (c.in_ok-steps.ensures.alone r))
+returns-clause-alone c = ?
