@@ -1,6 +1,6 @@
 -- Runs of a guest by turns.
 use Rattle.std.proofs.lemmas.Bool.{cases_eq}
-use Rattle.std.proofs.Common.{◌≡◌, ◌≢◌, ◌⊎◌, inl, inr, ℕ, zero, suc, List, [], ◌∷◌, ◌++◌, Bool, true, false, length, replicate, append_assoc, ◌+◌, ◌≤◌, arith, refl, sym, ap, ◌∙◌, subst}
+use Rattle.std.proofs.Common.{◌≡◌, ◌≢◌, ◌⊎◌, inl, inr, ℕ, zero, suc, List, [], ◌∷◌, ◌++◌, Bool, true, false, length, map, replicate, append_assoc, ◌+◌, ◌≤◌, arith, refl, sym, ap, ◌∙◌, subst}
 use Rattle.ir_runs.specs.Machine.{Machine}
 use Rattle.ir_runs.specs.Run.{State, Step, IsRun, Can, after, end}
 use Rattle.ir_runs.proofs.CallerLemmas.{end_append}
@@ -68,6 +68,21 @@ alone_run_is_in_turns m s t refused (e ∷ run) alone tries ok =
           (alone_run_is_in_turns m (after m s e) t refused run alone.1 tries.1 ok.1),
     )
 
+-- the threads of its steps
+threads_of_alone_run : (t : ℕ) (run : List Step) → IsAlone t run → map (λ (e : Step). e.0) run ≡ replicate (length run) t
+threads_of_alone_run t [] alone = refl
+threads_of_alone_run t (e ∷ run) alone = λ i. sym alone.0 i ∷ threads_of_alone_run t run alone.1 i
+
+threads_of_appended_run : (run more : List Step) → map (λ (e : Step). e.0) (run ++ more) ≡ map (λ (e : Step). e.0) run ++ map (λ (e : Step). e.0) more
+threads_of_appended_run [] more = refl
+threads_of_appended_run (e ∷ run) more = ap (λ z. e.0 ∷ z) (threads_of_appended_run run more)
+
+threads_of_appended_turns : (turns : List Turn) (t : ℕ) (refused : Bool) (n : ℕ)
+    → map (λ (u : Turn). u.0) (turns ++ replicate n (t, refused)) ≡ map (λ (u : Turn). u.0) turns ++ replicate n t
+threads_of_appended_turns [] t refused zero = refl
+threads_of_appended_turns [] t refused (suc n) = ap (λ z. t ∷ z) (threads_of_appended_turns [] t refused n)
+threads_of_appended_turns (u ∷ turns) t refused n = ap (λ z. u.0 ∷ z) (threads_of_appended_turns turns t refused n)
+
 -- the start is a run of no step
 pub start_is_run_again : (setup : Setup) → IsAgain setup [] [] (start_of setup)
 start_is_run_again setup = record {
@@ -75,6 +90,7 @@ start_is_run_again setup = record {
   steps = [];
   answered = (tt, tt);
   in_turns = refl;
+  taken = refl;
   ends = refl;
   enters = refl;
   each = length-map-range_with_len (λ t. source (seed_of setup.random t) setup.input) 0 (length setup.guest.entries)
@@ -109,6 +125,9 @@ is_again_after_going_alone setup turns before s u t refused n e a goes =
       steps = a.steps ++ goes.run;
       answered = answered_run_append code first a.steps goes.run a.answered answered;
       in_turns = in_turns_append (full_by code) first turns (replicate n (t, refused)) a.steps goes.run a.in_turns in_turns;
+      taken = threads_of_appended_run a.steps goes.run
+          ∙ (λ i. a.taken i ++ (threads_of_alone_run t goes.run goes.alone ∙ ap (λ k. replicate k t) goes.many) i)
+          ∙ sym (threads_of_appended_turns turns t refused n);
       ends = ends;
       enters = entering_append (full_by code) first a.steps goes.run ∙ (λ i. a.enters i ++ late i);
       each = goes.sources ∙ a.each ∙ sym goes.threads;

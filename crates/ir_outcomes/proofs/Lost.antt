@@ -33,6 +33,7 @@ shown_at_if_again_within setup turns most level s u w few like looks =
       steps = a.steps;
       counting = answered_run_is_counting setup a.steps a.answered;
       in_turns = sourced_run_is_in_turns (thread_machine setup.guest.code) given (beginning setup) turns a.steps a.in_turns;
+      taken = a.taken;
       stands = λ can. can_end_if_answered_run_can setup a.steps s u a.answered a.ends a.like.code like.code looks can;
       few = let l = w.few in let e = switches_again setup turns most u w in omega (arith, l, e, few);
     }
@@ -45,6 +46,7 @@ hang_shown_if_cannot_end setup s level turns shown lost =
       hangs = hangs;
       never = λ budget more c. hang_never_completes setup most_budget shown.steps hangs budget more c;
       in_turns = shown.in_turns;
+      taken = shown.taken;
       few = shown.few;
     }
 

@@ -71,6 +71,7 @@ shown_if_again_within setup turns most level s u w few done same =
             (sourced_run_is_in_turns (thread_machine code) given (beginning setup) turns a.steps a.in_turns);
         done = really;
       };
+      taken = a.taken;
       same = ap outcome_of (sym ends) ∙ same;
       few = let l = w.few in let e = switches_again setup turns most u w in omega (arith, l, e, few);
     }

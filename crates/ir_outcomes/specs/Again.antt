@@ -1,5 +1,5 @@
 -- Runs of a guest by turns of its threads.
-use Rattle.std.specs.Prelude.{◌≡◌, ℕ, ◌≤◌, ◌-◌, List, length}
+use Rattle.std.specs.Prelude.{◌≡◌, ℕ, ◌≤◌, ◌-◌, List, length, map}
 use Rattle.ir_record.specs.Refusing.{Turn, InTurns}
 use Rattle.ir_runs.specs.Run.{Step, end}
 use Rattle.ir_states.specs.Counting.{entering}
@@ -9,6 +9,10 @@ use Rattle.ir_graph.specs.Plain.{full_by, full_of, IsAnsweredRun, IsLike}
 use Rattle.ir_graph.specs.Reached.{beginning}
 use Rattle.ir_graph.specs.Setup.{Setup, start_of}
 
+-- each of the turns takes a step of its thread
+abbrev pub TakesEach : List Turn → List Step → Type 0
+TakesEach turns steps = map (λ (e : Step). e.0) steps ≡ map (λ (t : Turn). t.0) turns
+
 -- s is the guest after a run by these turns from its start, in which these threads enter, in turn, and each call is answered by its thread's
 -- source
 pub record IsAgain (setup : Setup) (turns : List Turn) (entries : List ℕ) (s : SourcedFlat) : Type 0 where
@@ -16,6 +20,7 @@ pub record IsAgain (setup : Setup) (turns : List Turn) (entries : List ℕ) (s :
   pub steps : List Step
   pub answered : IsAnsweredRun setup.guest.code (beginning setup) steps
   pub in_turns : InTurns (full_by setup.guest.code) (beginning setup) turns steps
+  pub taken : TakesEach turns steps
   pub ends : full_of s ≡ end (full_by setup.guest.code) (beginning setup) steps
   pub enters : entering (full_by setup.guest.code) (beginning setup) steps ≡ entries
   pub each : length s.sources ≡ length s.flat.threads
