@@ -3,7 +3,8 @@ use Rattle.std.specs.Prelude.{◌≡◌, ℕ, ◌<◌, Bool, false, List, length
 use Rattle.std.specs.List.{slice_index_or, AllByRecursion}
 use Rattle.ir_thread.specs.State.{ask_of}
 use Rattle.ir_flat.specs.Flat.{cell_of}
-use Rattle.ir_store.specs.Nodes.{Shared, SourcedFlat, cell_in, idle_beside, sourced_thread}
+use Rattle.ir_store.specs.Nodes.{Shared, SourcedFlat, cell_in, sourced_thread}
+use Rattle.ir_store.specs.Table.{idle_beside}
 use Rattle.ir_graph.specs.Lone.{TakesTurn}
 use Rattle.ir_graph.specs.Plain.{IsNoTry}
 use Rattle.ir_graph.specs.declared.known.Turn.{Turn}

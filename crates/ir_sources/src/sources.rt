@@ -1,6 +1,6 @@
 //! What answers a thread that is recorded in a given order.
 
-ghost use Rattle.std.specs.Prelude.{◌≡◌, ◌<◌, ◌+◌, ◌^◌, true, false};
+ghost use Rattle.std.specs.Prelude.{◌≡◌, ◌<◌, ◌≤◌, ◌+◌, ◌^◌, true, false, IfOk, IfSome, None};
 ghost use Rattle.ir_sources.specs.Sources.{Source, source, given};
 ghost use Rattle.ir_thread.specs.State.{is_result};
 ghost use Rattle.ir_runs.specs.declared.env_kind.EnvKind.TheVariants.{Clock, Random, Input};
@@ -9,6 +9,7 @@ use ir_runs::EnvKind;
 use rand_core::SeedableRng;
 use rand_core::utils::NextWord;
 use rand_pcg::Pcg32;
+use std::alloc::AllocError;
 use std::marker::Model;
 
 /// A count for the clock, a generator of random words, and the bytes of a file.
@@ -81,5 +82,50 @@ impl<'a> Sources<'a> {
             EnvKind::Random => self.word(),
             EnvKind::Input => self.byte(),
         }
+    }
+
+    /// The answer to a call; none where the calls for the time are as many as can be counted.
+    pub fn try_answer(&mut self, kind: EnvKind) -> Option<u32>
+        ensures given { IfSome result (λ r. (r, self.new) ≡ given kind self.old) }
+        ensures fits { IfSome result (λ r. is_result kind r ≡ true) }
+        ensures none { result ≡ None → (self.new ≡ self.old) × (kind ≡ Clock) × (2 ^ 32 ≤ self.old.ticks + 1) }
+    {
+        match kind {
+            EnvKind::Clock if self.ticks == u32::MAX => None,
+            _ => Some(self.answer(kind)),
+        }
+    }
+
+    /// An equal value.
+    ///
+    /// # Errors
+    /// Out of memory.
+    pub fn copy(&self) -> Result<Sources<'a>, AllocError>
+        ensures { IfOk result (λ s. s ≡ self.now) }
+    {
+        Ok(Sources {
+            ticks: self.ticks,
+            random: self.random.clone()?,
+            input: self.input,
+        })
+    }
+
+    /// Whether all that is still to come is the same.
+    pub fn same(&self, other: &Sources<'_>) -> bool
+        ensures { result ≡ true → self.now ≡ other.now }
+    {
+        self.ticks == other.ticks
+            && self.random == other.random
+            && self.input.len() == other.input.len()
+            && self.input == other.input
+    }
+
+    /// Three numbers that are the same where all that is still to come is.
+    pub fn mark(&self) -> [u64; 3] {
+        [
+            self.ticks as u64,
+            self.random.state(),
+            self.input.len() as u64,
+        ]
     }
 }

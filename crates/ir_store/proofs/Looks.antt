@@ -1,33 +1,64 @@
 -- Threads and objects that look the same.
-use Rattle.std.proofs.Common.{◌≡◌, ◌<◌, ◌+◌, Bool, ℕ, zero, suc, List, [], ◌∷◌, length, get_or, map, refl, sym, ap, ◌∙◌, arith, Some}
+use Rattle.std.proofs.Common.{◌≡◌, ◌<◌, ◌+◌, ◌++◌, Bool, true, false, ℕ, zero, suc, List, [], ◌∷◌, length, get_or, map, refl, sym, ap, ◌∙◌, arith, Some, cond, inl, inr}
 use Rattle.std.specs.Prelude.{slice_get, ◌&&◌, drop}
 use Rattle.std.specs.List.{AllByRecursion, slice_index_or}
 use Rattle.std.proofs.lemmas.Option.{same_Some}
 use Rattle.ir_mach.specs.Core.{memory_size}
-use Rattle.ir_freeze.specs.Frozen.{frozen, is_over}
+use Rattle.ir_freeze.specs.Frozen.{end_bytes, going_bytes, frozen, is_over}
 use Rattle.ir_freeze.specs.Twins.{TellsApart, IsBounded}
+use Rattle.ir_seen.specs.Seen.{Same, view}
+use Rattle.ir_sources.specs.Sources.{Source}
 use Rattle.ir_thread.specs.State.{ThreadState}
-use Rattle.ir_flat.specs.Flat.{idle}
 use Rattle.ir_flat.specs.Room.{empty}
 use Rattle.ir_store.specs.declared.spot.Spot.{Spot}
 use Rattle.ir_store.specs.Nodes.{LookSame, cell_in}
-use Rattle.ir_store.specs.Table.{AreLooks, all_over, threads_at}
+use Rattle.ir_store.specs.Table.{idle_beside, AreLooks, all_over, threads_at}
 use Rattle.ir_store.proofs.Lists.{found_element_of_all_by_recursion, drop_begins_with_element}
 
+-- the mark is no part of the bytes of a thread that is over
+over_thread_has_bytes_without_mark : (start : List ℕ) (x : ThreadState) (m n : List ℕ) → is_over x ≡ true → frozen start x m ≡ frozen start x n
+over_thread_has_bytes_without_mark start x m n over =
+    ap (λ b. end_bytes x.ended ++ cond b (1 ∷ x.output) (0 ∷ going_bytes start x m)) over
+    ∙ sym (ap (λ b. end_bytes x.ended ++ cond b (1 ∷ x.output) (0 ∷ going_bytes start x n)) over)
+
+-- threads with equal bytes, one of which is over or whose sources are the same, look the same beside these
+same_beside_sources : TellsApart → (code start : List ℕ) → length start ≡ memory_size → (x y : ThreadState × Source) → AreTwins x.0 y.0 → IsBounded x.0
+    → IsBounded y.0 → frozen start x.0 [] ≡ frozen start y.0 [] → (b : Bool) → is_over x.0 ≡ b
+    → (view x.0 ≡ view y.0 → is_over x.0 ≡ false → x.1 ≡ y.1)
+    → Same {S = List ℕ} code (view x.0, []) (view y.0, []) → Same {S = Source} code (view x.0, x.1) (view y.0, y.1)
+same_beside_sources tells code start size x y twins bx by bytes b over sources (inr done) = inr done
+same_beside_sources tells code start size x y twins bx by bytes false over sources (inl e) =
+    let views : view x.0 ≡ view y.0 = ap (λ (p : ThreadState × List ℕ). p.0) e in
+    let answers : x.1 ≡ y.1 = sources views over in
+    inl (λ i. (views i, answers i))
+same_beside_sources tells code start size x y twins bx by bytes true over sources (inl e) =
+    let over_y : is_over y.0 ≡ true = sym (ap (λ (p : ThreadState × List ℕ). is_over p.0) e) ∙ over in
+    let marked : frozen start x.0 (0 ∷ []) ≡ frozen start y.0 (1 ∷ []) =
+    over_thread_has_bytes_without_mark start x.0 (0 ∷ []) [] over ∙ bytes ∙ over_thread_has_bytes_without_mark start y.0 [] (1 ∷ []) over_y in
+    elim ((tells code start size x.0 y.0 twins bx by (0 ∷ []) (1 ∷ []) refl).0 marked) [
+      | inl p ↦ absurd (let h : 0 ≡ 1 = ap (λ (q : ThreadState × List ℕ). get_or q.1 0 0) p in omega (arith, h))
+      | inr done ↦ inr done
+    ]
+
 -- threads that one number stands for look the same
-pub look_same_if_looks_equal : TellsApart → (start : List ℕ) (items : List ThreadState) (looks : List ℕ) → length start ≡ memory_size → AllByRecursion IsBounded items
-    → AreLooks start items looks → (m n k : ℕ) → slice_get looks m ≡ Some k → slice_get looks n ≡ Some k → (x y : ThreadState)
+pub look_same_if_looks_equal : TellsApart → (start : List ℕ) (items : List (ThreadState × Source)) (looks : List ℕ) → length start ≡ memory_size
+    → AllByRecursion (λ (x : ThreadState × Source). IsBounded x.0) items
+    → AreLooks start items looks → (m n k : ℕ) → slice_get looks m ≡ Some k → slice_get looks n ≡ Some k → (x y : ThreadState × Source)
     → slice_get items m ≡ Some x → slice_get items n ≡ Some y → LookSame x y
 look_same_if_looks_equal tells start items looks size bounded all m n k one other x y here there twins code =
     let a = all m k x one here in
     let b = all n k y other there in
-    let same = same_Some a.thread b.thread (sym a.at ∙ b.at) in
-    (tells code start size x y twins (found_element_of_all_by_recursion IsBounded items m x bounded here) (found_element_of_all_by_recursion IsBounded items n y bounded there) [] [] refl).0
-    (sym a.same ∙ ap (λ z. frozen start z []) same ∙ b.same)
+    let same : a.kept ≡ b.kept = same_Some a.kept b.kept (sym a.at ∙ b.at) in
+    let bx : IsBounded x.0 = found_element_of_all_by_recursion (λ (z : ThreadState × Source). IsBounded z.0) items m x bounded here in
+    let by : IsBounded y.0 = found_element_of_all_by_recursion (λ (z : ThreadState × Source). IsBounded z.0) items n y bounded there in
+    let bytes : frozen start x.0 [] ≡ frozen start y.0 [] = sym a.bytes ∙ ap (λ (z : ThreadState × Source). frozen start z.0 []) same ∙ b.bytes in
+    let seen : Same {S = List ℕ} code (view x.0, []) (view y.0, []) = (tells code start size x.0 y.0 twins bx by [] [] refl).0 bytes in
+    same_beside_sources tells code start size x y twins bx by bytes (is_over x.0) refl
+    (λ views going. sym (a.source going) ∙ ap (λ (z : ThreadState × Source). z.1) same ∙ b.source (sym (ap is_over views) ∙ going)) seen
 
 -- one thread more of which it is known whether it is over
-pub all_over_threads_step : (items : List ThreadState) (numbers : List ℕ) (i : ℕ) (b : Bool) → i < length numbers
-    → b ≡ is_over (get_or items (get_or numbers i 0) idle)
+pub all_over_threads_step : (items : List (ThreadState × Source)) (numbers : List ℕ) (i : ℕ) (b : Bool) → i < length numbers
+    → b ≡ is_over (get_or items (get_or numbers i 0) idle_beside).0
     → all_over (threads_at items (drop i numbers)) ≡ all_over (threads_at items numbers)
     → (b && all_over (threads_at items (drop (i + 1) numbers))) ≡ all_over (threads_at items numbers)
 all_over_threads_step items numbers i b lt is before =

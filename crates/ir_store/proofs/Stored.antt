@@ -5,11 +5,13 @@ use Rattle.std.specs.List.{AllByRecursion}
 use Rattle.std.specs.Option.{option_map}
 use Rattle.std.proofs.lemmas.List.{map-set}
 use Rattle.std.proofs.lemmas.Option.{same_Some, slice_get-map, slice_get-get_or}
-use Rattle.ir_flat.specs.Flat.{Flat, idle, thread_of, cell_of}
+use Rattle.ir_flat.specs.Flat.{idle, cell_of}
 use Rattle.ir_flat.specs.Room.{empty}
-use Rattle.ir_flat.specs.Next.{with_thread, with_object}
+use Rattle.ir_sources.specs.Sources.{Source}
+use Rattle.ir_thread.specs.State.{ThreadState}
 use Rattle.ir_store.specs.declared.spot.Spot.{Spot}
-use Rattle.ir_store.specs.Nodes.{Shared, Node, cell_in, flat_in, IsNode, AreKept}
+use Rattle.ir_store.specs.Nodes.{SourcedFlat, sourced_thread, with_turn, Shared, Node, cell_in, sourced_in, IsNode, AreKept}
+use Rattle.ir_store.specs.Table.{no_source, idle_beside, beside_at}
 use Rattle.ir_store.proofs.Lists.{element_of_all_by_recursion, length_map}
 
 -- what is at a place of a list of what elements give
@@ -23,44 +25,55 @@ get_or_map f [] i d e lt = absurd (omega (arith, lt))
 get_or_map f (x ∷ xs) zero d e lt = refl
 get_or_map f (x ∷ xs) (suc i) d e lt = get_or_map f xs i d e (omega (arith, lt))
 
+-- a thread by numbers, beside what answers it
+pub beside_at_is_element : (items : List (ThreadState × Source)) (numbers : List ℕ) (t d : ℕ) → t < length numbers
+    → beside_at items numbers t ≡ get_or items (get_or numbers t d) idle_beside
+beside_at_is_element items numbers t d lt = λ i. (
+  get_or_map (λ n. (get_or items n idle_beside).0) numbers t d idle lt i,
+  get_or_map (λ n. (get_or items n idle_beside).1) numbers t d no_source lt i,
+)
+
 -- a state, and the one that its number is of
 module _ (shared : Shared) (nodes : List Node) (kept : AreKept shared nodes) (v : ℕ) (node : Node)
-    (less : v < length (map (flat_in shared) nodes)) (is : node ≡ get_or nodes v node) (f : Flat)
-    (at : slice_get (map (flat_in shared) nodes) v ≡ Some f) where
+    (less : v < length (map (sourced_in shared) nodes)) (is : node ≡ get_or nodes v node) (s : SourcedFlat)
+    (at : slice_get (map (sourced_in shared) nodes) v ≡ Some s) where
   pub node_less : v < length nodes
-  node_less = subst (λ k. v < k) (length_map (flat_in shared) nodes) less
+  node_less = subst (λ k. v < k) (length_map (sourced_in shared) nodes) less
 
   pub node_is : IsNode shared node
   node_is = subst (IsNode shared) (sym is) (element_of_all_by_recursion (IsNode shared) nodes v node kept node_less)
 
-  pub flat_is : flat_in shared node ≡ f
-  flat_is = mapped_element_at_place (flat_in shared) nodes v node node f node_less is at
+  pub state_is : sourced_in shared node ≡ s
+  state_is = mapped_element_at_place (sourced_in shared) nodes v node node s node_less is at
 
-  pub node_threads : length node.threads ≡ length f.threads
-  node_threads = sym (length_map (λ n. get_or shared.threads n idle) node.threads) ∙ ap (λ z. length z.threads) flat_is
+  pub node_threads : length node.threads ≡ length s.flat.threads
+  node_threads = sym (length_map (λ n. (get_or shared.threads n idle_beside).0) node.threads) ∙ ap (λ (z : SourcedFlat). length z.flat.threads) state_is
 
-  pub node_objects : length node.objects ≡ length f.objects
-  node_objects = sym (length_map (cell_in shared.words) node.objects) ∙ ap (λ z. length z.objects) flat_is
+  pub node_objects : length node.objects ≡ length s.flat.objects
+  node_objects = sym (length_map (cell_in shared.words) node.objects) ∙ ap (λ (z : SourcedFlat). length z.flat.objects) state_is
 
-  pub thread_is : (t n d : ℕ) → t < length node.threads → n ≡ get_or node.threads t d → get_or shared.threads n idle ≡ thread_of f t
+  pub thread_is : (t n d : ℕ) → t < length node.threads → n ≡ get_or node.threads t d → get_or shared.threads n idle_beside ≡ sourced_thread s t
   thread_is t n d lt e =
-      ap (λ k. get_or shared.threads k idle) e ∙ sym (get_or_map (λ k. get_or shared.threads k idle) node.threads t d idle lt)
-      ∙ ap (λ z. thread_of z t) flat_is
+      ap (λ k. get_or shared.threads k idle_beside) e ∙ sym (beside_at_is_element shared.threads node.threads t d lt)
+      ∙ ap (λ (z : SourcedFlat). sourced_thread z t) state_is
 
-  pub cell_is : (o : ℕ) (s : Spot) → o < length node.objects → s ≡ get_or node.objects o s → cell_in shared.words s ≡ cell_of f o
-  cell_is o s lt e =
-      ap (cell_in shared.words) e ∙ sym (get_or_map (cell_in shared.words) node.objects o s empty lt) ∙ ap (λ z. cell_of z o) flat_is
+  pub cell_is : (o : ℕ) (spot : Spot) → o < length node.objects → spot ≡ get_or node.objects o spot → cell_in shared.words spot ≡ cell_of s.flat o
+  cell_is o spot lt e =
+      ap (cell_in shared.words) e ∙ sym (get_or_map (cell_in shared.words) node.objects o spot empty lt) ∙ ap (λ (z : SourcedFlat). cell_of z.flat o) state_is
 
-  pub both_is : (t n o : ℕ) (s : Spot)
-      → flat_in shared (record { code = node.code; threads = set node.threads t n; objects = set node.objects o s })
-      ≡ with_object (with_thread f t (get_or shared.threads n idle)) o (cell_in shared.words s)
-  both_is t n o s =
+  pub both_is : (t n o : ℕ) (spot : Spot)
+      → sourced_in shared (record { code = node.code; threads = set node.threads t n; objects = set node.objects o spot })
+      ≡ with_turn s t (get_or shared.threads n idle_beside) o (cell_in shared.words spot)
+  both_is t n o spot =
       (λ i. record {
-        code = node.code;
-        threads = map-set (λ k. get_or shared.threads k idle) node.threads t n i;
-        objects = map-set (cell_in shared.words) node.objects o s i;
+        flat = record {
+          code = node.code;
+          threads = map-set (λ k. (get_or shared.threads k idle_beside).0) node.threads t n i;
+          objects = map-set (cell_in shared.words) node.objects o spot i;
+        };
+        sources = map-set (λ k. (get_or shared.threads k idle_beside).1) node.threads t n i;
       })
-      ∙ ap (λ z. with_object (with_thread z t (get_or shared.threads n idle)) o (cell_in shared.words s)) flat_is
+      ∙ ap (λ (z : SourcedFlat). with_turn z t (get_or shared.threads n idle_beside) o (cell_in shared.words spot)) state_is
 
 pub all_by_recursion_after_set : {X : Type 0} (P : X → Type 0) (xs : List X) (i : ℕ) (x : X) → AllByRecursion P xs → P x → AllByRecursion P (set xs i x)
 all_by_recursion_after_set P [] i x all is = tt

@@ -1,19 +1,43 @@
--- States whose threads and words are kept in tables.
-use Rattle.std.specs.Prelude.{◌≡◌, ◌<◌, ◌+◌, ◌*◌, ◌^◌, ℕ, List, [], length, map}
+-- States whose threads, beside what answers them, and words are kept in tables.
+use Rattle.std.specs.Prelude.{◌≡◌, ◌<◌, ◌+◌, ◌*◌, ◌^◌, ℕ, List, [], length, map, slice_set}
 use Rattle.std.specs.List.{AllByRecursion, slice_index_or}
 use Rattle.ir_image.specs.declared.form.ImageForm.{ImageForm}
 use Rattle.ir_thread.specs.State.{ThreadState}
+use Rattle.ir_sources.specs.Sources.{Source}
 use Rattle.ir_object.specs.Cell.{Cell}
 use Rattle.ir_object.specs.Word.{fields_of}
 use Rattle.ir_flat.specs.Flat.{Flat, IsFlat, thread_of, cell_of}
+use Rattle.ir_flat.specs.Next.{with_thread, with_object}
 use Rattle.ir_freeze.specs.Twins.{AreTwins}
 use Rattle.ir_seen.specs.Seen.{Same, view}
 use Rattle.ir_store.specs.declared.spot.Spot.{Spot}
-use Rattle.ir_store.specs.Table.{threads_at, AreIn, Keeps}
+use Rattle.ir_store.specs.Table.{no_source, threads_at, sources_at, AreIn, Keeps}
 
--- the threads and the words of objects that states have, by their numbers
+-- a guest's state, and what answers each of its threads
+pub record SourcedFlat : Type 0 where
+  pub flat : Flat
+  pub sources : List Source
+
+-- what answers thread t
+abbrev pub source_of : SourcedFlat → ℕ → Source
+source_of s t = slice_index_or s.sources t no_source
+
+-- thread t beside what answers it
+abbrev pub sourced_thread : SourcedFlat → ℕ → ThreadState × Source
+sourced_thread s t = (thread_of s.flat t, source_of s t)
+
+-- another thread t beside what answers it, and another object o
+abbrev pub with_turn : SourcedFlat → ℕ → ThreadState × Source → ℕ → Cell → SourcedFlat
+with_turn s t x o c = record { flat = with_object (with_thread s.flat t x.0) o c; sources = slice_set s.sources t x.1 }
+
+-- a guest's state, in which each thread has what answers it
+pub record IsSourced (s : SourcedFlat) : Type 0 where
+  pub flat : IsFlat s.flat
+  pub each : length s.sources ≡ length s.flat.threads
+
+-- the threads beside what answers them and the words of objects that states have, by their numbers
 pub record Shared : Type 0 where
-  pub threads : List ThreadState
+  pub threads : List (ThreadState × Source)
   pub words : List (List ℕ)
 
 -- a state: its code, the numbers of its threads, and its objects, each with the number of its words
@@ -33,11 +57,14 @@ cell_in words spot = record { fields = fields_of (word_in spot); words = slice_i
 abbrev pub cells_at : List (List ℕ) → List Spot → List Cell
 cells_at words spots = map (cell_in words) spots
 
-abbrev pub flat_in : Shared → Node → Flat
-flat_in shared node = record {
-  code = node.code;
-  threads = threads_at shared.threads node.threads;
-  objects = cells_at shared.words node.objects;
+abbrev pub sourced_in : Shared → Node → SourcedFlat
+sourced_in shared node = record {
+  flat = record {
+    code = node.code;
+    threads = threads_at shared.threads node.threads;
+    objects = cells_at shared.words node.objects;
+  };
+  sources = sources_at shared.threads node.threads;
 }
 
 -- each number is that of words
@@ -52,7 +79,7 @@ pub record IsWithin (shared : Shared) (node : Node) : Type 0 where
 -- so they have, and it is a guest's state
 pub record IsNode (shared : Shared) (node : Node) : Type 0 where
   pub within : IsWithin shared node
-  pub flat : IsFlat (flat_in shared node)
+  pub sourced : IsSourced (sourced_in shared node)
 
 abbrev pub AreKept : Shared → List Node → Type 0
 AreKept shared nodes = AllByRecursion (IsNode shared) nodes
@@ -64,16 +91,16 @@ pub record Grows (old new : Shared) : Type 0 where
 
 -- states of a guest, and the form of its image; beside them what they are made of
 pub record Stored : Type 0 where
-  pub items : List Flat
+  pub items : List SourcedFlat
   pub form : ImageForm
   pub shared : Shared
   pub nodes : List Node
 
--- two moments of a thread look the same to it
-abbrev pub LookSame : ThreadState → ThreadState → Type 0
-LookSame x y = AreTwins x y → (code : List ℕ) → Same {S = List ℕ} code (view x, []) (view y, [])
+-- two moments of a thread beside what answers it look the same to it
+abbrev pub LookSame : ThreadState × Source → ThreadState × Source → Type 0
+LookSame x y = AreTwins x.0 y.0 → (code : List ℕ) → Same {S = Source} code (view x.0, x.1) (view y.0, y.1)
 
 -- two moments of a guest look the same to its threads
-pub record AreSameLooks (f g : Flat) : Type 0 where
-  pub threads : (t : ℕ) → t < length f.threads → LookSame (thread_of f t) (thread_of g t)
-  pub words : (o : ℕ) → (cell_of f o).words ≡ (cell_of g o).words
+pub record AreSameLooks (s u : SourcedFlat) : Type 0 where
+  pub threads : (t : ℕ) → t < length s.flat.threads → LookSame (sourced_thread s t) (sourced_thread u t)
+  pub words : (o : ℕ) → (cell_of s.flat o).words ≡ (cell_of u.flat o).words

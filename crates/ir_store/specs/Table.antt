@@ -1,15 +1,24 @@
--- Threads by their numbers.
-use Rattle.std.specs.Prelude.{◌≡◌, ◌<◌, ◌&&◌, ℕ, Bool, true, List, [], ◌∷◌, length, map, Some, slice_get}
+-- Threads beside what answers them, by their numbers.
+use Rattle.std.specs.Prelude.{◌≡◌, ◌<◌, ◌&&◌, ℕ, Bool, true, false, List, [], ◌∷◌, length, map, Some, slice_get}
 use Rattle.std.specs.List.{slice_index_or, AllByRecursion}
 use Rattle.ir_image.specs.declared.form.ImageForm.{ImageForm}
 use Rattle.ir_thread.specs.State.{ThreadState}
+use Rattle.ir_sources.specs.Sources.{Source, source}
 use Rattle.ir_flat.specs.Flat.{idle}
 use Rattle.ir_freeze.specs.Frozen.{frozen, is_over}
 
--- Threads, the form of the image that they are of, their private memory at first, and for each of them the number of one that has the same
--- bytes.
+-- what answers a number that is no thread's
+abbrev pub no_source : Source
+no_source = source 0 []
+
+-- a thread that is none of the guest's, beside what answers it
+abbrev pub idle_beside : ThreadState × Source
+idle_beside = (idle, no_source)
+
+-- Threads beside what answers them, the form of the image that they are of, their private memory at first, and for each of them the number of
+-- one that looks the same.
 pub record Table : Type 0 where
-  pub items : List ThreadState
+  pub items : List (ThreadState × Source)
   pub form : ImageForm
   pub start : List ℕ
   pub looks : List ℕ
@@ -19,8 +28,16 @@ abbrev pub HaveForm : ImageForm → List ThreadState → Type 0
 HaveForm form threads = AllByRecursion (λ s. s.form ≡ form) threads
 
 -- the threads of these numbers
-abbrev pub threads_at : List ThreadState → List ℕ → List ThreadState
-threads_at table numbers = map (λ n. slice_index_or table n idle) numbers
+abbrev pub threads_at : List (ThreadState × Source) → List ℕ → List ThreadState
+threads_at table numbers = map (λ n. (slice_index_or table n idle_beside).0) numbers
+
+-- what answers them
+abbrev pub sources_at : List (ThreadState × Source) → List ℕ → List Source
+sources_at table numbers = map (λ n. (slice_index_or table n idle_beside).1) numbers
+
+-- the thread at place t of these numbers, beside what answers it
+abbrev pub beside_at : List (ThreadState × Source) → List ℕ → ℕ → ThreadState × Source
+beside_at table numbers t = (slice_index_or (threads_at table numbers) t idle, slice_index_or (sources_at table numbers) t no_source)
 
 -- whether all threads have ended and hold nothing
 abbrev pub all_over : List ThreadState → Bool
@@ -35,13 +52,14 @@ AreIn table numbers = AllByRecursion (λ n. n < length table) numbers
 abbrev pub Keeps : {X : Type 0} → List X → List X → Type 0
 Keeps {X} old new = (n : ℕ) (s : X) → slice_get old n ≡ Some s → slice_get new n ≡ Some s
 
--- the thread of this number has these bytes
-pub record HasBytes (start : List ℕ) (items : List ThreadState) (n : ℕ) (bytes : List ℕ) : Type 0 where
-  pub thread : ThreadState
-  pub at : slice_get items n ≡ Some thread
-  pub same : frozen start thread [] ≡ bytes
+-- the thread of number n has the bytes of this one, and is answered by the same source, unless this one is over
+pub record LooksLike (start : List ℕ) (items : List (ThreadState × Source)) (n : ℕ) (x : ThreadState × Source) : Type 0 where
+  pub kept : ThreadState × Source
+  pub at : slice_get items n ≡ Some kept
+  pub bytes : frozen start kept.0 [] ≡ frozen start x.0 []
+  pub source : is_over x.0 ≡ false → kept.1 ≡ x.1
 
--- each thread has the bytes of the one whose number stands for it
-abbrev pub AreLooks : List ℕ → List ThreadState → List ℕ → Type 0
-AreLooks start items looks = (n k : ℕ) (x : ThreadState) → slice_get looks n ≡ Some k → slice_get items n ≡ Some x
-    → HasBytes start items k (frozen start x [])
+-- each thread looks like the one whose number stands for it
+abbrev pub AreLooks : List ℕ → List (ThreadState × Source) → List ℕ → Type 0
+AreLooks start items looks = (n k : ℕ) (x : ThreadState × Source) → slice_get looks n ≡ Some k → slice_get items n ≡ Some x
+    → LooksLike start items k x

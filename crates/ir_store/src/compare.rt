@@ -2,10 +2,9 @@
 
 ghost use Rattle.std.specs.Prelude.{◌≡◌, ℕ, ◌<◌, List, true, length};
 ghost use Rattle.std.specs.List.{slice_index_or};
-ghost use Rattle.ir_flat.specs.Flat.{idle};
 ghost use Rattle.ir_flat.specs.Room.{empty};
-ghost use Rattle.ir_store.specs.Nodes.{LookSame, cells_at, AreSameLooks, flat_in};
-ghost use Rattle.ir_store.specs.Table.{AreIn, threads_at};
+ghost use Rattle.ir_store.specs.Nodes.{LookSame, cells_at, AreSameLooks, sourced_in};
+ghost use Rattle.ir_store.specs.Table.{AreIn, beside_at};
 
 use crate::hash::{after_number, empty_hash};
 use crate::node::Node;
@@ -22,7 +21,7 @@ fn after_spots(hash: u64, spots: &[Spot]) -> u64 {
 }
 
 /// A hash of what the threads can see of a state.
-pub fn hash_of(table: &Table, node: &Node<'_>) -> u64
+pub fn hash_of(table: &Table<'_>, node: &Node<'_>) -> u64
     requires { AreIn table.now.items node.now.threads }
 {
     let mut hash = empty_hash();
@@ -33,10 +32,10 @@ pub fn hash_of(table: &Table, node: &Node<'_>) -> u64
 }
 
 // Whether the threads of these numbers look the same.
-fn same_threads(table: &Table, first: &[u32], second: &[u32]) -> bool
+fn same_threads(table: &Table<'_>, first: &[u32], second: &[u32]) -> bool
     requires first { AreIn table.now.items first.now }
     requires second { AreIn table.now.items second.now }
-    ensures { result ≡ true → (t : ℕ) → t < length first.now → LookSame (slice_index_or (threads_at table.now.items first.now) t idle) (slice_index_or (threads_at table.now.items second.now) t idle) }
+    ensures { result ≡ true → (t : ℕ) → t < length first.now → LookSame (beside_at table.now.items first.now t) (beside_at table.now.items second.now t) }
 {
     if first.len() != second.len() {
         return false;
@@ -65,10 +64,10 @@ fn same_spots(first: &[Spot], second: &[Spot]) -> bool
 }
 
 /// Whether two states look the same, as far as that is known.
-pub fn same_looks(table: &Table, first: &Node<'_>, second: &Node<'_>) -> bool
+pub fn same_looks(table: &Table<'_>, first: &Node<'_>, second: &Node<'_>) -> bool
     requires first { AreIn table.now.items first.now.threads }
     requires second { AreIn table.now.items second.now.threads }
-    ensures { result ≡ true → (words : List (List ℕ)) → AreSameLooks (flat_in (record { threads = table.now.items; words = words }) first.now) (flat_in (record { threads = table.now.items; words = words }) second.now) }
+    ensures { result ≡ true → (words : List (List ℕ)) → AreSameLooks (sourced_in (record { threads = table.now.items; words = words }) first.now) (sourced_in (record { threads = table.now.items; words = words }) second.now) }
 {
     same_threads(table, first.threads.as_slice(), second.threads.as_slice())
         && same_spots(first.objects.as_slice(), second.objects.as_slice())

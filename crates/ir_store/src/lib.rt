@@ -1,5 +1,5 @@
-//! States of a guest that are kept in little memory: threads and words of objects that are equal once, each thread without the private memory
-//! that is as at the start.
+//! States of a guest that are kept in little memory: threads beside what answers them and words of objects that are equal once, each thread
+//! without the private memory that is as at the start.
 #![tactic(auto)]
 
 mod bounds;
@@ -12,6 +12,7 @@ mod objects;
 mod put;
 mod row;
 mod rows;
+mod sourced;
 mod spot;
 mod store;
 mod table;
@@ -22,5 +23,6 @@ pub use bounds::bounded;
 pub use hash::hash_of_numbers;
 pub use hints::Hints;
 pub use node::Node;
+pub use sourced::{SourcedFlat, SourcedThread};
 pub use spot::Spot;
 pub use store::Store;

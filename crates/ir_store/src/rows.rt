@@ -1,55 +1,58 @@
-//! Threads of one image, without the private memory that is as at the start.
+//! Threads of one image beside what answers them, without the private memory that is as at the start.
 
-ghost use Rattle.std.specs.Prelude.{◌≡◌, ◌⊎◌, ◌<◌, ◌++◌, [], ◌∷◌, ℕ, length, map, true, Some, slice_get, IfOk, OnOk, OnErr};
-ghost use Rattle.std.specs.List.{AllByRecursion};
+ghost use Rattle.std.specs.Prelude.{◌≡◌, ◌⊎◌, ◌<◌, ◌++◌, [], ◌∷◌, ℕ, length, map, true, false, Some, slice_get, IfOk, OnOk, OnErr};
+ghost use Rattle.std.specs.List.{slice_index_or, AllByRecursion};
 ghost use Rattle.ir_freeze.specs.Frozen.{frozen, is_over};
 ghost use Rattle.ir_freeze.specs.Twins.{IsBounded};
 ghost use Rattle.ir_mach.specs.Core.{memory_size};
-ghost use Rattle.ir_store.specs.Rows.{thread_in, look_of, KnowsOver};
-ghost use Rattle.ir_store.specs.Table.{HaveForm, HasBytes, AreLooks};
+ghost use Rattle.ir_store.specs.Rows.{beside_in, look_of, KnowsOver};
+ghost use Rattle.ir_store.specs.Table.{idle_beside, LooksLike, AreLooks};
 ghost use Rattle.ir_store.specs.Table as table;
+ghost use Rattle.ir_sources.specs.Sources.{Source};
 ghost use Rattle.ir_thread.specs.State.{ThreadState};
 
 use crate::bounds::bounded;
 use crate::put::put;
 use crate::row::Row;
-use ir_freeze::freeze;
+use ir_freeze::{freeze, over};
 use ir_image::ImageForm;
+use ir_sources::Sources;
 use ir_thread::Thread;
 use std::alloc::{AllocError, Global};
 use std::marker::Model;
 
-/// Threads of one image, in a list.
+/// Threads of one image beside what answers them, in a list.
 #[derive(Drop)]
-pub struct Rows {
+pub struct Rows<'a> {
     alloc: Global,
     start: Vec<u8>,
     form: ImageForm,
-    rows: Vec<Row>,
+    rows: Vec<Row<'a>>,
 }
 
-impl Model for Rows {
+impl<'a> Model for Rows<'a> {
     ghost Value = { table.Table };
 
     ghost view = { λ t. record {
-      items = map (thread_in t.start.items) t.rows.items;
+      items = map (beside_in t.start.items) t.rows.items;
       form = t.form;
       start = t.start.items;
       looks = map look_of t.rows.items;
     } };
 
-    ghost invariant = { λ t. (length t.start.items ≡ memory_size) × HaveForm t.form (map (thread_in t.start.items) t.rows.items)
-        × AllByRecursion IsBounded (map (thread_in t.start.items) t.rows.items)
+    ghost invariant = { λ t. (length t.start.items ≡ memory_size)
+        × AllByRecursion (λ (x : ThreadState × Source). x.0.form ≡ t.form) (map (beside_in t.start.items) t.rows.items)
+        × AllByRecursion (λ (x : ThreadState × Source). IsBounded x.0) (map (beside_in t.start.items) t.rows.items)
         × AllByRecursion (KnowsOver t.start.items) t.rows.items
-        × AreLooks t.start.items (map (thread_in t.start.items) t.rows.items) (map look_of t.rows.items) };
+        × AreLooks t.start.items (map (beside_in t.start.items) t.rows.items) (map look_of t.rows.items) };
 }
 
-impl Rows {
+impl<'a> Rows<'a> {
     /// No threads, of an image of this form, and with this private memory at first.
     ///
     /// # Errors
     /// Out of memory.
-    pub fn new(alloc: Global, form: ImageForm, start: &[u8]) -> Result<Rows, AllocError>
+    pub fn new(alloc: Global, form: ImageForm, start: &[u8]) -> Result<Rows<'a>, AllocError>
         requires { length start.now ≡ memory_size }
         ensures { IfOk result (λ t. t ≡ record { items = []; form = form; start = start.now; looks = [] }) }
     {
@@ -85,7 +88,7 @@ impl Rows {
     /// Out of memory.
     pub fn thread(&self, n: usize) -> Result<Thread, AllocError>
         requires { n < length self.now.items }
-        ensures found { IfOk result (λ thread. slice_get self.now.items n ≡ Some thread) }
+        ensures found { IfOk result (λ thread. thread ≡ (slice_index_or self.now.items n idle_beside).0) }
         ensures form { IfOk result (λ thread. thread.form ≡ self.now.form) }
     {
         let row = &self.rows[n];
@@ -93,51 +96,80 @@ impl Rows {
         Ok(thread)
     }
 
-    /// Whether the thread of a number has these bytes.
+    /// What answers the thread of a number.
     ///
     /// # Errors
     /// Out of memory.
-    pub fn has_bytes(&self, n: usize, bytes: &[u8]) -> Result<bool, AllocError>
+    pub fn source(&self, n: usize) -> Result<Sources<'a>, AllocError>
         requires { n < length self.now.items }
-        ensures { IfOk result (λ has. has ≡ true → HasBytes self.now.start self.now.items n bytes.now) }
+        ensures { IfOk result (λ source. source ≡ (slice_index_or self.now.items n idle_beside).1) }
     {
-        let thread = self.thread(n)?;
-        let own = self.bytes(&thread)?;
+        let row = &self.rows[n];
+        let source = row.source()?;
+        Ok(source)
+    }
+
+    /// Whether the thread of a number has these bytes, which are another thread's, and what answers that one, unless that one is over.
+    ///
+    /// # Errors
+    /// Out of memory.
+    pub fn looks_like(
+        &self,
+        n: usize,
+        bytes: &[u8],
+        thread: &Thread,
+        source: &Sources<'_>,
+    ) -> Result<bool, AllocError>
+        requires within { n < length self.now.items }
+        requires bytes { bytes.now ≡ frozen self.now.start thread.now [] }
+        ensures { IfOk result (λ like. like ≡ true → LooksLike self.now.start self.now.items n (thread.now, source.now)) }
+    {
+        let kept = self.source(n)?;
+        if !over(thread) && !kept.same(source) {
+            return Ok(false);
+        }
+        let own = self.thread(n)?;
+        let own = self.bytes(&own)?;
         Ok(own.as_slice() == bytes)
     }
 
     /// Whether the thread of a number has ended and holds nothing.
     pub fn over(&self, n: usize) -> bool
         requires { n < length self.now.items }
-        ensures { (x : ThreadState) → slice_get self.now.items n ≡ Some x → result ≡ is_over x }
+        ensures { result ≡ is_over (slice_index_or self.now.items n idle_beside).0 }
     {
         let row = &self.rows[n];
         row.over()
     }
 
-    /// The number of a thread that has the same bytes.
+    /// The number of a thread that looks the same.
     pub fn look(&self, n: usize) -> usize
         requires { n < length self.now.items }
         ensures number { slice_get self.now.looks n ≡ Some result }
         ensures looks { AreLooks self.now.start self.now.items self.now.looks }
         ensures size { length self.now.start ≡ memory_size }
-        ensures bounded { AllByRecursion IsBounded self.now.items }
+        ensures bounded { AllByRecursion (λ (x : ThreadState × Source). IsBounded x.0) self.now.items }
     {
         self.rows[n].look()
     }
 
-    /// Adds a thread, and the number of one with the same bytes.
+    /// Adds a thread beside what answers it, and the number of one that looks the same.
     ///
     /// # Errors
     /// Out of memory; nothing is added.
-    pub fn push(&mut self, thread: &Thread, look: usize) -> Result<(), AllocError>
+    pub fn push(
+        &mut self,
+        thread: &Thread,
+        source: &Sources<'a>,
+        look: usize,
+    ) -> Result<(), AllocError>
         requires form { thread.now.form ≡ self.old.form }
-        requires look { (look ≡ length self.old.items) ⊎ HasBytes self.old.start self.old.items look (frozen self.old.start thread.now []) }
-        ensures ok { OnOk result (self.new ≡ record self.old { items = self.old.items ++ thread.now ∷ []; looks = self.old.looks ++ look ∷ [] }) }
+        requires look { (look ≡ length self.old.items) ⊎ LooksLike self.old.start self.old.items look (thread.now, source.now) }
+        ensures ok { OnOk result (self.new ≡ record self.old { items = self.old.items ++ (thread.now, source.now) ∷ []; looks = self.old.looks ++ look ∷ [] }) }
         ensures err { OnErr result (self.new ≡ self.old) }
     {
         bounded(thread);
-        let row = Row::of(self.alloc, self.start.as_slice(), thread, look)?;
+        let row = Row::of(self.alloc, self.start.as_slice(), thread, source, look)?;
         put(&mut self.rows, row)
     }
 }

@@ -2,12 +2,11 @@
 
 ghost use Rattle.std.specs.Prelude.{◌≡◌, ◌<◌, ◌++◌, [], ◌∷◌, ℕ, length, map, Some, slice_get, IfOk, IfSome, OnOk, OnErr};
 ghost use Rattle.std.specs.List.{slice_index_or};
-ghost use Rattle.ir_flat.specs.Flat.{Flat, IsFlat, cell_of, idle, thread_of};
-ghost use Rattle.ir_flat.specs.Next.{with_object, with_thread};
+ghost use Rattle.ir_flat.specs.Flat.{cell_of};
 ghost use Rattle.ir_freeze.specs.Frozen.{is_over};
 ghost use Rattle.ir_mach.specs.Core.{memory_size};
-ghost use Rattle.ir_store.specs.Nodes.{cell_in, flat_in, AreKept, AreSameLooks, Grows, IsNode, IsWithin, Stored};
-ghost use Rattle.ir_store.specs.Table.{HaveForm, all_over};
+ghost use Rattle.ir_store.specs.Nodes.{SourcedFlat, sourced_thread, with_turn, IsSourced, cell_in, sourced_in, AreKept, AreSameLooks, Grows, IsNode, IsWithin, Stored};
+ghost use Rattle.ir_store.specs.Table.{HaveForm, all_over, idle_beside};
 
 use crate::compare::{hash_of, same_looks};
 use crate::hints::Hints;
@@ -15,13 +14,13 @@ use crate::node::Node;
 use crate::number::short;
 use crate::objects::{object_at, objects_at, spot_of, spots_of};
 use crate::put::put;
+use crate::sourced::{SourcedFlat, SourcedThread};
 use crate::spot::Spot;
 use crate::table::Table;
 use crate::words::Words;
 use ir_flat::Flat;
 use ir_image::ImageForm;
 use ir_object::Object;
-use ir_thread::Thread;
 use std::alloc::{AllocError, Global};
 use std::marker::Model;
 
@@ -29,7 +28,7 @@ use std::marker::Model;
 #[derive(Drop)]
 pub struct Store<'a> {
     alloc: Global,
-    table: Table,
+    table: Table<'a>,
     words: Words,
     nodes: Vec<Node<'a>>,
     hints: Hints,
@@ -39,7 +38,7 @@ impl<'a> Model for Store<'a> {
     ghost Value = { Stored };
 
     ghost view = { λ s. record {
-      items = map (flat_in (record { threads = s.table.items; words = s.words })) s.nodes.items;
+      items = map (sourced_in (record { threads = s.table.items; words = s.words })) s.nodes.items;
       form = s.table.form;
       shared = record { threads = s.table.items; words = s.words };
       nodes = s.nodes.items;
@@ -78,24 +77,29 @@ impl<'a> Store<'a> {
     ///
     /// # Errors
     /// Out of memory.
-    pub fn get(&self, v: usize) -> Result<Flat<'a>, AllocError>
+    pub fn get(&self, v: usize) -> Result<SourcedFlat<'a>, AllocError>
         requires { v < length self.now.items }
-        ensures found { IfOk result (λ flat. slice_get self.now.items v ≡ Some flat) }
-        ensures form { IfOk result (λ flat. HaveForm self.now.form flat.threads) }
+        ensures found { IfOk result (λ s. slice_get self.now.items v ≡ Some s) }
+        ensures form { IfOk result (λ s. HaveForm self.now.form s.flat.threads) }
+        ensures sourced { IfOk result (λ s. IsSourced s) }
     {
         let node = &self.nodes[v];
         let threads = self.table.threads(node.threads.as_slice())?;
+        let sources = self.table.sources(node.threads.as_slice())?;
         let objects = objects_at(self.alloc, &self.words, node.objects.as_slice())?;
-        Ok(Flat::new(node.code, threads, objects))
+        Ok(SourcedFlat {
+            flat: Flat::new(node.code, threads, objects),
+            sources,
+        })
     }
 
     /// The number of a thread of a state.
     pub fn thread_number(&self, v: usize, t: usize) -> usize
         requires node { v < length self.now.items }
-        requires thread { (f : Flat) → slice_get self.now.items v ≡ Some f → t < length f.threads }
+        requires thread { (s : SourcedFlat) → slice_get self.now.items v ≡ Some s → t < length s.flat.threads }
         ensures within { result < length self.now.shared.threads }
-        ensures thread { (f : Flat) → slice_get self.now.items v ≡ Some f → slice_index_or self.now.shared.threads result idle ≡ thread_of f t }
-        ensures flat { (f : Flat) → slice_get self.now.items v ≡ Some f → IsFlat f }
+        ensures thread { (s : SourcedFlat) → slice_get self.now.items v ≡ Some s → slice_index_or self.now.shared.threads result idle_beside ≡ sourced_thread s t }
+        ensures sourced { (s : SourcedFlat) → slice_get self.now.items v ≡ Some s → IsSourced s }
     {
         let node = &self.nodes[v];
         node.threads[t] as usize
@@ -104,8 +108,8 @@ impl<'a> Store<'a> {
     /// An object of a state, by numbers.
     pub fn spot(&self, v: usize, o: usize) -> Option<Spot>
         requires { v < length self.now.items }
-        ensures within { IfSome result (λ s. s.words < length self.now.shared.words) }
-        ensures object { IfSome result (λ s. (f : Flat) → slice_get self.now.items v ≡ Some f → (o < length f.objects) × (cell_in self.now.shared.words s ≡ cell_of f o)) }
+        ensures within { IfSome result (λ spot. spot.words < length self.now.shared.words) }
+        ensures object { IfSome result (λ spot. (s : SourcedFlat) → slice_get self.now.items v ≡ Some s → (o < length s.flat.objects) × (cell_in self.now.shared.words spot ≡ cell_of s.flat o)) }
     {
         let node = &self.nodes[v];
         if o < node.objects.len() {
@@ -115,14 +119,14 @@ impl<'a> Store<'a> {
         }
     }
 
-    /// The thread of a number.
+    /// The thread of a number, beside what answers it.
     ///
     /// # Errors
     /// Out of memory.
-    pub fn thread(&self, n: usize) -> Result<Thread, AllocError>
+    pub fn thread(&self, n: usize) -> Result<SourcedThread<'a>, AllocError>
         requires { n < length self.now.shared.threads }
-        ensures found { IfOk result (λ thread. thread ≡ slice_index_or self.now.shared.threads n idle) }
-        ensures form { IfOk result (λ thread. thread.form ≡ self.now.form) }
+        ensures found { IfOk result (λ thread. thread ≡ slice_index_or self.now.shared.threads n idle_beside) }
+        ensures form { IfOk result (λ thread. thread.0.form ≡ self.now.form) }
     {
         self.table.thread(n)
     }
@@ -130,7 +134,7 @@ impl<'a> Store<'a> {
     /// Whether the thread of a number has ended and holds nothing.
     pub fn thread_over(&self, n: usize) -> bool
         requires { n < length self.now.shared.threads }
-        ensures { result ≡ is_over (slice_index_or self.now.shared.threads n idle) }
+        ensures { result ≡ is_over (slice_index_or self.now.shared.threads n idle_beside).0 }
     {
         self.table.over(n)
     }
@@ -143,19 +147,19 @@ impl<'a> Store<'a> {
         object_at(&self.words, spot)
     }
 
-    /// The number of a thread, which is added if it is new.
+    /// The number of a thread beside what answers it, which is added if it is new.
     ///
     /// # Errors
     /// Out of memory.
-    pub fn add_thread(&mut self, thread: &Thread) -> Result<usize, AllocError>
-        requires { thread.now.form ≡ self.old.form }
+    pub fn add_thread(&mut self, thread: &SourcedThread<'a>) -> Result<usize, AllocError>
+        requires { thread.now.0.form ≡ self.old.form }
         ensures items { self.new.items ≡ self.old.items }
         ensures form { self.new.form ≡ self.old.form }
         ensures grows { Grows self.old.shared self.new.shared }
         ensures within { IfOk result (λ n. n < length self.new.shared.threads) }
-        ensures found { IfOk result (λ n. slice_index_or self.new.shared.threads n idle ≡ thread.now) }
+        ensures found { IfOk result (λ n. slice_index_or self.new.shared.threads n idle_beside ≡ thread.now) }
     {
-        self.table.add(thread)
+        self.table.add(&thread.thread, &thread.source)
     }
 
     /// An object by numbers, which are added if they are new.
@@ -172,7 +176,7 @@ impl<'a> Store<'a> {
         spot_of(&mut self.words, object)
     }
 
-    /// A state by numbers, with another thread and another object.
+    /// A state by numbers, with another thread beside what answers it, and another object.
     ///
     /// # Errors
     /// Out of memory.
@@ -185,11 +189,11 @@ impl<'a> Store<'a> {
         spot: Spot,
     ) -> Result<Node<'a>, AllocError>
         requires node { v < length self.now.items }
-        requires own { (f : Flat) → slice_get self.now.items v ≡ Some f → (t < length f.threads) × (o < length f.objects) }
+        requires own { (s : SourcedFlat) → slice_get self.now.items v ≡ Some s → (t < length s.flat.threads) × (o < length s.flat.objects) }
         requires thread { thread < length self.now.shared.threads }
         requires spot { spot.words < length self.now.shared.words }
         ensures within { IfOk result (λ node. IsWithin self.now.shared node) }
-        ensures flat { IfOk result (λ node. (f : Flat) → slice_get self.now.items v ≡ Some f → flat_in self.now.shared node ≡ with_object (with_thread f t (slice_index_or self.now.shared.threads thread idle)) o (cell_in self.now.shared.words spot)) }
+        ensures state { IfOk result (λ node. (s : SourcedFlat) → slice_get self.now.items v ≡ Some s → sourced_in self.now.shared node ≡ with_turn s t (slice_index_or self.now.shared.threads thread idle_beside) o (cell_in self.now.shared.words spot)) }
     {
         let number = short(thread)?;
         let node = &self.nodes[v];
@@ -207,7 +211,7 @@ impl<'a> Store<'a> {
     /// Whether all threads of a state have ended and hold nothing.
     pub fn is_over(&self, v: usize) -> bool
         requires { v < length self.now.items }
-        ensures { (f : Flat) → slice_get self.now.items v ≡ Some f → result ≡ all_over f.threads }
+        ensures { (s : SourcedFlat) → slice_get self.now.items v ≡ Some s → result ≡ all_over s.flat.threads }
     {
         let node = &self.nodes[v];
         self.table.all_over(node.threads.as_slice())
@@ -217,15 +221,19 @@ impl<'a> Store<'a> {
     ///
     /// # Errors
     /// Out of memory.
-    pub fn by_numbers(&mut self, flat: &Flat<'a>) -> Result<Node<'a>, AllocError>
-        requires { HaveForm self.old.form flat.now.threads }
+    pub fn by_numbers(&mut self, state: &SourcedFlat<'a>) -> Result<Node<'a>, AllocError>
+        requires form { HaveForm self.old.form state.now.flat.threads }
+        requires sourced { IsSourced state.now }
         ensures items { self.new.items ≡ self.old.items }
         ensures form { self.new.form ≡ self.old.form }
         ensures grows { Grows self.old.shared self.new.shared }
         ensures node { IfOk result (λ node. IsNode self.new.shared node) }
-        ensures flat { IfOk result (λ node. flat_in self.new.shared node ≡ flat.now) }
+        ensures state { IfOk result (λ node. sourced_in self.new.shared node ≡ state.now) }
     {
-        let threads = self.table.add_all(flat.threads())?;
+        let flat = &state.flat;
+        let threads = self
+            .table
+            .add_all(flat.threads(), state.sources.as_slice())?;
         let objects = spots_of(self.alloc, &mut self.words, flat.objects())?;
         Ok(Node {
             code: flat.code(),
@@ -238,7 +246,7 @@ impl<'a> Store<'a> {
     pub fn find(&self, node: &Node<'_>) -> Option<usize>
         requires { IsWithin self.now.shared node.now }
         ensures within { IfSome result (λ v. v < length self.now.items) }
-        ensures alike { IfSome result (λ v. (f : Flat) → slice_get self.now.items v ≡ Some f → AreSameLooks (flat_in self.now.shared node.now) f) }
+        ensures alike { IfSome result (λ v. (s : SourcedFlat) → slice_get self.now.items v ≡ Some s → AreSameLooks (sourced_in self.now.shared node.now) s) }
     {
         let hash = hash_of(&self.table, node);
         let v = self.hints.number(hash, self.nodes.len())?;
@@ -255,7 +263,7 @@ impl<'a> Store<'a> {
     /// Out of memory.
     pub fn push(&mut self, node: Node<'a>) -> Result<(), AllocError>
         requires { IsNode self.old.shared node }
-        ensures ok { OnOk result (self.new.items ≡ self.old.items ++ flat_in self.old.shared node.entry ∷ []) }
+        ensures ok { OnOk result (self.new.items ≡ self.old.items ++ sourced_in self.old.shared node.entry ∷ []) }
         ensures err { OnErr result (self.new.items ≡ self.old.items) }
         ensures form { self.new.form ≡ self.old.form }
         ensures shared { self.new.shared ≡ self.old.shared }

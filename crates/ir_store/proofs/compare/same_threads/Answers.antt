@@ -1,11 +1,10 @@
 use Rattle.std.proofs.Common.{◌≡◌, ◌<◌, inl, inr, get_or, length, sym, subst, arith}
 use Rattle.std.proofs.lemmas.Bool.{cases_lt}
 use Rattle.std.proofs.lemmas.Option.{slice_get-get_or}
-use Rattle.ir_flat.specs.Flat.{idle}
 use Rattle.ir_store.specs.Nodes.{LookSame}
-use Rattle.ir_store.specs.Table.{threads_at}
+use Rattle.ir_store.specs.Table.{idle_beside, beside_at}
 use Rattle.ir_store.proofs.Lists.{element_of_all_by_recursion}
-use Rattle.ir_store.proofs.Stored.{get_or_map}
+use Rattle.ir_store.proofs.Stored.{beside_at_is_element}
 use Rattle.ir_store.proofs.compare.same_threads.Goals as goal
 
 pub loop-t-preserved : goal.loop-t-preserved
@@ -19,16 +18,16 @@ loop-t-preserved c = λ u less.
     let lt' : t < length second = omega (arith, lt, size) in
     let m = get_or first t 0 in
     let n = get_or second t 0 in
-    let here : LookSame (get_or items m idle) (get_or items n idle) =
-    c.same_look.ensures c.if-not-same_look.false (get_or items m idle) (get_or items n idle)
-    (slice_get-get_or items m idle (element_of_all_by_recursion (λ k. k < length items) first t 0 c.requires.first lt))
-    (slice_get-get_or items n idle (element_of_all_by_recursion (λ k. k < length items) second t 0 c.requires.second lt')) in
-    let there : LookSame (get_or (threads_at items first) t idle) (get_or (threads_at items second) t idle) =
-    subst (λ z. LookSame z (get_or (threads_at items second) t idle)) (sym (get_or_map (λ k. get_or items k idle) first t 0 idle lt))
-    (subst (LookSame (get_or items m idle)) (sym (get_or_map (λ k. get_or items k idle) second t 0 idle lt')) here) in
+    let here : LookSame (get_or items m idle_beside) (get_or items n idle_beside) =
+    c.same_look.ensures c.if-not-same_look.false (get_or items m idle_beside) (get_or items n idle_beside)
+    (slice_get-get_or items m idle_beside (element_of_all_by_recursion (λ k. k < length items) first t 0 c.requires.first lt))
+    (slice_get-get_or items n idle_beside (element_of_all_by_recursion (λ k. k < length items) second t 0 c.requires.second lt')) in
+    let there : LookSame (beside_at items first t) (beside_at items second t) =
+    subst (λ z. LookSame z (beside_at items second t)) (sym (beside_at_is_element items first t 0 lt))
+    (subst (LookSame (get_or items m idle_beside)) (sym (beside_at_is_element items second t 0 lt')) here) in
     elim (cases_lt u t) [
       | inl old ↦ c.loop-t.invariant u old
       | inr late ↦
           let same : t ≡ u = omega (arith, less, late) in
-          subst (λ z. LookSame (get_or (threads_at items first) z idle) (get_or (threads_at items second) z idle)) same there
+          subst (λ z. LookSame (beside_at items first z) (beside_at items second z)) same there
     ]

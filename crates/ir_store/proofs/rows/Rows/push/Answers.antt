@@ -1,11 +1,12 @@
 use Rattle.std.proofs.Common.{◌≡◌, ◌⊎◌, ◌++◌, [], ◌∷◌, ap, ◌∙◌, sym, subst, length, map, List}
 use Rattle.std.proofs.lemmas.List.{map_push}
 use Rattle.std.proofs.lemmas.Result.{on_ok_weaker, on_err_weaker}
-use Rattle.ir_freeze.specs.Frozen.{frozen, is_over}
+use Rattle.ir_freeze.specs.Frozen.{is_over}
 use Rattle.ir_freeze.specs.Twins.{IsBounded}
+use Rattle.ir_sources.specs.Sources.{Source}
 use Rattle.ir_thread.specs.State.{ThreadState}
-use Rattle.ir_store.specs.Rows.{Row, thread_in, look_of, KnowsOver}
-use Rattle.ir_store.specs.Table.{HasBytes}
+use Rattle.ir_store.specs.Rows.{Row, thread_in, beside_in, look_of, KnowsOver}
+use Rattle.ir_store.specs.Table.{LooksLike}
 use Rattle.ir_store.specs.Table as table
 use Rattle.ir_store.proofs.Lists.{all_by_recursion_after_put}
 use Rattle.ir_store.proofs.Rowed.{all_by_recursion_after_row_put, looks_after_row_put}
@@ -18,23 +19,22 @@ invariant_of-self c =
     let rows = c.self.inside.rows.items in
     let new = c.put.new.items.items in
     let row = c.in_ok-row.row in
-    let made : thread_in start row ≡ c.args.thread.now =
+    let thread : thread_in start row ≡ c.args.thread.now =
     ap (λ l. thread_in l row) (sym c.as_slice.ensures.value) ∙ c.in_ok-row.ensures.thread in
+    let made : beside_in start row ≡ (c.args.thread.now, c.args.source.now) = λ i. (thread i, c.in_ok-row.ensures.source i) in
     let look : look_of row ≡ c.args.look = c.in_ok-row.ensures.look in
-    let is : (look_of row ≡ length (map (thread_in start) rows))
-    ⊎ HasBytes start (map (thread_in start) rows) (look_of row) (frozen start (thread_in start row) []) =
-    subst (λ z. (look_of row ≡ length (map (thread_in start) rows))
-    ⊎ HasBytes start (map (thread_in start) rows) (look_of row) (frozen start z [])) (sym made)
-    (subst (λ k. (k ≡ length (map (thread_in start) rows))
-    ⊎ HasBytes start (map (thread_in start) rows) k (frozen start c.args.thread.now [])) (sym look)
-    (subst (λ (z : table.Table). (c.args.look ≡ length z.items) ⊎ HasBytes z.start z.items c.args.look (frozen z.start c.args.thread.now []))
+    let is : (look_of row ≡ length (map (beside_in start) rows)) ⊎ LooksLike start (map (beside_in start) rows) (look_of row) (beside_in start row) =
+    subst (λ z. (look_of row ≡ length (map (beside_in start) rows)) ⊎ LooksLike start (map (beside_in start) rows) (look_of row) z) (sym made)
+    (subst (λ k. (k ≡ length (map (beside_in start) rows)) ⊎ LooksLike start (map (beside_in start) rows) k (c.args.thread.now, c.args.source.now)) (sym look)
+    (subst (λ (z : table.Table). (c.args.look ≡ length z.items) ⊎ LooksLike z.start z.items c.args.look (c.args.thread.now, c.args.source.now))
     (sym c.self.view_is) c.requires.look)) in (
       c.self.invariant.0,
-      all_by_recursion_after_row_put (thread_in start) (λ s. s.form ≡ form) rows new row c.self.invariant.1
-          (ap (λ (s : ThreadState). s.form) made ∙ c.requires.form ∙ ap (λ (z : table.Table). z.form) (sym c.self.view_is)) c.put.ensures.either,
-      all_by_recursion_after_row_put (thread_in start) IsBounded rows new row c.self.invariant.2 (subst IsBounded (sym made) c.bounded.ensures) c.put.ensures.either,
-      all_by_recursion_after_put (KnowsOver start) rows new row c.self.invariant.3 (c.in_ok-row.ensures.over ∙ ap is_over (sym made)) c.put.ensures.either,
-      looks_after_row_put (thread_in start) look_of start rows new row c.self.invariant.4 is c.put.ensures.either,
+      all_by_recursion_after_row_put (beside_in start) (λ (x : ThreadState × Source). x.0.form ≡ form) rows new row c.self.invariant.1
+          (ap (λ (s : ThreadState). s.form) thread ∙ c.requires.form ∙ ap (λ (z : table.Table). z.form) (sym c.self.view_is)) c.put.ensures.either,
+      all_by_recursion_after_row_put (beside_in start) (λ (x : ThreadState × Source). IsBounded x.0) rows new row c.self.invariant.2
+          (subst IsBounded (sym thread) c.bounded.ensures) c.put.ensures.either,
+      all_by_recursion_after_put (KnowsOver start) rows new row c.self.invariant.3 (c.in_ok-row.ensures.over ∙ ap is_over (sym thread)) c.put.ensures.either,
+      looks_after_row_put (beside_in start) look_of start rows new row c.self.invariant.4 is c.put.ensures.either,
     )
 
 pub returns-clause-ok : goal.returns-clause-ok
@@ -43,17 +43,18 @@ returns-clause-ok c =
     let form = c.self.inside.form in
     let rows = c.self.inside.rows.items in
     let row = c.in_ok-row.row in
-    let made : thread_in start row ≡ c.args.thread.now =
+    let thread : thread_in start row ≡ c.args.thread.now =
     ap (λ l. thread_in l row) (sym c.as_slice.ensures.value) ∙ c.in_ok-row.ensures.thread in
+    let made : beside_in start row ≡ (c.args.thread.now, c.args.source.now) = λ i. (thread i, c.in_ok-row.ensures.source i) in
     on_ok_weaker c.put.result
     (λ e. (λ i. record {
-      items = (ap (map (thread_in start)) e ∙ map_push (thread_in start) rows row ∙ ap (λ s. map (thread_in start) rows ++ s ∷ []) made) i;
+      items = (ap (map (beside_in start)) e ∙ map_push (beside_in start) rows row ∙ ap (λ s. map (beside_in start) rows ++ s ∷ []) made) i;
       form = form;
       start = start;
       looks = (ap (map look_of) e ∙ map_push look_of rows row ∙ ap (λ k. map look_of rows ++ k ∷ []) c.in_ok-row.ensures.look) i;
     })
     ∙ ap (λ (z : table.Table). record {
-      items = z.items ++ c.args.thread.now ∷ [];
+      items = z.items ++ (c.args.thread.now, c.args.source.now) ∷ [];
       form = z.form;
       start = z.start;
       looks = z.looks ++ c.args.look ∷ [];
@@ -63,7 +64,7 @@ pub returns-clause-err : goal.returns-clause-err
 returns-clause-err c =
     on_err_weaker c.put.result
     (λ e. ap (λ (l : List Row). record {
-      items = map (thread_in c.self.inside.start.items) l;
+      items = map (beside_in c.self.inside.start.items) l;
       form = c.self.inside.form;
       start = c.self.inside.start.items;
       looks = map look_of l;

@@ -1,24 +1,29 @@
-use Rattle.std.proofs.Common.{◌≡◌, ap, ◌∙◌, sym, subst, map, length, ◌<◌}
-use Rattle.std.specs.Prelude.{slice_get, Some}
+use Rattle.std.proofs.Common.{◌≡◌, ap, ◌∙◌, sym, subst, get_or, length, ◌<◌}
+use Rattle.std.proofs.lemmas.Option.{slice_get-get_or}
+use Rattle.ir_sources.specs.Sources.{Source}
 use Rattle.ir_thread.specs.State.{ThreadState}
-use Rattle.ir_store.specs.Rows.{thread_in}
+use Rattle.ir_store.specs.Rows.{thread_in, beside_in}
+use Rattle.ir_store.specs.Table.{idle_beside}
 use Rattle.ir_store.specs.Table as table
 use Rattle.ir_store.proofs.Lists.{found_element_of_all_by_recursion}
-use Rattle.ir_store.proofs.Rowed.{read_row_is_mapped_element}
+use Rattle.ir_store.proofs.Rowed.{read_row_is_element_or, read_row_is_mapped_element}
 use Rattle.ir_store.proofs.rows.Rows.thread.Goals as goal
 
 pub returns-clause-found : goal.returns-clause-found
 returns-clause-found c =
-    subst (λ (z : table.Table). slice_get z.items c.args.n ≡ Some c.in_ok-thread.thread) c.self.view_is
-    (read_row_is_mapped_element (thread_in c.self.inside.start.items) c.self.inside.rows.items c.index-row.result.now c.args.n c.in_ok-thread.thread
-    (subst (λ (z : table.Table). c.args.n < length z.items) (sym c.self.view_is) c.requires) c.index-row.ensures
-    (c.in_ok-thread.ensures ∙ ap (λ l. thread_in l c.index-row.result.now) c.as_slice.ensures.value))
+    let start = c.self.inside.start.items in
+    let row = c.index-row.result.now in
+    let less = subst (λ (z : table.Table). c.args.n < length z.items) (sym c.self.view_is) c.requires in
+    c.in_ok-thread.ensures ∙ ap (λ l. thread_in l row) c.as_slice.ensures.value
+    ∙ ap (λ (x : ThreadState × Source). x.0) (read_row_is_element_or (beside_in start) c.self.inside.rows.items row c.args.n idle_beside less c.index-row.ensures)
+    ∙ ap (λ (z : table.Table). (get_or z.items c.args.n idle_beside).0) c.self.view_is
 
 pub returns-clause-form : goal.returns-clause-form
 returns-clause-form c =
-    let here = read_row_is_mapped_element (thread_in c.self.inside.start.items) c.self.inside.rows.items c.index-row.result.now c.args.n c.in_ok-thread.thread
-    (subst (λ (z : table.Table). c.args.n < length z.items) (sym c.self.view_is) c.requires) c.index-row.ensures
-    (c.in_ok-thread.ensures ∙ ap (λ l. thread_in l c.index-row.result.now) c.as_slice.ensures.value) in
-    found_element_of_all_by_recursion (λ (s : ThreadState). s.form ≡ c.self.inside.form) (map (thread_in c.self.inside.start.items) c.self.inside.rows.items) c.args.n
-    c.in_ok-thread.thread c.self.invariant.1 here
+    let start = c.self.inside.start.items in
+    let row = c.index-row.result.now in
+    let less = subst (λ (z : table.Table). c.args.n < length z.items) (sym c.self.view_is) c.requires in
+    let here = read_row_is_mapped_element (beside_in start) c.self.inside.rows.items row c.args.n (beside_in start row) less c.index-row.ensures (λ i. beside_in start row) in
+    ap (λ (s : ThreadState). s.form) (c.in_ok-thread.ensures ∙ ap (λ l. thread_in l row) c.as_slice.ensures.value)
+    ∙ found_element_of_all_by_recursion (λ (x : ThreadState × Source). x.0.form ≡ c.self.inside.form) _ c.args.n (beside_in start row) c.self.invariant.1 here
     ∙ ap (λ (z : table.Table). z.form) c.self.view_is

@@ -1,6 +1,6 @@
 use Rattle.std.proofs.Common.{ap, ◌∙◌}
 use Rattle.ir_store.specs.Nodes.{Shared, Stored}
-use Rattle.ir_store.proofs.Shared.{nodes_grown, flats_grown}
+use Rattle.ir_store.proofs.Shared.{nodes_grown, states_grown}
 use Rattle.ir_store.proofs.store.Store.add_object.Goals as goal
 
 pub invariant_of-self : goal.invariant_of-self
@@ -13,5 +13,5 @@ pub returns-clause-items : goal.returns-clause-items
 returns-clause-items c =
     let old : Shared = record { threads = c.self.inside.table.items; words = c.self.inside.words } in
     let new : Shared = record { threads = c.self.inside.table.items; words = c.spot_of.new.words } in
-    flats_grown old new (record { threads = λ n s e. e; words = c.spot_of.ensures.keeps }) c.self.inside.nodes.items c.self.invariant
+    states_grown old new (record { threads = λ n s e. e; words = c.spot_of.ensures.keeps }) c.self.inside.nodes.items c.self.invariant
     ∙ ap (λ (z : Stored). z.items) c.self.view_is

@@ -1,10 +1,10 @@
 use Rattle.std.proofs.Common.{◌≡◌, ◌<◌, ap, ◌∙◌, length, get_or, Some}
 use Rattle.std.specs.Prelude.{slice_get}
 use Rattle.std.proofs.lemmas.Option.{slice_get_within, get_or_from_slice_get}
-use Rattle.ir_flat.specs.Flat.{idle}
 use Rattle.ir_store.specs.Nodes.{Shared, Stored}
+use Rattle.ir_store.specs.Table.{idle_beside}
 use Rattle.ir_store.proofs.Lists.{if_ok_weaker}
-use Rattle.ir_store.proofs.Shared.{nodes_grown, flats_grown}
+use Rattle.ir_store.proofs.Shared.{nodes_grown, states_grown}
 use Rattle.ir_store.proofs.store.Store.add_thread.Goals as goal
 
 pub invariant_of-self : goal.invariant_of-self
@@ -17,15 +17,17 @@ pub returns-clause-items : goal.returns-clause-items
 returns-clause-items c =
     let old : Shared = record { threads = c.self.inside.table.items; words = c.self.inside.words } in
     let new : Shared = record { threads = c.add.new.self.items; words = c.self.inside.words } in
-    flats_grown old new (record { threads = c.add.ensures.keeps; words = λ n s e. e }) c.self.inside.nodes.items c.self.invariant
+    states_grown old new (record { threads = c.add.ensures.keeps; words = λ n s e. e }) c.self.inside.nodes.items c.self.invariant
     ∙ ap (λ (z : Stored). z.items) c.self.view_is
 
 pub returns-clause-within : goal.returns-clause-within
 returns-clause-within c =
-    if_ok_weaker (λ n. slice_get c.add.new.self.items n ≡ Some c.args.thread.now) (λ n. n < length c.add.new.self.items) c.add.result
-    (λ n at. slice_get_within c.add.new.self.items n c.args.thread.now at) c.add.ensures.found
+    let x = (c.thread.inside.thread, c.thread.inside.source) in
+    if_ok_weaker (λ n. slice_get c.add.new.self.items n ≡ Some x) (λ n. n < length c.add.new.self.items) c.add.result
+    (λ n at. slice_get_within c.add.new.self.items n x at) c.add.ensures.found
 
 pub returns-clause-found : goal.returns-clause-found
 returns-clause-found c =
-    if_ok_weaker (λ n. slice_get c.add.new.self.items n ≡ Some c.args.thread.now) (λ n. get_or c.add.new.self.items n idle ≡ c.args.thread.now)
-    c.add.result (λ n at. get_or_from_slice_get c.add.new.self.items n c.args.thread.now idle at) c.add.ensures.found
+    let x = (c.thread.inside.thread, c.thread.inside.source) in
+    if_ok_weaker (λ n. slice_get c.add.new.self.items n ≡ Some x) (λ n. get_or c.add.new.self.items n idle_beside ≡ c.args.thread.now)
+    c.add.result (λ n at. get_or_from_slice_get c.add.new.self.items n x idle_beside at ∙ c.thread.view_is) c.add.ensures.found

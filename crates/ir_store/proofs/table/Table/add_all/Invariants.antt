@@ -1,11 +1,12 @@
 use Rattle.std.proofs.Common.{◌≡◌, take}
-use Rattle.ir_store.specs.Table.{threads_at, AreIn, Keeps}
+use Rattle.ir_store.specs.Table.{threads_at, sources_at, AreIn, Keeps}
 use Rattle.ir_store.proofs.table.Table.add_all.Given as goal
 
-abbrev pub invariant-loop-thread : goal.invariant-loop-thread
-invariant-loop-thread l = record {
+abbrev pub invariant-loop-t : goal.invariant-loop-t
+invariant-loop-t l = record {
   keeps : Keeps l.fn.self.items l.self.items;
   form : l.self.form ≡ l.fn.self.form;
   within : AreIn l.self.items l.numbers.items;
-  found : threads_at l.self.items l.numbers.items ≡ take l.thread-index l.threads;
+  threads : threads_at l.self.items l.numbers.items ≡ take l.t l.threads;
+  sources : sources_at l.self.items l.numbers.items ≡ take l.t l.sources;
 }

@@ -1,9 +1,6 @@
 use Rattle.std.proofs.Common.{◌≡◌, ◌∙◌, sym, ap, subst, get_or}
-use Rattle.std.specs.Prelude.{slice_get, Some}
-use Rattle.std.proofs.lemmas.Option.{get_or_from_slice_get}
-use Rattle.ir_flat.specs.Flat.{idle}
 use Rattle.ir_thread.specs.State.{ThreadState}
-use Rattle.ir_store.specs.Table.{HaveForm}
+use Rattle.ir_store.specs.Table.{HaveForm, idle_beside}
 use Rattle.ir_store.specs.Table as table
 use Rattle.ir_store.proofs.Lists.{all_by_recursion_after_push, mapped_elements_made_step}
 use Rattle.ir_store.proofs.table.Table.threads.Goals as goal
@@ -14,13 +11,11 @@ loop-n-preserved c =
     let numbers = c.args.numbers.now in
     let items = c.args.self.now.items in
     let x = c.in_ok-thread.thread in
-    let at : slice_get items (get_or numbers i 0) ≡ Some x =
-    subst (λ (z : table.Table). slice_get z.items (get_or numbers i 0) ≡ Some x) c.self.view_is c.in_ok-thread.ensures.found in
     record {
       value =
           c.in_ok-push.ensures.items
-          ∙ mapped_elements_made_step (λ k. get_or items k idle) numbers c.loop-n.threads.items x i 0 c.loop-n-test.true c.loop-n.invariant.value
-          (sym (get_or_from_slice_get items (get_or numbers i 0) x idle at));
+          ∙ mapped_elements_made_step (λ k. (get_or items k idle_beside).0) numbers c.loop-n.threads.items x i 0 c.loop-n-test.true c.loop-n.invariant.value
+          (c.in_ok-thread.ensures.found ∙ ap (λ (z : table.Table). (get_or z.items (get_or numbers i 0) idle_beside).0) c.self.view_is);
       form =
           subst (HaveForm c.args.self.now.form) (sym c.in_ok-push.ensures.items)
           (all_by_recursion_after_push (λ (s : ThreadState). s.form ≡ c.args.self.now.form) c.loop-n.threads.items x c.loop-n.invariant.form
