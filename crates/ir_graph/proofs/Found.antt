@@ -1,82 +1,96 @@
 -- Nodes that are found.
-use Rattle.std.proofs.Common.{◌≡◌, ℕ, ◌<◌, Bool, true, Some, None, List, [], ◌∷◌, ◌++◌, inl, inr, length, refl, sym, ◌∙◌, subst, arith}
+use Rattle.std.proofs.Common.{◌≡◌, ℕ, ◌<◌, Bool, true, Some, None, List, [], ◌∷◌, ◌++◌, inl, inr, length, sym, ◌∙◌, subst, arith}
 use Rattle.std.specs.Prelude.{slice_get}
 use Rattle.std.proofs.lemmas.Bool.{cases_eq}
 use Rattle.std.proofs.lemmas.Option.{same_Some}
 use Rattle.ir_explore.proofs.CallerLemmas.{slice_get_after_push_cases, place_of_element_is_below_length}
-use Rattle.ir_runs.specs.Run.{Step, Can, after}
+use Rattle.ir_runs.specs.Run.{Step, Can}
 use Rattle.ir_states.specs.Nodes.{LeadsTo}
 use Rattle.ir_thread.specs.State.{ask_of}
-use Rattle.ir_flat.specs.Flat.{Flat, tables, machine, thread_of}
-use Rattle.ir_graph.specs.Nodes.{Alike, seen_by, told_by, seen_of, LookAlike, AllRest, AreNodes, Stay, LeadsFrom, IsStepBy, HasStepBy}
+use Rattle.ir_flat.specs.Flat.{tables, machine, thread_of}
+use Rattle.ir_store.specs.Nodes.{SourcedFlat}
+use Rattle.ir_graph.specs.Nodes.{Alike, seen_by, answered_by, seen_of, LookAlike, AllRest, AreNodes, Stay, LeadsFrom, IsStepBy, HasStepBy}
 use Rattle.ir_graph.specs.Plain.{GoesPlain, IsLike, IsNoTry, MayGo, OthersStay, Rests, result_by}
-use Rattle.ir_graph.proofs.Leads.{no_seen_step_if_no_step, no_seen_refusal_unless_try, way_leads_to_alike_node}
-use Rattle.ir_graph.proofs.Plain.{like_reflexive, like_transitive, like_symmetric, like_after_plain_steps, like_after_step, others_stay_after_step}
+use Rattle.ir_graph.proofs.Leads.{look_alike_reflexive, no_seen_step_if_no_step, no_seen_refusal_unless_try, way_leads_to_alike_node}
+use Rattle.ir_graph.proofs.Plain.{TakesStep, like_reflexive, like_transitive, like_symmetric, like_after_plain_steps, like_after_step, others_stay_after_step}
 
-pub look_alike_reflexive : (f : Flat) → LookAlike f f
-look_alike_reflexive f answers = record { threads = λ t. inl refl; inside = λ o t. refl; words = λ o. refl }
-
-pub are_nodes_after_node_added : (flats : List Flat) (new : Flat) → AreNodes flats → ((v : ℕ) (f : Flat) → slice_get flats v ≡ Some f → IsLike new f)
-    → AllRest new → AreNodes (flats ++ new ∷ [])
-are_nodes_after_node_added flats new nodes like rest = record {
-  rest = λ v f is. elim (slice_get_after_push_cases flats new v f is) [ inl old ↦ nodes.rest v f old | inr p ↦ subst AllRest p.1 rest ];
-  like = λ u v f g a b. elim (slice_get_after_push_cases flats new u f a) [
-    | inl old ↦ elim (slice_get_after_push_cases flats new v g b) [
-      | inl too ↦ nodes.like u v f g old too
-      | inr p ↦ subst (IsLike f) p.1 (like_symmetric new f (like u f old))
+pub are_nodes_after_node_added : (states : List SourcedFlat) (new : SourcedFlat) → AreNodes states → length new.sources ≡ length new.flat.threads
+    → ((v : ℕ) (s : SourcedFlat) → slice_get states v ≡ Some s → IsLike new.flat s.flat) → AllRest new.flat → AreNodes (states ++ new ∷ [])
+are_nodes_after_node_added states new nodes each like rest = record {
+  each = λ v s is. elim (slice_get_after_push_cases states new v s is) [
+    | inl old ↦ nodes.each v s old
+    | inr p ↦ subst (λ (z : SourcedFlat). length z.sources ≡ length z.flat.threads) p.1 each
+  ];
+  rest = λ v s is. elim (slice_get_after_push_cases states new v s is) [
+    | inl old ↦ nodes.rest v s old
+    | inr p ↦ subst (λ (z : SourcedFlat). AllRest z.flat) p.1 rest
+  ];
+  like = λ v w s u a b. elim (slice_get_after_push_cases states new v s a) [
+    | inl old ↦ elim (slice_get_after_push_cases states new w u b) [
+      | inl too ↦ nodes.like v w s u old too
+      | inr p ↦ subst (λ (z : SourcedFlat). IsLike s.flat z.flat) p.1 (like_symmetric new.flat s.flat (like v s old))
     ]
-    | inr q ↦ elim (slice_get_after_push_cases flats new v g b) [
-      | inl too ↦ subst (λ z. IsLike z g) q.1 (like v g too)
-      | inr p ↦ subst (λ z. IsLike z g) q.1 (subst (IsLike new) p.1 (like_reflexive new))
+    | inr q ↦ elim (slice_get_after_push_cases states new w u b) [
+      | inl too ↦ subst (λ (z : SourcedFlat). IsLike z.flat u.flat) q.1 (like w u too)
+      | inr p ↦ subst (λ (z : SourcedFlat). IsLike z.flat u.flat) q.1
+          (subst (λ (z : SourcedFlat). IsLike new.flat z.flat) p.1 (like_reflexive new.flat))
     ]
   ];
 }
 
-pub new_node_looks_alike : (flats : List Flat) (new f : Flat) (w : ℕ) → w ≡ length flats → slice_get (flats ++ new ∷ []) w ≡ Some f → LookAlike new f
-new_node_looks_alike flats new f w here is = elim (slice_get_after_push_cases flats new w f is) [
-  | inl old ↦ absurd (let l = place_of_element_is_below_length flats w f old in omega (arith, l, here))
+pub new_node_looks_alike : (states : List SourcedFlat) (new s : SourcedFlat) (w : ℕ) → w ≡ length states → slice_get (states ++ new ∷ []) w ≡ Some s
+    → LookAlike new s
+new_node_looks_alike states new s w here is = elim (slice_get_after_push_cases states new w s is) [
+  | inl old ↦ absurd (let l = place_of_element_is_below_length states w s old in omega (arith, l, here))
   | inr p ↦ subst (LookAlike new) p.1 (look_alike_reflexive new)
 ]
 
-pub leads_nowhere_if_no_step : (flats : List Flat) (f : Flat) (t : ℕ) (refused : Bool) (v : ℕ) → AreNodes flats → slice_get flats v ≡ Some f
-    → t < length f.threads → (Can (machine f) (tables f) (t, result_by refused) → ⊥) → LeadsFrom flats t refused v None
-leads_nowhere_if_no_step flats f t refused v nodes at less never g is answers e same =
-    subst (λ z. IsStepBy z answers refused e → Can (seen_by z.code) (seen_of z answers) e → ⊥) (same_Some f g (sym at ∙ is))
-    (no_seen_step_if_no_step f answers t refused (nodes.rest v f at t less) never e same)
+pub leads_nowhere_if_no_step : (states : List SourcedFlat) (s : SourcedFlat) (t : ℕ) (refused : Bool) (v : ℕ) → AreNodes states
+    → slice_get states v ≡ Some s → t < length s.flat.threads → (Can (machine s.flat) (tables s.flat) (t, result_by refused) → ⊥)
+    → LeadsFrom states t refused v None
+leads_nowhere_if_no_step states s t refused v nodes at less never u is e same =
+    subst (λ z. IsStepBy z refused e → Can (seen_by z.flat.code) (seen_of z) e → ⊥) (same_Some s u (sym at ∙ is))
+    (no_seen_step_if_no_step s t refused (nodes.rest v s at t less) never e same)
 
 -- only a thread that tries is refused
-pub refused_leads_nowhere_unless_try : (flats : List Flat) (t v : ℕ) → AreNodes flats
-    → ((f : Flat) → slice_get flats v ≡ Some f → Rests (ask_of f.code (thread_of f t)) × IsNoTry (ask_of f.code (thread_of f t)))
-    → LeadsFrom flats t true v None
-refused_leads_nowhere_unless_try flats t v nodes none f is answers e same by can =
-    let here = none f is in no_seen_refusal_unless_try f answers t here.0 here.1 e same by
+pub refused_leads_nowhere_unless_try : (states : List SourcedFlat) (t v : ℕ) → AreNodes states
+    → ((s : SourcedFlat) → slice_get states v ≡ Some s
+    → Rests (ask_of s.flat.code (thread_of s.flat t)) × IsNoTry (ask_of s.flat.code (thread_of s.flat t)))
+    → LeadsFrom states t true v None
+refused_leads_nowhere_unless_try states t v nodes none s is e same by can =
+    let here = none s is in no_seen_refusal_unless_try s t here.0 here.1 e same by
 
--- f at a node, g after the step of thread t, h where it comes to rest
-module _ (flats : List Flat) (f g h : Flat) (t r v : ℕ) (nodes : AreNodes flats) (at : slice_get flats v ≡ Some f) (less : t < length f.threads)
-    (can : Can (machine f) (tables f) (t, r)) (is : tables g ≡ after (machine f) (tables f) (t, r)) (code : g.code ≡ f.code)
-    (threads : length g.threads ≡ length f.threads) (objects : length g.objects ≡ length f.objects) (goes : GoesPlain g h) where
-  pub reached_like : (u : ℕ) (k : Flat) → slice_get flats u ≡ Some k → IsLike h k
-  reached_like u k there =
-      like_transitive h f k (like_symmetric f h (like_transitive f g h (like_after_step f g t r is code threads objects) (like_after_plain_steps g h goes)))
-      (nodes.like v u f k at there)
+-- s at a node, u after the step of thread t, w where it comes to rest
+module _ (states : List SourcedFlat) (s u w : SourcedFlat) (t r v : ℕ) (nodes : AreNodes states) (at : slice_get states v ≡ Some s)
+    (less : t < length s.flat.threads) (step : TakesStep s u t r) (goes : GoesPlain u w) where
+  pub reached_like : (p : ℕ) (k : SourcedFlat) → slice_get states p ≡ Some k → IsLike w.flat k.flat
+  reached_like p k there =
+      like_transitive w.flat s.flat k.flat
+      (like_symmetric s.flat w.flat (like_transitive s.flat u.flat w.flat (like_after_step s u t r step) (like_after_plain_steps u w goes)))
+      (nodes.like v p s k at there)
 
-  pub reached_rests : OthersStay g h t → Rests (ask_of h.code (thread_of h t)) → AllRest h
-  reached_rests others rests u few = elim (cases_eq u t) [
-    | inl same ↦ subst (λ z. Rests (ask_of h.code (thread_of h z))) (sym same) rests
+  pub reached_each : length w.sources ≡ length w.flat.threads
+  reached_each = goes.sources ∙ step.sources ∙ nodes.each v s at ∙ sym step.threads ∙ sym goes.threads
+
+  pub reached_rests : OthersStay u w t → Rests (ask_of w.flat.code (thread_of w.flat t)) → AllRest w.flat
+  reached_rests others rests p few = elim (cases_eq p t) [
+    | inl same ↦ subst (λ z. Rests (ask_of w.flat.code (thread_of w.flat z))) (sym same) rests
     | inr other ↦
-        let stays : thread_of h u ≡ thread_of f u = others u other ∙ others_stay_after_step f g t r is u other in
+        let stays : thread_of w.flat p ≡ thread_of s.flat p =
+        others.threads p other ∙ (others_stay_after_step s u t r step.is).threads p other in
         let size = goes.threads in
-        subst (λ z. Rests (ask_of z (thread_of h u))) (sym (goes.code ∙ code))
-        (subst (λ z. Rests (ask_of f.code z)) (sym stays) (nodes.rest v f at u (omega (arith, few, size, threads))))
+        let threads = step.threads in
+        subst (λ z. Rests (ask_of z (thread_of w.flat p))) (sym (goes.code ∙ step.code))
+        (subst (λ z. Rests (ask_of s.flat.code z)) (sym stays) (nodes.rest v s at p (omega (arith, few, size, threads))))
   ]
 
-pub reached_leads : (flats : List Flat) (f g h : Flat) (t : ℕ) (refused : Bool) (v : ℕ) → AreNodes flats → slice_get flats v ≡ Some f
-    → t < length f.threads → MayGo refused (ask_of f.code (thread_of f t)) → Can (machine f) (tables f) (t, result_by refused)
-    → tables g ≡ after (machine f) (tables f) (t, result_by refused) → g.code ≡ f.code → GoesPlain g h → (new : List Flat) (w : ℕ)
-    → Stay flats new → ((k : Flat) → slice_get new w ≡ Some k → LookAlike h k) → LeadsFrom new t refused v (Some w)
-reached_leads flats f g h t refused v nodes at less may can is code goes new w stay alike f' k here there answers =
-    subst (λ z. HasStepBy z answers t refused
-    × ((e : Step) → e.0 ≡ t → IsStepBy z answers refused e → Can (seen_by z.code) (seen_of z answers) e
-    → LeadsTo (seen_by z.code) (told_by z.code) (Alike z.code) (seen_of z answers) e (seen_of k answers)))
-    (same_Some f f' (sym (stay v f at) ∙ here))
-    (way_leads_to_alike_node f g h k t refused (nodes.rest v f at t less) may can is code goes (alike k there) answers)
+pub reached_leads : (states : List SourcedFlat) (s u w : SourcedFlat) (t : ℕ) (refused : Bool) (v : ℕ) → AreNodes states → slice_get states v ≡ Some s
+    → t < length s.flat.threads → MayGo refused (ask_of s.flat.code (thread_of s.flat t)) → TakesStep s u t (result_by refused) → GoesPlain u w
+    → (new : List SourcedFlat) (p : ℕ) → Stay states new → ((k : SourcedFlat) → slice_get new p ≡ Some k → LookAlike w k)
+    → LeadsFrom new t refused v (Some p)
+reached_leads states s u w t refused v nodes at less may step goes new p stay alike s' k here there =
+    subst (λ z. HasStepBy z t refused
+    × ((e : Step) → e.0 ≡ t → IsStepBy z refused e → Can (seen_by z.flat.code) (seen_of z) e
+    → LeadsTo (seen_by z.flat.code) (answered_by z.flat.code) (Alike z.flat.code) (seen_of z) e (seen_of k)))
+    (same_Some s s' (sym (stay v s at) ∙ here))
+    (way_leads_to_alike_node s u w k t refused (nodes.rest v s at t less) may step goes (alike k there))

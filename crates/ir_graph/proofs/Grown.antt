@@ -18,28 +18,31 @@ use Rattle.ir_thread.specs.declared.profile.Profile.TheVariants.{One, Two}
 use Rattle.ir_thread.proofs.CallerLemmas.{ask_of_permitted}
 use Rattle.ir_seen.specs.Seen.{seen_start}
 use Rattle.ir_seen.proofs.CallerLemmas.{start_view_ignores_budget}
-use Rattle.ir_flat.specs.Flat.{Flat, idle, start_flat, start_threads, thread_of}
+use Rattle.ir_flat.specs.Flat.{idle, start_threads, thread_of}
+use Rattle.ir_store.specs.Nodes.{SourcedFlat}
+use Rattle.ir_graph.specs.Setup.{Setup, start_of, first_source}
 use Rattle.ir_graph.specs.Graph.{IsGraph}
-use Rattle.ir_graph.specs.Nodes.{seen_by, told_by, Alike, seen_of, AllRest, AreNodes, Stay, LeadsFrom}
+use Rattle.ir_graph.specs.Nodes.{seen_by, answered_by, Alike, seen_of, AllRest, AreNodes, Stay, LeadsFrom}
 use Rattle.ir_graph.specs.Notes.{noted_by, noted_in}
 use Rattle.ir_graph.specs.Reached.{IsReached, AllReached}
 use Rattle.ir_graph.specs.Plain.{GoesPlain, IsLike, IsNoTry}
 use Rattle.ir_graph.proofs.Found.{refused_leads_nowhere_unless_try}
 use Rattle.ir_graph.proofs.Leads.{begins_by_plain_steps, every_number_rests_if_all_rest}
 use Rattle.ir_graph.proofs.Plain.{like_reflexive}
+use Rattle.ir_graph.proofs.Reached.{plain_start_is_reached}
 
-pub element_below_length_exists : (flats : List Flat) (v : ℕ) → v < length flats → (f : Flat) × (slice_get flats v ≡ Some f)
+pub element_below_length_exists : {A : Type 0} (xs : List A) (v : ℕ) → v < length xs → (x : A) × (slice_get xs v ≡ Some x)
 element_below_length_exists [] v l = absurd (omega (arith, l))
-element_below_length_exists (f ∷ flats) zero l = (f, refl)
-element_below_length_exists (f ∷ flats) (suc v) l = element_below_length_exists flats v (omega (arith, l))
+element_below_length_exists (x ∷ xs) zero l = (x, refl)
+element_below_length_exists (x ∷ xs) (suc v) l = element_below_length_exists xs v (omega (arith, l))
 
 -- a node that was there before is what it was
-old_node_is_unchanged : (flats new : List Flat) (v : ℕ) (f : Flat) → Stay flats new → v < length flats → slice_get new v ≡ Some f → slice_get flats v ≡ Some f
+old_node_is_unchanged : (flats new : List SourcedFlat) (v : ℕ) (f : SourcedFlat) → Stay flats new → v < length flats → slice_get new v ≡ Some f → slice_get flats v ≡ Some f
 old_node_is_unchanged flats new v f stay l is =
     let old = element_below_length_exists flats v l in
     subst (λ z. slice_get flats v ≡ Some z) (same_Some old.0 f (sym (stay v old.0 old.1) ∙ is)) old.1
 
-leads_from_after_nodes_added : (flats new : List Flat) (t : ℕ) (refused : Bool) (v : ℕ) (next : Option ℕ) → Stay flats new → v < length flats
+leads_from_after_nodes_added : (flats new : List SourcedFlat) (t : ℕ) (refused : Bool) (v : ℕ) (next : Option ℕ) → Stay flats new → v < length flats
     → ((w : ℕ) → next ≡ Some w → w < length flats) → LeadsFrom flats t refused v next → LeadsFrom new t refused v next
 leads_from_after_nodes_added flats new t refused v None stay l within h = λ f is. h f (old_node_is_unchanged flats new v f stay l is)
 leads_from_after_nodes_added flats new t refused v (Some w) stay l within h = λ f g is there.
@@ -52,13 +55,15 @@ profiles_of_start guest from (suc n) zero = refl
 profiles_of_start guest from (suc n) (suc t) = profiles_of_start guest (suc from) n t
 
 -- a thread of the first profile doesn't try
-no_try_in_first_profile : (guest : Guest) (f : Flat) (t : ℕ) → IsReached guest One f → IsNoTry (ask_of f.code (thread_of f t))
-no_try_in_first_profile guest f t reached = by (ask_of f.code (thread_of f t)) (ask_of_permitted f.code (thread_of f t))
+no_try_in_first_profile : (x : Setup) (s : SourcedFlat) (t : ℕ) → x.profile ≡ One → IsReached x s → IsNoTry (ask_of s.flat.code (thread_of s.flat t))
+no_try_in_first_profile x s t one reached = by (ask_of s.flat.code (thread_of s.flat t)) (ask_of_permitted s.flat.code (thread_of s.flat t))
   where
-    first : (thread_of f t).profile ≡ One
-    first = sym (reached.like.twins t).profile ∙ profiles_of_start guest 0 (length guest.entries) t
+    first : (thread_of s.flat t).profile ≡ One
+    first = sym (reached.like.twins t).profile
+        ∙ ap (λ z. (slice_index_or (start_threads x.guest most_budget z 0 (length x.guest.entries)) t idle).profile) one
+        ∙ profiles_of_start x.guest 0 (length x.guest.entries) t
 
-    by : (q : Ask) → Permits (thread_of f t) q → IsNoTry q
+    by : (q : Ask) → Permits (thread_of s.flat t) q → IsNoTry q
     by ask.Private p = tt
     by (ask.Env k) p = tt
     by (ask.Enter o a) p = tt
@@ -71,18 +76,18 @@ no_try_in_first_profile guest f t reached = by (ask_of f.code (thread_of f t)) (
     by ask.Done p = tt
 
 -- so none is refused there
-untried_leads_nowhere : (guest : Guest) (profile : Profile) (flats : List Flat) (t v : ℕ) → profile ≡ One → AreNodes flats
-    → AllReached guest profile flats → LeadsFrom flats t true v None
-untried_leads_nowhere guest profile flats t v one nodes reached = refused_leads_nowhere_unless_try flats t v nodes (λ f is. (
-  every_number_rests_if_all_rest f (nodes.rest v f is) t,
-  no_try_in_first_profile guest f t (subst (λ z. IsReached guest z f) one (reached v f is)),
+untried_leads_nowhere : (x : Setup) (flats : List SourcedFlat) (t v : ℕ) → x.profile ≡ One → AreNodes flats
+    → AllReached x flats → LeadsFrom flats t true v None
+untried_leads_nowhere x flats t v one nodes reached = refused_leads_nowhere_unless_try flats t v nodes (λ f is. (
+  every_number_rests_if_all_rest f.flat (nodes.rest v f is) t,
+  no_try_in_first_profile x f t one (reached v f is),
 ))
 
 -- nodes were added
-pub is_graph_after_nodes_added : (guest : Guest) (profile : Profile) (flats new : List Flat) (noted : ℕ → BothWays) (threads : ℕ)
-    → IsGraph guest profile flats noted threads → Stay flats new → AreNodes new → AllReached guest profile new → length flats ≤ length new
-    → IsGraph guest profile new noted threads
-is_graph_after_nodes_added guest profile flats new noted threads g stay nodes reached more = record {
+pub is_graph_after_nodes_added : (x : Setup) (flats new : List SourcedFlat) (noted : ℕ → BothWays) (threads : ℕ)
+    → IsGraph x flats noted threads → Stay flats new → AreNodes new → AllReached x new → length flats ≤ length new
+    → IsGraph x new noted threads
+is_graph_after_nodes_added x flats new noted threads g stay nodes reached more = record {
   nodes = nodes;
   some = let a = g.some in omega (arith, a, more);
   number = g.number;
@@ -105,18 +110,18 @@ is_graph_after_nodes_added guest profile flats new noted threads g stay nodes re
         let none : None ≡ next =
         same_Some None next (sym (g.untried first.0 t v) ∙ subst (λ z. noted t z v ≡ Some next) first.1 is) in
         subst (LeadsFrom new t refused v) none
-        (subst (λ z. LeadsFrom new t z v None) (sym first.1) (untried_leads_nowhere guest profile new t v first.0 nodes reached))
+        (subst (λ z. LeadsFrom new t z v None) (sym first.1) (untried_leads_nowhere x new t v first.0 nodes reached))
   ];
 }
 
 -- one more was noted, at most
-pub is_graph_after_note : (guest : Guest) (profile : Profile) (flats : List Flat) (old new : ℕ → BothWays) (threads thread : ℕ) (way : Bool)
-    (node : ℕ) (to : Option ℕ) → IsGraph guest profile flats old threads
+pub is_graph_after_note : (x : Setup) (flats : List SourcedFlat) (old new : ℕ → BothWays) (threads thread : ℕ) (way : Bool)
+    (node : ℕ) (to : Option ℕ) → IsGraph x flats old threads
     → ((t : ℕ) (refused : Bool) (v : ℕ) → (new t refused v ≡ old t refused v)
     ⊎ ((t ≡ thread) × (refused ≡ way) × (v ≡ node) × (new t refused v ≡ Some to)))
     → old thread way node ≡ None → node < length flats → ((w : ℕ) → to ≡ Some w → w < length flats) → LeadsFrom flats thread way node to
-    → IsGraph guest profile flats new threads
-is_graph_after_note guest profile flats old new threads thread way node to g only fresh inside within leads = record {
+    → IsGraph x flats new threads
+is_graph_after_note x flats old new threads thread way node to g only fresh inside within leads = record {
   nodes = g.nodes;
   some = g.some;
   number = g.number;
@@ -153,46 +158,46 @@ is_graph_after_note guest profile flats old new threads thread way node to g onl
     was t refused v a b c = (λ i. old (a i) (b i) (c i)) ∙ fresh
 
 -- so is a graph that has grown, once more is noted of the rows of its ways
-pub is_graph_after_way_noted : (guest : Guest) (profile : Profile) (old flats : List Flat) (rows refusals new tries : List (Vec (Option (Option ℕ))))
-    (thread : ℕ) (way : Bool) (node : ℕ) (to : Option ℕ) → IsGraph guest profile old (noted_by rows refusals) (length rows) → Stay old flats
-    → AreNodes flats → AllReached guest profile flats → length old ≤ length flats
+pub is_graph_after_way_noted : (x : Setup) (old flats : List SourcedFlat) (rows refusals new tries : List (Vec (Option (Option ℕ))))
+    (thread : ℕ) (way : Bool) (node : ℕ) (to : Option ℕ) → IsGraph x old (noted_by rows refusals) (length rows) → Stay old flats
+    → AreNodes flats → AllReached x flats → length old ≤ length flats
     → ((t : ℕ) (refused : Bool) (v : ℕ) → (noted_by new tries t refused v ≡ noted_by rows refusals t refused v)
     ⊎ ((t ≡ thread) × (refused ≡ way) × (v ≡ node) × (noted_by new tries t refused v ≡ Some to)))
     → length new ≡ length rows → noted_by rows refusals thread way node ≡ None → node < length old → ((w : ℕ) → to ≡ Some w → w < length flats)
-    → LeadsFrom flats thread way node to → IsGraph guest profile flats (noted_by new tries) (length new)
-is_graph_after_way_noted guest profile old flats rows refusals new tries thread way node to g stay nodes reached grown only same fresh inside within leads =
-    subst (IsGraph guest profile flats (noted_by new tries)) (sym same)
-    (is_graph_after_note guest profile flats (noted_by rows refusals) (noted_by new tries) (length rows) thread way node to
-    (is_graph_after_nodes_added guest profile old flats (noted_by rows refusals) (length rows) g stay nodes reached grown) only fresh
+    → LeadsFrom flats thread way node to → IsGraph x flats (noted_by new tries) (length new)
+is_graph_after_way_noted x old flats rows refusals new tries thread way node to g stay nodes reached grown only same fresh inside within leads =
+    subst (IsGraph x flats (noted_by new tries)) (sym same)
+    (is_graph_after_note x flats (noted_by rows refusals) (noted_by new tries) (length rows) thread way node to
+    (is_graph_after_nodes_added x old flats (noted_by rows refusals) (length rows) g stay nodes reached grown) only fresh
     (omega (arith, inside, grown)) within leads)
 
 -- each node has all threads
-pub thread_count_of_node : (guest : Guest) (profile : Profile) (flats : List Flat) (noted : ℕ → BothWays) (threads v : ℕ) (f : Flat)
-    → IsGraph guest profile flats noted threads → slice_get flats v ≡ Some f → length f.threads ≡ threads
-thread_count_of_node guest profile flats noted threads v f g is =
+pub thread_count_of_node : (x : Setup) (flats : List SourcedFlat) (noted : ℕ → BothWays) (threads v : ℕ) (f : SourcedFlat)
+    → IsGraph x flats noted threads → slice_get flats v ≡ Some f → length f.flat.threads ≡ threads
+thread_count_of_node x flats noted threads v f g is =
     let first = element_below_length_exists flats 0 g.some in
     (g.nodes.like 0 v first.0 f first.1 is).threads ∙ g.many first.0 first.1
 
 -- where nothing is noted of it, a number is a thread's
-pub thread_is_below_if_free : (guest : Guest) (profile : Profile) (flats : List Flat) (noted : ℕ → BothWays) (threads t : ℕ) (refused : Bool)
-    (v w : ℕ) (f : Flat) → IsGraph guest profile flats noted threads → noted t refused v ≡ None → slice_get flats w ≡ Some f → t < length f.threads
-thread_is_below_if_free guest profile flats noted threads t refused v w f g free is = elim (cases_lt t threads) [
-  | inl l ↦ subst (λ n. t < n) (sym (thread_count_of_node guest profile flats noted threads w f g is)) l
+pub thread_is_below_if_free : (x : Setup) (flats : List SourcedFlat) (noted : ℕ → BothWays) (threads t : ℕ) (refused : Bool)
+    (v w : ℕ) (f : SourcedFlat) → IsGraph x flats noted threads → noted t refused v ≡ None → slice_get flats w ≡ Some f → t < length f.flat.threads
+thread_is_below_if_free x flats noted threads t refused v w f g free is = elim (cases_lt t threads) [
+  | inl l ↦ subst (λ n. t < n) (sym (thread_count_of_node x flats noted threads w f g is)) l
   | inr l ↦ absurd (cc (sym free ∙ g.past t refused v l))
 ]
 
 -- what is so of rows is so of equal ones
-pub is_graph_of_equal_rows : (guest : Guest) (profile : Profile) (flats : List Flat) (new tries : List (Vec (Option (Option ℕ))))
+pub is_graph_of_equal_rows : (x : Setup) (flats : List SourcedFlat) (new tries : List (Vec (Option (Option ℕ))))
     {rows refusals : List (Vec (Option (Option ℕ)))} → rows ≡ new → refusals ≡ tries
-    → IsGraph guest profile flats (noted_by new tries) (length new) → IsGraph guest profile flats (noted_by rows refusals) (length rows)
-is_graph_of_equal_rows guest profile flats new tries {rows} {refusals} same also g =
-    subst (λ z. IsGraph guest profile flats (noted_by z refusals) (length z)) (sym same)
-    (subst (λ z. IsGraph guest profile flats (noted_by new z) (length new)) (sym also) g)
+    → IsGraph x flats (noted_by new tries) (length new) → IsGraph x flats (noted_by rows refusals) (length rows)
+is_graph_of_equal_rows x flats new tries {rows} {refusals} same also g =
+    subst (λ z. IsGraph x flats (noted_by z refusals) (length z)) (sym same)
+    (subst (λ z. IsGraph x flats (noted_by new z) (length new)) (sym also) g)
 
 -- each node has the guest's code
-pub code_of_node : (guest : Guest) (profile : Profile) (flats : List Flat) (noted : ℕ → BothWays) (threads v : ℕ) (f : Flat)
-    → IsGraph guest profile flats noted threads → slice_get flats v ≡ Some f → f.code ≡ guest.code
-code_of_node guest profile flats noted threads v f g is =
+pub code_of_node : (x : Setup) (flats : List SourcedFlat) (noted : ℕ → BothWays) (threads v : ℕ) (f : SourcedFlat)
+    → IsGraph x flats noted threads → slice_get flats v ≡ Some f → f.flat.code ≡ x.guest.code
+code_of_node x flats noted threads v f g is =
     let first = element_below_length_exists flats 0 g.some in
     (g.nodes.like 0 v first.0 f first.1 is).code ∙ g.code first.0 first.1
 
@@ -225,22 +230,22 @@ noted_by_past_threads rows refusals less t true v l = noted_in_past_threads refu
 noted_by_past_threads rows refusals less t false v l = noted_in_past_threads rows t v l
 
 -- the graph at first
-pub start_is_graph : (guest : Guest) (profile : Profile) (budget : ℕ) (h : Flat) (noted : ℕ → BothWays) (threads : ℕ)
-    → GoesPlain (start_flat guest budget profile) h → IsReached guest profile h → AllRest h → length h.threads ≡ threads
-    → threads ≡ length guest.entries → ((t v : ℕ) → t < threads → noted t false v ≡ None) → FreeToTry profile threads noted
-    → ((t : ℕ) (refused : Bool) (v : ℕ) → threads ≤ t → noted t refused v ≡ Some None) → IsGraph guest profile (h ∷ []) noted threads
-start_is_graph guest profile budget h noted threads goes reached rest many number free tries past =
+pub start_is_graph : (x : Setup) (h : SourcedFlat) (noted : ℕ → BothWays) (threads : ℕ)
+    → GoesPlain (start_of x) h → AllRest h.flat → length h.sources ≡ length h.flat.threads → length h.flat.threads ≡ threads
+    → threads ≡ length x.guest.entries → ((t v : ℕ) → t < threads → noted t false v ≡ None) → FreeToTry x.profile threads noted
+    → ((t : ℕ) (refused : Bool) (v : ℕ) → threads ≤ t → noted t refused v ≡ Some None) → IsGraph x (h ∷ []) noted threads
+start_is_graph x h noted threads goes rest sourced many number free tries past =
     record {
       nodes = nodes;
       some = omega arith;
       number = number;
-      code = λ f is. ap (λ z. z.code) (sym (only 0 f is)) ∙ goes.code;
-      many = λ f is. ap (λ z. length z.threads) (sym (only 0 f is)) ∙ many;
-      begins = λ f is answers.
-          subst (λ z. Begins (seen_by guest.code) (told_by guest.code) (Alike guest.code) (seen_start guest profile answers) (seen_of z answers))
-          (only 0 f is)
-          (subst (λ z. Begins (seen_by guest.code) (told_by guest.code) (Alike guest.code) (beside z answers) (seen_of h answers))
-          (start_view_ignores_budget guest budget 1 profile) (begins_by_plain_steps (start_flat guest budget profile) h goes answers));
+      code = λ s is. ap (λ (z : SourcedFlat). z.flat.code) (sym (only 0 s is)) ∙ goes.code;
+      many = λ s is. ap (λ (z : SourcedFlat). length z.flat.threads) (sym (only 0 s is)) ∙ many;
+      begins = λ s is.
+          subst (λ z. Begins (seen_by x.guest.code) (answered_by x.guest.code) (Alike x.guest.code) (seen_start x.guest x.profile (first_source x)) (seen_of z))
+          (only 0 s is)
+          (subst (λ z. Begins (seen_by x.guest.code) (answered_by x.guest.code) (Alike x.guest.code) (beside z (first_source x)) (seen_of h))
+          (start_view_ignores_budget x.guest most_budget 1 x.profile) (begins_by_plain_steps (start_of x) h goes));
       past = past;
       untried = λ one t v. untried tries one t v;
       asked = λ t refused v next few is. inr (first tries t refused v next few is);
@@ -252,28 +257,30 @@ start_is_graph guest profile budget h noted threads goes reached rest many numbe
           let one = first tries t refused v next few is in
           subst (LeadsFrom (h ∷ []) t refused v)
           (same_Some None next (sym (untried tries one.0 t v) ∙ subst (λ z. noted t z v ≡ Some next) one.1 is))
-          (subst (λ z. LeadsFrom (h ∷ []) t z v None) (sym one.1) (untried_leads_nowhere guest profile (h ∷ []) t v one.0 nodes each));
+          (subst (λ z. LeadsFrom (h ∷ []) t z v None) (sym one.1) (untried_leads_nowhere x (h ∷ []) t v one.0 nodes each));
     }
   where
-    only : (v : ℕ) (f : Flat) → slice_get (h ∷ []) v ≡ Some f → h ≡ f
-    only zero f is = same_Some h f is
-    only (suc v) f is = absurd (cc is)
+    only : (v : ℕ) (s : SourcedFlat) → slice_get (h ∷ []) v ≡ Some s → h ≡ s
+    only zero s is = same_Some h s is
+    only (suc v) s is = absurd (cc is)
 
     nodes : AreNodes (h ∷ [])
     nodes = record {
-      rest = λ v f is. subst AllRest (only v f is) rest;
-      like = λ u v f g a b. subst (λ z. IsLike z g) (only u f a) (subst (IsLike h) (only v g b) (like_reflexive h));
+      each = λ v s is. subst (λ (z : SourcedFlat). length z.sources ≡ length z.flat.threads) (only v s is) sourced;
+      rest = λ v s is. subst (λ (z : SourcedFlat). AllRest z.flat) (only v s is) rest;
+      like = λ v w s u a b. subst (λ (z : SourcedFlat). IsLike z.flat u.flat) (only v s a)
+          (subst (λ (z : SourcedFlat). IsLike h.flat z.flat) (only w u b) (like_reflexive h.flat));
     }
 
-    each : AllReached guest profile (h ∷ [])
-    each v f is = subst (IsReached guest profile) (only v f is) reached
+    each : AllReached x (h ∷ [])
+    each v s is = subst (IsReached x) (only v s is) (plain_start_is_reached x h goes)
 
-    untried : FreeToTry profile threads noted → profile ≡ One → (t v : ℕ) → noted t true v ≡ Some None
+    untried : FreeToTry x.profile threads noted → x.profile ≡ One → (t v : ℕ) → noted t true v ≡ Some None
     untried (Untried is none) one = none
     untried (Tried never none) one = absurd (never one)
 
-    first : FreeToTry profile threads noted → (t : ℕ) (refused : Bool) (v : ℕ) (next : Option ℕ) → t < threads → noted t refused v ≡ Some next
-        → (profile ≡ One) × (refused ≡ true)
+    first : FreeToTry x.profile threads noted → (t : ℕ) (refused : Bool) (v : ℕ) (next : Option ℕ) → t < threads → noted t refused v ≡ Some next
+        → (x.profile ≡ One) × (refused ≡ true)
     first tries t false v next few is = absurd (cc (sym (free t v few) ∙ is))
     first (Untried one none) t true v next few is = (one, refl)
     first (Tried never none) t true v next few is = absurd (cc (sym (none t v few) ∙ is))

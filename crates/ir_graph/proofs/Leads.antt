@@ -1,65 +1,27 @@
 -- Where a thread leads from a state at rest.
-use Rattle.std.proofs.Common.{◌≡◌, ℕ, zero, suc, ◌≤◌, Bool, true, false, List, inl, inr, refl, sym, ap, ◌∙◌, subst, length}
+use Rattle.std.proofs.Common.{◌≡◌, ℕ, zero, suc, ◌≤◌, Bool, true, false, List, [], ◌∷◌, inl, inr, refl, sym, ap, ◌∙◌, subst, length}
 use Rattle.std.proofs.lemmas.Bool.{cases_lt}
 use Rattle.ir_runs.specs.Machine as machines
 use Rattle.ir_runs.specs.Machine.{act_of, Never, Admits, target}
-use Rattle.ir_runs.specs.Run as run
-use Rattle.ir_runs.specs.Run.{Step, asked, act, Can, after, end}
+use Rattle.ir_runs.specs.Run.{Step, act, Can, after, end}
 use Rattle.ir_states.specs.Counting.{IsAnswered, is_own, IsAtRest, GoesAhead}
 use Rattle.ir_states.specs.Nodes.{LeadsTo}
 use Rattle.ir_states.specs.Orders.{is_refusal}
 use Rattle.ir_states.specs.Outcomes.{Begins}
-use Rattle.ir_states.specs.Sources.{answer_of, left_of}
-use Rattle.ir_states.specs.Views.{viewed, beside}
+use Rattle.ir_states.specs.Sources.{answer_of}
 use Rattle.ir_states.proofs.CallerLemmas.{leads_to_by_equal_act}
 use Rattle.ir_thread.specs.State.{ask_of, shared_ask}
-use Rattle.ir_thread.specs.State as thread
 use Rattle.ir_thread.specs.declared.ask.Ask.{Ask}
 use Rattle.ir_thread.specs.declared.ask.Ask.TheVariants as ask
-use Rattle.ir_seen.specs.Seen.{view}
+use Rattle.ir_sources.specs.Sources.{given}
 use Rattle.ir_seen.proofs.CallerLemmas.{seen_machine_is_view}
 use Rattle.ir_flat.specs.Flat.{Flat, tables, machine, thread_of, idle}
-use Rattle.ir_graph.specs.Nodes.{told, seen_by, told_by, Alike, seen_of, LookAlike, AllRest, IsStepBy, HasStepBy}
-use Rattle.ir_graph.specs.Plain.{GoesPlain, IsNoTry, MayGo, Rests, result_by}
+use Rattle.ir_store.specs.Nodes.{SourcedFlat, source_of}
+use Rattle.ir_graph.specs.Nodes.{seen_by, answered_by, Alike, seen_of, LookAlike, AllRest, IsStepBy, HasStepBy}
+use Rattle.ir_graph.specs.Plain.{full_of, GoesPlain, IsNoTry, MayGo, Rests, result_by}
 use Rattle.ir_graph.proofs.Alike.{index_past_length_is_default}
-use Rattle.ir_graph.proofs.Plain.{resting_thread_is_live, plain_ahead, seen_after, seen_takes, seen_can}
-
--- what a thread that rests asks of others
-pub rest_ask_is_not_own : (q : Ask) → Rests q → is_own (shared_ask q) ≡ false
-rest_ask_is_not_own ask.Private h = absurd h
-rest_ask_is_not_own (ask.Env k) h = absurd h
-rest_ask_is_not_own (ask.Enter o a) h = refl
-rest_ask_is_not_own (ask.Try o) h = refl
-rest_ask_is_not_own (ask.Leave o a) h = absurd h
-rest_ask_is_not_own (ask.Get o i) h = absurd h
-rest_ask_is_not_own (ask.Put o i v) h = absurd h
-rest_ask_is_not_own ask.Print h = absurd h
-rest_ask_is_not_own (ask.End e) h = absurd h
-rest_ask_is_not_own ask.Done h = refl
-
-source_left_by_rest_ask : (q : Ask) (source : List ℕ) → Rests q → left_of told (shared_ask q) source ≡ source
-source_left_by_rest_ask ask.Private source h = absurd h
-source_left_by_rest_ask (ask.Env k) source h = absurd h
-source_left_by_rest_ask (ask.Enter o a) source h = refl
-source_left_by_rest_ask (ask.Try o) source h = refl
-source_left_by_rest_ask (ask.Leave o a) source h = absurd h
-source_left_by_rest_ask (ask.Get o i) source h = absurd h
-source_left_by_rest_ask (ask.Put o i v) source h = absurd h
-source_left_by_rest_ask ask.Print source h = absurd h
-source_left_by_rest_ask (ask.End e) source h = absurd h
-source_left_by_rest_ask ask.Done source h = refl
-
-rest_ask_is_answered : (q : Ask) (answer r : ℕ) → Rests q → IsAnswered (shared_ask q) answer r
-rest_ask_is_answered ask.Private answer r h = absurd h
-rest_ask_is_answered (ask.Env k) answer r h = absurd h
-rest_ask_is_answered (ask.Enter o a) answer r h = tt
-rest_ask_is_answered (ask.Try o) answer r h = tt
-rest_ask_is_answered (ask.Leave o a) answer r h = absurd h
-rest_ask_is_answered (ask.Get o i) answer r h = absurd h
-rest_ask_is_answered (ask.Put o i v) answer r h = absurd h
-rest_ask_is_answered ask.Print answer r h = absurd h
-rest_ask_is_answered (ask.End e) answer r h = absurd h
-rest_ask_is_answered ask.Done answer r h = tt
+use Rattle.ir_graph.proofs.Full.{seen_state, end_of_live_run_seen, counts_of_live_run_seen, counts_if_seen, plain_run_seen}
+use Rattle.ir_graph.proofs.Plain.{TakesStep, resting_thread_is_live, rest_ask_is_not_own, rest_ask_is_answered, step_at_rest_is_answered_run}
 
 -- a thread that rests does one thing by one way
 act_at_rest_by_way : (q : Ask) (r : ℕ) (refused : Bool) → Rests q → is_refusal (act_of (shared_ask q) r) ≡ refused
@@ -116,124 +78,119 @@ every_number_rests_if_all_rest f all t = elim (cases_lt t (length f.threads)) [
   | inr l ↦ subst Rests (sym (ask_past_threads_is_done f t l)) tt
 ]
 
-pub seen_at_rest : (f : Flat) (answers : ℕ → List ℕ) → AllRest f → IsAtRest (seen_by f.code) (seen_of f answers)
-seen_at_rest f answers all t =
-    let rests = every_number_rests_if_all_rest f all t in
-    ap is_own ((seen_machine_is_view f.code).asks (thread_of f t) (resting_thread_is_live f.code (thread_of f t) rests))
-    ∙ rest_ask_is_not_own (ask_of f.code (thread_of f t)) rests
+pub seen_at_rest : (s : SourcedFlat) → AllRest s.flat → IsAtRest (seen_by s.flat.code) (seen_of s)
+seen_at_rest s all t =
+    let rests = every_number_rests_if_all_rest s.flat all t in
+    ap is_own ((seen_machine_is_view s.flat.code).asks (thread_of s.flat t) (resting_thread_is_live s.flat.code (thread_of s.flat t) rests))
+    ∙ rest_ask_is_not_own (ask_of s.flat.code (thread_of s.flat t)) rests
 
 -- what a thread that rests does is what it is seen to do
-seen_act_at_rest : (f : Flat) (answers : ℕ → List ℕ) (t r : ℕ) → Rests (ask_of f.code (thread_of f t))
-    → act (seen_by f.code) (seen_of f answers) (t, r) ≡ act_of (shared_ask (ask_of f.code (thread_of f t))) r
-seen_act_at_rest f answers t r rests =
-    ap (λ q. act_of q r) ((seen_machine_is_view f.code).asks (thread_of f t) (resting_thread_is_live f.code (thread_of f t) rests))
+seen_act_at_rest : (s : SourcedFlat) (t r : ℕ) → Rests (ask_of s.flat.code (thread_of s.flat t))
+    → act (seen_by s.flat.code) (seen_of s) (t, r) ≡ act_of (shared_ask (ask_of s.flat.code (thread_of s.flat t))) r
+seen_act_at_rest s t r rests =
+    ap (λ q. act_of q r) ((seen_machine_is_view s.flat.code).asks (thread_of s.flat t) (resting_thread_is_live s.flat.code (thread_of s.flat t) rests))
 
 -- a step that is seen is one
-real_step_at_rest : (f : Flat) (answers : ℕ → List ℕ) (t r : ℕ) → Rests (ask_of f.code (thread_of f t))
-    → Can (seen_by f.code) (seen_of f answers) (t, r) → Can (machine f) (tables f) (t, r)
-real_step_at_rest f answers t r rests can =
-    seen_can f.code told answers (tables f) (t, r) (resting_thread_is_live f.code (thread_of f t) rests) can
-    (rest_ask_is_answered (ask_of f.code (thread_of f t)) (answer_of told (shared_ask (ask_of f.code (thread_of f t))) (answers t)) r rests)
+real_step_at_rest : (s : SourcedFlat) (t r : ℕ) → Rests (ask_of s.flat.code (thread_of s.flat t))
+    → Can (seen_by s.flat.code) (seen_of s) (t, r) → Can (machine s.flat) (tables s.flat) (t, r)
+real_step_at_rest s t r rests can =
+    let q : Ask = ask_of s.flat.code (thread_of s.flat t) in
+    let live = resting_thread_is_live s.flat.code (thread_of s.flat t) rests in
+    let answered = subst (λ z. IsAnswered z (answer_of given z (source_of s t)) r)
+    (sym ((seen_machine_is_view s.flat.code).asks (thread_of s.flat t) live))
+    (rest_ask_is_answered q (answer_of given (shared_ask q) (source_of s t)) r rests) in
+    (counts_if_seen s.flat.code (full_of s) ((t, r) ∷ []) (live, tt) ((can, answered), tt)).0.0
 
 step_is_never_never : (f : Flat) (t r : ℕ) → Can (machine f) (tables f) (t, r) → act_of (shared_ask (ask_of f.code (thread_of f t))) r ≡ Never → ⊥
 step_is_never_never f t r can is = subst (λ q. Admits (machine f) q ((tables f).objects (target q))) is can
 
 -- each step of a thread that rests, by one way, does the same
-seen_act_by_way : (f : Flat) (answers : ℕ → List ℕ) (t r : ℕ) (refused : Bool) → Rests (ask_of f.code (thread_of f t))
-    → IsStepBy f answers refused (t, r) → Can (seen_by f.code) (seen_of f answers) (t, r)
-    → act_of (shared_ask (ask_of f.code (thread_of f t))) (result_by refused) ≡ act_of (shared_ask (ask_of f.code (thread_of f t))) r
-seen_act_by_way f answers t r refused rests by can =
-    act_at_rest_by_way (ask_of f.code (thread_of f t)) r refused rests (ap is_refusal (sym (seen_act_at_rest f answers t r rests)) ∙ by)
-    (step_is_never_never f t r (real_step_at_rest f answers t r rests can))
+seen_act_by_way : (s : SourcedFlat) (t r : ℕ) (refused : Bool) → Rests (ask_of s.flat.code (thread_of s.flat t))
+    → IsStepBy s refused (t, r) → Can (seen_by s.flat.code) (seen_of s) (t, r)
+    → act_of (shared_ask (ask_of s.flat.code (thread_of s.flat t))) (result_by refused) ≡ act_of (shared_ask (ask_of s.flat.code (thread_of s.flat t))) r
+seen_act_by_way s t r refused rests by can =
+    act_at_rest_by_way (ask_of s.flat.code (thread_of s.flat t)) r refused rests (ap is_refusal (sym (seen_act_at_rest s t r rests)) ∙ by)
+    (step_is_never_never s.flat t r (real_step_at_rest s t r rests can))
 
 -- where there is no such step there is none seen
-pub no_seen_step_if_no_step : (f : Flat) (answers : ℕ → List ℕ) (t : ℕ) (refused : Bool) → Rests (ask_of f.code (thread_of f t))
-    → (Can (machine f) (tables f) (t, result_by refused) → ⊥) → (e : Step) → e.0 ≡ t → IsStepBy f answers refused e
-    → Can (seen_by f.code) (seen_of f answers) e → ⊥
-no_seen_step_if_no_step f answers t refused rests never (u, r) same by can =
-    let here : Can (seen_by f.code) (seen_of f answers) (t, r) = subst (λ z. Can (seen_by f.code) (seen_of f answers) (z, r)) same can in
-    let way : IsStepBy f answers refused (t, r) = subst (λ z. IsStepBy f answers refused (z, r)) same by in
-    let real : Can (machine f) (tables f) (t, r) = real_step_at_rest f answers t r rests here in
-    never (subst (λ q. Admits (machine f) q ((tables f).objects (target q))) (sym (seen_act_by_way f answers t r refused rests way here)) real)
+pub no_seen_step_if_no_step : (s : SourcedFlat) (t : ℕ) (refused : Bool) → Rests (ask_of s.flat.code (thread_of s.flat t))
+    → (Can (machine s.flat) (tables s.flat) (t, result_by refused) → ⊥) → (e : Step) → e.0 ≡ t → IsStepBy s refused e
+    → Can (seen_by s.flat.code) (seen_of s) e → ⊥
+no_seen_step_if_no_step s t refused rests never (u, r) same by can =
+    let here : Can (seen_by s.flat.code) (seen_of s) (t, r) = subst (λ z. Can (seen_by s.flat.code) (seen_of s) (z, r)) same can in
+    let way : IsStepBy s refused (t, r) = subst (λ z. IsStepBy s refused (z, r)) same by in
+    let real : Can (machine s.flat) (tables s.flat) (t, r) = real_step_at_rest s t r rests here in
+    never (subst (λ q. Admits (machine s.flat) q ((tables s.flat).objects (target q))) (sym (seen_act_by_way s t r refused rests way here)) real)
 
 -- who doesn't try is never seen refused
-pub no_seen_refusal_unless_try : (f : Flat) (answers : ℕ → List ℕ) (t : ℕ) → Rests (ask_of f.code (thread_of f t))
-    → IsNoTry (ask_of f.code (thread_of f t)) → (e : Step) → e.0 ≡ t → IsStepBy f answers true e → ⊥
-no_seen_refusal_unless_try f answers t rests none (u, r) same by =
-    refusal_is_of_try (ask_of f.code (thread_of f t)) r none
-    (ap is_refusal (sym (seen_act_at_rest f answers t r rests)) ∙ subst (λ z. IsStepBy f answers true (z, r)) same by)
+pub no_seen_refusal_unless_try : (s : SourcedFlat) (t : ℕ) → Rests (ask_of s.flat.code (thread_of s.flat t))
+    → IsNoTry (ask_of s.flat.code (thread_of s.flat t)) → (e : Step) → e.0 ≡ t → IsStepBy s true e → ⊥
+no_seen_refusal_unless_try s t rests none (u, r) same by =
+    refusal_is_of_try (ask_of s.flat.code (thread_of s.flat t)) r none
+    (ap is_refusal (sym (seen_act_at_rest s t r rests)) ∙ subst (λ z. IsStepBy s true (z, r)) same by)
 
 -- who is done has no step
-pub no_seen_step_if_done : (f : Flat) (answers : ℕ → List ℕ) (t : ℕ) → ask_of f.code (thread_of f t) ≡ ask.Done → (e : Step) → e.0 ≡ t
-    → Can (seen_by f.code) (seen_of f answers) e → ⊥
-no_seen_step_if_done f answers t done (u, r) same can =
-    let rests : Rests (ask_of f.code (thread_of f t)) = subst Rests (sym done) tt in
-    let here : Can (seen_by f.code) (seen_of f answers) (t, r) = subst (λ z. Can (seen_by f.code) (seen_of f answers) (z, r)) same can in
-    let real : Can (machine f) (tables f) (t, r) = real_step_at_rest f answers t r rests here in
-    subst (λ q. Admits (machine f) (act_of (shared_ask q) r) ((tables f).objects (target (act_of (shared_ask q) r)))) done real
+pub no_seen_step_if_done : (s : SourcedFlat) (t : ℕ) → ask_of s.flat.code (thread_of s.flat t) ≡ ask.Done → (e : Step) → e.0 ≡ t
+    → Can (seen_by s.flat.code) (seen_of s) e → ⊥
+no_seen_step_if_done s t done (u, r) same can =
+    let rests : Rests (ask_of s.flat.code (thread_of s.flat t)) = subst Rests (sym done) tt in
+    let here : Can (seen_by s.flat.code) (seen_of s) (t, r) = subst (λ z. Can (seen_by s.flat.code) (seen_of s) (z, r)) same can in
+    let real : Can (machine s.flat) (tables s.flat) (t, r) = real_step_at_rest s t r rests here in
+    subst (λ q. Admits (machine s.flat) (act_of (shared_ask q) r) ((tables s.flat).objects (target (act_of (shared_ask q) r)))) done real
 
-abbrev pub seen_table : run.State thread.ThreadState → (ℕ → List ℕ) → run.State (thread.ThreadState × List ℕ)
-seen_table s answers = beside (viewed view s) answers
-
--- A thread that rests takes a step, and runs on to what looks the same as h.
-step_leads_on : (f g h k : Flat) (t r : ℕ) → Rests (ask_of f.code (thread_of f t)) → Can (machine f) (tables f) (t, r)
-    → tables g ≡ after (machine f) (tables f) (t, r) → g.code ≡ f.code → GoesPlain g h → LookAlike h k → (answers : ℕ → List ℕ)
-    → LeadsTo (seen_by f.code) (told_by f.code) (Alike f.code) (seen_of f answers) (t, r) (seen_of k answers)
-step_leads_on f g h k t r rests can is code goes alike answers =
-    let live = resting_thread_is_live f.code (thread_of f t) rests in
-    let q : Ask = ask_of f.code (thread_of f t) in
-    let takes = seen_takes f.code told answers (tables f) (t, r) live can
-    (rest_ask_is_answered q (answer_of told (shared_ask q) (answers t)) r rests) in
-    let step : after (seen_by f.code) (seen_of f answers) (t, r) ≡ seen_of g answers =
-    seen_after f.code told answers (tables f) (t, r) live (source_left_by_rest_ask q (answers t) rests)
-    ∙ ap (λ z. seen_table z answers) (sym is) in
-    let ahead = plain_ahead g.code told answers (tables g) goes.ahead goes.plain in
-    let ends : end (seen_by g.code) (seen_of g answers) goes.ahead ≡ seen_of h answers =
-    ahead.1 ∙ ap (λ z. seen_table z answers) (sym goes.ends) in
-    let moved : GoesAhead (seen_by f.code) (told_by f.code) (seen_of g answers) goes.ahead =
-    subst (λ z. GoesAhead (seen_by z) (told_by z) (seen_of g answers) goes.ahead) code ahead.0 in
-    let there : end (seen_by f.code) (seen_of g answers) goes.ahead ≡ seen_of h answers =
-    subst (λ z. end (seen_by z) (seen_of g answers) goes.ahead ≡ seen_of h answers) code ends in
-    let looks : Alike f.code (seen_of h answers) (seen_of k answers) =
-    subst (λ z. Alike z (seen_of h answers) (seen_of k answers)) (goes.code ∙ code) (alike answers) in
-    record {
+-- A thread that rests takes a step, and runs on to what looks the same as k.
+step_leads_on : (s u w k : SourcedFlat) (t r : ℕ) → Rests (ask_of s.flat.code (thread_of s.flat t)) → TakesStep s u t r → GoesPlain u w → LookAlike w k
+    → LeadsTo (seen_by s.flat.code) (answered_by s.flat.code) (Alike s.flat.code) (seen_of s) (t, r) (seen_of k)
+step_leads_on s u w k t r rests step goes alike =
+    let run = step_at_rest_is_answered_run s u t r rests step in
+    let takes = counts_of_live_run_seen s.flat.code (full_of s) ((t, r) ∷ []) run.1 run.0 in
+    let one : after (seen_by s.flat.code) (seen_of s) (t, r) ≡ seen_of u =
+    end_of_live_run_seen s.flat.code (full_of s) ((t, r) ∷ []) run.1 ∙ ap seen_state (sym step.is) in
+    let ahead = plain_run_seen u.flat.code (full_of u) goes.ahead goes.plain in
+    let ends : end (seen_by u.flat.code) (seen_of u) goes.ahead ≡ seen_of w =
+    end_of_live_run_seen u.flat.code (full_of u) goes.ahead goes.plain.1 ∙ ap seen_state (sym goes.ends) in
+    let moved : GoesAhead (seen_by s.flat.code) (answered_by s.flat.code) (seen_of u) goes.ahead =
+    subst (λ z. GoesAhead (seen_by z) (answered_by z) (seen_of u) goes.ahead) step.code ahead in
+    let there : end (seen_by s.flat.code) (seen_of u) goes.ahead ≡ seen_of w =
+    subst (λ z. end (seen_by z) (seen_of u) goes.ahead ≡ seen_of w) step.code ends in
+    let looks : Alike s.flat.code (seen_of w) (seen_of k) = subst (λ z. Alike z (seen_of w) (seen_of k)) (goes.code ∙ step.code) alike in record {
       can = takes.0.0;
       ahead = goes.ahead;
-      goes = subst (λ z. GoesAhead (seen_by f.code) (told_by f.code) z goes.ahead) (sym step) moved;
-      alike = subst (λ z. Alike f.code z (seen_of k answers))
-          (sym (ap (λ z. end (seen_by f.code) z goes.ahead) step ∙ there)) looks;
+      goes = subst (λ z. GoesAhead (seen_by s.flat.code) (answered_by s.flat.code) z goes.ahead) (sym one) moved;
+      alike = subst (λ z. Alike s.flat.code z (seen_of k)) (sym (ap (λ z. end (seen_by s.flat.code) z goes.ahead) one ∙ there)) looks;
     }
 
 -- So does each step of the same way, and there is one.
-pub way_leads_to_alike_node : (f g h k : Flat) (t : ℕ) (refused : Bool) → Rests (ask_of f.code (thread_of f t))
-    → MayGo refused (ask_of f.code (thread_of f t)) → Can (machine f) (tables f) (t, result_by refused)
-    → tables g ≡ after (machine f) (tables f) (t, result_by refused) → g.code ≡ f.code → GoesPlain g h → LookAlike h k → (answers : ℕ → List ℕ)
-    → HasStepBy f answers t refused × ((e : Step) → e.0 ≡ t → IsStepBy f answers refused e → Can (seen_by f.code) (seen_of f answers) e
-    → LeadsTo (seen_by f.code) (told_by f.code) (Alike f.code) (seen_of f answers) e (seen_of k answers))
-way_leads_to_alike_node f g h k t refused rests may can is code goes alike answers =
-    let base = step_leads_on f g h k t (result_by refused) rests can is code goes alike answers in (
+pub way_leads_to_alike_node : (s u w k : SourcedFlat) (t : ℕ) (refused : Bool) → Rests (ask_of s.flat.code (thread_of s.flat t))
+    → MayGo refused (ask_of s.flat.code (thread_of s.flat t)) → TakesStep s u t (result_by refused) → GoesPlain u w → LookAlike w k
+    → HasStepBy s t refused × ((e : Step) → e.0 ≡ t → IsStepBy s refused e → Can (seen_by s.flat.code) (seen_of s) e
+    → LeadsTo (seen_by s.flat.code) (answered_by s.flat.code) (Alike s.flat.code) (seen_of s) e (seen_of k))
+way_leads_to_alike_node s u w k t refused rests may step goes alike =
+    let base = step_leads_on s u w k t (result_by refused) rests step goes alike in (
       (
         result_by refused,
         base.can,
-        ap is_refusal (seen_act_at_rest f answers t (result_by refused) rests) ∙ act_by_way (ask_of f.code (thread_of f t)) refused rests may,
+        ap is_refusal (seen_act_at_rest s t (result_by refused) rests) ∙ act_by_way (ask_of s.flat.code (thread_of s.flat t)) refused rests may,
       ),
       λ e same by there.
-          let here : Can (seen_by f.code) (seen_of f answers) (t, e.1) = subst (λ z. Can (seen_by f.code) (seen_of f answers) (z, e.1)) same there in
-          let way : IsStepBy f answers refused (t, e.1) = subst (λ z. IsStepBy f answers refused (z, e.1)) same by in
-          subst (λ z. LeadsTo (seen_by f.code) (told_by f.code) (Alike f.code) (seen_of f answers) (z, e.1) (seen_of k answers)) (sym same)
-          (leads_to_by_equal_act (seen_by f.code) (told_by f.code) (Alike f.code) (seen_of f answers) t (result_by refused) e.1 (seen_of k answers)
-          (seen_act_at_rest f answers t (result_by refused) rests ∙ seen_act_by_way f answers t e.1 refused rests way here
-          ∙ sym (seen_act_at_rest f answers t e.1 rests)) base),
+          let here : Can (seen_by s.flat.code) (seen_of s) (t, e.1) = subst (λ z. Can (seen_by s.flat.code) (seen_of s) (z, e.1)) same there in
+          let way : IsStepBy s refused (t, e.1) = subst (λ z. IsStepBy s refused (z, e.1)) same by in
+          subst (λ z. LeadsTo (seen_by s.flat.code) (answered_by s.flat.code) (Alike s.flat.code) (seen_of s) (z, e.1) (seen_of k)) (sym same)
+          (leads_to_by_equal_act (seen_by s.flat.code) (answered_by s.flat.code) (Alike s.flat.code) (seen_of s) t (result_by refused) e.1 (seen_of k)
+          (seen_act_at_rest s t (result_by refused) rests ∙ seen_act_by_way s t e.1 refused rests way here
+          ∙ sym (seen_act_at_rest s t e.1 rests)) base),
     )
 
+pub look_alike_reflexive : (s : SourcedFlat) → LookAlike s s
+look_alike_reflexive s = record { threads = λ t. inl refl; inside = λ o t. refl; words = λ o. refl }
+
 -- from the start the threads go on alone to what is at rest
-pub begins_by_plain_steps : (f g : Flat) → GoesPlain f g → (answers : ℕ → List ℕ)
-    → Begins (seen_by f.code) (told_by f.code) (Alike f.code) (seen_of f answers) (seen_of g answers)
-begins_by_plain_steps f g goes answers =
-    let ahead = plain_ahead f.code told answers (tables f) goes.ahead goes.plain in record {
-      ahead = goes.ahead;
-      goes = ahead.0;
-      alike = subst (λ z. Alike f.code z (seen_of g answers))
-          (sym (ahead.1 ∙ ap (λ z. seen_table z answers) (sym goes.ends)))
-          (record { threads = λ t. inl refl; inside = λ o t. refl; words = λ o. refl });
-    }
+pub begins_by_plain_steps : (s u : SourcedFlat) → GoesPlain s u
+    → Begins (seen_by s.flat.code) (answered_by s.flat.code) (Alike s.flat.code) (seen_of s) (seen_of u)
+begins_by_plain_steps s u goes = record {
+  ahead = goes.ahead;
+  goes = plain_run_seen s.flat.code (full_of s) goes.ahead goes.plain;
+  alike = subst (λ z. Alike s.flat.code z (seen_of u))
+      (sym (end_of_live_run_seen s.flat.code (full_of s) goes.ahead goes.plain.1 ∙ ap seen_state (sym goes.ends)))
+      (record { threads = λ t. inl refl; inside = λ o t. refl; words = λ o. refl });
+}

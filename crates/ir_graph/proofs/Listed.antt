@@ -3,7 +3,6 @@ use Rattle.std.proofs.Common.{◌≡◌, ℕ, ◌<◌, ◌≤◌, Bool, Some, No
 use Rattle.std.specs.Prelude.{slice_get}
 use Rattle.std.proofs.lemmas.Bool.{cases_lt}
 use Rattle.std.proofs.lemmas.Option.{slice_get-get_or}
-use Rattle.ir_image.specs.Guest.{Guest}
 use Rattle.ir_explore.specs.declared.origin.Origin.{Origin}
 use Rattle.ir_explore.specs.declared.origin.Refusal.{Refusal}
 use Rattle.ir_explore.specs.Following.{BothWays}
@@ -20,23 +19,24 @@ use Rattle.ir_states.specs.Orders.{is_refusal}
 use Rattle.ir_states.specs.Outcomes.{IsFinished, Covers}
 use Rattle.ir_states.specs.Sources.{plain}
 use Rattle.ir_thread.specs.State.{ThreadState, thread_machine}
-use Rattle.ir_thread.specs.declared.profile.Profile.{Profile}
+use Rattle.ir_sources.specs.Sources.{Source, given}
 use Rattle.ir_seen.specs.Seen.{seen_start}
 use Rattle.ir_seen.proofs.CallerLemmas.{seen_machine_is_view, guest_all, guest_outcome_within_is_done_node}
-use Rattle.ir_flat.specs.Flat.{Flat, machine, tables, thread_of}
+use Rattle.ir_flat.specs.Flat.{machine, tables, thread_of}
+use Rattle.ir_store.specs.Nodes.{SourcedFlat}
+use Rattle.ir_graph.specs.Setup.{Setup, start_of, first_source}
 use Rattle.ir_graph.specs.Graph.{IsGraph}
-use Rattle.ir_graph.specs.Nodes.{told, seen_by, told_by, Alike, seen_of, HasStepBy, IsStepBy}
+use Rattle.ir_graph.specs.Nodes.{seen_by, answered_by, Alike, seen_of, HasStepBy, IsStepBy}
 use Rattle.ir_graph.specs.Outcomes.{outcome_of, AllListed, WithinListed, AllShown}
 use Rattle.ir_graph.proofs.Grown.{thread_count_of_node}
-use Rattle.ir_graph.specs.Reached.{beginning}
-use Rattle.ir_graph.proofs.Reached.{done_quiet_run_is_counted}
+use Rattle.ir_graph.proofs.Reached.{done_answered_run_is_counted, tables_of_reached}
 use Rattle.ir_graph.proofs.Leads.{ask_past_threads_is_done, seen_at_rest, no_seen_step_if_done}
 
-abbrev pub empty_flat : Flat
-empty_flat = record { code = []; threads = []; objects = [] }
+abbrev pub empty_state : SourcedFlat
+empty_state = record { flat = record { code = []; threads = []; objects = [] }; sources = [] }
 
 -- states that look the same have one outcome
-outcome_of_alike_states : (code : List ℕ) (u v : run.State (ThreadState × List ℕ)) → Alike code u v → outcome_of (plain u) ≡ outcome_of (plain v)
+outcome_of_alike_states : (code : List ℕ) (u v : run.State (ThreadState × Source)) → Alike code u v → outcome_of (plain u) ≡ outcome_of (plain v)
 outcome_of_alike_states code u v alike = λ i. record {
   ends = λ t. end_at t i;
   outputs = λ t. output_at t i;
@@ -49,45 +49,45 @@ outcome_of_alike_states code u v alike = λ i. record {
     output_at : (t : ℕ) → (u.now t).0.output ≡ (v.now t).0.output
     output_at t = elim (alike.threads t) [ inl e ↦ ap (λ z. z.0.output) e | inr d ↦ d.3 ]
 
-module _ (guest : Guest) (profile : Profile) (flats : List Flat) (noted : ℕ → BothWays) (threads : ℕ)
-    (g : IsGraph guest profile flats noted threads) (answers : ℕ → List ℕ) where
-  abbrev pub flat_of : ℕ → Flat
-  flat_of v = get_or flats v empty_flat
+module _ (x : Setup) (flats : List SourcedFlat) (noted : ℕ → BothWays) (threads : ℕ)
+    (g : IsGraph x flats noted threads) where
+  abbrev pub flat_of : ℕ → SourcedFlat
+  flat_of v = get_or flats v empty_state
 
-  abbrev pub state_of : ℕ → run.State (ThreadState × List ℕ)
-  state_of v = seen_of (flat_of v) answers
+  abbrev pub state_of : ℕ → run.State (ThreadState × Source)
+  state_of v = seen_of (flat_of v)
 
   pub at : (v : ℕ) → v < length flats → slice_get flats v ≡ Some (flat_of v)
-  at v l = slice_get-get_or flats v empty_flat l
+  at v l = slice_get-get_or flats v empty_state l
 
-  pub code_at : (v : ℕ) → v < length flats → (flat_of v).code ≡ guest.code
+  pub code_at : (v : ℕ) → v < length flats → (flat_of v).flat.code ≡ x.guest.code
   code_at v l = (g.nodes.like 0 v (flat_of 0) (flat_of v) (at 0 g.some) (at v l)).code ∙ g.code (flat_of 0) (at 0 g.some)
 
   -- a number that is no thread's has no step
-  never : (v t : ℕ) → v < length flats → threads ≤ t → (e : Step) → e.0 ≡ t → Can (seen_by guest.code) (state_of v) e → ⊥
+  never : (v t : ℕ) → v < length flats → threads ≤ t → (e : Step) → e.0 ≡ t → Can (seen_by x.guest.code) (state_of v) e → ⊥
   never v t l many e same =
       subst (λ z. Can (seen_by z) (state_of v) e → ⊥) (code_at v l)
-      (no_seen_step_if_done (flat_of v) answers t
-      (ask_past_threads_is_done (flat_of v) t (let a = thread_count_of_node guest profile flats noted threads v (flat_of v) g (at v l) in omega (arith, a, many))) e same)
+      (no_seen_step_if_done (flat_of v) t
+      (ask_past_threads_is_done (flat_of v).flat t (let a = thread_count_of_node x flats noted threads v (flat_of v) g (at v l) in omega (arith, a, many))) e same)
 
   leads_at : (t : ℕ) (refused : Bool) (v w : ℕ) → v < length flats → t < threads → noted t refused v ≡ Some (Some w)
-      → HasStepBy (flat_of v) answers t refused × ((e : Step) → e.0 ≡ t → IsStepBy (flat_of v) answers refused e
-      → Can (seen_by (flat_of v).code) (state_of v) e
-      → LeadsTo (seen_by (flat_of v).code) (told_by (flat_of v).code) (Alike (flat_of v).code) (state_of v) e (state_of w))
+      → HasStepBy (flat_of v) t refused × ((e : Step) → e.0 ≡ t → IsStepBy (flat_of v) refused e
+      → Can (seen_by (flat_of v).flat.code) (state_of v) e
+      → LeadsTo (seen_by (flat_of v).flat.code) (answered_by (flat_of v).flat.code) (Alike (flat_of v).flat.code) (state_of v) e (state_of w))
   leads_at t refused v w l few is =
-      g.leads t refused v (Some w) few is (flat_of v) (flat_of w) (at v l) (at w (g.within t refused v w few is)) answers
+      g.leads t refused v (Some w) few is (flat_of v) (flat_of w) (at v l) (at w (g.within t refused v w few is))
 
-  pub graph_means : Means (seen_by guest.code) (told_by guest.code) (Alike guest.code) (seen_start guest profile answers) state_of noted threads
+  pub graph_means : Means (seen_by x.guest.code) (answered_by x.guest.code) (Alike x.guest.code) (seen_start x.guest x.profile (first_source x)) state_of noted threads
       (length flats)
   graph_means = record {
-    begins = g.begins (flat_of 0) (at 0 g.some) answers;
+    begins = g.begins (flat_of 0) (at 0 g.some);
     at_rest = λ v l. subst (λ z. IsAtRest (seen_by z) (state_of v)) (code_at v l)
-        (seen_at_rest (flat_of v) answers (g.nodes.rest v (flat_of v) (at v l)));
+        (seen_at_rest (flat_of v) (g.nodes.rest v (flat_of v) (at v l)));
     idle = λ v l e many. never v e.0 l many e refl;
     stays = λ t refused v l is e same. elim (cases_lt t threads) [
       | inl few ↦
           subst (λ z. is_refusal (act (seen_by z) (state_of v) e) ≡ refused → Can (seen_by z) (state_of v) e → ⊥) (code_at v l)
-          (g.leads t refused v None few is (flat_of v) (at v l) answers e same)
+          (g.leads t refused v None few is (flat_of v) (at v l) e same)
       | inr many ↦ λ by. never v t l many e same
     ];
     can = λ t refused v w l is. elim (cases_lt t threads) [
@@ -99,65 +99,65 @@ module _ (guest : Guest) (profile : Profile) (flats : List Flat) (noted : ℕ �
     leads = λ t refused v w l is e same. elim (cases_lt t threads) [
       | inl few ↦
           subst (λ z. is_refusal (act (seen_by z) (state_of v) e) ≡ refused → Can (seen_by z) (state_of v) e
-          → LeadsTo (seen_by z) (told_by z) (Alike z) (state_of v) e (state_of w)) (code_at v l) ((leads_at t refused v w l few is).1 e same)
+          → LeadsTo (seen_by z) (answered_by z) (Alike z) (state_of v) e (state_of w)) (code_at v l) ((leads_at t refused v w l few is).1 e same)
       | inr many ↦ λ by can. absurd (cc (sym (g.past t refused v many) ∙ is))
     ];
   }
 
   -- a node where all are done, as the search sees them, is one where all are done
-  pub really_done : (v : ℕ) → v < length flats → run.IsDone (seen_by guest.code) (state_of v) → run.IsDone (machine (flat_of v)) (tables (flat_of v))
+  pub really_done : (v : ℕ) → v < length flats → run.IsDone (seen_by x.guest.code) (state_of v) → run.IsDone (machine (flat_of v).flat) (tables (flat_of v).flat)
   really_done v l done t =
-      subst (λ z. run.asked (seen_by z) (state_of v) t ≡ machines.Done → run.asked (machine (flat_of v)) (tables (flat_of v)) t ≡ machines.Done)
-      (code_at v l) ((seen_machine_is_view (flat_of v).code).done (thread_of (flat_of v) t)).1 (done t)
+      subst (λ z. run.asked (seen_by z) (state_of v) t ≡ machines.Done → run.asked (machine (flat_of v).flat) (tables (flat_of v).flat) t ≡ machines.Done)
+      (code_at v l) ((seen_machine_is_view (flat_of v).flat.code).done (thread_of (flat_of v).flat t)).1 (done t)
 
   -- and the other way round
-  pub seen_done : (v : ℕ) → v < length flats → run.IsDone (machine (flat_of v)) (tables (flat_of v)) → run.IsDone (seen_by guest.code) (state_of v)
+  pub seen_done : (v : ℕ) → v < length flats → run.IsDone (machine (flat_of v).flat) (tables (flat_of v).flat) → run.IsDone (seen_by x.guest.code) (state_of v)
   seen_done v l done t =
-      subst (λ z. run.asked (machine (flat_of v)) (tables (flat_of v)) t ≡ machines.Done → run.asked (seen_by z) (state_of v) t ≡ machines.Done)
-      (code_at v l) ((seen_machine_is_view (flat_of v).code).done (thread_of (flat_of v) t)).0 (done t)
+      subst (λ z. run.asked (machine (flat_of v).flat) (tables (flat_of v).flat) t ≡ machines.Done → run.asked (seen_by z) (state_of v) t ≡ machines.Done)
+      (code_at v l) ((seen_machine_is_view (flat_of v).flat.code).done (thread_of (flat_of v).flat t)).0 (done t)
 
-pub all_listed_if_all_asked : (guest : Guest) (profile : Profile) (flats : List Flat) (noted : ℕ → BothWays) (threads : ℕ) → IsGraph guest profile flats noted threads
+pub all_listed_if_all_asked : (x : Setup) (flats : List SourcedFlat) (noted : ℕ → BothWays) (threads : ℕ) → IsGraph x flats noted threads
     → (origins : List Origin) (refusals : List Refusal) → AreReached noted refusals origins
-    → length origins ≡ length flats → AreAsked noted threads (length flats) → AllListed guest profile flats
-all_listed_if_all_asked guest profile flats noted threads g origins refusals reached all asked answers budget steps counted =
-    let means = graph_means guest profile flats noted threads g answers in
-    let f : IsFinished (seen_by guest.code) (told_by guest.code) (Alike guest.code) (seen_start guest profile answers)
-    (state_of guest profile flats noted threads g answers) (λ v. v < length flats)
-    (Steps (seen_by guest.code) (state_of guest profile flats noted threads g answers) noted (length flats)) 0 =
-    asked_finished (seen_by guest.code) (told_by guest.code) (Alike guest.code) (seen_start guest profile answers)
-    (state_of guest profile flats noted threads g answers) noted threads (length flats) means origins refusals reached all g.some asked in
-    let r = guest_all guest profile told answers (state_of guest profile flats noted threads g answers) (λ v. v < length flats)
-    (Steps (seen_by guest.code) (state_of guest profile flats noted threads g answers) noted (length flats)) 0 f outcome_of
-    (outcome_of_alike_states guest.code) budget steps counted in (
+    → length origins ≡ length flats → AreAsked noted threads (length flats) → AllListed x flats
+all_listed_if_all_asked x flats noted threads g origins refusals reached all asked budget steps counted =
+    let means = graph_means x flats noted threads g in
+    let f : IsFinished (seen_by x.guest.code) (answered_by x.guest.code) (Alike x.guest.code) (seen_start x.guest x.profile (first_source x))
+    (state_of x flats noted threads g) (λ v. v < length flats)
+    (Steps (seen_by x.guest.code) (state_of x flats noted threads g) noted (length flats)) 0 =
+    asked_finished (seen_by x.guest.code) (answered_by x.guest.code) (Alike x.guest.code) (seen_start x.guest x.profile (first_source x))
+    (state_of x flats noted threads g) noted threads (length flats) means origins refusals reached all g.some asked in
+    let r = guest_all x.guest x.profile given (first_source x) (state_of x flats noted threads g) (λ v. v < length flats)
+    (Steps (seen_by x.guest.code) (state_of x flats noted threads g) noted (length flats)) 0 f outcome_of
+    (outcome_of_alike_states x.guest.code) budget steps counted in (
       r.0,
-      flat_of guest profile flats noted threads g answers r.0,
+      flat_of x flats noted threads g r.0,
       (
-        at guest profile flats noted threads g answers r.0 r.1,
-        really_done guest profile flats noted threads g answers r.0 r.1 r.2,
+        at x flats noted threads g r.0 r.1,
+        really_done x flats noted threads g r.0 r.1 r.2,
         r.3,
       ),
     )
 
-pub within_listed_if_covered : (guest : Guest) (profile : Profile) (flats : List Flat) (noted : ℕ → BothWays) (threads : ℕ) → IsGraph guest profile flats noted threads
+pub within_listed_if_covered : (x : Setup) (flats : List SourcedFlat) (noted : ℕ → BothWays) (threads : ℕ) → IsGraph x flats noted threads
     → (origins : List Origin) → slice_get origins 0 ≡ Some first_origin
-    → length origins ≤ length flats → (c : ℕ) → Covered noted threads origins c → WithinListed guest profile flats origins c
-within_listed_if_covered guest profile flats noted threads g origins first few c covered answers budget steps counted less =
-    let means = graph_means guest profile flats noted threads g answers in
-    let covers : Covers (seen_by guest.code) (told_by guest.code) (Alike guest.code) (seen_start guest profile answers)
-    (state_of guest profile flats noted threads g answers) _ 0 c =
-    covered_covers (seen_by guest.code) (told_by guest.code) (Alike guest.code) (seen_start guest profile answers)
-    (state_of guest profile flats noted threads g answers) noted threads (length flats) means origins c covered first few in
-    let r = guest_outcome_within_is_done_node guest profile told answers (state_of guest profile flats noted threads g answers) _ 0 c covers outcome_of
-    (outcome_of_alike_states guest.code) budget steps counted less in
+    → length origins ≤ length flats → (c : ℕ) → Covered noted threads origins c → WithinListed x flats origins c
+within_listed_if_covered x flats noted threads g origins first few c covered budget steps counted less =
+    let means = graph_means x flats noted threads g in
+    let covers : Covers (seen_by x.guest.code) (answered_by x.guest.code) (Alike x.guest.code) (seen_start x.guest x.profile (first_source x))
+    (state_of x flats noted threads g) _ 0 c =
+    covered_covers (seen_by x.guest.code) (answered_by x.guest.code) (Alike x.guest.code) (seen_start x.guest x.profile (first_source x))
+    (state_of x flats noted threads g) noted threads (length flats) means origins c covered first few in
+    let r = guest_outcome_within_is_done_node x.guest x.profile given (first_source x) (state_of x flats noted threads g) _ 0 c covers outcome_of
+    (outcome_of_alike_states x.guest.code) budget steps counted less in
     let v = r.2 in
     let n = r.4.1 in
     let l : v < length flats = (let a = place_of_element_is_below_length origins v n.0 n.1 in omega (arith, a, few)) in (
       v,
-      flat_of guest profile flats noted threads g answers v,
+      flat_of x flats noted threads g v,
       n.0,
       (
-        at guest profile flats noted threads g answers v l,
-        really_done guest profile flats noted threads g answers v l r.5,
+        at x flats noted threads g v l,
+        really_done x flats noted threads g v l r.5,
         r.6,
       ),
       n.1,
@@ -165,10 +165,11 @@ within_listed_if_covered guest profile flats noted threads g origins first few c
     )
 
 -- a listed state where all are done is where a complete run ends
-pub all_shown_by_graph : (guest : Guest) (profile : Profile) (flats : List Flat) (noted : ℕ → BothWays) (threads : ℕ) → IsGraph guest profile flats noted threads
-    → AllShown guest profile flats
-all_shown_by_graph guest profile flats noted threads g v f at done answers =
-    let r = g.reached v f at in
-    let really : run.IsDone (thread_machine guest.code) (run.end (thread_machine guest.code) (beginning guest profile) r.steps) =
-    subst (run.IsDone (thread_machine guest.code)) r.ends (subst (λ z. run.IsDone (thread_machine z) (tables f)) r.like.code done) in
-    (r.steps, done_quiet_run_is_counted guest profile r.steps answers r.quiet really, (at, done, ap outcome_of r.ends))
+pub all_shown_by_graph : (x : Setup) (flats : List SourcedFlat) (noted : ℕ → BothWays) (threads : ℕ) → IsGraph x flats noted threads
+    → AllShown x flats
+all_shown_by_graph x flats noted threads g v s at done =
+    let r = g.reached v s at in
+    let ends : tables s.flat ≡ run.end (thread_machine x.guest.code) (tables (start_of x).flat) r.steps = tables_of_reached x s r in
+    let really : run.IsDone (thread_machine x.guest.code) (run.end (thread_machine x.guest.code) (tables (start_of x).flat) r.steps) =
+    subst (run.IsDone (thread_machine x.guest.code)) ends (subst (λ z. run.IsDone (thread_machine z) (tables s.flat)) r.like.code done) in
+    (r.steps, done_answered_run_is_counted x r.steps r.answered really, (at, done, ap outcome_of ends))

@@ -6,11 +6,12 @@ use Rattle.std.specs.List.{slice_index_or}
 use Rattle.std.proofs.lemmas.Option.{same_Some, slice_get-get_or}
 use Rattle.ir_explore.proofs.CallerLemmas.{slice_get_after_push_cases, slice_get_kept_by_append, place_of_element_is_below_length}
 use Rattle.ir_runs.specs.Run.{IsDone}
-use Rattle.ir_flat.specs.Flat.{Flat, machine, tables}
+use Rattle.ir_flat.specs.Flat.{machine, tables}
+use Rattle.ir_store.specs.Nodes.{SourcedFlat}
 use Rattle.ir_graph.specs.Listing.{HasOutcome, AreOutcomes}
 use Rattle.ir_graph.specs.Outcomes.{outcome_of}
 
-pub are_outcomes_below_zero : (flats : List Flat) → AreOutcomes flats 0 []
+pub are_outcomes_below_zero : (flats : List SourcedFlat) → AreOutcomes flats 0 []
 are_outcomes_below_zero flats = record {
   done = λ i v is. absurd (cc is);
   all = λ v f less at done. absurd (omega (arith, less));
@@ -21,24 +22,24 @@ are_outcomes_below_zero flats = record {
 below_successor_is_below_or_equal : (v until : ℕ) → v < suc until → (v < until) ⊎ (until ≡ v)
 below_successor_is_below_or_equal v until l = elim (cases_lt v until) [ inl less ↦ inl less | inr most ↦ inr (omega (arith, l, most)) ]
 
-module _ (flats : List Flat) (until : ℕ) (listed : List ℕ) (f : Flat) (o : AreOutcomes flats until listed)
+module _ (flats : List SourcedFlat) (until : ℕ) (listed : List ℕ) (f : SourcedFlat) (o : AreOutcomes flats until listed)
     (at : slice_get flats until ≡ Some f) where
   -- a node where some thread goes on
-  pub going_skipped : (IsDone (machine f) (tables f) → ⊥) → AreOutcomes flats (suc until) listed
+  pub going_skipped : (IsDone (machine f.flat) (tables f.flat) → ⊥) → AreOutcomes flats (suc until) listed
   going_skipped never = record {
     done = λ i v is. let d = o.done i v is in (let a = d.0 in omega (arith, a), d.1);
     all = λ v g less here done. elim (below_successor_is_below_or_equal v until less) [
       | inl old ↦ o.all v g old here done
       | inr same ↦
           let one : f ≡ g = same_Some f g (sym at ∙ subst (λ z. slice_get flats z ≡ Some g) (sym same) here) in
-          absurd (never (subst (λ z. IsDone (machine z) (tables z)) (sym one) done))
+          absurd (never (subst (λ (z : SourcedFlat). IsDone (machine z.flat) (tables z.flat)) (sym one) done))
     ];
     different = o.different;
     rising = o.rising;
   }
 
   -- a node whose outcome is listed
-  pub same_skipped : HasOutcome flats listed f → AreOutcomes flats (suc until) listed
+  pub same_skipped : HasOutcome flats listed f.flat → AreOutcomes flats (suc until) listed
   same_skipped h = record {
     done = λ i v is. let d = o.done i v is in (let a = d.0 in omega (arith, a), d.1);
     all = λ v g less here done. elim (below_successor_is_below_or_equal v until less) [
@@ -53,25 +54,25 @@ module _ (flats : List Flat) (until : ℕ) (listed : List ℕ) (f : Flat) (o : A
     rising = o.rising;
   }
     where
-      moved : HasOutcome flats listed f → (g : Flat) → f ≡ g → HasOutcome flats listed g
+      moved : HasOutcome flats listed f.flat → (g : SourcedFlat) → f ≡ g → HasOutcome flats listed g.flat
       moved h g one = record {
         place = h.place;
         node = h.node;
         state = h.state;
         stands = h.stands;
         at = h.at;
-        same = h.same ∙ ap (λ z. outcome_of (tables z)) one;
+        same = h.same ∙ ap (λ (z : SourcedFlat). outcome_of (tables z.flat)) one;
       }
 
   -- a node with an outcome that isn't listed yet
-  pub new_listed : IsDone (machine f) (tables f) → (HasOutcome flats listed f → ⊥) → AreOutcomes flats (suc until) (listed ++ until ∷ [])
+  pub new_listed : IsDone (machine f.flat) (tables f.flat) → (HasOutcome flats listed f.flat → ⊥) → AreOutcomes flats (suc until) (listed ++ until ∷ [])
   new_listed done fresh = record {
     done = λ i v is. elim (slice_get_after_push_cases listed until i v is) [
       | inl old ↦ let d = o.done i v old in (let a = d.0 in omega (arith, a), d.1)
       | inr p ↦ (
         let e = p.1 in omega (arith, e),
         λ g here.
-            subst (λ z. IsDone (machine z) (tables z)) (same_Some f g (sym at ∙ subst (λ z. slice_get flats z ≡ Some g) (sym p.1) here)) done,
+            subst (λ (z : SourcedFlat). IsDone (machine z.flat) (tables z.flat)) (same_Some f g (sym at ∙ subst (λ z. slice_get flats z ≡ Some g) (sym p.1) here)) done,
       )
     ];
     all = λ v g less here ends. elim (below_successor_is_below_or_equal v until less) [
@@ -104,21 +105,21 @@ module _ (flats : List Flat) (until : ℕ) (listed : List ℕ) (f : Flat) (o : A
     ];
   }
     where
-      new_at : (v : ℕ) (g : Flat) → until ≡ v → slice_get flats v ≡ Some g → f ≡ g
+      new_at : (v : ℕ) (g : SourcedFlat) → until ≡ v → slice_get flats v ≡ Some g → f ≡ g
       new_at v g same here = same_Some f g (sym at ∙ subst (λ z. slice_get flats z ≡ Some g) (sym same) here)
 
-      meets : (i v : ℕ) (g h : Flat) → slice_get listed i ≡ Some v → slice_get flats v ≡ Some g → f ≡ h
-          → outcome_of (tables g) ≡ outcome_of (tables h) → HasOutcome flats listed f
+      meets : (i v : ℕ) (g h : SourcedFlat) → slice_get listed i ≡ Some v → slice_get flats v ≡ Some g → f ≡ h
+          → outcome_of (tables g.flat) ≡ outcome_of (tables h.flat) → HasOutcome flats listed f.flat
       meets i v g h is here one same = record {
         place = i;
         node = v;
         state = g;
         stands = is;
         at = here;
-        same = same ∙ sym (ap (λ z. outcome_of (tables z)) one);
+        same = same ∙ sym (ap (λ (z : SourcedFlat). outcome_of (tables z.flat)) one);
       }
 
-      longer : (g : Flat) → HasOutcome flats listed g → HasOutcome flats (listed ++ until ∷ []) g
+      longer : (g : SourcedFlat) → HasOutcome flats listed g.flat → HasOutcome flats (listed ++ until ∷ []) g.flat
       longer g h = record {
         place = h.place;
         node = h.node;
@@ -132,18 +133,18 @@ module _ (flats : List Flat) (until : ℕ) (listed : List ℕ) (f : Flat) (o : A
       last [] x = refl
       last (y ∷ xs) x = last xs x
 
-      itself : (g : Flat) → f ≡ g → HasOutcome flats (listed ++ until ∷ []) g
+      itself : (g : SourcedFlat) → f ≡ g → HasOutcome flats (listed ++ until ∷ []) g.flat
       itself g one = record {
         place = length listed;
         node = until;
         state = f;
         stands = last listed until;
         at = at;
-        same = ap (λ z. outcome_of (tables z)) one;
+        same = ap (λ (z : SourcedFlat). outcome_of (tables z.flat)) one;
       }
 
 -- the state of a listed node, as it is read
-pub state_of_listed_node : (flats : List Flat) (listed : List ℕ) (i d : ℕ) (e : Flat)
+pub state_of_listed_node : (flats : List SourcedFlat) (listed : List ℕ) (i d : ℕ) (e : SourcedFlat)
     → ((i v : ℕ) → slice_get listed i ≡ Some v → v < length flats) → i < length listed
     → e ≡ slice_index_or flats (slice_index_or listed i d) e
     → (v : ℕ) × (slice_get listed i ≡ Some v) × (slice_get flats v ≡ Some e)

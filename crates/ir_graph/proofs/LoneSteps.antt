@@ -1,27 +1,36 @@
 -- A thread that goes on beside one object.
-use Rattle.std.proofs.Common.{◌≡◌, ℕ, zero, suc, ◌+◌, ◌<◌, Bool, true, false, List, length, set, refl, sym, ap, ◌∙◌, subst, arith, get_or-set_same}
+use Rattle.std.proofs.Common.{◌≡◌, ◌≢◌, ℕ, zero, suc, ◌+◌, ◌<◌, Bool, true, false, List, length, length-set, set, refl, sym, ap, ◌∙◌, subst, arith, get_or, get_or-set_same, get_or-set_other, inl, inr}
+use Rattle.std.proofs.lemmas.Bool.{cases_eq}
 use Rattle.std.proofs.lemmas.List.{set-get_or, set-set}
 use Rattle.std.specs.Prelude.{slice_set}
 use Rattle.ir_object.specs.Cell.{Cell}
 use Rattle.ir_object.specs.Standing.{Admitted, CanLeave}
 use Rattle.ir_object.specs.Word.{IsFields, entered, left_by}
 use Rattle.ir_object.specs.declared.fields.Fields.{Fields}
-use Rattle.ir_runs.specs.Run.{Can, after}
+use Rattle.ir_runs.specs.Machine.{Machine, upd, target, reply, acted}
+use Rattle.ir_runs.specs.Run.{State, Step, asked, act, Can, after}
+use Rattle.ir_runs.proofs.CallerLemmas.{upd_at_own_place, upd_at_other_place}
+use Rattle.ir_states.specs.Counting.{IsAnswered}
+use Rattle.ir_states.specs.Sources.{Giving, answer_of, left_of, sourced}
+use Rattle.ir_states.specs.Views.{beside}
 use Rattle.ir_thread.specs.Permitted.{run_of, step_of, Permits}
 use Rattle.ir_thread.specs.Private.{PrivateSteps}
-use Rattle.ir_thread.specs.State.{ThreadState, held_at, ask_of, after_reply, after_ask}
+use Rattle.ir_thread.specs.State.{ThreadState, held_at, ask_of, after_reply, after_ask, shared_ask, thread_machine}
 use Rattle.ir_thread.specs.declared.ask.Ask.{Ask}
 use Rattle.ir_thread.specs.declared.ask.Ask.TheVariants as ask
 use Rattle.ir_thread.specs.declared.ask.Reply.TheVariants.{Go, Value}
+use Rattle.ir_sources.specs.Sources.{Source, given}
 use Rattle.ir_flat.specs.Flat.{Flat, IsFlat, thread_of, cell_of, tables, machine, idle}
 use Rattle.ir_flat.specs.Room.{empty}
 use Rattle.ir_flat.specs.Next.{with_thread, with_object, next, MayStep, MayTry}
-use Rattle.ir_flat.proofs.CallerLemmas.{next_is_flat, tables_of_next_are_after, may_step_is_can_for_ask, next_keeps_thread_count, next_keeps_object_count, entered_fields_fit, left_fields_fit, flat_inside_thread_can_leave}
+use Rattle.ir_flat.proofs.CallerLemmas.{next_is_flat, tables_of_next_are_after, may_step_is_can_for_ask, entered_fields_fit, left_fields_fit, flat_inside_thread_can_leave}
 use Rattle.ir_thread.proofs.CallerLemmas.{ask_of_permitted}
 use Rattle.ir_runs.specs.declared.access.Access.{Access}
 use Rattle.ir_runs.specs.declared.access.Access.TheVariants.{Writing}
-use Rattle.ir_graph.specs.Lone.{IsAbout, answer_from, cell_after, lone_thread, lone_cell, GoesLone, MayBegin, TakesTurn, AreBeside, MayTake}
-use Rattle.ir_graph.specs.Plain.{IsFair, GoesPlain, MayGo, OthersStay, Rests, result_by}
+use Rattle.ir_store.specs.Nodes.{SourcedFlat, source_of, sourced_thread, with_turn, IsSourced}
+use Rattle.ir_store.specs.Table.{no_source}
+use Rattle.ir_graph.specs.Lone.{IsAbout, IsGiven, answer_from, cell_after, lone_thread, lone_cell, GoesLone, MayBegin, TakesTurn, AreBeside, MayTake}
+use Rattle.ir_graph.specs.Plain.{full_by, full_of, IsFair, GoesPlain, MayGo, OthersStay, Rests, result_by, result_of}
 use Rattle.ir_graph.proofs.Plain.{goes_plain_reflexive, goes_plain_transitive, goes_plain_by_fair_step, others_stay_after_step, others_stay_transitive, twins_after_ask}
 
 -- the flat with another thread and another object
@@ -32,130 +41,216 @@ with_thread_keeps_object : (f : Flat) (t o : ℕ) (y : ThreadState) → with_thr
 with_thread_keeps_object f t o y i = record { code = f.code; threads = set f.threads t y; objects = sym (set-get_or f.objects o empty) i }
 
 -- a step that is about one object changes the thread and that object alone
-pub next_changes_thread_and_object : (f : Flat) (t o : ℕ) (refused : Bool) (q : Ask) → IsAbout o q
-    → next f t (result_by refused) q
-    ≡ with_thread_and_object f t (after_ask f.code (thread_of f t) q (answer_from refused (cell_of f o) q)) o (cell_after refused (cell_of f o) q)
-next_changes_thread_and_object f t o refused ask.Private h = with_thread_keeps_object f t o (after_ask f.code (thread_of f t) ask.Private Go)
-next_changes_thread_and_object f t o refused (ask.Env kind) h = absurd h
-next_changes_thread_and_object f t o refused (ask.Enter p access) h =
+pub next_changes_thread_and_object : (f : Flat) (t o : ℕ) (refused : Bool) (source : Source) (q : Ask) → IsAbout o q
+    → next f t (result_of refused q source) q
+    ≡ with_thread_and_object f t (after_ask f.code (thread_of f t) q (answer_from refused (cell_of f o) source q)) o (cell_after refused (cell_of f o) q)
+next_changes_thread_and_object f t o refused source ask.Private h = with_thread_keeps_object f t o (after_ask f.code (thread_of f t) ask.Private Go)
+next_changes_thread_and_object f t o refused source (ask.Env kind) h =
+    with_thread_keeps_object f t o (after_ask f.code (thread_of f t) (ask.Env kind) (Value (given kind source).0))
+next_changes_thread_and_object f t o refused source (ask.Enter p access) h =
     ap (λ z. with_thread_and_object f t (after_ask f.code (thread_of f t) (ask.Enter p access) Go) z
     (record (cell_of f z) { fields = entered access (cell_of f z).fields })) h
-next_changes_thread_and_object f t o true (ask.Try p) h = with_thread_keeps_object f t o (after_ask f.code (thread_of f t) (ask.Try p) (Value 0))
-next_changes_thread_and_object f t o false (ask.Try p) h =
+next_changes_thread_and_object f t o true source (ask.Try p) h = with_thread_keeps_object f t o (after_ask f.code (thread_of f t) (ask.Try p) (Value 0))
+next_changes_thread_and_object f t o false source (ask.Try p) h =
     ap (λ z. with_thread_and_object f t (after_ask f.code (thread_of f t) (ask.Try p) (Value 1)) z
     (record (cell_of f z) { fields = entered Writing (cell_of f z).fields })) h
-next_changes_thread_and_object f t o refused (ask.Leave p access) h =
+next_changes_thread_and_object f t o refused source (ask.Leave p access) h =
     ap (λ z. with_thread_and_object f t (after_ask f.code (thread_of f t) (ask.Leave p access) Go) z
     (record (cell_of f z) { fields = left_by access (cell_of f z).fields })) h
-next_changes_thread_and_object f t o refused (ask.Get p index) h =
-    ap (λ z. with_thread f t (after_ask f.code (thread_of f t) (ask.Get p index) (answer_from refused (cell_of f z) (ask.Get p index)))) h
-    ∙ with_thread_keeps_object f t o (after_ask f.code (thread_of f t) (ask.Get p index) (answer_from refused (cell_of f o) (ask.Get p index)))
-next_changes_thread_and_object f t o refused (ask.Put p index value) h =
+next_changes_thread_and_object f t o refused source (ask.Get p index) h =
+    ap (λ z. with_thread f t (after_ask f.code (thread_of f t) (ask.Get p index) (answer_from refused (cell_of f z) source (ask.Get p index)))) h
+    ∙ with_thread_keeps_object f t o (after_ask f.code (thread_of f t) (ask.Get p index) (answer_from refused (cell_of f o) source (ask.Get p index)))
+next_changes_thread_and_object f t o refused source (ask.Put p index value) h =
     ap (λ z. with_thread_and_object f t (after_ask f.code (thread_of f t) (ask.Put p index value) Go) z
     (record (cell_of f z) { words = slice_set (cell_of f z).words index value })) h
-next_changes_thread_and_object f t o refused ask.Print h = with_thread_keeps_object f t o (after_ask f.code (thread_of f t) ask.Print Go)
-next_changes_thread_and_object f t o refused (ask.End e) h = with_thread_keeps_object f t o (after_ask f.code (thread_of f t) (ask.End e) Go)
-next_changes_thread_and_object f t o refused ask.Done h = absurd h
+next_changes_thread_and_object f t o refused source ask.Print h = with_thread_keeps_object f t o (after_ask f.code (thread_of f t) ask.Print Go)
+next_changes_thread_and_object f t o refused source (ask.End e) h = with_thread_keeps_object f t o (after_ask f.code (thread_of f t) (ask.End e) Go)
+next_changes_thread_and_object f t o refused source ask.Done h = absurd h
 
-with_own_thread_and_object : (f : Flat) (t o : ℕ) → with_thread_and_object f t (thread_of f t) o (cell_of f o) ≡ f
-with_own_thread_and_object f t o i = record { code = f.code; threads = set-get_or f.threads t idle i; objects = set-get_or f.objects o empty i }
-
-with_thread_and_object_twice : (f : Flat) (t : ℕ) (x y : ThreadState) (o : ℕ) (c d : Cell) → with_thread_and_object (with_thread_and_object f t x o c) t y o d ≡ with_thread_and_object f t y o d
-with_thread_and_object_twice f t x y o c d i = record {
-  code = f.code;
-  threads = set-set f.threads t x y i;
-  objects = set-set f.objects o c d i;
+with_own_turn : (s : SourcedFlat) (t o : ℕ) → with_turn s t (sourced_thread s t) o (cell_of s.flat o) ≡ s
+with_own_turn s t o i = record {
+  flat = record { code = s.flat.code; threads = set-get_or s.flat.threads t idle i; objects = set-get_or s.flat.objects o empty i };
+  sources = set-get_or s.sources t no_source i;
 }
 
-fair_ask_may_step : (f : Flat) (r : ℕ) (q : Ask) → IsFair q → MayStep f r q
-fair_ask_may_step f r ask.Private h = tt
-fair_ask_may_step f r (ask.Env k) h = absurd h
-fair_ask_may_step f r (ask.Enter o a) h = absurd h
-fair_ask_may_step f r (ask.Try o) h = absurd h
-fair_ask_may_step f r (ask.Leave o a) h = tt
-fair_ask_may_step f r (ask.Get o i) h = tt
-fair_ask_may_step f r (ask.Put o i v) h = tt
-fair_ask_may_step f r ask.Print h = tt
-fair_ask_may_step f r (ask.End e) h = tt
-fair_ask_may_step f r ask.Done h = absurd h
+with_turn_twice : (s : SourcedFlat) (t : ℕ) (x y : ThreadState × Source) (o : ℕ) (c d : Cell)
+    → with_turn (with_turn s t x o c) t y o d ≡ with_turn s t y o d
+with_turn_twice s t x y o c d i = record {
+  flat = record { code = s.flat.code; threads = set-set s.flat.threads t x.0 y.0 i; objects = set-set s.flat.objects o c d i };
+  sources = set-set s.sources t x.1 y.1 i;
+}
+
+-- ---- a table of threads beside their sources, after a step
+
+table_of_list_with_element : {X : Type 0} (xs : List X) (t : ℕ) (x d : X) → t < length xs
+    → ◌≡◌ {A = ℕ → X} (λ u. get_or (set xs t x) u d) (upd (λ u. get_or xs u d) t x)
+table_of_list_with_element {X} xs t x d less = λ i u. at u i
+  where
+    at : (u : ℕ) → get_or (set xs t x) u d ≡ upd (λ u. get_or xs u d) t x u
+    at u = elim (cases_eq u t) [
+      | inl is ↦ subst (λ z. get_or (set xs t x) z d ≡ upd (λ u. get_or xs u d) t x z) (sym is)
+          (get_or-set_same xs t x d less ∙ sym (upd_at_own_place (λ u. get_or xs u d) t x))
+      | inr other ↦ get_or-set_other xs t u x d other ∙ sym (upd_at_other_place (λ u. get_or xs u d) t u x other)
+    ]
+
+update_of_two_tables : {T S : Type 0} (now : ℕ → T) (sources : ℕ → S) (t : ℕ) (x : T) (source : S)
+    → ◌≡◌ {A = ℕ → T × S} (upd {A = T × S} (λ u. (now u, sources u)) t (x, source)) (λ u. (upd now t x u, upd sources t source u))
+update_of_two_tables {T} {S} now sources t x source = λ i u. at u i
+  where
+    at : (u : ℕ) → ◌≡◌ {A = T × S} (upd {A = T × S} (λ u. (now u, sources u)) t (x, source) u) (upd now t x u, upd sources t source u)
+    at u = elim (cases_eq u t) [
+      | inl is ↦ subst (λ z. ◌≡◌ {A = T × S} (upd {A = T × S} (λ u. (now u, sources u)) t (x, source) z) (upd now t x z, upd sources t source z)) (sym is)
+          (upd_at_own_place {A = T × S} (λ u. (now u, sources u)) t (x, source)
+          ∙ (λ i. (sym (upd_at_own_place now t x) i, sym (upd_at_own_place sources t source) i)))
+      | inr other ↦ upd_at_other_place {A = T × S} (λ u. (now u, sources u)) t u (x, source) other
+          ∙ (λ i. (sym (upd_at_other_place now t u x other) i, sym (upd_at_other_place sources t u source other) i))
+    ]
+
+step_beside_own_source : {T S : Type 0} (m : Machine T) (given : Giving S) (s : State T) (sources : ℕ → S) (e : Step)
+    → after (sourced m given) (beside s sources) e ≡ beside (after m s e) (upd sources e.0 (left_of given (asked m s e.0) (sources e.0)))
+unfolding after
+step_beside_own_source m given s sources e = λ i. record {
+  now = update_of_two_tables s.now sources e.0 (m.take (s.now e.0) (reply (act m s e) (s.objects (target (act m s e)))))
+      (left_of given (asked m s e.0) (sources e.0)) i;
+  objects = upd s.objects (target (act m s e)) (acted (act m s e) e.0 (s.objects (target (act m s e))));
+}
+
+-- a state of which the flat part is as after the step, and the source of its thread too, is that after the step
+pub full_of_step : (s u : SourcedFlat) (t r : ℕ) → t < length s.sources → tables u.flat ≡ after (machine s.flat) (tables s.flat) (t, r)
+    → u.sources ≡ set s.sources t (left_of given (shared_ask (ask_of s.flat.code (thread_of s.flat t))) (source_of s t))
+    → full_of u ≡ after (full_by s.flat.code) (full_of s) (t, r)
+full_of_step s u t r less flat sources =
+    let source : Source = left_of given (shared_ask (ask_of s.flat.code (thread_of s.flat t))) (source_of s t) in
+    (λ i. beside (flat i) (λ v. get_or (sources i) v no_source))
+    ∙ (λ i. beside (after (machine s.flat) (tables s.flat) (t, r)) (table_of_list_with_element s.sources t source no_source less i))
+    ∙ sym (step_beside_own_source (thread_machine s.flat.code) given (tables s.flat) (source_of s) (t, r))
+
+-- ---- one step
+
+fair_ask_may_step : (f : Flat) (source : Source) (q : Ask) → IsFair q → IsGiven source q → MayStep f (result_of false q source) q
+fair_ask_may_step f source ask.Private fair suits = tt
+fair_ask_may_step f source (ask.Env k) fair suits = suits
+fair_ask_may_step f source (ask.Enter p a) fair suits = absurd fair
+fair_ask_may_step f source (ask.Try p) fair suits = absurd fair
+fair_ask_may_step f source (ask.Leave p a) fair suits = tt
+fair_ask_may_step f source (ask.Get p i) fair suits = tt
+fair_ask_may_step f source (ask.Put p i v) fair suits = tt
+fair_ask_may_step f source ask.Print fair suits = tt
+fair_ask_may_step f source (ask.End e) fair suits = tt
+fair_ask_may_step f source ask.Done fair suits = absurd fair
+
+fair_ask_is_answered : (source : Source) (q : Ask) → IsFair q → IsAnswered (shared_ask q) (answer_of given (shared_ask q) source) (result_of false q source)
+fair_ask_is_answered source ask.Private fair = tt
+fair_ask_is_answered source (ask.Env k) fair = refl
+fair_ask_is_answered source (ask.Enter p a) fair = absurd fair
+fair_ask_is_answered source (ask.Try p) fair = absurd fair
+fair_ask_is_answered source (ask.Leave p a) fair = tt
+fair_ask_is_answered source (ask.Get p i) fair = tt
+fair_ask_is_answered source (ask.Put p i v) fair = tt
+fair_ask_is_answered source ask.Print fair = tt
+fair_ask_is_answered source (ask.End e) fair = tt
+fair_ask_is_answered source ask.Done fair = absurd fair
 
 -- what a step that is about one object makes of a state
-pub record IsLoneStep (f : Flat) (t : ℕ) (refused : Bool) (g : Flat) : Type 0 where
-  pub flat : IsFlat g
-  pub can : Can (machine f) (tables f) (t, result_by refused)
-  pub is : tables g ≡ after (machine f) (tables f) (t, result_by refused)
-  pub code : g.code ≡ f.code
-  pub threads : length g.threads ≡ length f.threads
-  pub objects : length g.objects ≡ length f.objects
-
-module _ (f : Flat) (t o : ℕ) (refused : Bool) (flat : IsFlat f) (less : t < length f.threads) where
-  pub step_both : IsAbout o (ask_of f.code (thread_of f t)) → MayStep f (result_by refused) (ask_of f.code (thread_of f t))
-      → IsLoneStep f t refused
-      (with_thread_and_object f t (lone_thread f.code refused (thread_of f t) (cell_of f o)) o (lone_cell f.code refused (thread_of f t) (cell_of f o)))
-  step_both about may =
-      let q = ask_of f.code (thread_of f t) in
-      subst (IsLoneStep f t refused) (next_changes_thread_and_object f t o refused q about) (record {
-        flat = next_is_flat f t (result_by refused) q refl flat less may;
-        can = (may_step_is_can_for_ask f t (result_by refused) q flat less refl).0 may;
-        is = tables_of_next_are_after f t (result_by refused) q flat less refl may;
-        code = code_next q;
-        threads = next_keeps_thread_count f t (result_by refused) q;
-        objects = next_keeps_object_count f t (result_by refused) q;
-      })
-    where
-      code_try : (p : ℕ) (b : Bool) → (next f t (result_by b) (ask.Try p)).code ≡ f.code
-      code_try p true = refl
-      code_try p false = refl
-
-      code_next : (q : Ask) → (next f t (result_by refused) q).code ≡ f.code
-      code_next ask.Private = refl
-      code_next (ask.Env k) = refl
-      code_next (ask.Enter p a) = refl
-      code_next (ask.Try p) = code_try p refused
-      code_next (ask.Leave p a) = refl
-      code_next (ask.Get p i) = refl
-      code_next (ask.Put p i v) = refl
-      code_next ask.Print = refl
-      code_next (ask.End e) = refl
-      code_next ask.Done = refl
+pub record IsLoneStep (s : SourcedFlat) (t r : ℕ) (u : SourcedFlat) : Type 0 where
+  pub state : IsSourced u
+  pub can : Can (machine s.flat) (tables s.flat) (t, r)
+  pub is : full_of u ≡ after (full_by s.flat.code) (full_of s) (t, r)
+  pub code : u.flat.code ≡ s.flat.code
+  pub threads : length u.flat.threads ≡ length s.flat.threads
+  pub objects : length u.flat.objects ≡ length s.flat.objects
+  pub sources : length u.sources ≡ length s.sources
 
 -- what more of such steps make of it
-pub record IsLoneRun (f : Flat) (t : ℕ) (h : Flat) : Type 0 where
-  pub flat : IsFlat h
-  pub goes : GoesPlain f h
-  pub others : OthersStay f h t
+pub record IsLoneRun (s : SourcedFlat) (t : ℕ) (u : SourcedFlat) : Type 0 where
+  pub state : IsSourced u
+  pub goes : GoesPlain s u
+  pub others : OthersStay s u t
 
-pub lone_run_in_flat : (k : ℕ) (f : Flat) (t o : ℕ) (x y : ThreadState) (c d : Cell) → IsFlat f → t < length f.threads → o < length f.objects
-    → thread_of f t ≡ x → cell_of f o ≡ c → GoesLone f.code o k x c y d → IsLoneRun f t (with_thread_and_object f t y o d)
-lone_run_in_flat zero f t o x y c d flat less few here there (same, too) =
-    subst (IsLoneRun f t) (sym (with_own_thread_and_object f t o) ∙ (λ i. with_thread_and_object f t ((here ∙ same) i) o ((there ∙ too) i)))
-    (record { flat = flat; goes = goes_plain_reflexive f; others = λ u ne. refl })
-lone_run_in_flat (suc k) f t o x y c d flat less few here there (fair, about, more) =
-    let q = ask_of f.code x in
-    let g = with_thread_and_object f t (lone_thread f.code false x c) o (lone_cell f.code false x c) in
-    let fair_f : IsFair (ask_of f.code (thread_of f t)) = subst (λ z. IsFair (ask_of f.code z)) (sym here) fair in
-    let one : IsLoneStep f t false g =
-    subst (λ z. IsLoneStep f t false (with_thread_and_object f t (lone_thread f.code false z c) o (lone_cell f.code false z c))) here
-    (subst (λ z. IsLoneStep f t false (with_thread_and_object f t (lone_thread f.code false (thread_of f t) z) o (lone_cell f.code false (thread_of f t) z))) there
-    (step_both f t o false flat less (subst (λ z. IsAbout o (ask_of f.code z)) (sym here) about)
-    (fair_ask_may_step f 1 (ask_of f.code (thread_of f t)) fair_f))) in
-    let less_g : t < length g.threads = (let a = one.threads in omega (arith, a, less)) in
-    let few_g : o < length g.objects = (let a = one.objects in omega (arith, a, few)) in
-    let rest : IsLoneRun g t (with_thread_and_object g t y o d) =
-    lone_run_in_flat k g t o (lone_thread f.code false x c) y (lone_cell f.code false x c) d one.flat less_g few_g
-    (get_or-set_same f.threads t (lone_thread f.code false x c) idle less) (get_or-set_same f.objects o (lone_cell f.code false x c) empty few) more in
-    let plain : GoesPlain f g = goes_plain_by_fair_step f g t 1 fair_f one.can one.is one.code one.threads one.objects in
-    subst (IsLoneRun f t) (with_thread_and_object_twice f t (lone_thread f.code false x c) y o (lone_cell f.code false x c) d) (record {
-      flat = rest.flat;
-      goes = goes_plain_transitive f g (with_thread_and_object g t y o d) plain rest.goes;
-      others = others_stay_transitive f g (with_thread_and_object g t y o d) t (others_stay_after_step f g t 1 one.is) rest.others;
+module _ (s : SourcedFlat) (t o : ℕ) (refused : Bool) (state : IsSourced s) (less : t < length s.flat.threads) where
+  -- the state after the step, where it is about the object
+  abbrev pub after_lone_step : SourcedFlat
+  after_lone_step = with_turn s t (lone_thread s.flat.code refused (sourced_thread s t) (cell_of s.flat o)) o
+      (lone_cell s.flat.code refused (sourced_thread s t) (cell_of s.flat o))
+
+  pub lone_step : IsAbout o (ask_of s.flat.code (thread_of s.flat t))
+      → MayStep s.flat (result_of refused (ask_of s.flat.code (thread_of s.flat t)) (source_of s t)) (ask_of s.flat.code (thread_of s.flat t))
+      → IsLoneStep s t (result_of refused (ask_of s.flat.code (thread_of s.flat t)) (source_of s t)) after_lone_step
+  lone_step about may =
+      let f = s.flat in
+      let q = ask_of f.code (thread_of f t) in
+      let r = result_of refused q (source_of s t) in
+      let made : next f t r q ≡ after_lone_step.flat = next_changes_thread_and_object f t o refused (source_of s t) q about in
+      let each : t < length s.sources = (let a = state.each in omega (arith, a, less)) in
+      record {
+        state = record {
+          flat = subst IsFlat made (next_is_flat f t r q refl state.flat less may);
+          each = length-set s.sources t (left_of given (shared_ask q) (source_of s t)) ∙ state.each
+              ∙ sym (length-set f.threads t (after_ask f.code (thread_of f t) q (answer_from refused (cell_of f o) (source_of s t) q)));
+        };
+        can = (may_step_is_can_for_ask f t r q state.flat less refl).0 may;
+        is = full_of_step s after_lone_step t r each (ap tables (sym made) ∙ tables_of_next_are_after f t r q state.flat less refl may) refl;
+        code = refl;
+        threads = length-set f.threads t (after_ask f.code (thread_of f t) q (answer_from refused (cell_of f o) (source_of s t) q));
+        objects = length-set f.objects o (cell_after refused (cell_of f o) q);
+        sources = length-set s.sources t (left_of given (shared_ask q) (source_of s t));
+      }
+
+-- a step that can't be refused
+lone_run_by_fair_step : (s : SourcedFlat) (t o : ℕ) → IsSourced s → t < length s.flat.threads → IsFair (ask_of s.flat.code (thread_of s.flat t))
+    → IsAbout o (ask_of s.flat.code (thread_of s.flat t)) → IsGiven (source_of s t) (ask_of s.flat.code (thread_of s.flat t))
+    → IsLoneRun s t (with_turn s t (lone_thread s.flat.code false (sourced_thread s t) (cell_of s.flat o)) o
+    (lone_cell s.flat.code false (sourced_thread s t) (cell_of s.flat o)))
+lone_run_by_fair_step s t o state less fair about suits =
+    let q = ask_of s.flat.code (thread_of s.flat t) in
+    let r = result_of false q (source_of s t) in
+    let u = with_turn s t (lone_thread s.flat.code false (sourced_thread s t) (cell_of s.flat o)) o
+    (lone_cell s.flat.code false (sourced_thread s t) (cell_of s.flat o)) in
+    let one : IsLoneStep s t r u = lone_step s t o false state less about (fair_ask_may_step s.flat (source_of s t) q fair suits) in
+    record {
+      state = one.state;
+      goes = goes_plain_by_fair_step s u t r fair (fair_ask_is_answered (source_of s t) q fair) one.can one.is one.code one.threads one.objects one.sources;
+      others = others_stay_after_step s u t r one.is;
+    }
+
+pub lone_run_in_flat : (k : ℕ) (s : SourcedFlat) (t o : ℕ) (x y : ThreadState × Source) (c d : Cell) → IsSourced s → t < length s.flat.threads
+    → o < length s.flat.objects → sourced_thread s t ≡ x → cell_of s.flat o ≡ c → GoesLone s.flat.code o k x c y d → IsLoneRun s t (with_turn s t y o d)
+lone_run_in_flat zero s t o x y c d state less few here there (same, too) =
+    subst (IsLoneRun s t) (sym (with_own_turn s t o) ∙ (λ i. with_turn s t ((here ∙ same) i) o ((there ∙ too) i)))
+    (record {
+      state = state;
+      goes = goes_plain_reflexive s;
+      others = record { threads = λ v ne. refl; sources = λ v ne. refl };
+    })
+lone_run_in_flat (suc k) s t o x y c d state less few here there (fair, about, suits, more) =
+    let code = s.flat.code in
+    let u = with_turn s t (lone_thread code false x c) o (lone_cell code false x c) in
+    let first : IsLoneRun s t u =
+    subst (IsLoneRun s t) (λ i. with_turn s t (lone_thread code false (here i) (there i)) o (lone_cell code false (here i) (there i)))
+    (lone_run_by_fair_step s t o state less (subst (λ (z : ThreadState × Source). IsFair (ask_of code z.0)) (sym here) fair)
+    (subst (λ (z : ThreadState × Source). IsAbout o (ask_of code z.0)) (sym here) about)
+    (subst (λ (z : ThreadState × Source). IsGiven z.1 (ask_of code z.0)) (sym here) suits)) in
+    let each : t < length s.sources = (let a = state.each in omega (arith, a, less)) in
+    let less_u : t < length u.flat.threads = (let a = first.goes.threads in omega (arith, a, less)) in
+    let few_u : o < length u.flat.objects = (let a = first.goes.objects in omega (arith, a, few)) in
+    let here_u : sourced_thread u t ≡ lone_thread code false x c = λ i. (
+      get_or-set_same s.flat.threads t (lone_thread code false x c).0 idle less i,
+      get_or-set_same s.sources t (lone_thread code false x c).1 no_source each i,
+    ) in
+    let rest : IsLoneRun u t (with_turn u t y o d) =
+    lone_run_in_flat k u t o (lone_thread code false x c) y (lone_cell code false x c) d first.state less_u few_u here_u
+    (get_or-set_same s.flat.objects o (lone_cell code false x c) empty few) more in
+    subst (IsLoneRun s t) (with_turn_twice s t (lone_thread code false x c) y o (lone_cell code false x c) d) (record {
+      state = rest.state;
+      goes = goes_plain_transitive s u (with_turn u t y o d) first.goes rest.goes;
+      others = others_stay_transitive s u (with_turn u t y o d) t first.others rest.others;
     })
 
 -- a turn: the entry or try, and where the thread rests then
-pub record IsLoneTurn (f : Flat) (t : ℕ) (refused : Bool) (g h : Flat) : Type 0 where
-  pub enters : IsLoneStep f t refused g
-  pub goes : IsLoneRun g t h
-  pub rests : Rests (ask_of h.code (thread_of h t))
+pub record IsLoneTurn (s : SourcedFlat) (t : ℕ) (refused : Bool) (u w : SourcedFlat) : Type 0 where
+  pub enters : IsLoneStep s t (result_by refused) u
+  pub goes : IsLoneRun u t w
+  pub rests : Rests (ask_of w.flat.code (thread_of w.flat t))
 
 -- what begins a turn is about its object
 beginning_is_about : (o : ℕ) (refused : Bool) (fields : Fields) (q : Ask) → MayBegin refused o fields q → IsAbout o q
@@ -197,112 +292,125 @@ beginning_may_go o refused fields ask.Print h = absurd h
 beginning_may_go o refused fields (ask.End e) h = absurd h
 beginning_may_go o refused fields ask.Done h = absurd h
 
-pub lone_turn_in_flat : (f : Flat) (t o : ℕ) (refused : Bool) (x y : ThreadState) (c d : Cell) → IsFlat f → t < length f.threads
-    → o < length f.objects → thread_of f t ≡ x → cell_of f o ≡ c → TakesTurn f.code o refused x c y d
-    → (g : Flat) × IsLoneTurn f t refused g (with_thread_and_object f t y o d)
-lone_turn_in_flat f t o refused x y c d flat less few here there turn =
-    let begins : MayBegin refused o (cell_of f o).fields (ask_of f.code (thread_of f t)) =
-    subst (λ (z : Cell). MayBegin refused o z.fields (ask_of f.code (thread_of f t))) (sym there)
-    (subst (λ z. MayBegin refused o c.fields (ask_of f.code z)) (sym here) turn.begins) in
-    let g = with_thread_and_object f t (lone_thread f.code refused x c) o (lone_cell f.code refused x c) in
-    let one : IsLoneStep f t refused g =
-    subst (λ z. IsLoneStep f t refused (with_thread_and_object f t (lone_thread f.code refused z c) o (lone_cell f.code refused z c))) here
-    (subst (λ z. IsLoneStep f t refused
-    (with_thread_and_object f t (lone_thread f.code refused (thread_of f t) z) o (lone_cell f.code refused (thread_of f t) z))) there
-    (step_both f t o refused flat less (beginning_is_about o refused (cell_of f o).fields (ask_of f.code (thread_of f t)) begins)
-    (beginning_may_step f o refused (ask_of f.code (thread_of f t)) begins))) in
-    let less_g : t < length g.threads = (let a = one.threads in omega (arith, a, less)) in
-    let few_g : o < length g.objects = (let a = one.objects in omega (arith, a, few)) in
-    let rest : IsLoneRun g t (with_thread_and_object g t y o d) =
-    lone_run_in_flat turn.steps g t o (lone_thread f.code refused x c) y (lone_cell f.code refused x c) d one.flat less_g few_g
-    (get_or-set_same f.threads t (lone_thread f.code refused x c) idle less) (get_or-set_same f.objects o (lone_cell f.code refused x c) empty few)
-    turn.goes in (
-      g,
+-- the result of such a step
+beginning_has_result_by_way : (o : ℕ) (refused : Bool) (fields : Fields) (source : Source) (q : Ask) → MayBegin refused o fields q
+    → result_of refused q source ≡ result_by refused
+beginning_has_result_by_way o refused fields source ask.Private h = absurd h
+beginning_has_result_by_way o refused fields source (ask.Env k) h = absurd h
+beginning_has_result_by_way o refused fields source (ask.Enter p a) h = refl
+beginning_has_result_by_way o refused fields source (ask.Try p) h = refl
+beginning_has_result_by_way o refused fields source (ask.Leave p a) h = absurd h
+beginning_has_result_by_way o refused fields source (ask.Get p i) h = absurd h
+beginning_has_result_by_way o refused fields source (ask.Put p i v) h = absurd h
+beginning_has_result_by_way o refused fields source ask.Print h = absurd h
+beginning_has_result_by_way o refused fields source (ask.End e) h = absurd h
+beginning_has_result_by_way o refused fields source ask.Done h = absurd h
+
+pub lone_turn_in_flat : (s : SourcedFlat) (t o : ℕ) (refused : Bool) (x y : ThreadState × Source) (c d : Cell) → IsSourced s → t < length s.flat.threads
+    → o < length s.flat.objects → sourced_thread s t ≡ x → cell_of s.flat o ≡ c → TakesTurn s.flat.code o refused x c y d
+    → (u : SourcedFlat) × IsLoneTurn s t refused u (with_turn s t y o d)
+lone_turn_in_flat s t o refused x y c d state less few here there turn =
+    let code = s.flat.code in
+    let q = ask_of code (thread_of s.flat t) in
+    let begins : MayBegin refused o (cell_of s.flat o).fields q =
+    subst (λ (z : Cell). MayBegin refused o z.fields q) (sym there)
+    (subst (λ (z : ThreadState × Source). MayBegin refused o c.fields (ask_of code z.0)) (sym here) turn.begins) in
+    let result : result_of refused q (source_of s t) ≡ result_by refused =
+    beginning_has_result_by_way o refused (cell_of s.flat o).fields (source_of s t) q begins in
+    let u = with_turn s t (lone_thread code refused x c) o (lone_cell code refused x c) in
+    let one : IsLoneStep s t (result_by refused) u =
+    subst (IsLoneStep s t (result_by refused))
+    (λ i. with_turn s t (lone_thread code refused (here i) (there i)) o (lone_cell code refused (here i) (there i)))
+    (subst (λ r. IsLoneStep s t r (after_lone_step s t o refused state less)) result
+    (lone_step s t o refused state less (beginning_is_about o refused (cell_of s.flat o).fields q begins)
+    (subst (λ r. MayStep s.flat r q) (sym result) (beginning_may_step s.flat o refused q begins)))) in
+    let each : t < length s.sources = (let a = state.each in omega (arith, a, less)) in
+    let less_u : t < length u.flat.threads = (let a = one.threads in omega (arith, a, less)) in
+    let few_u : o < length u.flat.objects = (let a = one.objects in omega (arith, a, few)) in
+    let here_u : sourced_thread u t ≡ lone_thread code refused x c = λ i. (
+      get_or-set_same s.flat.threads t (lone_thread code refused x c).0 idle less i,
+      get_or-set_same s.sources t (lone_thread code refused x c).1 no_source each i,
+    ) in
+    let rest : IsLoneRun u t (with_turn u t y o d) =
+    lone_run_in_flat turn.steps u t o (lone_thread code refused x c) y (lone_cell code refused x c) d one.state less_u few_u here_u
+    (get_or-set_same s.flat.objects o (lone_cell code refused x c) empty few) turn.goes in (
+      u,
       record {
         enters = one;
-        goes = subst (IsLoneRun g t) (with_thread_and_object_twice f t (lone_thread f.code refused x c) y o (lone_cell f.code refused x c) d) rest;
-        rests = subst (λ z. Rests (ask_of f.code z)) (sym (get_or-set_same f.threads t y idle less)) turn.rests;
+        goes = subst (IsLoneRun u t) (with_turn_twice s t (lone_thread code refused x c) y o (lone_cell code refused x c) d) rest;
+        rests = subst (λ z. Rests (ask_of code z)) (sym (get_or-set_same s.flat.threads t y.0 idle less)) turn.rests;
       },
     )
 
 -- steps one after the other
-pub goes_lone_append : (code : List ℕ) (o k j : ℕ) (x y z : ThreadState) (c d e : Cell) → GoesLone code o k x c y d → GoesLone code o j y d z e
+pub goes_lone_append : (code : List ℕ) (o k j : ℕ) (x y z : ThreadState × Source) (c d e : Cell) → GoesLone code o k x c y d → GoesLone code o j y d z e
     → GoesLone code o (k + j) x c z e
 goes_lone_append code o zero j x y z c d e (same, too) more =
     let n : zero + j ≡ j = omega arith in
     subst (λ m. GoesLone code o m x c z e) (sym n)
     (subst (λ s. GoesLone code o j s c z e) (sym same) (subst (λ s. GoesLone code o j y s z e) (sym too) more))
-goes_lone_append code o (suc k) j x y z c d e (fair, about, first) more =
+goes_lone_append code o (suc k) j x y z c d e (fair, about, suits, first) more =
     let n : suc k + j ≡ suc (k + j) = omega arith in
     subst (λ m. GoesLone code o m x c z e) (sym n)
-    (fair, about, goes_lone_append code o k j (lone_thread code false x c) y z (lone_cell code false x c) d e first more)
-
-pub goes_lone_by_fair_ask : (code : List ℕ) (o : ℕ) (x : ThreadState) (c : Cell) → IsFair (ask_of code x) → IsAbout o (ask_of code x)
-    → GoesLone code o 1 x c (lone_thread code false x c) (lone_cell code false x c)
-goes_lone_by_fair_ask code o x c fair about = (fair, about, (refl, refl))
+    (fair, about, suits, goes_lone_append code o k j (lone_thread code false x c) y z (lone_cell code false x c) d e first more)
 
 -- private steps
-pub goes_lone_through_private_asks : (code : List ℕ) (o n : ℕ) (x : ThreadState) (c : Cell) → ((k : ℕ) → k < n → ask_of code (run_of code k x) ≡ ask.Private)
-    → GoesLone code o n x c (run_of code n x) c
+pub goes_lone_through_private_asks : (code : List ℕ) (o n : ℕ) (x : ThreadState) (source : Source) (c : Cell)
+    → ((k : ℕ) → k < n → ask_of code (run_of code k x) ≡ ask.Private)
+    → GoesLone code o n (x, source) c (run_of code n x, source) c
 unfolding run_of step_of after_reply
-goes_lone_through_private_asks code o zero x c each = (refl, refl)
-goes_lone_through_private_asks code o (suc n) x c each =
+goes_lone_through_private_asks code o zero x source c each = (refl, refl)
+goes_lone_through_private_asks code o (suc n) x source c each =
     let y = run_of code n x in
     let last : ask_of code y ≡ ask.Private = each n (omega arith) in
-    let one : GoesLone code o 1 y c (after_ask code y (ask_of code y) Go) c = (
+    let one : GoesLone code o 1 (y, source) c (after_ask code y (ask_of code y) Go, source) c = (
       subst IsFair (sym last) tt,
       subst (IsAbout o) (sym last) tt,
+      subst (IsGiven source) (sym last) tt,
       (
-        ap (λ q. after_ask code y (ask_of code y) (answer_from false c q)) last,
+        (λ i. (after_ask code y (ask_of code y) (answer_from false c source (last i)), left_of given (shared_ask (last i)) source)),
         ap (cell_after false c) last,
       ),
     ) in
     let e : n + 1 ≡ suc n = omega arith in
-    subst (λ z. GoesLone code o z x c (after_ask code y (ask_of code y) Go) c) e
-    (goes_lone_append code o n 1 x y (after_ask code y (ask_of code y) Go) c c c (goes_lone_through_private_asks code o n x c (λ k l. each k (omega (arith, l)))) one)
+    subst (λ z. GoesLone code o z (x, source) c (after_ask code y (ask_of code y) Go, source) c) e
+    (goes_lone_append code o n 1 (x, source) (y, source) (after_ask code y (ask_of code y) Go, source) c c c
+    (goes_lone_through_private_asks code o n x source c (λ k l. each k (omega (arith, l)))) one)
 
--- what is beside an object stays so
-pub are_beside_after_lone_run : (code : List ℕ) (o k : ℕ) (x y : ThreadState) (c d : Cell) → AreBeside code o x c → GoesLone code o k x c y d
-    → AreBeside code o y d
-are_beside_after_lone_run code o k x y c d b goes =
-    let f = b.flat in
-    let t = b.thread in
-    let g : IsLoneRun f t (with_thread_and_object f t y o d) =
-    lone_run_in_flat k f t o x y c d b.is b.has_thread b.has_object b.here b.there (subst (λ z. GoesLone z o k x c y d) (sym b.runs) goes) in
-    record {
-      flat = with_thread_and_object f t y o d;
-      thread = t;
-      is = g.flat;
-      runs = b.runs;
-      has_thread = let a = g.goes.threads in let l = b.has_thread in omega (arith, a, l);
-      has_object = let a = g.goes.objects in let l = b.has_object in omega (arith, a, l);
-      here = get_or-set_same f.threads t y idle b.has_thread;
-      there = get_or-set_same f.objects o d empty b.has_object;
-    }
-
-pub are_beside_after_ask : (code : List ℕ) (o : ℕ) (refused : Bool) (x : ThreadState) (c : Cell) (asks : Ask) → AreBeside code o x c
-    → ask_of code x ≡ asks → IsAbout o asks → ((f : Flat) → cell_of f o ≡ c → MayStep f (result_by refused) asks)
-    → AreBeside code o (after_ask code x asks (answer_from refused c asks)) (cell_after refused c asks)
-are_beside_after_ask code o refused x c asks b is about may =
+-- a thread that is beside an object is so after a step that is about it
+pub are_beside_after_ask : (code : List ℕ) (o : ℕ) (refused : Bool) (x : ThreadState) (source : Source) (c : Cell) (asks : Ask) → AreBeside code o x c
+    → ask_of code x ≡ asks → IsAbout o asks → ((f : Flat) → cell_of f o ≡ c → MayStep f (result_of refused asks source) asks)
+    → AreBeside code o (after_ask code x asks (answer_from refused c source asks)) (cell_after refused c asks)
+are_beside_after_ask code o refused x source c asks b is about may =
     let f = b.flat in
     let t = b.thread in
     let q = ask_of f.code (thread_of f t) in
     let same : q ≡ asks = (λ i. ask_of (b.runs i) (b.here i)) ∙ is in
-    let one = step_both f t o refused b.is b.has_thread (subst (IsAbout o) (sym same) about)
-    (subst (MayStep f (result_by refused)) (sym same) (may f b.there)) in
-    let g = with_thread_and_object f t (lone_thread f.code refused (thread_of f t) (cell_of f o)) o (lone_cell f.code refused (thread_of f t) (cell_of f o)) in
+    let y = after_ask f.code (thread_of f t) q (answer_from refused (cell_of f o) source q) in
+    let d = cell_after refused (cell_of f o) q in
+    let g = with_thread_and_object f t y o d in
     record {
       flat = g;
       thread = t;
-      is = one.flat;
+      is = subst IsFlat (next_changes_thread_and_object f t o refused source q (subst (IsAbout o) (sym same) about))
+          (next_is_flat f t (result_of refused q source) q refl b.is b.has_thread
+          (subst (λ z. MayStep f (result_of refused z source) z) (sym same) (may f b.there)));
       runs = b.runs;
-      has_thread = let a = one.threads in let l = b.has_thread in omega (arith, a, l);
-      has_object = let a = one.objects in let l = b.has_object in omega (arith, a, l);
-      here = get_or-set_same f.threads t (lone_thread f.code refused (thread_of f t) (cell_of f o)) idle b.has_thread
-          ∙ (λ i. after_ask (b.runs i) (b.here i) (same i) (answer_from refused (b.there i) (same i)));
-      there = get_or-set_same f.objects o (lone_cell f.code refused (thread_of f t) (cell_of f o)) empty b.has_object
-          ∙ (λ i. cell_after refused (b.there i) (same i));
+      has_thread = let a = length-set f.threads t y in let l = b.has_thread in omega (arith, a, l);
+      has_object = let a = length-set f.objects o d in let l = b.has_object in omega (arith, a, l);
+      here = get_or-set_same f.threads t y idle b.has_thread
+          ∙ (λ i. after_ask (b.runs i) (b.here i) (same i) (answer_from refused (b.there i) source (same i)));
+      there = get_or-set_same f.objects o d empty b.has_object ∙ (λ i. cell_after refused (b.there i) (same i));
     }
+
+-- and after more of them
+pub are_beside_after_lone_run : (code : List ℕ) (o k : ℕ) (x y : ThreadState × Source) (c d : Cell) → AreBeside code o x.0 c → GoesLone code o k x c y d
+    → AreBeside code o y.0 d
+are_beside_after_lone_run code o zero x y c d b (same, too) =
+    subst (λ (z : ThreadState × Source). AreBeside code o z.0 d) same (subst (AreBeside code o x.0) too b)
+are_beside_after_lone_run code o (suc k) x y c d b (fair, about, suits, more) =
+    are_beside_after_lone_run code o k (lone_thread code false x c) y (lone_cell code false x c) d
+    (are_beside_after_ask code o false x.0 x.1 c (ask_of code x.0) b refl about (λ f there. fair_ask_may_step f x.1 (ask_of code x.0) fair suits)) more
 
 -- the object may be asked what a thread beside it asks
 pub may_take_fair_ask : (code : List ℕ) (o : ℕ) (x : ThreadState) (c : Cell) (q : Ask) → AreBeside code o x c → ask_of code x ≡ q → IsFair q → IsAbout o q
@@ -311,7 +419,7 @@ may_take_fair_ask code o x c q b is fair about = by q (subst (Permits x) is (ask
   where
     by : (q : Ask) → Permits x q → IsFair q → IsAbout o q → MayTake false c q
     by ask.Private p fair about = tt
-    by (ask.Env k) p fair about = absurd fair
+    by (ask.Env k) p fair about = tt
     by (ask.Enter r a) p fair about = absurd fair
     by (ask.Try r) p fair about = absurd fair
     by (ask.Leave r a) p fair about = (
@@ -346,53 +454,66 @@ may_take_beginning code o refused x c q b begins = by refused q begins
     by refused (ask.End e) h = absurd h
     by refused ask.Done h = absurd h
 
-pub goes_lone_by_private_steps : (code : List ℕ) (o n : ℕ) (x y : ThreadState) (c : Cell) → PrivateSteps code n x y → GoesLone code o n x c y c
-goes_lone_by_private_steps code o n x y c went = subst (λ z. GoesLone code o n x c z c) (sym went.steps) (goes_lone_through_private_asks code o n x c went.each)
+pub goes_lone_by_private_steps : (code : List ℕ) (o n : ℕ) (x y : ThreadState) (source : Source) (c : Cell) → PrivateSteps code n x y
+    → GoesLone code o n (x, source) c (y, source) c
+goes_lone_by_private_steps code o n x y source c went =
+    subst (λ z. GoesLone code o n (x, source) c (z, source) c) (sym went.steps) (goes_lone_through_private_asks code o n x source c went.each)
 
 -- private steps, and then one that is asked so
-pub goes_lone_by_next_ask : (code : List ℕ) (o n : ℕ) (x y z : ThreadState) (c e : Cell) (q : Ask) → PrivateSteps code n x y → q ≡ ask_of code y → IsFair q
-    → IsAbout o q → z ≡ after_ask code y q (answer_from false c q) → e ≡ cell_after false c q → GoesLone code o (n + 1) x c z e
-goes_lone_by_next_ask code o n x y z c e q went asked fair about is too =
-    let one : GoesLone code o 1 y c z e = (
+pub goes_lone_by_next_ask : (code : List ℕ) (o n : ℕ) (x y z : ThreadState) (source left : Source) (c e : Cell) (q : Ask) → PrivateSteps code n x y
+    → q ≡ ask_of code y → IsFair q → IsAbout o q → IsGiven source q → z ≡ after_ask code y q (answer_from false c source q)
+    → left ≡ left_of given (shared_ask q) source → e ≡ cell_after false c q → GoesLone code o (n + 1) (x, source) c (z, left) e
+goes_lone_by_next_ask code o n x y z source left c e q went asked fair about suits is gives too =
+    let one : GoesLone code o 1 (y, source) c (z, left) e = (
       subst IsFair asked fair,
       subst (IsAbout o) asked about,
+      subst (IsGiven source) asked suits,
       (
-        sym (is ∙ (λ i. after_ask code y (asked i) (answer_from false c (asked i)))),
+        (λ i. (
+          sym (is ∙ (λ j. after_ask code y (asked j) (answer_from false c source (asked j)))) i,
+          sym (gives ∙ (λ j. left_of given (shared_ask (asked j)) source)) i,
+        )),
         sym (too ∙ (λ i. cell_after false c (asked i))),
       ),
     ) in
-    goes_lone_append code o n 1 x y z c c e (goes_lone_by_private_steps code o n x y c went) one
+    goes_lone_append code o n 1 (x, source) (y, source) (z, left) c c e (goes_lone_by_private_steps code o n x y source c went) one
 
-pub takes_turn_by_beginning_and_run : (code : List ℕ) (o : ℕ) (refused : Bool) (x z y : ThreadState) (c e d : Cell) (q : Ask) → ask_of code x ≡ q
-    → MayBegin refused o c.fields q → z ≡ after_ask code x q (answer_from refused c q) → e ≡ cell_after refused c q
-    → (k : ℕ) × GoesLone code o k z e y d → Rests (ask_of code y) → TakesTurn code o refused x c y d
-takes_turn_by_beginning_and_run code o refused x z y c e d q asks begins is too goes rests = record {
+pub takes_turn_by_beginning_and_run : (code : List ℕ) (o : ℕ) (refused : Bool) (x z : ThreadState) (source left : Source) (y : ThreadState × Source)
+    (c e d : Cell) (q : Ask) → ask_of code x ≡ q → MayBegin refused o c.fields q → z ≡ after_ask code x q (answer_from refused c source q)
+    → left ≡ left_of given (shared_ask q) source → e ≡ cell_after refused c q
+    → (k : ℕ) × GoesLone code o k (z, left) e y d → Rests (ask_of code y.0) → TakesTurn code o refused (x, source) c y d
+takes_turn_by_beginning_and_run code o refused x z source left y c e d q asks begins is gives too goes rests = record {
   begins = subst (MayBegin refused o c.fields) (sym asks) begins;
   steps = goes.0;
-  goes = subst (λ s. GoesLone code o goes.0 s (lone_cell code refused x c) y d)
-      (is ∙ (λ i. after_ask code x (sym asks i) (answer_from refused c (sym asks i))))
-      (subst (λ s. GoesLone code o goes.0 z s y d) (too ∙ (λ i. cell_after refused c (sym asks i))) goes.1);
+  goes = subst (λ s. GoesLone code o goes.0 s (lone_cell code refused (x, source) c) y d)
+      (λ i. (
+        (is ∙ (λ j. after_ask code x (sym asks j) (answer_from refused c source (sym asks j)))) i,
+        (gives ∙ (λ j. left_of given (shared_ask (sym asks j)) source)) i,
+      ))
+      (subst (λ s. GoesLone code o goes.0 (z, left) s y d) (too ∙ (λ i. cell_after refused c (sym asks i))) goes.1);
   rests = rests;
 }
 
 -- beside the object the thread is after that too
-pub are_beside_after_beginning : (code : List ℕ) (o : ℕ) (refused : Bool) (x z : ThreadState) (c e : Cell) (q : Ask) → AreBeside code o x c
-    → ask_of code x ≡ q → MayBegin refused o c.fields q → z ≡ after_ask code x q (answer_from refused c q) → e ≡ cell_after refused c q
-    → AreBeside code o z e
-are_beside_after_beginning code o refused x z c e q b asks begins is too =
+pub are_beside_after_beginning : (code : List ℕ) (o : ℕ) (refused : Bool) (x z : ThreadState) (source : Source) (c e : Cell) (q : Ask)
+    → AreBeside code o x c → ask_of code x ≡ q → MayBegin refused o c.fields q → z ≡ after_ask code x q (answer_from refused c source q)
+    → e ≡ cell_after refused c q → AreBeside code o z e
+are_beside_after_beginning code o refused x z source c e q b asks begins is too =
     subst (λ s. AreBeside code o s e) (sym is)
-    (subst (AreBeside code o (after_ask code x q (answer_from refused c q))) (sym too)
-    (are_beside_after_ask code o refused x c q b asks (beginning_is_about o refused c.fields q begins)
-    (λ f there. beginning_may_step f o refused q (subst (λ (s : Cell). MayBegin refused o s.fields q) (sym there) begins))))
+    (subst (AreBeside code o (after_ask code x q (answer_from refused c source q))) (sym too)
+    (are_beside_after_ask code o refused x source c q b asks (beginning_is_about o refused c.fields q begins)
+    (λ f there. subst (λ r. MayStep f r q) (sym (beginning_has_result_by_way o refused c.fields source q begins))
+    (beginning_may_step f o refused q (subst (λ (s : Cell). MayBegin refused o s.fields q) (sym there) begins)))))
 
 -- the form of the image stays
-form_kept_by_lone_run : (code : List ℕ) (o k : ℕ) (x y : ThreadState) (c d : Cell) → GoesLone code o k x c y d → x.form ≡ y.form
-form_kept_by_lone_run code o zero x y c d (same, too) = ap (λ (s : ThreadState). s.form) same
-form_kept_by_lone_run code o (suc k) x y c d (fair, about, more) =
-    (twins_after_ask code x (ask_of code x) (answer_from false c (ask_of code x))).form
+form_kept_by_lone_run : (code : List ℕ) (o k : ℕ) (x y : ThreadState × Source) (c d : Cell) → GoesLone code o k x c y d → x.0.form ≡ y.0.form
+form_kept_by_lone_run code o zero x y c d (same, too) = ap (λ (s : ThreadState × Source). s.0.form) same
+form_kept_by_lone_run code o (suc k) x y c d (fair, about, suits, more) =
+    (twins_after_ask code x.0 (ask_of code x.0) (answer_from false c x.1 (ask_of code x.0))).form
     ∙ form_kept_by_lone_run code o k (lone_thread code false x c) y (lone_cell code false x c) d more
 
-pub form_kept_by_turn : (code : List ℕ) (o : ℕ) (refused : Bool) (x y : ThreadState) (c d : Cell) → TakesTurn code o refused x c y d → x.form ≡ y.form
+pub form_kept_by_turn : (code : List ℕ) (o : ℕ) (refused : Bool) (x y : ThreadState × Source) (c d : Cell) → TakesTurn code o refused x c y d
+    → x.0.form ≡ y.0.form
 form_kept_by_turn code o refused x y c d turn =
-    (twins_after_ask code x (ask_of code x) (answer_from refused c (ask_of code x))).form
+    (twins_after_ask code x.0 (ask_of code x.0) (answer_from refused c x.1 (ask_of code x.0))).form
     ∙ form_kept_by_lone_run code o turn.steps (lone_thread code refused x c) y (lone_cell code refused x c) d turn.goes

@@ -1,15 +1,13 @@
--- Runs of steps that concern no other thread, as a search sees them.
+-- Runs of steps that concern no other thread.
 use Rattle.std.proofs.Common.{◌≡◌, ◌≢◌, ℕ, zero, suc, ◌<◌, Bool, true, false, List, [], ◌∷◌, ◌++◌, inl, inr, Some, None, refl, sym, ap, ◌∙◌, subst, arith, length, length-set, cond, set}
 use Rattle.std.specs.Prelude.{◌==◌, replicate}
-use Rattle.std.proofs.lemmas.Bool.{cases_eq}
 use Rattle.ir_runs.specs.Machine as machine
-use Rattle.ir_runs.specs.Machine.{Machine, upd, target, reply, acted}
+use Rattle.ir_runs.specs.Machine.{target, reply, upd}
 use Rattle.ir_runs.specs.Run.{State, Step, asked, act, Can, after, end, IsRun}
-use Rattle.ir_runs.proofs.CallerLemmas.{upd_at_own_place, upd_at_other_place, upd_by_cases, thread_after_step_of_other, end_append}
-use Rattle.ir_states.specs.Counting.{IsAnswered, Counts, is_own, GoesAhead}
-use Rattle.ir_states.specs.Sources.{Giving, answer_of, left_of, sourced, by_source}
-use Rattle.ir_states.specs.Views.{viewed, beside}
-use Rattle.ir_states.proofs.CallerLemmas.{sourced_view_is_view, viewed_end, viewed_counts}
+use Rattle.ir_runs.proofs.CallerLemmas.{upd_by_cases, upd_with_old_value, thread_after_step_of_other, end_append}
+use Rattle.ir_states.specs.Counting.{IsAnswered, is_own}
+use Rattle.ir_states.specs.Sources.{answer_of, left_of}
+use Rattle.ir_states.specs.Views.{beside}
 use Rattle.ir_thread.specs.State.{ask_of, after_ask, after_reply, held_after_try, thread_machine, shared_ask, reply_of}
 use Rattle.ir_thread.specs.State as thread
 use Rattle.ir_thread.specs.declared.ask.Ask.{Ask}
@@ -17,142 +15,35 @@ use Rattle.ir_thread.specs.declared.ask.Ask.TheVariants as ask
 use Rattle.ir_thread.specs.declared.ask.Reply.{Reply}
 use Rattle.ir_thread.specs.declared.ask.Reply.TheVariants.{Go, Value}
 use Rattle.ir_runs.specs.declared.access.Access.TheVariants.{Writing}
+use Rattle.ir_sources.specs.Sources.{Source, given}
 use Rattle.ir_freeze.specs.Twins.{AreTwins}
-use Rattle.ir_seen.specs.Seen.{view, seen_machine, IsLive}
-use Rattle.ir_seen.proofs.CallerLemmas.{seen_machine_is_view, view_asks_same_or_spent}
+use Rattle.ir_seen.specs.Seen.{IsLive}
+use Rattle.ir_seen.proofs.CallerLemmas.{view_asks_same_or_spent}
 use Rattle.ir_flat.specs.Alone.{WentAlone}
 use Rattle.ir_flat.specs.Flat.{Flat, tables, machine, thread_of}
-use Rattle.ir_graph.specs.Plain.{is_plain, IsPlainRun, GoesPlain, OthersStay, IsLike, Rests, IsFair}
+use Rattle.ir_store.specs.Nodes.{SourcedFlat, source_of}
+use Rattle.ir_graph.specs.Plain.{full_by, full_of, sourced_flat, IsAnsweredRun, IsPlainRun, GoesPlain, OthersStay, IsLike, Rests, IsFair}
+use Rattle.ir_graph.proofs.Full.{after_step_beside_sources, after_step_beside_same_sources, source_of_set, tables_at_end, plain_run_append, plain_run_is_answered}
 
-pub plain_ask_is_own : (q : machine.Ask) → is_plain q ≡ true → is_own q ≡ true
-plain_ask_is_own machine.Private h = refl
-plain_ask_is_own (machine.Env k) h = absurd (cc h)
-plain_ask_is_own (machine.Enter o a) h = absurd (cc h)
-plain_ask_is_own (machine.Try o) h = absurd (cc h)
-plain_ask_is_own (machine.Leave o a) h = refl
-plain_ask_is_own (machine.Get o i) h = refl
-plain_ask_is_own (machine.Put o i v) h = refl
-plain_ask_is_own machine.Done h = absurd (cc h)
+-- what a step of a thread makes of a guest's state
+pub record TakesStep (s u : SourcedFlat) (t r : ℕ) : Type 0 where
+  pub can : Can (machine s.flat) (tables s.flat) (t, r)
+  pub is : full_of u ≡ after (full_by s.flat.code) (full_of s) (t, r)
+  pub code : u.flat.code ≡ s.flat.code
+  pub threads : length u.flat.threads ≡ length s.flat.threads
+  pub objects : length u.flat.objects ≡ length s.flat.objects
+  pub sources : length u.sources ≡ length s.sources
 
-plain_ask_is_answered : (q : machine.Ask) (answer r : ℕ) → is_plain q ≡ true → IsAnswered q answer r
-plain_ask_is_answered machine.Private answer r h = tt
-plain_ask_is_answered (machine.Env k) answer r h = absurd (cc h)
-plain_ask_is_answered (machine.Enter o a) answer r h = absurd (cc h)
-plain_ask_is_answered (machine.Try o) answer r h = absurd (cc h)
-plain_ask_is_answered (machine.Leave o a) answer r h = tt
-plain_ask_is_answered (machine.Get o i) answer r h = tt
-plain_ask_is_answered (machine.Put o i v) answer r h = tt
-plain_ask_is_answered machine.Done answer r h = absurd (cc h)
+-- the state after it, each thread beside its source
+pub full_after_step : (s u : SourcedFlat) (t r : ℕ) → tables u.flat ≡ after (machine s.flat) (tables s.flat) (t, r)
+    → source_of u ≡ upd (source_of s) t (left_of given (shared_ask (ask_of s.flat.code (thread_of s.flat t))) (source_of s t))
+    → full_of u ≡ after (full_by s.flat.code) (full_of s) (t, r)
+full_after_step s u t r is left =
+    ap (λ z. beside z (source_of u)) is
+    ∙ ap (beside (after (machine s.flat) (tables s.flat) (t, r))) left
+    ∙ sym (after_step_beside_sources (machine s.flat) given (tables s.flat) (source_of s) (t, r))
 
-source_left_by_plain_ask : {S : Type 0} (given : Giving S) (q : machine.Ask) (source : S) → is_plain q ≡ true → left_of given q source ≡ source
-source_left_by_plain_ask given machine.Private source h = refl
-source_left_by_plain_ask given (machine.Env k) source h = absurd (cc h)
-source_left_by_plain_ask given (machine.Enter o a) source h = refl
-source_left_by_plain_ask given (machine.Try o) source h = refl
-source_left_by_plain_ask given (machine.Leave o a) source h = refl
-source_left_by_plain_ask given (machine.Get o i) source h = refl
-source_left_by_plain_ask given (machine.Put o i v) source h = refl
-source_left_by_plain_ask given machine.Done source h = refl
-
--- a step that leaves its thread's source leaves all sources
-abbrev pub paired : {T S : Type 0} → (ℕ → T) → (ℕ → S) → ℕ → T × S
-paired now sources u = (now u, sources u)
-
-update_of_paired_tables : {T S : Type 0} (now : ℕ → T) (sources : ℕ → S) (t : ℕ) (x : T) (source : S) → source ≡ sources t
-    → upd {A = T × S} (paired now sources) t (x, source) ≡ paired (upd now t x) sources
-update_of_paired_tables {T} {S} now sources t x source same = λ i u. at u i
-  where
-    at : (u : ℕ) → upd {A = T × S} (paired now sources) t (x, source) u ≡ paired (upd now t x) sources u
-    at u = elim (cases_eq u t) [
-      | inl is ↦ subst (λ z. upd {A = T × S} (paired now sources) t (x, source) z ≡ paired (upd now t x) sources z) (sym is)
-          (upd_at_own_place (paired now sources) t (x, source) ∙ (λ i. (sym (upd_at_own_place now t x) i, same i)))
-      | inr other ↦ upd_at_other_place (paired now sources) t u (x, source) other ∙ (λ i. (sym (upd_at_other_place now t u x other) i, sources u))
-    ]
-
-after_step_beside_sources : {T S : Type 0} (m : Machine T) (given : Giving S) (s : State T) (sources : ℕ → S) (e : Step)
-    → left_of given (asked m s e.0) (sources e.0) ≡ sources e.0 → after (sourced m given) (beside s sources) e ≡ beside (after m s e) sources
-unfolding after
-after_step_beside_sources m given s sources e same = λ i. record {
-  now = update_of_paired_tables s.now sources e.0 (m.take (s.now e.0) (reply (act m s e) (s.objects (target (act m s e)))))
-      (left_of given (asked m s e.0) (sources e.0)) same i;
-  objects = upd s.objects (target (act m s e)) (acted (act m s e) e.0 (s.objects (target (act m s e))));
-}
-
-module _ {S : Type 0} (code : List ℕ) (given : Giving S) (sources : ℕ → S) where
-  -- a guest's threads and objects as a search sees them, beside these sources
-  abbrev pub seen : State thread.ThreadState → State (thread.ThreadState × S)
-  seen s = beside (viewed view s) sources
-
-  pub seen_after : (s : State thread.ThreadState) (e : Step) → IsLive code (s.now e.0)
-      → left_of given (asked (thread_machine code) s e.0) (sources e.0) ≡ sources e.0
-      → after (sourced (seen_machine code) given) (seen s) e ≡ seen (after (thread_machine code) s e)
-  seen_after s e live same =
-      viewed_end (sourced (thread_machine code) given) (sourced (seen_machine code) given) (λ x. (view x.0, x.1)) (λ x. IsLive code x.0)
-      (sourced_view_is_view (thread_machine code) (seen_machine code) view (IsLive code) given (seen_machine_is_view code)) (beside s sources) (e ∷ []) (live, tt)
-      ∙ ap (viewed (λ x. (view x.0, x.1))) (after_step_beside_sources (thread_machine code) given s sources e same)
-
-  pub seen_takes : (s : State thread.ThreadState) (e : Step) → IsLive code (s.now e.0) → Can (thread_machine code) s e
-      → IsAnswered (asked (thread_machine code) s e.0) (answer_of given (asked (thread_machine code) s e.0) (sources e.0)) e.1
-      → Counts (sourced (seen_machine code) given) (by_source (seen_machine code) given) (seen s) (e ∷ [])
-  seen_takes s e live can answered =
-      (viewed_counts (sourced (thread_machine code) given) (sourced (seen_machine code) given) (λ x. (view x.0, x.1)) (λ x. IsLive code x.0)
-      (sourced_view_is_view (thread_machine code) (seen_machine code) view (IsLive code) given (seen_machine_is_view code))
-      (by_source (thread_machine code) given) (by_source (seen_machine code) given)
-      (λ t x l. ap (λ q. answer_of given q x.1) ((seen_machine_is_view code).asks x.0 l)) (beside s sources) (e ∷ []) (live, tt)).0
-      ((can, answered), tt)
-
-  -- a step that is seen is one
-  pub seen_can : (s : State thread.ThreadState) (e : Step) → IsLive code (s.now e.0) → Can (sourced (seen_machine code) given) (seen s) e
-      → IsAnswered (asked (thread_machine code) s e.0) (answer_of given (asked (thread_machine code) s e.0) (sources e.0)) e.1
-      → Can (thread_machine code) s e
-  seen_can s e live can answered =
-      let h = (viewed_counts (sourced (thread_machine code) given) (sourced (seen_machine code) given) (λ x. (view x.0, x.1))
-      (λ x. IsLive code x.0)
-      (sourced_view_is_view (thread_machine code) (seen_machine code) view (IsLive code) given (seen_machine_is_view code))
-      (by_source (thread_machine code) given) (by_source (seen_machine code) given)
-      (λ t x l. ap (λ q. answer_of given q x.1) ((seen_machine_is_view code).asks x.0 l)) (beside s sources) (e ∷ []) (live, tt)).1
-      ((can, subst (λ q. IsAnswered q (answer_of given q (sources e.0)) e.1) (sym ((seen_machine_is_view code).asks (s.now e.0) live)) answered), tt) in
-      h.0.0
-
-  -- the threads go ahead so, and come to the view of the run's end
-  pub plain_ahead : (s : State thread.ThreadState) (run : List Step) → IsPlainRun code s run
-      → GoesAhead (sourced (seen_machine code) given) (by_source (seen_machine code) given) (seen s) run
-      × (end (sourced (seen_machine code) given) (seen s) run ≡ seen (end (thread_machine code) s run))
-  plain_ahead s [] plain = (tt, refl)
-  plain_ahead s (e ∷ run) (can, live, is, rest) =
-      let q : machine.Ask = asked (thread_machine code) s e.0 in
-      let more = plain_ahead (after (thread_machine code) s e) run rest in
-      let step = seen_after s e live (source_left_by_plain_ask given q (sources e.0) is) in
-      let takes = seen_takes s e live can (plain_ask_is_answered q (answer_of given q (sources e.0)) e.1 is) in (
-        (
-          ap is_own ((seen_machine_is_view code).asks (s.now e.0) live) ∙ plain_ask_is_own q is,
-          takes.0,
-          subst (λ z. GoesAhead (sourced (seen_machine code) given) (by_source (seen_machine code) given) z run) (sym step) more.0,
-        ),
-        ap (λ z. end (sourced (seen_machine code) given) z run) step ∙ more.1,
-      )
-
--- one run after the other
-plain_run_append : (code : List ℕ) (s : State thread.ThreadState) (run more : List Step) → IsPlainRun code s run
-    → IsPlainRun code (end (thread_machine code) s run) more → IsPlainRun code s (run ++ more)
-plain_run_append code s [] more plain after_it = after_it
-plain_run_append code s (e ∷ run) more (can, live, is, rest) after_it =
-    (can, live, is, plain_run_append code (after (thread_machine code) s e) run more rest after_it)
-
-pub goes_plain_reflexive : (f : Flat) → GoesPlain f f
-goes_plain_reflexive f = record { ahead = []; plain = tt; ends = refl; code = refl; threads = refl; objects = refl }
-
-pub goes_plain_transitive : (f g h : Flat) → GoesPlain f g → GoesPlain g h → GoesPlain f h
-goes_plain_transitive f g h a b = record {
-  ahead = a.ahead ++ b.ahead;
-  plain = plain_run_append f.code (tables f) a.ahead b.ahead a.plain
-      (subst (λ z. IsPlainRun f.code z b.ahead) a.ends (subst (λ z. IsPlainRun z (tables g) b.ahead) a.code b.plain));
-  ends = b.ends ∙ ap (λ z. end (thread_machine z) (tables g) b.ahead) a.code ∙ ap (λ z. end (machine f) z b.ahead) a.ends
-      ∙ sym (end_append (machine f) (tables f) a.ahead b.ahead);
-  code = b.code ∙ a.code;
-  threads = b.threads ∙ a.threads;
-  objects = b.objects ∙ a.objects;
-}
+-- ---- what threads ask
 
 -- a thread that may go on is live
 pub fair_thread_is_live : (code : List ℕ) (s : thread.ThreadState) → IsFair (ask_of code s) → IsLive code s
@@ -170,56 +61,199 @@ resting_thread_is_live code s rests = elim (view_asks_same_or_spent code s) [
   | inr (inr spent) ↦ absurd (subst Rests spent rests)
 ]
 
-pub fair_ask_is_plain : (q : Ask) → IsFair q → is_plain (shared_ask q) ≡ true
-fair_ask_is_plain ask.Private h = refl
-fair_ask_is_plain (ask.Env k) h = absurd h
-fair_ask_is_plain (ask.Enter o a) h = absurd h
-fair_ask_is_plain (ask.Try o) h = absurd h
-fair_ask_is_plain (ask.Leave o a) h = refl
-fair_ask_is_plain (ask.Get o i) h = refl
-fair_ask_is_plain (ask.Put o i v) h = refl
-fair_ask_is_plain ask.Print h = refl
-fair_ask_is_plain (ask.End e) h = refl
-fair_ask_is_plain ask.Done h = absurd h
+pub fair_ask_is_own : (q : Ask) → IsFair q → is_own (shared_ask q) ≡ true
+fair_ask_is_own ask.Private h = refl
+fair_ask_is_own (ask.Env k) h = refl
+fair_ask_is_own (ask.Enter o a) h = absurd h
+fair_ask_is_own (ask.Try o) h = absurd h
+fair_ask_is_own (ask.Leave o a) h = refl
+fair_ask_is_own (ask.Get o i) h = refl
+fair_ask_is_own (ask.Put o i v) h = refl
+fair_ask_is_own ask.Print h = refl
+fair_ask_is_own (ask.End e) h = refl
+fair_ask_is_own ask.Done h = absurd h
 
--- one step of a thread that may go on
-pub goes_plain_by_fair_step : (f g : Flat) (t r : ℕ) → IsFair (ask_of f.code (thread_of f t)) → Can (machine f) (tables f) (t, r)
+-- the answer of the source answers each ask
+pub answer_is_answered : (q : machine.Ask) (source : Source) (r : ℕ) → r ≡ answer_of given q source → IsAnswered q (answer_of given q source) r
+answer_is_answered machine.Private source r is = tt
+answer_is_answered (machine.Env k) source r is = is
+answer_is_answered (machine.Enter o a) source r is = tt
+answer_is_answered (machine.Try o) source r is = tt
+answer_is_answered (machine.Leave o a) source r is = tt
+answer_is_answered (machine.Get o i) source r is = tt
+answer_is_answered (machine.Put o i v) source r is = tt
+answer_is_answered machine.Done source r is = tt
+
+-- what a thread that rests asks of others
+pub rest_ask_is_not_own : (q : Ask) → Rests q → is_own (shared_ask q) ≡ false
+rest_ask_is_not_own ask.Private h = absurd h
+rest_ask_is_not_own (ask.Env k) h = absurd h
+rest_ask_is_not_own (ask.Enter o a) h = refl
+rest_ask_is_not_own (ask.Try o) h = refl
+rest_ask_is_not_own (ask.Leave o a) h = absurd h
+rest_ask_is_not_own (ask.Get o i) h = absurd h
+rest_ask_is_not_own (ask.Put o i v) h = absurd h
+rest_ask_is_not_own ask.Print h = absurd h
+rest_ask_is_not_own (ask.End e) h = absurd h
+rest_ask_is_not_own ask.Done h = refl
+
+source_left_by_rest_ask : (q : Ask) (source : Source) → Rests q → left_of given (shared_ask q) source ≡ source
+source_left_by_rest_ask ask.Private source h = absurd h
+source_left_by_rest_ask (ask.Env k) source h = absurd h
+source_left_by_rest_ask (ask.Enter o a) source h = refl
+source_left_by_rest_ask (ask.Try o) source h = refl
+source_left_by_rest_ask (ask.Leave o a) source h = absurd h
+source_left_by_rest_ask (ask.Get o i) source h = absurd h
+source_left_by_rest_ask (ask.Put o i v) source h = absurd h
+source_left_by_rest_ask ask.Print source h = absurd h
+source_left_by_rest_ask (ask.End e) source h = absurd h
+source_left_by_rest_ask ask.Done source h = refl
+
+pub rest_ask_is_answered : (q : Ask) (answer r : ℕ) → Rests q → IsAnswered (shared_ask q) answer r
+rest_ask_is_answered ask.Private answer r h = absurd h
+rest_ask_is_answered (ask.Env k) answer r h = absurd h
+rest_ask_is_answered (ask.Enter o a) answer r h = tt
+rest_ask_is_answered (ask.Try o) answer r h = tt
+rest_ask_is_answered (ask.Leave o a) answer r h = absurd h
+rest_ask_is_answered (ask.Get o i) answer r h = absurd h
+rest_ask_is_answered (ask.Put o i v) answer r h = absurd h
+rest_ask_is_answered ask.Print answer r h = absurd h
+rest_ask_is_answered (ask.End e) answer r h = absurd h
+rest_ask_is_answered ask.Done answer r h = tt
+
+-- ---- steps of a guest's state
+
+-- a thread that rests takes a step, which leaves the sources
+pub step_at_rest : (f g : Flat) (sources : List Source) (t r : ℕ) → Rests (ask_of f.code (thread_of f t)) → Can (machine f) (tables f) (t, r)
     → tables g ≡ after (machine f) (tables f) (t, r) → g.code ≡ f.code → length g.threads ≡ length f.threads
-    → length g.objects ≡ length f.objects → GoesPlain f g
-goes_plain_by_fair_step f g t r fair can is code threads objects = record {
+    → length g.objects ≡ length f.objects → TakesStep (sourced_flat f sources) (sourced_flat g sources) t r
+step_at_rest f g sources t r rests can is code threads objects = record {
+  can = can;
+  is = full_after_step (sourced_flat f sources) (sourced_flat g sources) t r is
+      (sym (upd_with_old_value (source_of (sourced_flat f sources)) t
+      (left_of given (shared_ask (ask_of f.code (thread_of f t))) (source_of (sourced_flat f sources) t))
+      (sym (source_left_by_rest_ask (ask_of f.code (thread_of f t)) (source_of (sourced_flat f sources) t) rests))));
+  code = code;
+  threads = threads;
+  objects = objects;
+  sources = refl;
+}
+
+-- a thread takes a step, which leaves this of its source
+pub step_beside_source : (f g : Flat) (sources : List Source) (a : Source) (t r : ℕ) → t < length sources → Can (machine f) (tables f) (t, r)
+    → tables g ≡ after (machine f) (tables f) (t, r)
+    → a ≡ left_of given (shared_ask (ask_of f.code (thread_of f t))) (source_of (sourced_flat f sources) t)
+    → g.code ≡ f.code → length g.threads ≡ length f.threads → length g.objects ≡ length f.objects
+    → TakesStep (sourced_flat f sources) (sourced_flat g (set sources t a)) t r
+step_beside_source f g sources a t r less can is left code threads objects = record {
+  can = can;
+  is = full_after_step (sourced_flat f sources) (sourced_flat g (set sources t a)) t r is
+      (source_of_set sources t a less ∙ ap (upd (source_of (sourced_flat f sources)) t) left);
+  code = code;
+  threads = threads;
+  objects = objects;
+  sources = length-set sources t a;
+}
+
+-- a step of a thread that rests is an answered run
+pub step_at_rest_is_answered_run : (s u : SourcedFlat) (t r : ℕ) → Rests (ask_of s.flat.code (thread_of s.flat t)) → TakesStep s u t r
+    → IsAnsweredRun s.flat.code (full_of s) ((t, r) ∷ [])
+step_at_rest_is_answered_run s u t r rests step = (
+  ((step.can, rest_ask_is_answered (ask_of s.flat.code (thread_of s.flat t)) _ r rests), tt),
+  (resting_thread_is_live s.flat.code (thread_of s.flat t) rests, tt),
+)
+
+-- ---- steps ahead
+
+pub goes_plain_reflexive : (s : SourcedFlat) → GoesPlain s s
+goes_plain_reflexive s =
+    record { ahead = []; plain = (tt, tt); ends = refl; code = refl; threads = refl; objects = refl; sources = refl }
+
+pub goes_plain_transitive : (s u w : SourcedFlat) → GoesPlain s u → GoesPlain u w → GoesPlain s w
+goes_plain_transitive s u w a b = record {
+  ahead = a.ahead ++ b.ahead;
+  plain = plain_run_append s.flat.code (full_of s) a.ahead b.ahead a.plain
+      (subst (λ z. IsPlainRun s.flat.code z b.ahead) a.ends (subst (λ z. IsPlainRun z (full_of u) b.ahead) a.code b.plain));
+  ends = b.ends ∙ ap (λ z. end (full_by z) (full_of u) b.ahead) a.code ∙ ap (λ z. end (full_by s.flat.code) z b.ahead) a.ends
+      ∙ sym (end_append (full_by s.flat.code) (full_of s) a.ahead b.ahead);
+  code = b.code ∙ a.code;
+  threads = b.threads ∙ a.threads;
+  objects = b.objects ∙ a.objects;
+  sources = b.sources ∙ a.sources;
+}
+
+-- one step of a thread that may go on is such a run
+pub fair_step_is_plain_run : (s : SourcedFlat) (t r : ℕ) → IsFair (ask_of s.flat.code (thread_of s.flat t)) → Can (machine s.flat) (tables s.flat) (t, r)
+    → IsAnswered (shared_ask (ask_of s.flat.code (thread_of s.flat t)))
+    (answer_of given (shared_ask (ask_of s.flat.code (thread_of s.flat t))) (source_of s t)) r
+    → IsPlainRun s.flat.code (full_of s) ((t, r) ∷ [])
+fair_step_is_plain_run s t r fair can answered = (
+  (fair_ask_is_own (ask_of s.flat.code (thread_of s.flat t)) fair, (can, answered), tt),
+  (fair_thread_is_live s.flat.code (thread_of s.flat t) fair, tt),
+)
+
+pub goes_plain_by_fair_step : (s u : SourcedFlat) (t r : ℕ) → IsFair (ask_of s.flat.code (thread_of s.flat t))
+    → IsAnswered (shared_ask (ask_of s.flat.code (thread_of s.flat t)))
+    (answer_of given (shared_ask (ask_of s.flat.code (thread_of s.flat t))) (source_of s t)) r
+    → Can (machine s.flat) (tables s.flat) (t, r) → full_of u ≡ after (full_by s.flat.code) (full_of s) (t, r) → u.flat.code ≡ s.flat.code
+    → length u.flat.threads ≡ length s.flat.threads → length u.flat.objects ≡ length s.flat.objects → length u.sources ≡ length s.sources
+    → GoesPlain s u
+goes_plain_by_fair_step s u t r fair answered can is code threads objects sources = record {
   ahead = (t, r) ∷ [];
-  plain = (can, fair_thread_is_live f.code (thread_of f t) fair, fair_ask_is_plain (ask_of f.code (thread_of f t)) fair, tt);
+  plain = fair_step_is_plain_run s t r fair can answered;
   ends = is;
   code = code;
   threads = threads;
   objects = objects;
+  sources = sources;
 }
 
-pub private_steps_are_plain_run : (code : List ℕ) (s : State thread.ThreadState) (t n : ℕ) → IsRun (thread_machine code) s (replicate n (t, 0))
+-- private steps, whatever the sources
+pub private_steps_are_plain_run : (code : List ℕ) (s : State thread.ThreadState) (sources : ℕ → Source) (t n : ℕ)
+    → IsRun (thread_machine code) s (replicate n (t, 0))
     → ((k : ℕ) → k < n → ask_of code ((end (thread_machine code) s (replicate k (t, 0))).now t) ≡ ask.Private)
-    → IsPlainRun code s (replicate n (t, 0))
-private_steps_are_plain_run code s t zero run each = tt
-private_steps_are_plain_run code s t (suc n) run each =
+    → IsPlainRun code (beside s sources) (replicate n (t, 0))
+    × (end (full_by code) (beside s sources) (replicate n (t, 0)) ≡ beside (end (thread_machine code) s (replicate n (t, 0))) sources)
+private_steps_are_plain_run code s sources t zero run each = ((tt, tt), refl)
+private_steps_are_plain_run code s sources t (suc n) run each =
     let first : ask_of code (s.now t) ≡ ask.Private = each 0 (omega arith) in
     let fair : IsFair (ask_of code (s.now t)) = subst IsFair (sym first) tt in
-    let more = private_steps_are_plain_run code (after (thread_machine code) s (t, 0)) t n run.1 (λ k l. each (suc k) (omega (arith, l))) in
-    (run.0, fair_thread_is_live code (s.now t) fair, fair_ask_is_plain (ask_of code (s.now t)) fair, more)
+    let answered : IsAnswered (shared_ask (ask_of code (s.now t))) (answer_of given (shared_ask (ask_of code (s.now t))) (sources t)) 0 =
+    subst (λ q. IsAnswered (shared_ask q) (answer_of given (shared_ask q) (sources t)) 0) (sym first) tt in
+    let left : left_of given (shared_ask (ask_of code (s.now t))) (sources t) ≡ sources t = ap (λ q. left_of given (shared_ask q) (sources t)) first in
+    let one : after (full_by code) (beside s sources) (t, 0) ≡ beside (after (thread_machine code) s (t, 0)) sources =
+    after_step_beside_same_sources (thread_machine code) given s sources (t, 0) left in
+    let more = private_steps_are_plain_run code (after (thread_machine code) s (t, 0)) sources t n run.1 (λ k l. each (suc k) (omega (arith, l))) in
+    let rest = subst (λ z. IsPlainRun code z (replicate n (t, 0))) (sym one) more.0 in (
+      (
+        (fair_ask_is_own (ask_of code (s.now t)) fair, (run.0, answered), rest.0),
+        (fair_thread_is_live code (s.now t) fair, rest.1),
+      ),
+      ap (λ z. end (full_by code) z (replicate n (t, 0))) one ∙ more.1,
+    )
 
--- private steps
-pub goes_plain_by_private_steps : (f g : Flat) (t n : ℕ) → WentAlone f g t n → GoesPlain f g
-goes_plain_by_private_steps f g t n w =
-    record {
+pub goes_plain_by_private_steps : (f g : Flat) (sources : List Source) (t n : ℕ) → WentAlone f g t n
+    → GoesPlain (sourced_flat f sources) (sourced_flat g sources)
+goes_plain_by_private_steps f g sources t n w =
+    let p = private_steps_are_plain_run f.code (tables f) (source_of (sourced_flat f sources)) t n w.runs w.each in record {
       ahead = replicate n (t, 0);
-      plain = private_steps_are_plain_run f.code (tables f) t n w.runs w.each;
-      ends = w.ends;
+      plain = p.0;
+      ends = ap (λ z. beside z (source_of (sourced_flat f sources))) w.ends ∙ sym p.1;
       code = w.code;
       threads = w.threads;
       objects = w.objects;
+      sources = refl;
     }
 
--- steps of one thread leave the others
-pub others_stay_after_step : (f g : Flat) (t r : ℕ) → tables g ≡ after (machine f) (tables f) (t, r) → OthersStay f g t
-others_stay_after_step f g t r is u ne = ap (λ z. z.now u) is ∙ thread_after_step_of_other (machine f) (tables f) (t, r) u ne
+-- ---- steps of one thread leave the others
+
+pub others_stay_after_step : (s u : SourcedFlat) (t r : ℕ) → full_of u ≡ after (full_by s.flat.code) (full_of s) (t, r) → OthersStay s u t
+others_stay_after_step s u t r is =
+    let same : (v : ℕ) → v ≢ t → (full_of u).now v ≡ (full_of s).now v =
+    λ v ne. ap (λ z. z.now v) is ∙ thread_after_step_of_other (full_by s.flat.code) (full_of s) (t, r) v ne in record {
+      threads = λ v ne. ap (λ z. z.0) (same v ne);
+      sources = λ v ne. ap (λ z. z.1) (same v ne);
+    }
 
 others_kept_by_repeated_steps : (code : List ℕ) (s : State thread.ThreadState) (t n u : ℕ) → u ≢ t
     → (end (thread_machine code) s (replicate n (t, 0))).now u ≡ s.now u
@@ -227,11 +261,21 @@ others_kept_by_repeated_steps code s t zero u ne = refl
 others_kept_by_repeated_steps code s t (suc n) u ne =
     others_kept_by_repeated_steps code (after (thread_machine code) s (t, 0)) t n u ne ∙ thread_after_step_of_other (thread_machine code) s (t, 0) u ne
 
-pub others_stay_after_private_steps : (f g : Flat) (t n : ℕ) → WentAlone f g t n → OthersStay f g t
-others_stay_after_private_steps f g t n w u ne = ap (λ z. z.now u) w.ends ∙ others_kept_by_repeated_steps f.code (tables f) t n u ne
+pub others_stay_after_private_steps : (f g : Flat) (sources : List Source) (t n : ℕ) → WentAlone f g t n
+    → OthersStay (sourced_flat f sources) (sourced_flat g sources) t
+others_stay_after_private_steps f g sources t n w = record {
+  threads = λ u ne. ap (λ z. z.now u) w.ends ∙ others_kept_by_repeated_steps f.code (tables f) t n u ne;
+  sources = λ u ne. refl;
+}
 
-pub others_stay_transitive : (f g h : Flat) (t : ℕ) → OthersStay f g t → OthersStay g h t → OthersStay f h t
-others_stay_transitive f g h t a b u ne = b u ne ∙ a u ne
+pub others_stay_reflexive : (s : SourcedFlat) (t : ℕ) → OthersStay s s t
+others_stay_reflexive s t = record { threads = λ u ne. refl; sources = λ u ne. refl }
+
+pub others_stay_transitive : (s u w : SourcedFlat) (t : ℕ) → OthersStay s u t → OthersStay u w t → OthersStay s w t
+others_stay_transitive s u w t a b = record {
+  threads = λ v ne. b.threads v ne ∙ a.threads v ne;
+  sources = λ v ne. b.sources v ne ∙ a.sources v ne;
+}
 
 -- a step leaves what never changes of a thread
 pub twins_after_ask : (code : List ℕ) (s : thread.ThreadState) (q : Ask) (r : Reply) → AreTwins s (after_ask code s q r)
@@ -285,22 +329,22 @@ twins_after_run code s (e ∷ run) u =
     twins_transitive (s.now u) ((after (thread_machine code) s e).now u) ((end (thread_machine code) (after (thread_machine code) s e) run).now u)
     (twins_after_step code s e u) (twins_after_run code (after (thread_machine code) s e) run u)
 
-pub like_after_step : (f g : Flat) (t r : ℕ) → tables g ≡ after (machine f) (tables f) (t, r) → g.code ≡ f.code
-    → length g.threads ≡ length f.threads → length g.objects ≡ length f.objects → IsLike f g
-like_after_step f g t r is code threads objects = record {
+-- a run leaves what never changes
+pub like_after_run : (s u : SourcedFlat) (run : List Step) → full_of u ≡ end (full_by s.flat.code) (full_of s) run → u.flat.code ≡ s.flat.code
+    → length u.flat.threads ≡ length s.flat.threads → length u.flat.objects ≡ length s.flat.objects → IsLike s.flat u.flat
+like_after_run s u run ends code threads objects = record {
   code = code;
   threads = threads;
   objects = objects;
-  twins = λ u. subst (AreTwins (thread_of f u)) (ap (λ z. z.now u) (sym is)) (twins_after_step f.code (tables f) (t, r) u);
+  twins = λ v. subst (AreTwins (thread_of s.flat v)) (ap (λ z. z.now v) (sym (tables_at_end s u run ends)))
+      (twins_after_run s.flat.code (tables s.flat) run v);
 }
 
-pub like_after_plain_steps : (f g : Flat) → GoesPlain f g → IsLike f g
-like_after_plain_steps f g p = record {
-  code = p.code;
-  threads = p.threads;
-  objects = p.objects;
-  twins = λ u. subst (AreTwins (thread_of f u)) (ap (λ z. z.now u) (sym p.ends)) (twins_after_run f.code (tables f) p.ahead u);
-}
+pub like_after_step : (s u : SourcedFlat) (t r : ℕ) → TakesStep s u t r → IsLike s.flat u.flat
+like_after_step s u t r step = like_after_run s u ((t, r) ∷ []) step.is step.code step.threads step.objects
+
+pub like_after_plain_steps : (s u : SourcedFlat) → GoesPlain s u → IsLike s.flat u.flat
+like_after_plain_steps s u p = like_after_run s u p.ahead p.ends p.code p.threads p.objects
 
 pub like_transitive : (f g h : Flat) → IsLike f g → IsLike g h → IsLike f h
 like_transitive f g h a b = record {

@@ -2,14 +2,13 @@
 use Rattle.std.proofs.Common.{◌≡◌, ℕ, Bool, Option, List, length, subst}
 use Rattle.std.specs.Global.{Vec}
 use Rattle.std.specs.Prelude.{Result, Ok, Err, OnOk, IfOk, IfErr}
-use Rattle.ir_image.specs.Guest.{Guest}
 use Rattle.ir_explore.specs.declared.origin.Origin.{Origin}
 use Rattle.ir_explore.specs.declared.origin.Refusal.{Refusal}
-use Rattle.ir_thread.specs.declared.profile.Profile.{Profile}
 use Rattle.ir_explore.specs.Levels.{AreAsked, AreGoneOver, Covered}
 use Rattle.ir_explore.specs.Searching.{HasGone}
 use Rattle.ir_explore.proofs.CallerLemmas.{covered_below_gone_over_level}
-use Rattle.ir_flat.specs.Flat.{Flat}
+use Rattle.ir_store.specs.Nodes.{SourcedFlat}
+use Rattle.ir_graph.specs.Setup.{Setup}
 use Rattle.ir_graph.specs.Graph.{IsGraph}
 use Rattle.ir_graph.specs.Hangs.{AllStand, AreWays, AreMarked}
 use Rattle.ir_graph.specs.Notes.{noted_by}
@@ -18,10 +17,10 @@ use Rattle.ir_graph.specs.Searched.{AreSearched}
 use Rattle.ir_graph.proofs.Hangs.{are_marked, all_stand}
 use Rattle.ir_graph.proofs.Listed.{all_listed_if_all_asked, within_listed_if_covered}
 
-module _ (guest : Guest) (profile : Profile) (flats : List Flat) (rows tries : List (Vec (Option (Option ℕ)))) (origins : List Origin)
-    (refusals : List Refusal) (threads levels : ℕ) (graph : IsGraph guest profile flats (noted_by rows tries) (length rows))
+module _ (x : Setup) (flats : List SourcedFlat) (rows tries : List (Vec (Option (Option ℕ)))) (origins : List Origin)
+    (refusals : List Refusal) (threads levels : ℕ) (graph : IsGraph x flats (noted_by rows tries) (length rows))
     (same : threads ≡ length rows) (has : HasGone (noted_by rows tries) threads (length flats) origins refusals levels) where
-  pub searched_by : AreSearched guest profile flats origins levels
+  pub searched_by : AreSearched x flats origins levels
   searched_by = record {
     states = graph.nodes;
     reached = graph.reached;
@@ -29,7 +28,7 @@ module _ (guest : Guest) (profile : Profile) (flats : List Flat) (rows tries : L
     rising = has.rising;
     most = has.most;
     within = λ c less.
-        within_listed_if_covered guest profile flats (noted_by rows tries) (length rows) graph origins has.first has.few c
+        within_listed_if_covered x flats (noted_by rows tries) (length rows) graph origins has.first has.few c
         (subst (λ z. Covered (noted_by rows tries) z origins c) same (covered_below_gone_over_level (noted_by rows tries) threads origins levels c less has.gone));
   }
 
@@ -37,17 +36,17 @@ module _ (guest : Guest) (profile : Profile) (flats : List Flat) (rows tries : L
     asked_each : AreAsked (noted_by rows tries) (length rows) (length flats)
     asked_each = subst (λ z. AreAsked (noted_by rows tries) z (length flats)) same asked
 
-    pub listed_by : AllListed guest profile flats
-    listed_by = all_listed_if_all_asked guest profile flats (noted_by rows tries) (length rows) graph origins refusals has.reached all asked_each
+    pub listed_by : AllListed x flats
+    listed_by = all_listed_if_all_asked x flats (noted_by rows tries) (length rows) graph origins refusals has.reached all asked_each
 
-    pub stand_by : AllStand guest profile flats origins
+    pub stand_by : AllStand x flats origins
     stand_by =
-        all_stand guest profile flats (noted_by rows tries) (length rows) graph origins refusals has.reached all asked_each levels
+        all_stand x flats (noted_by rows tries) (length rows) graph origins refusals has.reached all asked_each levels
         (subst (λ z. AreGoneOver (noted_by rows tries) z origins levels) same has.gone) has.most has.first
 
     pub marked_by : (marks : List Bool) → AreWays (noted_by rows tries) (length rows) flats marks → AreMarked flats marks
     marked_by marks ways =
-        are_marked guest profile flats (noted_by rows tries) (length rows) graph origins refusals has.reached all asked_each marks ways
+        are_marked x flats (noted_by rows tries) (length rows) graph origins refusals has.reached all asked_each marks ways
 
 -- what follows from what is so on success
 pub on_ok : {A E P Q : Type 0} (r : Result A E) → (P → Q) → OnOk r P → OnOk r Q

@@ -1,24 +1,28 @@
 -- One thread that goes on alone.
-use Rattle.std.proofs.Common.{◌≡◌, ℕ, zero, suc, ◌+◌, ◌<◌, Bool, cond, List, [], ◌∷◌, ◌++◌, length, refl, sym, ap, ◌∙◌, subst, arith}
+use Rattle.std.proofs.Common.{◌≡◌, ℕ, zero, suc, ◌+◌, ◌<◌, Bool, true, false, cond, List, [], ◌∷◌, ◌++◌, length, length-append, inl, inr, refl, sym, ap, ◌∙◌, subst, arith}
 use Rattle.std.specs.Prelude.{replicate}
-use Rattle.ir_runs.specs.Machine.{Admits, target, act_of}
-use Rattle.ir_runs.specs.Run.{State, Step, asked, Can, after, end}
-use Rattle.ir_runs.proofs.CallerLemmas.{end_append, after_same_if_act_same}
-use Rattle.ir_states.specs.Counting.{entering}
-use Rattle.ir_states.proofs.CallerLemmas.{entering_append}
-use Rattle.ir_thread.specs.State.{ask_of, thread_machine, shared_ask}
-use Rattle.ir_thread.specs.State as thread
+use Rattle.std.proofs.lemmas.List.{length-replicate}
+use Rattle.ir_record.specs.Refusing.{Turn, Tries, InTurns}
+use Rattle.ir_runs.specs.Machine as machines
+use Rattle.ir_runs.specs.Machine.{Machine, Admits, target, act_of}
+use Rattle.ir_runs.specs.Run.{State, Step, asked, Can, after, end, IsRun}
+use Rattle.ir_runs.proofs.CallerLemmas.{end_append}
+use Rattle.ir_states.specs.Counting.{IsAnswered, is_own, GoesAhead, entering}
+use Rattle.ir_states.specs.Views.{beside}
+use Rattle.ir_states.specs.Orders.{IsAlone}
+use Rattle.ir_states.specs.Sources.{Giving, answer_of, sourced, plain}
+use Rattle.ir_states.proofs.CallerLemmas.{counting_run_is_run, entering_append, goes_ahead_enters_nothing, plain_end}
+use Rattle.ir_thread.specs.State.{ask_of, shared_ask}
 use Rattle.ir_thread.specs.declared.ask.Ask.{Ask}
 use Rattle.ir_thread.specs.declared.ask.Ask.TheVariants as ask
-use Rattle.ir_freeze.specs.Twins.{AreTwins}
+use Rattle.ir_sources.specs.Sources.{Source, given}
 use Rattle.ir_flat.specs.Alone.{WentAlone}
 use Rattle.ir_flat.specs.Flat.{Flat, tables, machine, thread_of}
-use Rattle.ir_graph.specs.Plain.{IsPlainRun, IsFair, Rests, IsLike, result_by}
-use Rattle.ir_graph.specs.Reached.{IsQuietRun}
-use Rattle.ir_graph.specs.Turn.{GoesAlone}
-use Rattle.ir_graph.proofs.Leads.{rest_ask_is_not_own}
-use Rattle.ir_graph.proofs.Plain.{resting_thread_is_live, plain_ask_is_own, fair_thread_is_live, fair_ask_is_plain, twins_after_run}
-use Rattle.ir_graph.proofs.Reached.{plain_run_is_quiet, rest_ask_is_sure, quiet_run_append}
+use Rattle.ir_store.specs.Nodes.{SourcedFlat, source_of}
+use Rattle.ir_graph.specs.Plain.{full_by, sources_by, full_of, sourced_flat, IsAnsweredRun, IsPlainRun, GoesPlain, IsFair, Rests, IsLike, result_by}
+use Rattle.ir_graph.specs.Turn.{EachTries, GoesAlone}
+use Rattle.ir_graph.proofs.Full.{answered_run_append, plain_run_is_answered}
+use Rattle.ir_graph.proofs.Plain.{step_at_rest, step_at_rest_is_answered_run, rest_ask_is_not_own, TakesStep, fair_step_is_plain_run, private_steps_are_plain_run, like_after_run}
 
 pub replicate_of_sum : {A : Type 0} (x : A) (n k : ℕ) → replicate (n + k) x ≡ replicate n x ++ replicate k x
 replicate_of_sum x zero k = let e : zero + k ≡ k = omega arith in ap (λ z. replicate z x) e
@@ -26,146 +30,176 @@ replicate_of_sum x (suc n) k =
     let e : suc n + k ≡ suc (n + k) = omega arith in
     ap (λ z. replicate z x) e ∙ (λ i. x ∷ replicate_of_sum x n k i)
 
-pub goes_alone_no_steps : (f : Flat) (t : ℕ) (refused : Bool) → GoesAlone f f t refused 0 0
-goes_alone_no_steps f t refused = record { quiet = tt; ends = refl; enters = refl; code = refl; threads = refl; objects = refl }
+alone_append : (t : ℕ) (run more : List Step) → IsAlone t run → IsAlone t more → IsAlone t (run ++ more)
+alone_append t [] more a b = b
+alone_append t (e ∷ run) more a b = (a.0, alone_append t run more a.1 b)
 
-pub goes_alone_append : (f g h : Flat) (t : ℕ) (refused : Bool) (n k e d : ℕ) → GoesAlone f g t refused n e → GoesAlone g h t refused k d
-    → GoesAlone f h t refused (n + k) (e + d)
-goes_alone_append f g h t refused n k e d a b =
-    let r : ℕ = result_by refused in
-    let first : List Step = replicate n (t, r) in
-    let more : List Step = replicate k (t, r) in
-    let run : replicate (n + k) (t, r) ≡ replicate n (t, r) ++ replicate k (t, r) = replicate_of_sum (t, r) n k in
-    let quiet : IsQuietRun f.code (end (machine f) (tables f) first) more =
-    subst (λ z. IsQuietRun f.code z more) a.ends (subst (λ z. IsQuietRun z (tables g) more) a.code b.quiet) in
-    let ends : tables h ≡ end (machine f) (tables f) (replicate n (t, r) ++ replicate k (t, r)) =
-    b.ends ∙ ap (λ z. end (thread_machine z) (tables g) more) a.code ∙ ap (λ z. end (machine f) z more) a.ends
-    ∙ sym (end_append (machine f) (tables f) first more) in
-    let enters : entering (machine f) (tables f) (replicate n (t, r) ++ replicate k (t, r)) ≡ replicate e t ++ replicate d t =
-    entering_append (machine f) (tables f) first more
-    ∙ (λ i. a.enters i ++ (ap (λ z. entering (machine f) z more) (sym a.ends)
-    ∙ ap (λ z. entering (thread_machine z) (tables g) more) (sym a.code) ∙ b.enters) i) in record {
-      quiet = subst (IsQuietRun f.code (tables f)) (sym run) (quiet_run_append f.code (tables f) first more a.quiet quiet);
-      ends = ends ∙ ap (end (machine f) (tables f)) (sym run);
-      enters = ap (entering (machine f) (tables f)) run ∙ enters ∙ sym (replicate_of_sum t e d);
+tries_append : {T : Type 0} (m : Machine T) (refused : Bool) (s : State T) (run more : List Step) → EachTries m refused s run
+    → EachTries m refused (end m s run) more → EachTries m refused s (run ++ more)
+tries_append m refused s [] more a b = b
+tries_append m refused s (e ∷ run) more a b = (a.0, tries_append m refused (after m s e) run more a.1 b)
+
+pub goes_alone_no_steps : (s : SourcedFlat) (t : ℕ) (refused : Bool) → GoesAlone s s t refused 0 0
+goes_alone_no_steps s t refused = record {
+  run = [];
+  many = refl;
+  alone = tt;
+  answered = (tt, tt);
+  tries = tt;
+  ends = refl;
+  enters = refl;
+  code = refl;
+  threads = refl;
+  objects = refl;
+  sources = refl;
+}
+
+pub goes_alone_append : (s u w : SourcedFlat) (t : ℕ) (refused : Bool) (n k e d : ℕ) → GoesAlone s u t refused n e → GoesAlone u w t refused k d
+    → GoesAlone s w t refused (n + k) (e + d)
+goes_alone_append s u w t refused n k e d a b =
+    let m = full_by s.flat.code in
+    let there : State _ = end (full_by s.flat.code) (full_of s) a.run in
+    let answered : IsAnsweredRun s.flat.code (end (full_by s.flat.code) (full_of s) a.run) b.run =
+    subst (λ z. IsAnsweredRun s.flat.code z b.run) a.ends (subst (λ z. IsAnsweredRun z (full_of u) b.run) a.code b.answered) in
+    let tries : EachTries (full_by s.flat.code) refused (end (full_by s.flat.code) (full_of s) a.run) b.run =
+    subst (λ z. EachTries (full_by s.flat.code) refused z b.run) a.ends (subst (λ z. EachTries (full_by z) refused (full_of u) b.run) a.code b.tries) in
+    record {
+      run = a.run ++ b.run;
+      many = length-append a.run b.run ∙ (λ i. a.many i + b.many i);
+      alone = alone_append t a.run b.run a.alone b.alone;
+      answered = answered_run_append s.flat.code (full_of s) a.run b.run a.answered answered;
+      tries = tries_append (full_by s.flat.code) refused (full_of s) a.run b.run a.tries tries;
+      ends = b.ends ∙ ap (λ z. end (full_by z) (full_of u) b.run) a.code ∙ ap (λ z. end (full_by s.flat.code) z b.run) a.ends
+          ∙ sym (end_append (full_by s.flat.code) (full_of s) a.run b.run);
+      enters = entering_append (full_by s.flat.code) (full_of s) a.run b.run
+          ∙ (λ i. a.enters i ++ (ap (λ z. entering (full_by s.flat.code) z b.run) (sym a.ends)
+          ∙ ap (λ z. entering (full_by z) (full_of u) b.run) (sym a.code) ∙ b.enters) i)
+          ∙ sym (replicate_of_sum t e d);
       code = b.code ∙ a.code;
       threads = b.threads ∙ a.threads;
       objects = b.objects ∙ a.objects;
+      sources = b.sources ∙ a.sources;
     }
 
-plain_run_enters_nothing : (code : List ℕ) (s : State thread.ThreadState) (run : List Step) → IsPlainRun code s run → entering (thread_machine code) s run ≡ []
-plain_run_enters_nothing code s [] plain = refl
-plain_run_enters_nothing code s (e ∷ run) (can, live, is, rest) =
-    ap (λ b. cond b (entering (thread_machine code) (after (thread_machine code) s e) run)
-    (e.0 ∷ entering (thread_machine code) (after (thread_machine code) s e) run)) (plain_ask_is_own (asked (thread_machine code) s e.0) is)
-    ∙ plain_run_enters_nothing code (after (thread_machine code) s e) run rest
+-- steps that concern no other thread are no tries
+plain_run_tries_nothing : (code : List ℕ) (refused : Bool) (s : State _) (run : List Step) → GoesAhead (full_by code) (sources_by code) s run
+    → EachTries (full_by code) refused s run
+plain_run_tries_nothing code refused s [] goes = tt
+plain_run_tries_nothing code refused s (e ∷ run) goes = (
+  λ o is. absurd (cc (sym goes.0 ∙ ap is_own is)),
+  plain_run_tries_nothing code refused (after (full_by code) s e) run goes.2,
+)
 
--- a thread that may go on does one thing, whatever the result
-pub act_of_fair_ask_ignores_result : (q : Ask) (r r' : ℕ) → IsFair q → act_of (shared_ask q) r ≡ act_of (shared_ask q) r'
-act_of_fair_ask_ignores_result ask.Private r r' h = refl
-act_of_fair_ask_ignores_result (ask.Env k) r r' h = absurd h
-act_of_fair_ask_ignores_result (ask.Enter o a) r r' h = absurd h
-act_of_fair_ask_ignores_result (ask.Try o) r r' h = absurd h
-act_of_fair_ask_ignores_result (ask.Leave o a) r r' h = refl
-act_of_fair_ask_ignores_result (ask.Get o i) r r' h = refl
-act_of_fair_ask_ignores_result (ask.Put o i v) r r' h = refl
-act_of_fair_ask_ignores_result ask.Print r r' h = refl
-act_of_fair_ask_ignores_result (ask.End e) r r' h = refl
-act_of_fair_ask_ignores_result ask.Done r r' h = absurd h
-
--- so its step may have any
-pub fair_step_ignores_result : (code : List ℕ) (s : State thread.ThreadState) (t r r' : ℕ) → IsFair (ask_of code (s.now t))
-    → Can (thread_machine code) s (t, r)
-    → Can (thread_machine code) s (t, r') × (after (thread_machine code) s (t, r) ≡ after (thread_machine code) s (t, r'))
-fair_step_ignores_result code s t r r' fair can =
-    let same = act_of_fair_ask_ignores_result (ask_of code (s.now t)) r r' fair in (
-      subst (λ q. Admits (thread_machine code) q (s.objects (target q))) same can,
-      after_same_if_act_same (thread_machine code) s t r r' same,
-    )
-
--- private steps may have any result
-private_steps_ignore_result : (code : List ℕ) (s : State thread.ThreadState) (t r n : ℕ)
-    → ((k : ℕ) → k < n → ask_of code ((end (thread_machine code) s (replicate k (t, 0))).now t) ≡ ask.Private)
-    → IsPlainRun code s (replicate n (t, r)) × (end (thread_machine code) s (replicate n (t, 0)) ≡ end (thread_machine code) s (replicate n (t, r)))
-private_steps_ignore_result code s t r zero each = (tt, refl)
-private_steps_ignore_result code s t r (suc n) each =
-    let first : ask_of code (s.now t) ≡ ask.Private = each 0 (omega arith) in
-    let fair : IsFair (ask_of code (s.now t)) = subst IsFair (sym first) tt in
-    let can : Can (thread_machine code) s (t, 0) =
-    subst (λ q. Admits (thread_machine code) (act_of (shared_ask q) 0) (s.objects (target (act_of (shared_ask q) 0)))) (sym first) tt in
-    let one = fair_step_ignores_result code s t 0 r fair can in
-    let more = private_steps_ignore_result code (after (thread_machine code) s (t, 0)) t r n (λ k l. each (suc k) (omega (arith, l))) in (
-      (
-        one.0,
-        fair_thread_is_live code (s.now t) fair,
-        fair_ask_is_plain (ask_of code (s.now t)) fair,
-        subst (λ z. IsPlainRun code z (replicate n (t, r))) one.1 more.0,
-      ),
-      more.1 ∙ ap (λ z. end (thread_machine code) z (replicate n (t, r))) one.1,
-    )
-
--- private steps
-pub goes_alone_by_private_steps : (f g : Flat) (t : ℕ) (refused : Bool) (n : ℕ) → WentAlone f g t n → GoesAlone f g t refused n 0
-goes_alone_by_private_steps f g t refused n w =
-    let p = private_steps_ignore_result f.code (tables f) t (result_by refused) n w.each in record {
-      quiet = plain_run_is_quiet f.code (tables f) (replicate n (t, result_by refused)) p.0;
-      ends = w.ends ∙ p.1;
-      enters = plain_run_enters_nothing f.code (tables f) (replicate n (t, result_by refused)) p.0;
-      code = w.code;
-      threads = w.threads;
-      objects = w.objects;
-    }
-
--- one step of a thread that may go on
-pub goes_alone_by_fair_step : (f g : Flat) (t : ℕ) (refused : Bool) → IsFair (ask_of f.code (thread_of f t)) → Can (machine f) (tables f) (t, 0)
-    → tables g ≡ after (machine f) (tables f) (t, 0) → g.code ≡ f.code → length g.threads ≡ length f.threads
-    → length g.objects ≡ length f.objects → GoesAlone f g t refused 1 0
-goes_alone_by_fair_step f g t refused fair can is code threads objects =
-    let one = fair_step_ignores_result f.code (tables f) t 0 (result_by refused) fair can in
-    let p : IsPlainRun f.code (tables f) ((t, result_by refused) ∷ []) =
-    (one.0, fair_thread_is_live f.code (thread_of f t) fair, fair_ask_is_plain (ask_of f.code (thread_of f t)) fair, tt) in record {
-      quiet = plain_run_is_quiet f.code (tables f) ((t, result_by refused) ∷ []) p;
-      ends = is ∙ one.1;
-      enters = plain_run_enters_nothing f.code (tables f) ((t, result_by refused) ∷ []) p;
-      code = code;
-      threads = threads;
-      objects = objects;
-    }
-
--- one step of a thread that rests
-pub goes_alone_by_entry : (f g : Flat) (t : ℕ) (refused : Bool) → Rests (ask_of f.code (thread_of f t))
-    → Can (machine f) (tables f) (t, result_by refused) → tables g ≡ after (machine f) (tables f) (t, result_by refused) → g.code ≡ f.code
-    → length g.threads ≡ length f.threads → length g.objects ≡ length f.objects → GoesAlone f g t refused 1 1
-goes_alone_by_entry f g t refused rests can is code threads objects = record {
-  quiet = (can, resting_thread_is_live f.code (thread_of f t) rests, rest_ask_is_sure (ask_of f.code (thread_of f t)) rests, tt);
-  ends = is;
-  enters = ap (λ b. cond b [] (t ∷ [])) (rest_ask_is_not_own (ask_of f.code (thread_of f t)) rests);
+-- steps of one thread that concern no other
+pub goes_alone_by_plain_run : (s u : SourcedFlat) (t : ℕ) (refused : Bool) (run : List Step) → IsPlainRun s.flat.code (full_of s) run → IsAlone t run
+    → full_of u ≡ end (full_by s.flat.code) (full_of s) run → u.flat.code ≡ s.flat.code → length u.flat.threads ≡ length s.flat.threads
+    → length u.flat.objects ≡ length s.flat.objects → length u.sources ≡ length s.sources → GoesAlone s u t refused (length run) 0
+goes_alone_by_plain_run s u t refused run plain alone ends code threads objects sources = record {
+  run = run;
+  many = refl;
+  alone = alone;
+  answered = plain_run_is_answered s.flat.code (full_of s) run plain;
+  tries = plain_run_tries_nothing s.flat.code refused (full_of s) run plain.0;
+  ends = ends;
+  enters = goes_ahead_enters_nothing (full_by s.flat.code) (sources_by s.flat.code) (full_of s) run plain.0;
   code = code;
   threads = threads;
   objects = objects;
+  sources = sources;
 }
 
--- there is each step of a thread that may go on
-pub can_step_if_fair : (f : Flat) (t : ℕ) → IsFair (ask_of f.code (thread_of f t)) → Can (machine f) (tables f) (t, 0)
-can_step_if_fair f t fair = by (ask_of f.code (thread_of f t)) fair
-  where
-    by : (q : Ask) → IsFair q → Admits (machine f) (act_of (shared_ask q) 0) ((tables f).objects (target (act_of (shared_ask q) 0)))
-    by ask.Private h = tt
-    by (ask.Env k) h = absurd h
-    by (ask.Enter o a) h = absurd h
-    by (ask.Try o) h = absurd h
-    by (ask.Leave o a) h = tt
-    by (ask.Get o i) h = tt
-    by (ask.Put o i v) h = tt
-    by ask.Print h = tt
-    by (ask.End e) h = tt
-    by ask.Done h = absurd h
+-- one step of a thread that may go on
+pub goes_alone_by_fair_step : (s u : SourcedFlat) (t r : ℕ) (refused : Bool) → IsFair (ask_of s.flat.code (thread_of s.flat t))
+    → IsAnswered (shared_ask (ask_of s.flat.code (thread_of s.flat t)))
+    (answer_of given (shared_ask (ask_of s.flat.code (thread_of s.flat t))) (source_of s t)) r
+    → TakesStep s u t r → GoesAlone s u t refused 1 0
+goes_alone_by_fair_step s u t r refused fair answered step =
+    goes_alone_by_plain_run s u t refused ((t, r) ∷ []) (fair_step_is_plain_run s t r fair step.can answered) (refl, tt) step.is step.code step.threads
+    step.objects step.sources
+
+repeated_steps_are_alone : (t r n : ℕ) → IsAlone t (replicate n (t, r))
+repeated_steps_are_alone t r zero = tt
+repeated_steps_are_alone t r (suc n) = (refl, repeated_steps_are_alone t r n)
+
+-- private steps
+pub goes_alone_by_private_steps : (f g : Flat) (sources : List Source) (t : ℕ) (refused : Bool) (n : ℕ) → WentAlone f g t n
+    → GoesAlone (sourced_flat f sources) (sourced_flat g sources) t refused n 0
+goes_alone_by_private_steps f g sources t refused n w =
+    let p = private_steps_are_plain_run f.code (tables f) (source_of (sourced_flat f sources)) t n w.runs w.each in
+    subst (λ z. GoesAlone (sourced_flat f sources) (sourced_flat g sources) t refused z 0) (length-replicate {A = Step} n (t, 0))
+    (goes_alone_by_plain_run (sourced_flat f sources) (sourced_flat g sources) t refused (replicate n (t, 0)) p.0 (repeated_steps_are_alone t 0 n)
+    (ap (λ z. beside z (source_of (sourced_flat f sources))) w.ends ∙ sym p.1) w.code w.threads w.objects refl)
+
+-- one step of a thread that rests
+pub goes_alone_by_entry : (f g : Flat) (sources : List Source) (t : ℕ) (refused : Bool) → Rests (ask_of f.code (thread_of f t))
+    → Can (machine f) (tables f) (t, result_by refused) → tables g ≡ after (machine f) (tables f) (t, result_by refused) → g.code ≡ f.code
+    → length g.threads ≡ length f.threads → length g.objects ≡ length f.objects
+    → GoesAlone (sourced_flat f sources) (sourced_flat g sources) t refused 1 1
+goes_alone_by_entry f g sources t refused rests can is code threads objects =
+    let s = sourced_flat f sources in
+    let u = sourced_flat g sources in
+    let step = step_at_rest f g sources t (result_by refused) rests can is code threads objects in record {
+      run = (t, result_by refused) ∷ [];
+      many = refl;
+      alone = (refl, tt);
+      answered = step_at_rest_is_answered_run (sourced_flat f sources) (sourced_flat g sources) t (result_by refused) rests step;
+      tries = (λ o tries. refl, tt);
+      ends = step.is;
+      enters = ap (λ b. cond b [] (t ∷ [])) (rest_ask_is_not_own (ask_of f.code (thread_of f t)) rests);
+      code = code;
+      threads = threads;
+      objects = objects;
+      sources = refl;
+    }
 
 -- the guest stays the same
-pub like_after_going_alone : (f g : Flat) (t : ℕ) (refused : Bool) (n e : ℕ) → GoesAlone f g t refused n e → IsLike f g
-like_after_going_alone f g t refused n e a = record {
-  code = a.code;
-  threads = a.threads;
-  objects = a.objects;
-  twins = λ u. subst (AreTwins (thread_of f u)) (ap (λ z. z.now u) (sym a.ends)) (twins_after_run f.code (tables f) (replicate n (t, result_by refused)) u);
-}
+pub like_after_going_alone : (s u : SourcedFlat) (t : ℕ) (refused : Bool) (n e : ℕ) → GoesAlone s u t refused n e → IsLike s.flat u.flat
+like_after_going_alone s u t refused n e a = like_after_run s u a.run a.ends a.code a.threads a.objects
+
+-- ---- turns
+
+tries_of_turn : {T : Type 0} (m : Machine T) (s : State T) (refused : Bool) (e : Step)
+    → ((o : ℕ) → asked m s e.0 ≡ machines.Try o → e.1 ≡ result_by refused) → Tries m s refused e
+tries_of_turn m s true e tries = tries
+tries_of_turn m s false e tries = λ o is enters. tries o is
+
+-- a run of one thread goes by its turns
+pub alone_run_in_turns : {T : Type 0} (m : Machine T) (s : State T) (t : ℕ) (refused : Bool) (run : List Step) → IsRun m s run → IsAlone t run
+    → EachTries m refused s run → InTurns m s (replicate (length run) (t, refused)) run
+alone_run_in_turns m s t refused [] ok alone tries = refl
+alone_run_in_turns m s t refused ((u, r) ∷ run) ok alone tries = inr (
+  r,
+  run,
+  (λ i. (sym alone.0 i, r) ∷ run),
+  subst (λ z. Can m s (z, r)) (sym alone.0) ok.0,
+  tries_of_turn m s refused (t, r) (subst (λ z. (o : ℕ) → asked m s z ≡ machines.Try o → r ≡ result_by refused) (sym alone.0) tries.0),
+  subst (λ z. InTurns m (after m s (z, r)) (replicate (length run) (t, refused)) run) (sym alone.0)
+      (alone_run_in_turns m (after m s (u, r)) t refused run ok.1 alone.1 tries.1),
+)
+
+pub goes_alone_in_turns : (s u : SourcedFlat) (t : ℕ) (refused : Bool) (n e : ℕ) → (a : GoesAlone s u t refused n e)
+    → InTurns (full_by s.flat.code) (full_of s) (replicate n (t, refused)) a.run
+goes_alone_in_turns s u t refused n e a =
+    subst (λ z. InTurns (full_by s.flat.code) (full_of s) (replicate z (t, refused)) a.run) a.many
+    (alone_run_in_turns (full_by s.flat.code) (full_of s) t refused a.run
+    (counting_run_is_run (full_by s.flat.code) (sources_by s.flat.code) (full_of s) a.run a.answered.0) a.alone a.tries)
+
+tries_of_plain : {T S : Type 0} (m : Machine T) (giving : Giving S) (s : State (T × S)) (refused : Bool) (e : Step)
+    → Tries (sourced m giving) s refused e → Tries m (plain s) refused e
+tries_of_plain m giving s true e h = h
+tries_of_plain m giving s false e h = h
+
+-- turns of threads beside their sources are turns of the threads
+pub in_turns_of_plain : {T S : Type 0} (m : Machine T) (giving : Giving S) (s : State (T × S)) (turns : List Turn) (run : List Step)
+    → InTurns (sourced m giving) s turns run → InTurns m (plain s) turns run
+in_turns_of_plain m giving s [] run is = is
+in_turns_of_plain m giving s ((t, refused) ∷ turns) run (inl none) = inl (none.0, in_turns_of_plain m giving s turns run none.1)
+in_turns_of_plain m giving s ((t, refused) ∷ turns) run (inr some) = inr (
+  some.0,
+  some.1,
+  some.2,
+  some.3,
+  tries_of_plain m giving s refused (t, some.0) some.4,
+  subst (λ z. InTurns m z turns some.1) (plain_end m giving s ((t, some.0) ∷ []))
+      (in_turns_of_plain m giving (after (sourced m giving) s (t, some.0)) turns some.1 some.5),
+)

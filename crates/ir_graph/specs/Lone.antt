@@ -115,7 +115,7 @@ MayTakeTry false c = Admitted Writing c.fields × IsFields (entered Writing c.fi
 -- the object may be asked so
 abbrev pub MayTake : Bool → Cell → Ask → Type 0
 MayTake refused c ask.Private = Unit {0}
-MayTake refused c (ask.Env kind) = ⊥
+MayTake refused c (ask.Env kind) = Unit {0}
 MayTake refused c (ask.Enter p access) = Admitted access c.fields × IsFields (entered access c.fields)
 MayTake refused c (ask.Try p) = MayTakeTry refused c
 MayTake refused c (ask.Leave p access) = CanLeave access c.fields × IsFields (left_by access c.fields)

@@ -17,13 +17,13 @@ use Rattle.ir_graph.specs.declared.states.States.{States}
 
 -- The states are those of this guest at rest, to each of which a run leads. Origins are known of the first of them, by rising levels, and so
 -- many levels are gone over.
-pub record AreSearched (x : Setup) (states : List SourcedFlat) (origins : List Origin) (levels : ℕ) : Type 0 where
-  pub states : AreNodes states
-  pub reached : AllReached x states
-  pub few : length origins ≤ length states
+pub record AreSearched (x : Setup) (flats : List SourcedFlat) (origins : List Origin) (levels : ℕ) : Type 0 where
+  pub states : AreNodes flats
+  pub reached : AllReached x flats
+  pub few : length origins ≤ length flats
   pub rising : AreRising origins
   pub most : (v : ℕ) (n : Origin) → slice_get origins v ≡ Some n → n.level ≤ levels
-  pub within : (c : ℕ) → c < levels → WithinListed x states origins c
+  pub within : (c : ℕ) → c < levels → WithinListed x flats origins c
 
 -- a search over the graph of a guest
 pub record IsSearch (s : States) : Type 0 where

@@ -1,13 +1,17 @@
 //! A thread that goes on beside one object.
 
 ghost use Rattle.std.specs.Prelude.{◌≡◌, ℕ, true, false, IfSome};
-ghost use Rattle.ir_graph.specs.Lone.{IsAbout, answer_from, cell_after, GoesLone, MayBegin, TakesTurn, AreBeside, MayTake};
+ghost use Rattle.ir_graph.specs.Lone.{IsAbout, IsGiven, answer_from, cell_after, GoesLone, MayBegin, TakesTurn, AreBeside, MayTake};
 ghost use Rattle.ir_graph.specs.Plain.{IsFair, Rests};
-ghost use Rattle.ir_thread.specs.State.{ask_of, after_ask};
+ghost use Rattle.ir_sources.specs.Sources.{given};
+ghost use Rattle.ir_states.specs.Sources.{left_of};
+ghost use Rattle.ir_thread.specs.State.{ask_of, after_ask, shared_ask};
 
 use ir_image::Code;
 use ir_object::Object;
 use ir_runs::Access;
+use ir_sources::Sources;
+use ir_store::SourcedThread;
 use ir_thread::{Ask, End, Reply, Thread};
 
 // Whether a thread that asks so rests.
@@ -26,7 +30,7 @@ fn is_about(object: u8, asked: Ask) -> bool
     ensures about { result ≡ true → IsAbout object asked }
 {
     match asked {
-        Ask::Private | Ask::Print => true,
+        Ask::Private | Ask::Print | Ask::Env(_) => true,
         Ask::Leave(o, _) => o == object,
         Ask::Get(o, _) => o == object,
         Ask::Put(o, _, _) => o == object,
@@ -36,46 +40,69 @@ fn is_about(object: u8, asked: Ask) -> bool
     }
 }
 
-// The thread takes the step that it asked, which is about this object or none; a try is refused or enters.
+// The thread takes the step that it asked, which is about this object or none; a try is refused or enters, and a call of the environment is
+// answered by the thread's source. Whether it did: of a call for the time the count may be at its end.
 #[tactic(auto, unfolding(ir_thread::specs::State::after_reply))]
-fn take_beside(code: &Code, thread: &mut Thread, object: &mut Object, asked: Ask, refused: bool)
+fn take_beside(
+    code: &Code,
+    thread: &mut Thread,
+    source: &mut Sources<'_>,
+    object: &mut Object,
+    asked: Ask,
+    refused: bool,
+) -> bool
     requires asked { asked ≡ ask_of code.now thread.old }
     requires may { MayTake refused object.old asked }
-    ensures thread { thread.new ≡ after_ask code.now thread.old asked (answer_from refused object.old asked) }
-    ensures object { object.new ≡ cell_after refused object.old asked }
+    ensures given { result ≡ true → IsGiven source.old asked }
+    ensures thread { result ≡ true → thread.new ≡ after_ask code.now thread.old asked (answer_from refused object.old source.old asked) }
+    ensures source { result ≡ true → source.new ≡ left_of given (shared_ask asked) source.old }
+    ensures object { result ≡ true → object.new ≡ cell_after refused object.old asked }
 {
-    match asked {
+    let reply = match asked {
+        Ask::Env(kind) => {
+            let Some(answer) = source.try_answer(kind) else {
+                return false;
+            };
+            Reply::Value(answer)
+        }
         Ask::Enter(_, access) => {
             object.enter(access);
-            thread.take_asked(code, asked, Reply::Go);
+            Reply::Go
         }
-        Ask::Try(_) if refused => thread.take_asked(code, asked, Reply::Value(0)),
+        Ask::Try(_) if refused => Reply::Value(0),
         Ask::Try(_) => {
             object.enter(Access::Writing);
-            thread.take_asked(code, asked, Reply::Value(1));
+            Reply::Value(1)
         }
         Ask::Leave(_, access) => {
             object.leave(access);
-            thread.take_asked(code, asked, Reply::Go);
+            Reply::Go
         }
-        Ask::Get(_, index) => {
-            let word = object.get(index);
-            thread.take_asked(code, asked, Reply::Value(word));
-        }
+        Ask::Get(_, index) => Reply::Value(object.get(index)),
         Ask::Put(_, index, value) => {
             object.put(index, value);
-            thread.take_asked(code, asked, Reply::Go);
+            Reply::Go
         }
-        _ => thread.take_asked(code, asked, Reply::Go),
-    }
+        _ => Reply::Go,
+    };
+    thread.take_asked(code, asked, reply);
+    true
 }
 
 // A thread goes on to where it rests, if all its steps up to there, at most `limit`, are about this object; whether it came there.
-fn go_beside(code: &Code, thread: &mut Thread, object: &mut Object, number: u8, limit: u64) -> bool
-    requires { AreBeside code.now number thread.old object.old }
-    ensures goes { result ≡ true → (k : ℕ) × GoesLone code.now number k thread.old object.old thread.new object.new }
-    ensures rests { result ≡ true → Rests (ask_of code.now thread.new) }
+fn go_beside(
+    code: &Code,
+    own: &mut SourcedThread<'_>,
+    object: &mut Object,
+    number: u8,
+    limit: u64,
+) -> bool
+    requires { AreBeside code.now number own.old.0 object.old }
+    ensures goes { result ≡ true → (k : ℕ) × GoesLone code.now number k own.old object.old own.new object.new }
+    ensures rests { result ≡ true → Rests (ask_of code.now own.new.0) }
 {
+    let thread = &mut own.thread;
+    let source = &mut own.source;
     let mut left = limit;
     'beside: loop {
         let (steps, asked) = thread.run_to_ask(code, left);
@@ -89,7 +116,9 @@ fn go_beside(code: &Code, thread: &mut Thread, object: &mut Object, number: u8, 
         if !is_about(number, asked) {
             return false;
         }
-        take_beside(code, thread, object, asked, false);
+        if !take_beside(code, thread, source, object, asked, false) {
+            return false;
+        }
         left -= 1;
     }
 }
@@ -118,21 +147,24 @@ fn first_ask(
 }
 
 /// A thread that rests enters this object, or its try is refused or enters, and it goes on to where it rests again, if all its steps up to
-/// there, at most `limit`, are about this object alone; whether it did.
+/// there, at most `limit`, are about this object alone; whether it did. Its calls of the environment are answered by its source.
 pub fn turn_beside(
     code: &Code,
-    thread: &mut Thread,
+    own: &mut SourcedThread<'_>,
     object: &mut Object,
     number: u8,
     refused: bool,
     limit: u64,
 ) -> bool
-    requires { AreBeside code.now number thread.old object.old }
-    ensures { result ≡ true → TakesTurn code.now number refused thread.old object.old thread.new object.new }
+    requires { AreBeside code.now number own.old.0 object.old }
+    ensures { result ≡ true → TakesTurn code.now number refused own.old object.old own.new object.new }
 {
-    let Some(asked) = first_ask(code, thread, object, number, refused) else {
+    let Some(asked) = first_ask(code, &own.thread, object, number, refused) else {
         return false;
     };
-    take_beside(code, thread, object, asked, refused);
-    go_beside(code, thread, object, number, limit)
+    let took = take_beside(code, &mut own.thread, &mut own.source, object, asked, refused);
+    if !took {
+        return false;
+    }
+    go_beside(code, own, object, number, limit)
 }

@@ -2,10 +2,11 @@
 
 ghost use Rattle.std.specs.Prelude.{◌≡◌, ℕ, ◌<◌, false, Some, length, slice_get, IfOk, IfSome};
 ghost use Rattle.std.specs.List.{slice_index_or};
-ghost use Rattle.ir_flat.specs.Flat.{Flat, cell_of, idle, thread_of};
+ghost use Rattle.ir_flat.specs.Flat.{cell_of};
 ghost use Rattle.ir_graph.specs.Ahead.{AreTurns, IsTurnOf};
 ghost use Rattle.ir_graph.specs.Plain.{IsNoTry};
-ghost use Rattle.ir_store.specs.Nodes.{Grows, cell_in};
+ghost use Rattle.ir_store.specs.Nodes.{Grows, SourcedFlat, cell_in, sourced_thread};
+ghost use Rattle.ir_store.specs.Table.{idle_beside};
 ghost use Rattle.ir_thread.specs.State.{ask_of};
 
 use crate::ahead::Ahead;
@@ -20,12 +21,12 @@ use std::alloc::AllocError;
 // The turn of a thread at a node, if it is known.
 fn known_turn(flats: &Store<'_>, ahead: &Ahead, way: Way) -> Option<Turn>
     requires node { way.node < length flats.now.items }
-    requires thread { (f : Flat) → slice_get flats.now.items way.node ≡ Some f → way.thread < length f.threads }
+    requires thread { (s : SourcedFlat) → slice_get flats.now.items way.node ≡ Some s → way.thread < length s.flat.threads }
     ensures known { IfSome result (λ turn. (i : ℕ) × (slice_get ahead.now i ≡ Some turn)) }
     ensures way { IfSome result (λ turn. turn.refused ≡ way.refused) }
-    ensures object { IfSome result (λ turn. (f : Flat) → slice_get flats.now.items way.node ≡ Some f → turn.object < length f.objects) }
-    ensures here { IfSome result (λ turn. (f : Flat) → slice_get flats.now.items way.node ≡ Some f → slice_index_or flats.now.shared.threads turn.from idle ≡ thread_of f way.thread) }
-    ensures there { IfSome result (λ turn. (f : Flat) → slice_get flats.now.items way.node ≡ Some f → cell_in flats.now.shared.words turn.spot ≡ cell_of f turn.object) }
+    ensures object { IfSome result (λ turn. (s : SourcedFlat) → slice_get flats.now.items way.node ≡ Some s → turn.object < length s.flat.objects) }
+    ensures here { IfSome result (λ turn. (s : SourcedFlat) → slice_get flats.now.items way.node ≡ Some s → slice_index_or flats.now.shared.threads turn.from idle_beside ≡ sourced_thread s way.thread) }
+    ensures there { IfSome result (λ turn. (s : SourcedFlat) → slice_get flats.now.items way.node ≡ Some s → cell_in flats.now.shared.words turn.spot ≡ cell_of s.flat turn.object) }
 {
     let from = flats.thread_number(way.node, way.thread);
     let first = ahead.first(from)?;
@@ -52,15 +53,15 @@ fn new_turn(
     limit: u64,
 ) -> Result<Option<Turn>, AllocError>
     requires node { way.node < length flats.old.items }
-    requires thread { (f : Flat) → slice_get flats.old.items way.node ≡ Some f → way.thread < length f.threads }
-    requires code { (f : Flat) → slice_get flats.old.items way.node ≡ Some f → f.code ≡ code.now }
+    requires thread { (s : SourcedFlat) → slice_get flats.old.items way.node ≡ Some s → way.thread < length s.flat.threads }
+    requires code { (s : SourcedFlat) → slice_get flats.old.items way.node ≡ Some s → s.flat.code ≡ code.now }
     ensures items { flats.new.items ≡ flats.old.items }
     ensures grows { Grows flats.old.shared flats.new.shared }
-    ensures turn { IfOk result (λ found. IfSome found (λ turn. (f : Flat) → slice_get flats.new.items way.node ≡ Some f → IsTurnOf code.now flats.new.shared f way.thread way.refused turn)) }
+    ensures turn { IfOk result (λ found. IfSome found (λ turn. (s : SourcedFlat) → slice_get flats.new.items way.node ≡ Some s → IsTurnOf code.now flats.new.shared s way.thread way.refused turn)) }
 {
     let from = flats.thread_number(way.node, way.thread);
     let mut own = flats.thread(from)?;
-    let Some((number, tries)) = object_of(own.ask(code)) else {
+    let Some((number, tries)) = object_of(own.thread.ask(code)) else {
         return Ok(None);
     };
     let object = number as usize;
@@ -96,13 +97,13 @@ pub fn turn_of(
     limit: u64,
 ) -> Result<Option<Turn>, AllocError>
     requires node { way.node < length flats.old.items }
-    requires thread { (f : Flat) → slice_get flats.old.items way.node ≡ Some f → way.thread < length f.threads }
-    requires code { (f : Flat) → slice_get flats.old.items way.node ≡ Some f → f.code ≡ code.now }
+    requires thread { (s : SourcedFlat) → slice_get flats.old.items way.node ≡ Some s → way.thread < length s.flat.threads }
+    requires code { (s : SourcedFlat) → slice_get flats.old.items way.node ≡ Some s → s.flat.code ≡ code.now }
     requires turns { AreTurns code.now flats.old.shared ahead.old }
     ensures items { flats.new.items ≡ flats.old.items }
     ensures grows { Grows flats.old.shared flats.new.shared }
     ensures turns { AreTurns code.now flats.new.shared ahead.new }
-    ensures turn { IfOk result (λ found. IfSome found (λ turn. (f : Flat) → slice_get flats.new.items way.node ≡ Some f → IsTurnOf code.now flats.new.shared f way.thread way.refused turn)) }
+    ensures turn { IfOk result (λ found. IfSome found (λ turn. (s : SourcedFlat) → slice_get flats.new.items way.node ≡ Some s → IsTurnOf code.now flats.new.shared s way.thread way.refused turn)) }
 {
     if let Some(turn) = known_turn(flats, ahead, way) {
         return Ok(Some(turn));
@@ -126,13 +127,13 @@ pub fn tries(
 ) -> Result<bool, AllocError>
     requires within { number < length flats.now.shared.threads }
     requires turns { AreTurns code.now flats.now.shared ahead.now }
-    ensures { IfOk result (λ tries. tries ≡ false → IsNoTry (ask_of code.now (slice_index_or flats.now.shared.threads number idle))) }
+    ensures { IfOk result (λ tries. tries ≡ false → IsNoTry (ask_of code.now (slice_index_or flats.now.shared.threads number idle_beside).0)) }
 {
     if let Some(turn) = ahead.first(number) {
         return Ok(turn.tries);
     }
     let own = flats.thread(number)?;
-    match own.ask(code) {
+    match own.thread.ask(code) {
         Ask::Try(_) => Ok(true),
         _ => Ok(false),
     }

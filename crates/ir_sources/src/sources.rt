@@ -91,8 +91,14 @@ impl<'a> Sources<'a> {
         ensures none { result ≡ None → (self.new ≡ self.old) × (kind ≡ Clock) × (2 ^ 32 ≤ self.old.ticks + 1) }
     {
         match kind {
-            EnvKind::Clock if self.ticks == u32::MAX => None,
-            _ => Some(self.answer(kind)),
+            EnvKind::Clock => {
+                if self.ticks == u32::MAX {
+                    return None;
+                }
+                Some(self.time())
+            }
+            EnvKind::Random => Some(self.word()),
+            EnvKind::Input => Some(self.byte()),
         }
     }
 
