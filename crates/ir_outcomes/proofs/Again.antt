@@ -2,20 +2,20 @@
 use Rattle.std.proofs.lemmas.Bool.{cases_eq}
 use Rattle.std.proofs.Common.{◌≡◌, ◌≢◌, ◌⊎◌, inl, inr, ℕ, zero, suc, List, [], ◌∷◌, ◌++◌, Bool, true, false, length, map, replicate, append_assoc, ◌+◌, ◌≤◌, arith, refl, sym, ap, ◌∙◌, subst}
 use Rattle.ir_runs.specs.Machine.{Machine}
-use Rattle.ir_runs.specs.Run.{State, Step, IsRun, Can, after, end}
+use Rattle.ir_runs.specs.Run.{State, Step, after, end}
 use Rattle.ir_runs.proofs.CallerLemmas.{end_append}
 use Rattle.ir_states.specs.Counting.{entering}
 use Rattle.ir_states.specs.Orders.{IsAlone}
-use Rattle.ir_states.proofs.CallerLemmas.{counting_run_is_run, entering_append}
+use Rattle.ir_states.proofs.CallerLemmas.{entering_append}
 use Rattle.ir_store.specs.Nodes.{SourcedFlat}
-use Rattle.ir_graph.specs.Plain.{result_by, full_by, sources_by, full_of, IsAnsweredRun}
+use Rattle.ir_graph.specs.Plain.{full_by, full_of, IsAnsweredRun}
 use Rattle.ir_graph.specs.Reached.{beginning}
 use Rattle.ir_graph.specs.Setup.{Setup, start_of}
-use Rattle.ir_graph.specs.Turn.{GoesAlone, EachTries}
-use Rattle.ir_graph.proofs.CallerLemmas.{like_reflexive, like_transitive, like_after_going_alone, answered_run_append}
+use Rattle.ir_graph.specs.Turn.{GoesAlone}
+use Rattle.ir_graph.proofs.CallerLemmas.{like_reflexive, like_transitive, like_after_going_alone, answered_run_append, goes_alone_in_turns}
 use Rattle.ir_explore.proofs.CallerLemmas.{switches_after_repeated_turn, switches_of_replicated_thread}
 use Rattle.ir_record.specs.Recording.{turns_of_items}
-use Rattle.ir_record.specs.Refusing.{Turn, Tries, InTurns}
+use Rattle.ir_record.specs.Refusing.{Turn, InTurns}
 use Rattle.ir_record.specs.declared.item.Item.{Item}
 use Rattle.ir_flat.proofs.CallerLemmas.{length_of_start_threads}
 use Rattle.ir_sources.specs.Sources.{source, seed_of}
@@ -46,29 +46,7 @@ in_turns_append m s ((t, refused) ∷ turns) more run rest (inr (r, run', e, can
   in_turns_append m (after m s (t, r)) turns more run' rest ok (subst (λ z. InTurns m (end m s z) more rest) e h),
 )
 
--- a try whose result says that it is refused, or enters
-step_tries_by_result : {T : Type 0} (m : Machine T) (s : State T) (refused : Bool) (e : Step)
-    → EachTries m refused s (e ∷ []) → Tries m s refused e
-step_tries_by_result m s true e tries = λ o tried. tries.0 o tried
-step_tries_by_result m s false e tries = λ o tried enters. tries.0 o tried
-
--- a run of one thread is by turns of it
-alone_run_is_in_turns : {T : Type 0} (m : Machine T) (s : State T) (t : ℕ) (refused : Bool) (run : List Step) → IsAlone t run
-    → EachTries m refused s run → IsRun m s run → InTurns m s (replicate (length run) (t, refused)) run
-alone_run_is_in_turns m s t refused [] alone tries ok = refl
-alone_run_is_in_turns m s t refused (e ∷ run) alone tries ok =
-    let own : (t, e.1) ≡ e = (λ i. (alone.0 i, e.1)) in
-    inr (
-      e.1,
-      run,
-      ap (λ z. z ∷ run) (sym own),
-      subst (Can m s) (sym own) ok.0,
-      subst (Tries m s refused) (sym own) (step_tries_by_result m s refused e (tries.0, tt)),
-      subst (λ z. InTurns m (after m s z) (replicate (length run) (t, refused)) run) (sym own)
-          (alone_run_is_in_turns m (after m s e) t refused run alone.1 tries.1 ok.1),
-    )
-
--- the threads of its steps
+-- the threads of steps
 threads_of_alone_run : (t : ℕ) (run : List Step) → IsAlone t run → map (λ (e : Step). e.0) run ≡ replicate (length run) t
 threads_of_alone_run t [] alone = refl
 threads_of_alone_run t (e ∷ run) alone = λ i. sym alone.0 i ∷ threads_of_alone_run t run alone.1 i
@@ -109,13 +87,9 @@ is_again_after_going_alone setup turns before s u t refused n e a goes =
     let same : own ≡ code = a.like.code in
     let answered : IsAnsweredRun code there goes.run =
     subst (λ z. IsAnsweredRun code z goes.run) a.ends (subst (λ z. IsAnsweredRun z (full_of s) goes.run) same goes.answered) in
-    let by_turns : InTurns (full_by own) (full_of s) (replicate n (t, refused)) goes.run =
-    subst (λ k. InTurns (full_by own) (full_of s) (replicate k (t, refused)) goes.run) goes.many
-    (alone_run_is_in_turns (full_by own) (full_of s) t refused goes.run goes.alone goes.tries
-    (counting_run_is_run (full_by own) (sources_by own) (full_of s) goes.run goes.answered.0)) in
     let in_turns : InTurns (full_by code) there (replicate n (t, refused)) goes.run =
     subst (λ z. InTurns (full_by code) z (replicate n (t, refused)) goes.run) a.ends
-    (subst (λ z. InTurns (full_by z) (full_of s) (replicate n (t, refused)) goes.run) same by_turns) in
+    (subst (λ z. InTurns (full_by z) (full_of s) (replicate n (t, refused)) goes.run) same (goes_alone_in_turns s u t refused n e goes)) in
     let ends : full_of u ≡ end (full_by code) first (a.steps ++ goes.run) =
     goes.ends ∙ ap (λ z. end (full_by z) (full_of s) goes.run) same ∙ ap (λ z. end (full_by code) z goes.run) a.ends
     ∙ sym (end_append (full_by code) first a.steps goes.run) in

@@ -1,12 +1,11 @@
 -- A run by turns that shows an outcome.
-use Rattle.std.proofs.Common.{◌≡◌, ℕ, suc, ◌≤◌, Bool, true, false, List, [], ◌∷◌, inl, inr, refl, sym, ap, ◌∙◌, subst, arith}
+use Rattle.std.proofs.Common.{◌≡◌, ℕ, suc, ◌≤◌, List, sym, ap, ◌∙◌, subst, arith}
 use Rattle.std.proofs.lemmas.List.{append-nil}
-use Rattle.ir_record.specs.Refusing.{Turn, Tries, InTurns}
-use Rattle.ir_runs.specs.Machine.{Machine}
-use Rattle.ir_runs.specs.Run.{State, Step, IsDone, after, end}
+use Rattle.ir_record.specs.Refusing.{Turn, InTurns}
+use Rattle.ir_runs.specs.Run.{IsDone, end}
 use Rattle.ir_sources.specs.Sources.{given}
 use Rattle.ir_states.specs.Outcomes.{switches}
-use Rattle.ir_states.specs.Sources.{Giving, sourced, plain}
+use Rattle.ir_states.specs.Sources.{plain}
 use Rattle.ir_states.proofs.CallerLemmas.{plain_end, sourced_entering}
 use Rattle.ir_thread.specs.State.{most_budget, thread_machine}
 use Rattle.ir_flat.specs.Flat.{machine, start_flat, tables}
@@ -15,30 +14,9 @@ use Rattle.ir_graph.specs.Outcomes.{outcome_of}
 use Rattle.ir_graph.specs.Plain.{full_by, full_of}
 use Rattle.ir_graph.specs.Reached.{beginning}
 use Rattle.ir_graph.specs.Setup.{Setup}
-use Rattle.ir_graph.proofs.CallerLemmas.{done_answered_run_is_counted}
+use Rattle.ir_graph.proofs.CallerLemmas.{done_answered_run_is_counted, in_turns_of_plain}
 use Rattle.ir_outcomes.specs.Again.{IsAgainWithin}
 use Rattle.ir_outcomes.specs.Shown.{switches_by, IsShown}
-
--- a step is tried by a thread beside its source as by the thread
-step_tries_as_thread : {T S : Type 0} (m : Machine T) (given : Giving S) (s : State (T × S)) (refused : Bool) (e : Step)
-    → Tries (sourced m given) s refused e → Tries m (plain s) refused e
-step_tries_as_thread m given s true e tries = tries
-step_tries_as_thread m given s false e tries = tries
-
--- a run by turns of threads beside their sources is one of the threads
-pub sourced_run_is_in_turns : {T S : Type 0} (m : Machine T) (given : Giving S) (s : State (T × S)) (turns : List Turn) (run : List Step)
-    → InTurns (sourced m given) s turns run → InTurns m (plain s) turns run
-sourced_run_is_in_turns m given s [] run is = is
-sourced_run_is_in_turns m given s ((t, refused) ∷ turns) run (inl (none, ok)) = inl (none, sourced_run_is_in_turns m given s turns run ok)
-sourced_run_is_in_turns m given s ((t, refused) ∷ turns) run (inr (r, rest, is, can, tries, ok)) = inr (
-  r,
-  rest,
-  is,
-  can,
-  step_tries_as_thread m given s refused (t, r) tries,
-  subst (λ z. InTurns m z turns rest) (plain_end m given s ((t, r) ∷ []))
-      (sourced_run_is_in_turns m given (after (sourced m given) s (t, r)) turns rest ok),
-)
 
 -- the threads after a run again, and how often the thread that enters is switched in it
 pub threads_again : (setup : Setup) (turns : List Turn) (most : ℕ) (u : SourcedFlat) (w : IsAgainWithin setup turns most u)
@@ -68,7 +46,7 @@ shown_if_again_within setup turns most level s u w few done same =
       by_turns = record {
         count = 0;
         in_turns = subst (λ z. InTurns (thread_machine code) first z a.steps) (sym (append-nil turns))
-            (sourced_run_is_in_turns (thread_machine code) given (beginning setup) turns a.steps a.in_turns);
+            (in_turns_of_plain (thread_machine code) given (beginning setup) turns a.steps a.in_turns);
         done = really;
       };
       taken = a.taken;
