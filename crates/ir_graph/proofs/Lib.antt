@@ -1,3 +1,4 @@
+mod Full
 mod Plain
 mod Alike
 mod Leads
@@ -17,5 +18,6 @@ mod Searched
 pub mod CallerLemmas
 mod Forms
 mod LoneSteps
+mod KnownTurns
 mod Over
 mod Both

@@ -1,7 +1,7 @@
 //! A thread that runs on alone to its next entry or try.
 
 ghost use Rattle.std.specs.Prelude.{◌≡◌, ◌<◌, ◌≤◌, ℕ, List, Bool, Some, true, false, length, slice_get, slice_set, IfOk, IfErr, OnErr, OnOk};
-ghost use Rattle.ir_flat.specs.Flat.{thread_of};
+ghost use Rattle.ir_flat.specs.Flat.{IsFlat, thread_of};
 ghost use Rattle.ir_graph.specs.Plain.{IsFair, GoesPlain, OthersStay, Rests, sourced_flat};
 ghost use Rattle.ir_graph.specs.Lone.{IsGiven};
 ghost use Rattle.ir_graph.specs.Stops.{IsRefused, IsSpent, StopsAt};
@@ -62,6 +62,7 @@ fn run_thread(
     ensures within { IfOk result (λ steps. steps ≤ limit) }
     ensures others { (sources : List Source) → OthersStay (sourced_flat flat.old sources) (sourced_flat flat.new (slice_set sources thread source.new)) thread }
     ensures rests { OnOk result (Rests (ask_of flat.new.code (thread_of flat.new thread))) }
+    ensures flat { IsFlat flat.new }
     ensures stopped { IfErr result (λ stop. (sources : List Source) → slice_get sources thread ≡ Some source.old
         → StopsAt (sourced_flat flat.old sources) (sourced_flat flat.new (slice_set sources thread source.new)) thread limit stop) }
 {
@@ -98,12 +99,13 @@ fn run_thread(
 /// It takes as many steps without an entry or a try, calls for the time once more than can be counted, has a full log or a spent budget.
 pub fn run_to_rest(state: &mut SourcedFlat<'_>, thread: usize, limit: u64) -> Result<u64, Stop>
     requires thread { thread < length state.old.flat.threads }
-    requires sources { length state.old.sources ≡ length state.old.flat.threads }
+    requires source { thread < length state.old.sources }
     ensures goes { GoesPlain state.old state.new }
     ensures alone { IfOk result (λ steps. (refused : Bool) → GoesAlone state.old state.new thread refused steps 0) }
     ensures within { IfOk result (λ steps. steps ≤ limit) }
     ensures others { OthersStay state.old state.new thread }
     ensures rests { OnOk result (Rests (ask_of state.new.flat.code (thread_of state.new.flat thread))) }
+    ensures flat { IsFlat state.new.flat }
     ensures stopped { IfErr result (λ stop. StopsAt state.old state.new thread limit stop) }
 {
     run_thread(

@@ -2,6 +2,7 @@
 
 ghost use Rattle.std.specs.Prelude.{◌≡◌, ◌⊎◌, ℕ, ◌<◌, ◌≤◌, [], ◌∷◌, None, length, IfOk, IfErr, OnOk};
 ghost use Rattle.ir_explore.specs.declared.stop.Stop.TheVariants.{Memory};
+ghost use Rattle.ir_flat.specs.Flat.{IsFlat};
 ghost use Rattle.ir_graph.specs.Graph.{IsGraph};
 ghost use Rattle.ir_graph.specs.Nodes.{AllRest};
 ghost use Rattle.ir_graph.specs.Notes.{noted_by, noted_in};
@@ -32,6 +33,7 @@ fn rest_all(state: &mut SourcedFlat<'_>, limit: u64) -> Result<(), Stop>
     requires { length state.old.sources ≡ length state.old.flat.threads }
     ensures goes { GoesPlain state.old state.new }
     ensures rest { OnOk result (AllRest state.new.flat) }
+    ensures flat { IsFlat state.new.flat }
     ensures stopped { IfErr result (λ stop. (x : Setup) → state.old ≡ start_of x → IsStop x limit stop) }
 {
     for thread in 0..state.flat.threads().len() {
