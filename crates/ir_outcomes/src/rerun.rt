@@ -47,7 +47,7 @@ fn try_result(refused: bool) -> u32
 // that takes.
 fn enter(state: &mut SourcedFlat<'_>, thread: usize, refused: bool, limit: u64) -> Result<u64, Stop>
     requires thread { thread < length state.old.flat.threads }
-    requires sources { length state.old.sources ≡ length state.old.flat.threads }
+    requires source { thread < length state.old.sources }
     requires rests { Rests (ask_of state.old.flat.code (thread_of state.old.flat thread)) }
     ensures alone { IfOk result (λ steps. GoesAlone state.old state.new thread refused steps 1) }
     ensures rests { OnOk result (Rests (ask_of state.new.flat.code (thread_of state.new.flat thread))) }
@@ -64,7 +64,7 @@ fn enter(state: &mut SourcedFlat<'_>, thread: usize, refused: bool, limit: u64) 
 // A thread runs on alone to where it rests, and then takes the steps of a leg; how many steps that takes. Each call is answered by its source.
 fn take_leg(state: &mut SourcedFlat<'_>, leg: Leg, limit: u64) -> Result<u64, Stop>
     requires thread { leg.thread < length state.old.flat.threads }
-    requires sources { length state.old.sources ≡ length state.old.flat.threads }
+    requires source { leg.thread < length state.old.sources }
     ensures { IfOk result (λ steps. GoesAlone state.old state.new leg.thread leg.refused steps leg.steps) }
 {
     let mut steps = run_to_rest(state, leg.thread, limit)?;
@@ -79,8 +79,7 @@ fn take_leg(state: &mut SourcedFlat<'_>, leg: Leg, limit: u64) -> Result<u64, St
 fn add_leg(state: &mut SourcedFlat<'_>, items: &mut Vec<Item>, leg: Leg, limit: u64) -> Result<(), Stop>
     ensures { OnOk result ((setup : Setup) (before : List ℕ) → IsAgain setup (turns_of_items items.old.items) before state.old → IsAgain setup (turns_of_items items.new.items) (before ++ replicate leg.steps leg.thread) state.new) }
 {
-    let threads = state.flat.threads().len();
-    if leg.thread >= threads || state.sources.len() != threads {
+    if leg.thread >= state.flat.threads().len() || leg.thread >= state.sources.len() {
         return Err(Stop::Order(0));
     }
     let count = take_leg(state, leg, limit)?;

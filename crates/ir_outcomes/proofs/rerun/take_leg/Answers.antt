@@ -1,4 +1,4 @@
-use Rattle.std.proofs.Common.{◌+◌, sym, ◌∙◌, subst, arith}
+use Rattle.std.proofs.Common.{◌+◌, sym, subst, arith}
 use Rattle.ir_graph.specs.Turn.{GoesAlone}
 use Rattle.ir_graph.proofs.CallerLemmas.{goes_alone_append}
 use Rattle.ir_outcomes.proofs.rerun.take_leg.Goals as goal
@@ -13,5 +13,5 @@ loop-preserved c =
           c.loop.invariant.alone one);
       rests = c.in_ok-more.ensures.rests;
       thread = let a = one.threads in let b = c.loop.invariant.thread in omega (arith, a, b);
-      sources = one.sources ∙ c.loop.invariant.sources ∙ sym one.threads;
+      source = let a = one.sources in let b = c.loop.invariant.source in omega (arith, a, b);
     }

@@ -1,4 +1,4 @@
-use Rattle.std.proofs.Common.{◌≡◌, ◌<◌, length}
+use Rattle.std.proofs.Common.{◌<◌, length}
 use Rattle.ir_flat.specs.Flat.{thread_of}
 use Rattle.ir_graph.specs.Plain.{Rests}
 use Rattle.ir_graph.specs.Turn.{GoesAlone}
@@ -10,5 +10,5 @@ invariant-loop l = record {
   alone : GoesAlone l.fn.state l.state l.leg.thread l.leg.refused l.steps l.counter;
   rests : Rests (ask_of l.state.flat.code (thread_of l.state.flat l.leg.thread));
   thread : l.leg.thread < length l.state.flat.threads;
-  sources : length l.state.sources ≡ length l.state.flat.threads;
+  source : l.leg.thread < length l.state.sources;
 }
