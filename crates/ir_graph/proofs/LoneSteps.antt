@@ -1,17 +1,14 @@
 -- A thread that goes on beside one object.
-use Rattle.std.proofs.Common.{◌≡◌, ◌≢◌, ℕ, zero, suc, ◌+◌, ◌<◌, Bool, true, false, List, length, length-set, set, refl, sym, ap, ◌∙◌, subst, arith, get_or, get_or-set_same, get_or-set_other, inl, inr}
-use Rattle.std.proofs.lemmas.Bool.{cases_eq}
+use Rattle.std.proofs.Common.{◌≡◌, ℕ, zero, suc, ◌+◌, ◌<◌, Bool, true, false, List, length, length-set, set, refl, sym, ap, ◌∙◌, subst, arith, get_or, get_or-set_same}
 use Rattle.std.proofs.lemmas.List.{set-get_or, set-set}
 use Rattle.std.specs.Prelude.{slice_set}
 use Rattle.ir_object.specs.Cell.{Cell}
 use Rattle.ir_object.specs.Standing.{Admitted, CanLeave}
 use Rattle.ir_object.specs.Word.{IsFields, entered, left_by}
 use Rattle.ir_object.specs.declared.fields.Fields.{Fields}
-use Rattle.ir_runs.specs.Machine.{Machine, upd, target, reply, acted}
-use Rattle.ir_runs.specs.Run.{State, Step, asked, act, Can, after}
-use Rattle.ir_runs.proofs.CallerLemmas.{upd_at_own_place, upd_at_other_place}
+use Rattle.ir_runs.specs.Run.{Can, after}
 use Rattle.ir_states.specs.Counting.{IsAnswered}
-use Rattle.ir_states.specs.Sources.{Giving, answer_of, left_of, sourced}
+use Rattle.ir_states.specs.Sources.{answer_of, left_of}
 use Rattle.ir_states.specs.Views.{beside}
 use Rattle.ir_thread.specs.Permitted.{run_of, step_of, Permits}
 use Rattle.ir_thread.specs.Private.{PrivateSteps}
@@ -31,6 +28,7 @@ use Rattle.ir_store.specs.Nodes.{SourcedFlat, source_of, sourced_thread, with_tu
 use Rattle.ir_store.specs.Table.{no_source}
 use Rattle.ir_graph.specs.Lone.{IsAbout, IsGiven, answer_from, cell_after, lone_thread, lone_cell, GoesLone, MayBegin, TakesTurn, AreBeside, MayTake}
 use Rattle.ir_graph.specs.Plain.{full_by, full_of, IsFair, GoesPlain, MayGo, OthersStay, Rests, result_by, result_of}
+use Rattle.ir_graph.proofs.Full.{after_step_beside_sources, source_of_set}
 use Rattle.ir_graph.proofs.Plain.{goes_plain_reflexive, goes_plain_transitive, goes_plain_by_fair_step, others_stay_after_step, others_stay_transitive, twins_after_ask}
 
 -- the flat with another thread and another object
@@ -80,41 +78,6 @@ with_turn_twice s t x y o c d i = record {
   sources = set-set s.sources t x.1 y.1 i;
 }
 
--- ---- a table of threads beside their sources, after a step
-
-table_of_list_with_element : {X : Type 0} (xs : List X) (t : ℕ) (x d : X) → t < length xs
-    → ◌≡◌ {A = ℕ → X} (λ u. get_or (set xs t x) u d) (upd (λ u. get_or xs u d) t x)
-table_of_list_with_element {X} xs t x d less = λ i u. at u i
-  where
-    at : (u : ℕ) → get_or (set xs t x) u d ≡ upd (λ u. get_or xs u d) t x u
-    at u = elim (cases_eq u t) [
-      | inl is ↦ subst (λ z. get_or (set xs t x) z d ≡ upd (λ u. get_or xs u d) t x z) (sym is)
-          (get_or-set_same xs t x d less ∙ sym (upd_at_own_place (λ u. get_or xs u d) t x))
-      | inr other ↦ get_or-set_other xs t u x d other ∙ sym (upd_at_other_place (λ u. get_or xs u d) t u x other)
-    ]
-
-update_of_two_tables : {T S : Type 0} (now : ℕ → T) (sources : ℕ → S) (t : ℕ) (x : T) (source : S)
-    → ◌≡◌ {A = ℕ → T × S} (upd {A = T × S} (λ u. (now u, sources u)) t (x, source)) (λ u. (upd now t x u, upd sources t source u))
-update_of_two_tables {T} {S} now sources t x source = λ i u. at u i
-  where
-    at : (u : ℕ) → ◌≡◌ {A = T × S} (upd {A = T × S} (λ u. (now u, sources u)) t (x, source) u) (upd now t x u, upd sources t source u)
-    at u = elim (cases_eq u t) [
-      | inl is ↦ subst (λ z. ◌≡◌ {A = T × S} (upd {A = T × S} (λ u. (now u, sources u)) t (x, source) z) (upd now t x z, upd sources t source z)) (sym is)
-          (upd_at_own_place {A = T × S} (λ u. (now u, sources u)) t (x, source)
-          ∙ (λ i. (sym (upd_at_own_place now t x) i, sym (upd_at_own_place sources t source) i)))
-      | inr other ↦ upd_at_other_place {A = T × S} (λ u. (now u, sources u)) t u (x, source) other
-          ∙ (λ i. (sym (upd_at_other_place now t u x other) i, sym (upd_at_other_place sources t u source other) i))
-    ]
-
-step_beside_own_source : {T S : Type 0} (m : Machine T) (given : Giving S) (s : State T) (sources : ℕ → S) (e : Step)
-    → after (sourced m given) (beside s sources) e ≡ beside (after m s e) (upd sources e.0 (left_of given (asked m s e.0) (sources e.0)))
-unfolding after
-step_beside_own_source m given s sources e = λ i. record {
-  now = update_of_two_tables s.now sources e.0 (m.take (s.now e.0) (reply (act m s e) (s.objects (target (act m s e)))))
-      (left_of given (asked m s e.0) (sources e.0)) i;
-  objects = upd s.objects (target (act m s e)) (acted (act m s e) e.0 (s.objects (target (act m s e))));
-}
-
 -- a state of which the flat part is as after the step, and the source of its thread too, is that after the step
 pub full_of_step : (s u : SourcedFlat) (t r : ℕ) → t < length s.sources → tables u.flat ≡ after (machine s.flat) (tables s.flat) (t, r)
     → u.sources ≡ set s.sources t (left_of given (shared_ask (ask_of s.flat.code (thread_of s.flat t))) (source_of s t))
@@ -122,8 +85,8 @@ pub full_of_step : (s u : SourcedFlat) (t r : ℕ) → t < length s.sources → 
 full_of_step s u t r less flat sources =
     let source : Source = left_of given (shared_ask (ask_of s.flat.code (thread_of s.flat t))) (source_of s t) in
     (λ i. beside (flat i) (λ v. get_or (sources i) v no_source))
-    ∙ (λ i. beside (after (machine s.flat) (tables s.flat) (t, r)) (table_of_list_with_element s.sources t source no_source less i))
-    ∙ sym (step_beside_own_source (thread_machine s.flat.code) given (tables s.flat) (source_of s) (t, r))
+    ∙ (λ i. beside (after (machine s.flat) (tables s.flat) (t, r)) (source_of_set s.sources t source less i))
+    ∙ sym (after_step_beside_sources (thread_machine s.flat.code) given (tables s.flat) (source_of s) (t, r))
 
 -- ---- one step
 

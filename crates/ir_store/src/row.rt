@@ -46,12 +46,13 @@ impl<'a> Row<'a> {
         ensures look { IfOk result (λ row. row.look ≡ look) }
         ensures over { IfOk result (λ row. row.over ≡ is_over thread.now) }
     {
+        let source = source.copy()?;
         let frame = thread.frame()?;
         let changes = changes_of(alloc, start, thread)?;
         Ok(Row {
             frame,
             changes,
-            source: source.copy()?,
+            source,
             look,
             over: over(thread),
         })

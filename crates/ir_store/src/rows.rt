@@ -47,6 +47,13 @@ impl<'a> Model for Rows<'a> {
         × AreLooks t.start.items (map (beside_in t.start.items) t.rows.items) (map look_of t.rows.items) };
 }
 
+// Whether what answers a thread is the same, unless it is over.
+fn same_unless_over(thread: &Thread, first: &Sources<'_>, second: &Sources<'_>) -> bool
+    ensures { result ≡ true → is_over thread.now ≡ false → first.now ≡ second.now }
+{
+    over(thread) || first.same(second)
+}
+
 impl<'a> Rows<'a> {
     /// No threads, of an image of this form, and with this private memory at first.
     ///
@@ -125,7 +132,7 @@ impl<'a> Rows<'a> {
         ensures { IfOk result (λ like. like ≡ true → LooksLike self.now.start self.now.items n (thread.now, source.now)) }
     {
         let kept = self.source(n)?;
-        if !over(thread) && !kept.same(source) {
+        if !same_unless_over(thread, &kept, source) {
             return Ok(false);
         }
         let own = self.thread(n)?;

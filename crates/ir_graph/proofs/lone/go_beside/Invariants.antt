@@ -1,12 +1,12 @@
-use Rattle.std.proofs.Common.{ℕ, ◌≤◌}
+use Rattle.std.proofs.Common.{◌≡◌, ℕ, ◌≤◌}
 use Rattle.ir_graph.specs.Lone.{GoesLone, AreBeside}
 use Rattle.ir_graph.proofs.lone.go_beside.Given as goal
 
 abbrev pub invariant-beside : goal.invariant-beside
 invariant-beside l = record {
   within : l.left ≤ l.limit;
-  beside : AreBeside l.code l.number l.thread l.object;
-  goes : (k : ℕ) × GoesLone l.code l.number k l.fn.thread l.fn.object l.thread l.object;
+  beside : AreBeside l.code l.number l.own.0 l.object;
+  goes : (k : ℕ) × GoesLone l.code l.number k l.fn.own l.fn.object l.own l.object;
 }
 
 abbrev pub decreases-beside : goal.decreases-beside

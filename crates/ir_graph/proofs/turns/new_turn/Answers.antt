@@ -1,7 +1,9 @@
-use Rattle.std.proofs.Common.{◌≡◌, Some, refl, sym, ◌∙◌, subst}
+use Rattle.std.proofs.Common.{◌≡◌, Some, refl, sym, ap, ◌∙◌, subst}
 use Rattle.std.specs.Prelude.{slice_get}
+use Rattle.ir_sources.specs.Sources.{Source}
+use Rattle.ir_thread.specs.State.{ThreadState}
 use Rattle.ir_graph.specs.Plain.{IsNoTry}
-use Rattle.ir_graph.proofs.Both.{found_turn_is_turn_of_thread}
+use Rattle.ir_graph.proofs.KnownTurns.{found_turn_is_turn_of_thread}
 use Rattle.ir_graph.proofs.Grown.{element_below_length_exists}
 use Rattle.ir_graph.proofs.LoneSteps.{form_kept_by_turn}
 use Rattle.ir_graph.proofs.turns.new_turn.Goals as goal
@@ -11,13 +13,13 @@ turn_beside-requires c =
     let f = element_below_length_exists c.args.flats.now.items c.args.way.node c.requires.node in
     let own = c.in-Some-spot.ensures.object f.0 f.1 in
     record {
-      flat = f.0;
+      flat = f.0.flat;
       thread = c.args.way.thread;
-      is = c.thread_number-from.ensures.flat f.0 f.1;
+      is = (c.thread_number-from.ensures.sourced f.0 f.1).flat;
       runs = c.requires.code f.0 f.1;
       has_thread = c.requires.thread f.0 f.1;
       has_object = own.0;
-      here = sym (c.in_ok-own.ensures.found ∙ c.thread_number-from.ensures.thread f.0 f.1);
+      here = ap (λ (z : ThreadState × Source). z.0) (sym (c.in_ok-own.ensures.found ∙ c.thread_number-from.ensures.thread f.0 f.1));
       there = sym (c.object-beside.ensures ∙ own.1);
     }
 

@@ -1,4 +1,4 @@
-use Rattle.std.proofs.Common.{◌≡◌, ◌<◌, ap, ◌∙◌, sym, subst, get_or, length, Some}
+use Rattle.std.proofs.Common.{◌<◌, ap, ◌∙◌, sym, subst, get_or, length, Some}
 use Rattle.std.proofs.lemmas.Option.{slice_get-get_or}
 use Rattle.ir_freeze.specs.Frozen.{is_over}
 use Rattle.ir_sources.specs.Sources.{Source}

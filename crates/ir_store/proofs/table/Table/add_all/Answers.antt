@@ -16,7 +16,7 @@ loop-t-preserved c =
     let keeps = c.add.ensures.keeps in
     let numbers = c.loop-t.numbers.items in
     let n = c.in_ok-number.number in
-    let x : ThreadState × Source = (c.index.result.now, c.index-2.result.now) in
+    let x : ThreadState × Source = (c.index-threads-t.result, c.index-sources-t.result) in
     let at : slice_get new n ≡ Some x = subst (λ k. slice_get new k ≡ Some x) (sym c.in_ok-number.ensures) c.in_ok-n.ensures.found in
     let is : get_or new n idle_beside ≡ x = get_or_from_slice_get new n x idle_beside at in
     let lt : i < length c.args.threads.now = (let a = c.loop-t-test.true in let b = c.loop-t.auto.t-end in omega (arith, a, b)) in
@@ -36,8 +36,8 @@ loop-t-preserved c =
           (slice_get_within new n x at));
       threads = ap (threads_at new) c.in_ok-push.ensures.items
           ∙ mapped_elements_found_step (λ k. (get_or new k idle_beside).0) numbers n c.args.threads.now i x.0 lt (was ∙ before.threads)
-          (ap (λ (z : ThreadState × Source). z.0) is ∙ c.index.ensures);
+          (ap (λ (z : ThreadState × Source). z.0) is ∙ c.index-threads-t.is);
       sources = ap (sources_at new) c.in_ok-push.ensures.items
           ∙ mapped_elements_found_step (λ k. (get_or new k idle_beside).1) numbers n c.args.sources.now i x.1 lt' (were ∙ before.sources)
-          (ap (λ (z : ThreadState × Source). z.1) is ∙ c.index-2.ensures);
+          (ap (λ (z : ThreadState × Source). z.1) is ∙ c.index-sources-t.is);
     }
