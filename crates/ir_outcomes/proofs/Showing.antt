@@ -11,7 +11,6 @@ use Rattle.ir_thread.specs.State.{most_budget, thread_machine}
 use Rattle.ir_flat.specs.Flat.{machine, start_flat, tables}
 use Rattle.ir_store.specs.Nodes.{SourcedFlat}
 use Rattle.ir_graph.specs.Outcomes.{outcome_of}
-use Rattle.ir_graph.specs.Plain.{full_by, full_of}
 use Rattle.ir_graph.specs.Reached.{beginning}
 use Rattle.ir_graph.specs.Setup.{Setup}
 use Rattle.ir_graph.proofs.CallerLemmas.{done_answered_run_is_counted, in_turns_of_plain}
@@ -38,11 +37,9 @@ shown_if_again_within setup turns most level s u w few done same =
     let ends = threads_again setup turns most u w in
     let first = tables (start_flat setup.guest most_budget setup.profile) in
     let really : IsDone (thread_machine code) (end (thread_machine code) first a.steps) =
-    subst (IsDone (thread_machine code)) ends (subst (λ z. IsDone (thread_machine z) (tables u.flat)) a.like.code done) in
-    let full : IsDone (full_by code) (end (full_by code) (beginning setup) a.steps) =
-    subst (IsDone (full_by code)) a.ends (subst (λ z. IsDone (full_by z) (full_of u)) a.like.code done) in record {
+    subst (IsDone (thread_machine code)) ends (subst (λ z. IsDone (thread_machine z) (tables u.flat)) a.like.code done) in record {
       steps = a.steps;
-      counted = done_answered_run_is_counted setup a.steps a.answered full;
+      counted = done_answered_run_is_counted setup a.steps a.answered really;
       by_turns = record {
         count = 0;
         in_turns = subst (λ z. InTurns (thread_machine code) first z a.steps) (sym (append-nil turns))

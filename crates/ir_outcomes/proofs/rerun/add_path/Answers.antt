@@ -1,4 +1,4 @@
-use Rattle.std.proofs.Common.{[], refl, arith}
+use Rattle.std.proofs.Common.{[], length, refl, arith}
 use Rattle.ir_record.specs.Recording.{turns_of_items}
 use Rattle.ir_outcomes.proofs.Again.{again_within_step}
 use Rattle.ir_outcomes.proofs.rerun.add_path.Goals as goal
@@ -10,4 +10,4 @@ pub loop-k-preserved : goal.loop-k-preserved
 loop-k-preserved c = λ setup again.
     let was = c.loop-k.invariant setup again in
     again_within_step setup (turns_of_items c.loop-k.items.items) (turns_of_items c.add_turn.new.items.items) c.loop-k.state c.add_turn.new.state _
-    c.loop-k.k was.0 was.1 (c.in_ok-add_turn.ensures setup)
+    c.loop-k.k was.0 was.1 (λ before a. let r = c.in_ok-add_turn.ensures setup before a in (length r.0, r.2))

@@ -4,8 +4,10 @@ use Rattle.std.specs.List.{slice_index_or}
 use Rattle.ir_explore.specs.declared.origin.Origin.{Origin}
 use Rattle.ir_explore.specs.Origins.{first_origin}
 use Rattle.std.proofs.lemmas.Option.{same_Some, slice_get-get_or}
-use Rattle.ir_flat.specs.Flat.{tables}
+use Rattle.ir_flat.specs.Flat.{machine, tables}
+use Rattle.ir_runs.specs.Run.{IsDone}
 use Rattle.ir_graph.specs.Outcomes.{outcome_of}
+use Rattle.ir_graph.specs.Plain.{IsLike}
 use Rattle.ir_graph.proofs.CallerLemmas.{like_symmetric, like_transitive}
 use Rattle.ir_graph.specs.Setup.{start_of}
 use Rattle.ir_store.specs.Nodes.{SourcedFlat}
@@ -18,8 +20,11 @@ same_outcome-requires c =
     let s = c.in_ok-kept.kept in
     let u = c.in_ok-state.state in
     let first = (start_of c.args.states.now.graph.setup).flat in
+    let like : IsLike u.flat s.flat =
     like_transitive u.flat first s.flat (like_symmetric first u.flat c.in_ok-state.ensures.again.again.like)
-    (c.requires.reached c.args.node s c.in_ok-kept.ensures.found).like
+    (c.requires.reached c.args.node s c.in_ok-kept.ensures.found).like in
+    subst (λ (z : SourcedFlat). IsLike z.flat c.kept.inside.flat) (sym c.state.view_is)
+    (subst (λ (z : SourcedFlat). IsLike u.flat z.flat) (sym c.kept.view_is) like)
 
 pub returns-clause-level : goal.returns-clause-level
 returns-clause-level c = λ n is.
@@ -40,6 +45,6 @@ returns-clause-shown c = λ s here.
     c.in_ok-state.state c.in_ok-state.ensures.again
     (subst (λ z. length z ≤ suc n.level) (sym c.as_slice.ensures.value)
     (c.in_ok-path.ensures.few n (slice_get-get_or origins c.args.node first_origin wide)))
-    (c.is_done.ensures.done c.if-not-is_done.false)
-    (c.same_outcome.ensures.same c.if-not-same_outcome.false
-    ∙ ap (λ (z : SourcedFlat). outcome_of (tables z.flat)) (same_Some kept s (sym at ∙ here)))
+    (subst (λ (z : SourcedFlat). IsDone (machine z.flat) (tables z.flat)) c.state.view_is (c.is_done.ensures.done c.if-not-is_done.false))
+    (ap (λ (z : SourcedFlat). outcome_of (tables z.flat)) (sym c.state.view_is) ∙ c.same_outcome.ensures.same c.if-not-same_outcome.false
+    ∙ ap (λ (z : SourcedFlat). outcome_of (tables z.flat)) (c.kept.view_is ∙ same_Some kept s (sym at ∙ here)))
