@@ -10,5 +10,5 @@ returns c =
     let first = c.in_ok-state.state in
     c.in_ok-add_rests.ensures setup (length c.args.path.now)
     (c.in_ok-add_path.ensures setup
-    (subst (λ z. IsAgain setup (turns_of_items z) [] first) (sym c.new.ensures.items)
+    (subst (λ z. IsAgain setup (turns_of_items z) [] first) (sym c.new-items.ensures.items)
     (subst (IsAgain setup [] []) (sym c.in_ok-state.ensures) (start_is_run_again setup))))
