@@ -72,11 +72,7 @@ pub fn printed(
 
 #[test]
 fn a_lost_update_is_printed_with_both_orders(rt: HostRuntime) -> Result<(), Fail> {
-    let (status, out, faults) = printed(
-        &rt,
-        LOST_UPDATE,
-        &within(100, 100, Profile::One),
-    )?;
+    let (status, out, faults) = printed(&rt, LOST_UPDATE, &within(100, 100, Profile::One))?;
     assert_eq!(rt; out.bytes.as_slice(), BOTH);
     assert_eq!(rt; status, 0);
     assert!(rt; faults.bytes.is_empty());
@@ -85,11 +81,7 @@ fn a_lost_update_is_printed_with_both_orders(rt: HostRuntime) -> Result<(), Fail
 
 #[test]
 fn with_one_switch_the_first_is_printed(rt: HostRuntime) -> Result<(), Fail> {
-    let (status, out, _) = printed(
-        &rt,
-        LOST_UPDATE,
-        &within(100, 1, Profile::One),
-    )?;
+    let (status, out, _) = printed(&rt, LOST_UPDATE, &within(100, 1, Profile::One))?;
     assert_eq!(rt; out.bytes.as_slice(), FIRST);
     assert_eq!(rt; status, 0);
     Ok(())
@@ -97,11 +89,7 @@ fn with_one_switch_the_first_is_printed(rt: HostRuntime) -> Result<(), Fail> {
 
 #[test]
 fn too_many_states_stop_it(rt: HostRuntime) -> Result<(), Fail> {
-    let (status, out, _) = printed(
-        &rt,
-        LOST_UPDATE,
-        &within(3, 100, Profile::One),
-    )?;
+    let (status, out, _) = printed(&rt, LOST_UPDATE, &within(3, 100, Profile::One))?;
     assert!(rt; out.bytes.as_slice().starts_with(b"stopped states covered "));
     assert_eq!(rt; status, 5);
     Ok(())
@@ -109,11 +97,7 @@ fn too_many_states_stop_it(rt: HostRuntime) -> Result<(), Fail> {
 
 #[test]
 fn a_thread_that_goes_on_for_ever_stops_it(rt: HostRuntime) -> Result<(), Fail> {
-    let (status, out, _) = printed(
-        &rt,
-        ENDLESS_LOOP,
-        &within(100, 100, Profile::One),
-    )?;
+    let (status, out, _) = printed(&rt, ENDLESS_LOOP, &within(100, 100, Profile::One))?;
     assert_eq!(rt;
         out.bytes.as_slice(),
         b"stopped private 0 covered - outcomes 0 states 0\n".as_slice()

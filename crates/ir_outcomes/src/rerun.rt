@@ -76,7 +76,12 @@ fn take_leg(state: &mut SourcedFlat<'_>, leg: Leg, limit: u64) -> Result<u64, St
 }
 
 // So does a thread of the guest, and its steps are noted.
-fn add_leg(state: &mut SourcedFlat<'_>, items: &mut Vec<Item>, leg: Leg, limit: u64) -> Result<(), Stop>
+fn add_leg(
+    state: &mut SourcedFlat<'_>,
+    items: &mut Vec<Item>,
+    leg: Leg,
+    limit: u64,
+) -> Result<(), Stop>
     ensures { OnOk result ((setup : Setup) (before : List ℕ) → IsAgain setup (turns_of_items items.old.items) before state.old → IsAgain setup (turns_of_items items.new.items) (before ++ replicate leg.steps leg.thread) state.new) }
 {
     if leg.thread >= state.flat.threads().len() || leg.thread >= state.sources.len() {
