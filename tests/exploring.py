@@ -4,8 +4,9 @@
 python3 tests/exploring.py IR [--guests N] [--seed S]
 
 The judge is written anew here, for guests of a few operations: from each state it takes the next operation of each thread, and merges nothing
-but equal states. It says which outcomes there are, and by how many switches at least. Each order that `ir explore` prints is recorded, and a
-session says what that run comes to. With conditions the first outcome that fulfils them is recorded, or nothing. The last line is `N passed, M failed`.
+but equal states. It answers CLOCK, RANDOM and INPUT too. It says which outcomes there are, and by how many switches at least. Each order that
+`ir explore` prints is recorded, with the same --random and --input, and a session says what that run comes to. With conditions the first outcome
+that fulfils them is recorded, or nothing. The last line is `N passed, M failed`.
 """
 import random
 import re
@@ -20,20 +21,79 @@ from lib import Wrong, assembled, examples, finish, parser_of, profile_of, progr
 
 WORDS = 8
 REGISTERS = ("s0", "s1", "s2")
-CALLS = {"enter_read": 7, "enter_write": 8, "leave": 9, "get": 10, "put": 11, "try": 13, "print": 2, "end": 1}
+CALLS = {"clock": 4, "random": 5, "input": 6, "enter_read": 7, "enter_write": 8, "leave": 9, "get": 10, "put": 11, "try": 13, "print": 2, "end": 1}
+
+
+class World(NamedTuple):
+    """What answers a guest: the number that random words start from, and the input of each thread."""
+
+    random: int
+    input: bytes
+
+
+SILENT = World(0, b"")
+
+
+class Source(NamedTuple):
+    """What is left to answer a thread: how often it has called CLOCK, the generator of its random words, and the bytes that it hasn't read."""
+
+    ticks: int
+    generator: tuple
+    left: bytes
 
 
 class Thread(NamedTuple):
-    """A thread of the judge: its next operation, its registers, what it holds, what it printed, and its end and code."""
+    """A thread of the judge: its next operation, its registers, what it holds, what it printed, its end and code, and what answers it."""
 
     at: int
     registers: tuple
     held: tuple
     printed: bytes
     ended: tuple
+    source: Source
 
 
-START = Thread(0, (0,) * len(REGISTERS), (), b"", ())
+# PCG32 (XSH RR) with 64 bits of state. The state is the one before the step, and the increment is odd.
+MULTIPLIER = 6364136223846793005
+
+
+def mixed(state):
+    """The word of a state: its high bits folded into lower ones, and then rotated by the highest five."""
+    word, turn = (state >> 18 ^ state) >> 27 & 0xFFFFFFFF, state >> 59
+    return (word >> turn | word << (-turn & 31)) & 0xFFFFFFFF
+
+
+def stepped(state, increment):
+    """The next state of a generator."""
+    return (state * MULTIPLIER + increment) % 2**64
+
+
+def seeded(number):
+    """The generator that starts from a number: four words of another PCG32, with a fixed increment, are its state and its increment."""
+    words = []
+    for _ in range(4):
+        number = stepped(number, 0xA17654E46FBE17F3)
+        words.append(mixed(number))
+    increment = words[2] | words[3] << 32 | 1
+    return stepped((words[0] | words[1] << 32) + increment, increment), increment
+
+
+def answered(call, source):
+    """What a source answers to a call, and what is left of it."""
+    match call:
+        case "clock":
+            return source.ticks, source._replace(ticks=source.ticks + 1)
+        case "random":
+            state, increment = source.generator
+            return mixed(state), source._replace(generator=(stepped(state, increment), increment))
+        case "input":
+            return source.left[0] if source.left else 0xFFFFFFFF, source._replace(left=source.left[1:])
+    raise ValueError(call)
+
+
+def started(thread, world):
+    """A thread before its first operation."""
+    return Thread(0, (0,) * len(REGISTERS), (), b"", (), Source(0, seeded((world.random + thread) % 2**64), world.input))
 
 
 def ecall(call, *arguments):
@@ -49,6 +109,10 @@ def lines_of(operation, label):
             return [f"        addi {REGISTERS[register]}, zero, {value}"]
         case ("add", register, value):
             return [f"        addi {REGISTERS[register]}, {REGISTERS[register]}, {value}"]
+        case ("mask", register, value):
+            return [f"        andi {REGISTERS[register]}, {REGISTERS[register]}, {value}"]
+        case ("clock" | "random" | "input" as call, register):
+            return ecall(call) + [f"        addi {REGISTERS[register]}, a0, 0"]
         case ("skip", register, value, to):
             return [f"        addi t0, zero, {value}", f"        beq {REGISTERS[register]}, t0, {label}{to}"]
         case ("get", thing, index, register):
@@ -110,6 +174,11 @@ def own(thread, operation):
             return on._replace(registers=put_word(registers, register, value % 2**32))
         case ("add", register, value):
             return on._replace(registers=put_word(registers, register, (registers[register] + value) % 2**32))
+        case ("mask", register, value):
+            return on._replace(registers=put_word(registers, register, registers[register] & value))
+        case ("clock" | "random" | "input" as call, register):
+            answer, left = answered(call, thread.source)
+            return on._replace(registers=put_word(registers, register, answer), source=left)
         case ("skip", register, value, to):
             return thread._replace(at=to) if registers[register] == value % 2**32 else on
         case ("print", register):
@@ -185,9 +254,9 @@ def hang_of(least, before, done):
     return min((switches for (state, _), switches in least.items() if state not in ways), default=None)
 
 
-def judged(guest, objects):
+def judged(guest, objects, world):
     """Each outcome, with the fewest switches that lead to it; and the fewest switches to a hang, or none."""
-    start = ((START,) * len(guest), (0,) * (WORDS * objects))
+    start = (tuple(started(t, world) for t in range(len(guest))), (0,) * (WORDS * objects))
     least, found, queue = {(start, None): 0}, {}, deque([(start, None)])
     before, done = {}, set()
     while queue:
@@ -246,9 +315,15 @@ def explored(folder, name, more=()):
     return ended.stdout.decode().splitlines(), ended
 
 
-def check_order(folder, name, row, threads, objects):
+def options_of(folder, world):
+    """The options that give a guest this world."""
+    (folder / "input.bin").write_bytes(world.input)
+    return ["--random", str(world.random), "--input", "input.bin"]
+
+
+def check_order(folder, name, row, threads, objects, more):
     """The order of an outcome, recorded: a session says what that run comes to."""
-    recorded(folder, name, row.order)
+    recorded(folder, name, row.order, more=more)
     lines = said(folder, name, ["end", *(f"out {t}" for t in range(threads)), *(f"obj {o}" for o in range(objects))]).decode().splitlines()
     wants(f"{name} in order {row.order}", lines[0], "ready")
     printed = re.findall(r"^out (\d+)((?:\n[0-9a-f]+)*)", "\n".join(lines), re.M)
@@ -257,17 +332,18 @@ def check_order(folder, name, row, threads, objects):
     wants(f"words in order {row.order}", words, row.words)
 
 
-def check_guest(folder, guest, objects):
+def check_guest(folder, guest, objects, world=SILENT):
     """A guest by the judge, by the program, and each order of the program in a session."""
     assembled(folder, "guest", source_of(guest, objects))
-    lines, ended = explored(folder, "guest")
+    more = options_of(folder, world) if world != SILENT else []
+    lines, ended = explored(folder, "guest", more)
     if ended.returncode:
-        raise Wrong(f"{guest}: {ended!r}")
+        raise Wrong(f"{guest} in {world}: {ended!r}")
     found, last = listed(lines, objects)
-    wanted, hang = judged(guest, objects)
+    wanted, hang = judged(guest, objects, world)
     told = {(row.threads, row.words): row.switches for row in found}
     if told != wanted or len(told) != len(found):
-        raise Wrong(f"{guest}: the program lists {told}, the judge {wanted}")
+        raise Wrong(f"{guest} in {world}: the program lists {told}, the judge {wanted}")
     if [row.switches for row in found] != sorted(row.switches for row in found):
         raise Wrong(f"{guest}: switches don't rise")
     hangs = [int(line.split()[2]) for line in lines if line.startswith("hang ")]
@@ -275,7 +351,7 @@ def check_guest(folder, guest, objects):
     if hangs != ([] if hang is None else [hang]) or not re.fullmatch(rf"finished outcomes {len(found)} states \d+ hangs {many}", last):
         raise Wrong(f"{guest}: hangs after {hangs} switches, wanted {hang}, and the last line is {last!r}")
     for row in found:
-        check_order(folder, "guest", row, len(guest), objects)
+        check_order(folder, "guest", row, len(guest), objects, more)
 
 
 def section(chance, objects):
@@ -301,10 +377,18 @@ def attempt(chance, objects, at):
     return [("try", thing, answer), *look, *inside, ("leave", thing)]
 
 
-def random_thread(chance, objects, tries=0.0):
-    """A thread of a few sections, with operations of its own in between; so often a section is a try."""
+def asking(chance):
+    """A call for the time, a random word of which a few bits are left, or a byte."""
+    register = chance.randrange(len(REGISTERS))
+    call = chance.choice(("clock", "random", "input", "input"))
+    return [(call, register)] + ([("mask", register, chance.choice((1, 3, 255)))] if call == "random" or chance.random() < 0.3 else [])
+
+
+def random_thread(chance, objects, tries=0.0, calls=0.0):
+    """A thread of a few sections, with operations of its own in between; so often a section is a try, and before so many it calls its world."""
     operations = [("set", 0, chance.randint(0, 3))]
     for _ in range(chance.randint(1, 3)):
+        operations += asking(chance) if calls and chance.random() < calls else []
         operations += attempt(chance, objects, len(operations)) if tries and chance.random() < tries else section(chance, objects)
         kind, register = chance.random(), chance.randrange(len(REGISTERS))
         if kind < 0.4:
@@ -319,10 +403,15 @@ def random_thread(chance, objects, tries=0.0):
     return operations
 
 
-def random_guest(chance, tries=0.0):
+def random_guest(chance, tries=0.0, calls=0.0):
     """Two or three threads over one or two objects."""
     objects = chance.randint(1, 2)
-    return [random_thread(chance, objects, tries) for _ in range(chance.randint(2, 3))], objects
+    return [random_thread(chance, objects, tries, calls) for _ in range(chance.randint(2, 3))], objects
+
+
+def random_world(chance):
+    """A number that random words start from, seldom one of the last, and a few bytes."""
+    return World(chance.choice((chance.randrange(100), chance.randrange(2**64), 2**64 - 1)), bytes(chance.randrange(4) for _ in range(chance.randint(0, 4))))
 
 
 # Counts that are known on paper.
@@ -356,6 +445,29 @@ LOST_WAKE_UP = [
      *entries("enter_read", 0, 1, [("get", 0, 2, 2)]), ("skip", 2, 0, 8)],
     [("set", 0, 1), ("enter_write", 0), ("put", 0, 0, 0), ("get", 0, 1, 1), ("skip", 1, 0, 6), ("put", 0, 2, 0), ("leave", 0)],
 ]
+
+
+# Two threads write the bytes of their input to word 0, each in a section of its own, until there are none: a call in a loop.
+COPIES = [[("input", 0), ("skip", 0, -1, 7), ("enter_write", 0), ("put", 0, 0, 0), ("leave", 0), ("add", 2, 1), ("skip", 1, 0, 0), ("print", 2)]] * 2
+# A thread reads a byte if the other was first. Later it reads one and prints it: its states differ in what is left of its input alone.
+SPENDS = [[*entries("enter_read", 0, 1, [("get", 0, 0, 0)]), ("skip", 0, 0, 5), ("input", 0), ("set", 0, 0), *entries("enter_read", 0, 1),
+           ("input", 1), ("print", 1), ("random", 1), ("print", 1), ("clock", 1), ("print", 1)],
+          [("set", 0, 1), *entries("enter_write", 0, 1, [("put", 0, 0, 0)])]]
+# Guests that call their world, each with its own.
+ASKING = ((COPIES, 1, World(0, b"\1\2")), (COPIES, 1, World(3, b"")), (SPENDS, 1, World(9, b"AB")), (SPENDS, 1, World(2**64 - 1, b"A")))
+# A thread that asks for the time without end.
+ENDLESS = """        .thread main
+main:   addi a7, zero, 4
+        ecall
+        jal zero, main
+"""
+
+
+def check_endless(folder):
+    """Calls are steps like others: a thread that makes no entry stops the search."""
+    assembled(folder, "endless", ENDLESS)
+    lines, ended = explored(folder, "endless", ["--private", "1000"])
+    wants("a thread that asks for the time without end", (lines, ended.returncode), (["stopped private 0 covered - outcomes 0 states 0"], 5))
 
 
 def check_on_paper(folder, row):
@@ -413,6 +525,9 @@ UNTIL = (
     ("tries.img --profile 2", ["code 0 2", "code 1 2"], 0, ["found outcome 4 switches 1 order 1x2,1!x5,0x2,0!x5",
                                                             "thread 0 end 1 code 2 steps 7 events 1", "thread 1 end 1 code 2 steps 7 events 1"]),
     ("tries.img --profile 2", ["code 0 3"], 5, ["finished outcomes 4 states 9 hangs 0"]),
+    ("spends.img --input ab.bin", ["!out 0 A"], 0, []),
+    ("spends.img --input ab.bin --random 18446744073709551615", ["out 0 A"], 0, []),
+    ("spends.img --input ab.bin", ["out 0 C"], 5, []),
 )
 # What is refused, with its status and what standard error says.
 NO_UNTIL = (
@@ -432,6 +547,13 @@ NO_UNTIL = (
     ("lost.img x.trc --until 'word 0 0 1' --output lost.img", 0, ""),
     ("lost.s x.trc --until fault", 3, "the image is refused"),
     ("no.img x.trc --until fault", 1, "no.img"),
+    ("lost.img --random x", 2, "--random: 'x' is no number up to 18446744073709551615"),
+    ("lost.img --random 18446744073709551616", 2, "--random: '18446744073709551616' is no number up to 18446744073709551615"),
+    ("lost.img --input no.bin", 1, "no.bin"),
+    ("lost.img --input long.bin", 1, "long.bin"),
+    ("lost.img x.trc --until fault --input no.bin", 1, "no.bin"),
+    ("lost.img ab.bin --until fault --input ab.bin", 2, "TRACE would be written over FILE"),
+    ("lost.img x.trc --until fault --input x.0 --output x", 2, "PREFIX.T would be written over FILE"),
 )
 
 
@@ -447,8 +569,8 @@ def check_until(folder, row):
     wants(f"trace of {row}", (folder / "until.trc").exists(), status == 0)
     if status == 0:
         order = next(line.split()[-1] for line in lines if line.startswith("found "))
-        profile = more[more.index("--profile"):][:2] if "--profile" in more else []
-        again = run(["record", image, "again.trc", "--order", order, "--budget", str(10**12), *profile], folder)
+        same = [word for option in ("--profile", "--random", "--input") if option in more for word in more[more.index(option):][:2]]
+        again = run(["record", image, "again.trc", "--order", order, "--budget", str(10**12), *same], folder)
         wants(f"recording of {order}", again.stdout.decode().splitlines(), lines[-len(again.stdout.splitlines()):])
         wants(f"trace by {order}", (folder / "until.trc").read_bytes(), (folder / "again.trc").read_bytes())
 
@@ -493,6 +615,7 @@ def main():
     parser = parser_of(__doc__)
     parser.add_argument("--guests", type=int, default=500, help="how many random guests")
     parser.add_argument("--tries", type=int, default=300, help="how many random guests that try to enter")
+    parser.add_argument("--calls", type=int, default=200, help="how many random guests that call CLOCK, RANDOM and INPUT")
     parser.add_argument("--seed", type=int, default=1, help="the seed of the guests")
     asked = parser.parse_args()
     use(asked.program)
@@ -502,13 +625,20 @@ def main():
         for name, example in (("lost", "lost_update"), ("counter", "counter")):
             assembled(folder, name, examples()[example])
         assembled(folder, "tries", TRIES)
+        assembled(folder, "spends", source_of(SPENDS, 1))
+        (folder / "ab.bin").write_bytes(b"AB")
+        (folder / "x.0").write_bytes(b"AB")
+        (folder / "long.bin").write_bytes(bytes(2**20 + 1))
         (folder / "ir").symlink_to(program())
         checks = [lambda: check_examples(folder), lambda: check_guest(folder, LOST_WAKE_UP, 1),
                   *(lambda row=row: check_until(folder, row) for row in UNTIL),
                   *(lambda row=row: check_no_until(folder, row) for row in NO_UNTIL), lambda: check_until_failures(folder), lambda: check_as_found(folder),
                   *(lambda row=row: check_on_paper(folder, row) for row in ON_PAPER),
                   *(lambda: check_guest(folder, *random_guest(chance)) for _ in range(asked.guests)),
-                  *(lambda: check_guest(folder, *random_guest(chance, 0.6)) for _ in range(asked.tries))]
+                  *(lambda: check_guest(folder, *random_guest(chance, 0.6)) for _ in range(asked.tries)),
+                  lambda: check_endless(folder), *(lambda row=row: check_guest(folder, *row) for row in ASKING),
+                  *(lambda: check_guest(folder, *random_guest(chance, calls=0.6), random_world(chance)) for _ in range(asked.calls)),
+                  *(lambda: check_guest(folder, *random_guest(chance, 0.6, 0.6), random_world(chance)) for _ in range(asked.calls // 3))]
         for check in checks:
             try:
                 check()

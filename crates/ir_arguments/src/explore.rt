@@ -1,14 +1,17 @@
 //! The arguments of `ir explore`.
 
-ghost use Rattle.std.specs.Prelude.{◌≤◌, IfOk};
+ghost use Rattle.std.specs.Prelude.{◌≡◌, ◌≤◌, IfOk};
 
 use crate::asked::{Asked, Print};
 use crate::conditions::outcome_conditions_of;
-use crate::recording::{OUTPUT, output_arg, profile_arg, profile_in};
+use crate::recording::{
+    INPUT, OUTPUT, input_arg, output_arg, profile_arg, profile_in, random_arg, random_in,
+};
 use crate::values::{IMAGE, TRACE, UNTIL, file_arg, given_text, text_of};
 use clap::{Arg, ArgAction, ArgMatches, Command};
 use ir_explore_run::ExplorePlan;
 use ir_record_run::number_within;
+use ir_thread::Profile;
 use std::alloc::{AllocError, Global};
 
 /// What follows the help of `ir explore`.
@@ -16,8 +19,8 @@ pub const EXPLORE_AFTER: &str =
     "The outcome of a run is how each thread ended, with which code, what it printed, and the words of each object. Each different
 outcome of the guest is printed once, without TRACE as it is found, by rising number of switches: how often another thread makes
 the next entry, or tries to. A try may be refused, which is `T!` in LIST, or enter if no thread is in the object.
-  outcome K switches C order LIST                `ir record --order LIST` with the same profile records a run that has it, in a
-                                                 budget that suffices
+  outcome K switches C order LIST                `ir record --order LIST` with the same S, FILE and profile records a run that has
+                                                 it, in a budget that suffices
   thread T end E code C out N                    each thread; then the N bytes that it printed, up to 32 a line
   object O words W0 W1 ..                        each object whose words aren't its first words
   hang switches C order LIST                     LIST leads to where no run comes to an end any more, if there is such a place
@@ -29,16 +32,18 @@ done:
   stopped WHY covered C outcomes K states N      it stopped before: what is printed is right, and complete up to C switches; `-`
                                                  is for not at all. WHY is `states`, there are as many as there may be; `private
                                                  T`, thread T took as many steps without an entry or a try as it may; `world T`,
-                                                 thread T calls CLOCK, RANDOM or INPUT, which can't be explored yet; `log T`, a
-                                                 log is full; `order N`; or `memory`
+                                                 thread T has called CLOCK as often as can be counted; `log T`, a log is full;
+                                                 `order N`; or `memory`
 Without a last line, after a fault, what is printed is right, but nothing says how complete it is.
-Runs in which a budget is spent or a log is full have no outcome. What a thread has changed in its private memory is kept
+Runs in which a budget is spent or a log is full have no outcome. CLOCK, RANDOM and INPUT are answered as `ir record --order`
+answers them: CLOCK counts the calls of each thread from 0, and S and FILE say the rest. So the outcomes are those of this S and
+this FILE. What a thread has changed in its private memory is kept
 once for all states in which the thread is the same. At a terminal standard error shows once a second how many states were
 found, after how many switches, and how many outcomes by the end of the level before.
 With TRACE and COND the outcomes are printed up to the first that fulfils each COND, and the search ends there. Then come
   found outcome K switches C order LIST          no complete run of fewer than C switches has an outcome that fulfils them
 and the lines of `ir record`. TRACE is written as `ir record IMAGE TRACE --order LIST --budget 1000000000000` writes it, with
-the same profile.
+the same S, FILE and profile.
 If none fulfils them, the lines are those without COND, and TRACE isn't written. After `finished` no complete run of the guest
 has an outcome that does, and after `covered C` and `stopped WHY covered C` none of at most C switches. COND is one argument, as in
 `ir hunt`: `end T E`, `code T V`, `word O I V`, `out T TEXT`, `fault`, or one of them after `!`.
@@ -60,13 +65,43 @@ const MOST_SWITCHES: u64 = 1_000_000;
 
 const MOST_PRIVATE: u64 = 1_000_000_000_000;
 
-/// Which guest is explored, and how far.
+/// How far a guest is explored.
+#[derive(Clone, Copy)]
+struct Reach {
+    states: usize,
+    private: u64,
+    switches: usize,
+    ghost some: { 1 ≤ states },
+}
+
+/// Which guest is explored, how far, and what answers it.
 #[derive(Drop)]
 pub struct ExploreArguments {
     /// The file of the image.
     pub image: String,
-    /// How far its guest is explored.
-    pub plan: ExplorePlan,
+    // How far its guest is explored.
+    reach: Reach,
+    // Which system calls there are.
+    profile: Profile,
+    // Where random words start.
+    random: u64,
+    /// The file that guests read.
+    pub input: Option<String>,
+}
+
+impl ExploreArguments {
+    /// How the guest is explored, which reads these bytes.
+    pub fn plan<'a>(&self, input: &'a [u8]) -> ExplorePlan<'a>
+        ensures { result.input ≡ input.now }
+    {
+        let Reach {
+            states,
+            private,
+            switches,
+            ..
+        } = self.reach;
+        ExplorePlan::new(states, private, switches, self.profile, self.random, input)
+    }
 }
 
 /// Which outcome is looked for, and where a run that has it goes.
@@ -125,7 +160,9 @@ pub fn with_arguments<'a>(alloc: Global, command: Command<'a>) -> Result<Command
         .arg(states_arg(alloc))?
         .arg(switches_arg(alloc))?
         .arg(private_arg(alloc))?
+        .arg(random_arg(alloc))?
         .arg(profile_arg(alloc))?
+        .arg(input_arg(alloc))?
         .arg(output_arg(alloc).requires_arg(UNTIL)?)
 }
 
@@ -169,10 +206,7 @@ fn switches_of(
 }
 
 // How far a guest is explored, or what is wrong with an option.
-fn plan_of(
-    alloc: Global,
-    matches: &ArgMatches<'_>,
-) -> Result<Result<ExplorePlan, String>, AllocError> {
+fn reach_of(alloc: Global, matches: &ArgMatches<'_>) -> Result<Result<Reach, String>, AllocError> {
     let states = match number_in_option(alloc, matches, STATES, 1, MOST_STATES)? {
         Ok(states) => states,
         Err(why) => return Ok(Err(why)),
@@ -185,25 +219,49 @@ fn plan_of(
         Ok(switches) => switches,
         Err(why) => return Ok(Err(why)),
     };
+    Ok(Ok(Reach {
+        states: states as usize,
+        private,
+        switches,
+    }))
+}
+
+// Which guest is explored, how far, and what answers it, or what is wrong with an option.
+fn arguments_of(
+    alloc: Global,
+    matches: &ArgMatches<'_>,
+) -> Result<Result<ExploreArguments, String>, AllocError> {
+    let reach = match reach_of(alloc, matches)? {
+        Ok(reach) => reach,
+        Err(why) => return Ok(Err(why)),
+    };
+    let random = match random_in(alloc, matches)? {
+        Ok(random) => random,
+        Err(why) => return Ok(Err(why)),
+    };
     let profile = match profile_in(alloc, matches)? {
         Ok(profile) => profile,
         Err(why) => return Ok(Err(why)),
     };
-    Ok(Ok(ExplorePlan::new(states as usize, private, switches, profile)))
+    Ok(Ok(ExploreArguments {
+        image: text_of(alloc, matches, IMAGE)?,
+        reach,
+        profile,
+        random,
+        input: given_text(alloc, matches, INPUT)?,
+    }))
 }
 
 /// What its arguments ask for.
 pub fn asked(alloc: Global, matches: &ArgMatches<'_>) -> Result<Asked, AllocError> {
-    let plan = match plan_of(alloc, matches)? {
-        Ok(plan) => plan,
+    let explore = match arguments_of(alloc, matches)? {
+        Ok(explore) => explore,
         Err(why) => return Ok(Asked::Nothing(why)),
     };
     let until = match outcome_conditions_of(alloc, matches)? {
         Ok(until) => until,
         Err(why) => return Ok(Asked::Nothing(why)),
     };
-    let image = text_of(alloc, matches, IMAGE)?;
-    let explore = ExploreArguments { image, plan };
     match given_text(alloc, matches, TRACE)? {
         Some(trace) => Ok(Asked::Until(UntilArguments {
             explore,

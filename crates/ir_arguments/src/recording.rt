@@ -15,7 +15,8 @@ const RANDOM: &str = "random";
 
 const PROFILE: &str = "profile";
 
-const INPUT: &str = "input";
+/// The option that names the file that guests read.
+pub const INPUT: &str = "input";
 
 /// What the paths of the files of what threads print begin with.
 pub const OUTPUT: &str = "output";
@@ -60,7 +61,8 @@ fn budget_arg<'a>(alloc: Global) -> Arg<'a> {
         .help("The most steps of each thread, at most 1000000000000")
 }
 
-fn random_arg<'a>(alloc: Global) -> Arg<'a> {
+/// The option that says where random words start.
+pub fn random_arg<'a>(alloc: Global) -> Arg<'a> {
     Arg::new(alloc, RANDOM)
         .long(RANDOM)
         .value_name("S")
@@ -79,7 +81,8 @@ pub fn profile_arg<'a>(alloc: Global) -> Arg<'a> {
         .help("Which system calls there are: 1, calls 1 to 12, or 2, TRY_WRITE too")
 }
 
-fn input_arg<'a>(alloc: Global) -> Arg<'a> {
+/// The option that names the file that guests read.
+pub fn input_arg<'a>(alloc: Global) -> Arg<'a> {
     Arg::new(alloc, INPUT)
         .long(INPUT)
         .value_name("FILE")
@@ -140,6 +143,18 @@ pub fn profile_in(
     }
 }
 
+/// Where random words start, or else what is wrong with the option.
+pub fn random_in(
+    alloc: Global,
+    matches: &ArgMatches<'_>,
+) -> Result<Result<u64, String>, AllocError> {
+    let random = matches.get_str(RANDOM).unwrap_or_default();
+    match number_within(0, u64::MAX, random) {
+        Some(start) => Ok(Ok(start)),
+        None => Ok(Err(no_number(alloc, RANDOM, random, u64::MAX)?)),
+    }
+}
+
 /// The values of these options, or else what is wrong with one.
 pub fn options_of(
     alloc: Global,
@@ -149,9 +164,9 @@ pub fn options_of(
     let Some(most) = number_within(0, MOST_BUDGET, budget) else {
         return Ok(Err(no_number(alloc, BUDGET, budget, MOST_BUDGET)?));
     };
-    let random = matches.get_str(RANDOM).unwrap_or_default();
-    let Some(start) = number_within(0, u64::MAX, random) else {
-        return Ok(Err(no_number(alloc, RANDOM, random, u64::MAX)?));
+    let start = match random_in(alloc, matches)? {
+        Ok(start) => start,
+        Err(why) => return Ok(Err(why)),
     };
     let calls = match profile_in(alloc, matches)? {
         Ok(calls) => calls,

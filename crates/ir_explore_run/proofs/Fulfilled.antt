@@ -10,15 +10,17 @@ use Rattle.ir_chaos.specs.declared.condition.Condition as declared
 use Rattle.ir_explore.proofs.CallerLemmas.{place_of_element_is_below_length}
 use Rattle.ir_flat.proofs.CallerLemmas.{length_of_start_threads, length_of_start_cells}
 use Rattle.ir_flat.specs.Flat.{Flat, IsFlat, idle, thread_of, cell_of, tables}
+use Rattle.ir_store.specs.Nodes.{SourcedFlat}
 use Rattle.ir_flat.specs.Room.{empty}
 use Rattle.ir_graph.specs.Outcomes.{outcome_of}
 use Rattle.ir_graph.specs.Reached.{IsReached}
+use Rattle.ir_graph.specs.Setup.{Setup}
 use Rattle.ir_image.specs.Guest.{Guest, most_object_words, object_count}
 use Rattle.ir_object.specs.Cell.{Cell}
-use Rattle.ir_outcomes.specs.Explored.{switches_by, IsAt, AreExplored, AreAll}
+use Rattle.ir_outcomes.specs.Explored.{IsAt, AreExplored, AreAll}
+use Rattle.ir_outcomes.specs.Shown.{switches_by}
 use Rattle.ir_outcomes.specs.declared.shown.Shown.{Shown}
 use Rattle.ir_thread.specs.State.{most_budget}
-use Rattle.ir_thread.specs.declared.profile.Profile.{Profile}
 use Rattle.ir_explore_run.specs.Conditions.{first_of, seen_outcome, fulfils_each, NeverFulfils, NeverWithin, NoneBefore, OutcomesDecide}
 
 -- ---- the outcome of a state
@@ -55,24 +57,25 @@ pub outcomes_decide : OutcomesDecide
 outcomes_decide guest c f threads objects words = ap (fulfils c) (outcome_is_seen guest f threads objects words)
 
 -- whether a state's outcome fulfils each condition
-pub reached_state_fulfils_as_outcome : (guest : Guest) (profile : Profile) (cs : List Condition) (f : Flat) → IsReached guest profile f → IsFlat f
-    → list_all (λ c. fulfils c (conditions.outcome_of f)) cs ≡ fulfils_each guest cs (outcome_of (tables f))
-reached_state_fulfils_as_outcome guest profile cs f reached flat =
+pub reached_state_fulfils_as_outcome : (setup : Setup) (cs : List Condition) (s : SourcedFlat) → IsReached setup s → IsFlat s.flat
+    → list_all (λ c. fulfils c (conditions.outcome_of s.flat)) cs ≡ fulfils_each setup.guest cs (outcome_of (tables s.flat))
+reached_state_fulfils_as_outcome setup cs s reached flat =
     ap (λ z. list_all (λ c. fulfils c z) cs)
-    (outcome_is_seen guest f (reached.like.threads ∙ length_of_start_threads guest most_budget profile 0 (length guest.entries))
-    (reached.like.objects ∙ length_of_start_cells guest 0 (object_count guest)) (λ o l. (flat.objects o l).words))
+    (outcome_is_seen setup.guest s.flat
+    (reached.like.threads ∙ length_of_start_threads setup.guest most_budget setup.profile 0 (length setup.guest.entries))
+    (reached.like.objects ∙ length_of_start_cells setup.guest 0 (object_count setup.guest)) (λ o l. (flat.objects o l).words))
 
 -- the same of conditions as the code has them
-pub reached_state_fulfils_declared_conditions : (guest : Guest) (profile : Profile) (cs : List declared.Condition) (f : Flat) → IsReached guest profile f → IsFlat f
-    → list_all (λ c. fulfils (as_condition c) (conditions.outcome_of f)) cs ≡ fulfils_each guest (map as_condition cs) (outcome_of (tables f))
-reached_state_fulfils_declared_conditions guest profile cs f reached flat = sym (list_all-map (λ x. fulfils x (conditions.outcome_of f)) as_condition cs)
-    ∙ reached_state_fulfils_as_outcome guest profile (map as_condition cs) f reached flat
+pub reached_state_fulfils_declared_conditions : (setup : Setup) (cs : List declared.Condition) (s : SourcedFlat) → IsReached setup s → IsFlat s.flat
+    → list_all (λ c. fulfils (as_condition c) (conditions.outcome_of s.flat)) cs ≡ fulfils_each setup.guest (map as_condition cs) (outcome_of (tables s.flat))
+reached_state_fulfils_declared_conditions setup cs s reached flat = sym (list_all-map (λ x. fulfils x (conditions.outcome_of s.flat)) as_condition cs)
+    ∙ reached_state_fulfils_as_outcome setup (map as_condition cs) s reached flat
 
 -- ---- what the list says of runs
 
 -- none that is listed fulfils them
-pub none_before_step : (guest : Guest) (cs : List Condition) (flats : List Flat) (outcomes : List Shown) (n : ℕ) (x : Shown) (f : Flat)
-    → NoneBefore guest cs flats outcomes n → IsAt flats outcomes n x f → fulfils_each guest cs (outcome_of (tables f)) ≡ false
+pub none_before_step : (guest : Guest) (cs : List Condition) (flats : List SourcedFlat) (outcomes : List Shown) (n : ℕ) (x : Shown) (f : SourcedFlat)
+    → NoneBefore guest cs flats outcomes n → IsAt flats outcomes n x f → fulfils_each guest cs (outcome_of (tables f.flat)) ≡ false
     → NoneBefore guest cs flats outcomes (suc n)
 none_before_step guest cs flats outcomes n x f before at not i y g less there = elim (cases_lt i n) [
   | inl l ↦ before i y g l there
@@ -80,39 +83,39 @@ none_before_step guest cs flats outcomes n x f before at not i y g less there = 
       let place : i ≡ n = omega (arith, less, m) in
       let one : y ≡ x = same (sym there.0 ∙ ap (slice_get outcomes) place ∙ at.0) in
       let state : g ≡ f = same (sym there.1 ∙ ap (λ z. slice_get flats z.node) one ∙ at.1) in
-      ap (λ z. fulfils_each guest cs (outcome_of (tables z))) state ∙ not
+      ap (λ (z : SourcedFlat). fulfils_each guest cs (outcome_of (tables z.flat))) state ∙ not
 ]
   where
     same : {A : Type 0} {x y : A} → Some x ≡ Some y → x ≡ y
     same e = cc e
 
 -- no run of few switches does
-pub never_within_if_none_before : (guest : Guest) (profile : Profile) (cs : List Condition) (flats : List Flat) (outcomes : List Shown) (levels : ℕ)
-    → AreExplored guest profile flats levels outcomes → NoneBefore guest cs flats outcomes (length outcomes) → NeverWithin guest profile cs levels
-never_within_if_none_before guest profile cs flats outcomes levels e none answers budget steps counted less =
-    let h = e.covered (switches_by guest budget profile steps) less answers budget steps counted (omega arith) in
-    ap (fulfils_each guest cs) (sym h.4) ∙ none h.0 h.1 h.2 (place_of_element_is_below_length outcomes h.0 h.1 h.3.0) h.3
+pub never_within_if_none_before : (setup : Setup) (cs : List Condition) (flats : List SourcedFlat) (outcomes : List Shown) (levels : ℕ)
+    → AreExplored setup flats levels outcomes → NoneBefore setup.guest cs flats outcomes (length outcomes) → NeverWithin setup cs levels
+never_within_if_none_before setup cs flats outcomes levels e none budget steps counted less =
+    let h = e.covered (switches_by setup budget steps) less budget steps counted (omega arith) in
+    ap (fulfils_each setup.guest cs) (sym h.4) ∙ none h.0 h.1 h.2 (place_of_element_is_below_length outcomes h.0 h.1 h.3.0) h.3
 
 -- if all are listed, no run does
-pub never_fulfils_if_none_before : (guest : Guest) (profile : Profile) (cs : List Condition) (flats : List Flat) (outcomes : List Shown) → AreAll guest profile flats outcomes
-    → NoneBefore guest cs flats outcomes (length outcomes) → NeverFulfils guest profile cs
-never_fulfils_if_none_before guest profile cs flats outcomes all none x is =
+pub never_fulfils_if_none_before : (setup : Setup) (cs : List Condition) (flats : List SourcedFlat) (outcomes : List Shown) → AreAll setup flats outcomes
+    → NoneBefore setup.guest cs flats outcomes (length outcomes) → NeverFulfils setup cs
+never_fulfils_if_none_before setup cs flats outcomes all none x is =
     let h = (all x).0 is in
-    ap (fulfils_each guest cs) (sym h.4) ∙ none h.0 h.1 h.2 (place_of_element_is_below_length outcomes h.0 h.1 h.3.0) h.3
+    ap (fulfils_each setup.guest cs) (sym h.4) ∙ none h.0 h.1 h.2 (place_of_element_is_below_length outcomes h.0 h.1 h.3.0) h.3
 
 -- before the first that does, no run of fewer switches does
-pub never_within_level_of_first : (guest : Guest) (profile : Profile) (cs : List Condition) (flats : List Flat) (outcomes : List Shown) (levels place : ℕ) (x : Shown)
-    → AreExplored guest profile flats levels outcomes → slice_get outcomes place ≡ Some x → NoneBefore guest cs flats outcomes place
-    → NeverWithin guest profile cs x.level
-never_within_level_of_first guest profile cs flats outcomes levels place x e at none answers budget steps counted less =
+pub never_within_level_of_first : (setup : Setup) (cs : List Condition) (flats : List SourcedFlat) (outcomes : List Shown) (levels place : ℕ) (x : Shown)
+    → AreExplored setup flats levels outcomes → slice_get outcomes place ≡ Some x → NoneBefore setup.guest cs flats outcomes place
+    → NeverWithin setup cs x.level
+never_within_level_of_first setup cs flats outcomes levels place x e at none budget steps counted less =
     let most = e.most place x at in
-    let h = e.covered (switches_by guest budget profile steps) (omega (arith, less, most)) answers budget steps counted (omega arith) in
-    let few : h.1.level ≤ switches_by guest budget profile steps = e.fewest h.0 h.1 h.2 h.3 answers budget steps counted (sym h.4) in
+    let h = e.covered (switches_by setup budget steps) (omega (arith, less, most)) budget steps counted (omega arith) in
+    let few : h.1.level ≤ switches_by setup budget steps = e.fewest h.0 h.1 h.2 h.3 budget steps counted (sym h.4) in
     let before : h.0 < place = elim (cases_lt h.0 place) [
       | inl l ↦ l
       | inr m ↦ absurd (let l = least h.0 h.1 h.3.0 m in omega (arith, l, few, less))
     ] in
-    ap (fulfils_each guest cs) (sym h.4) ∙ none h.0 h.1 h.2 before h.3
+    ap (fulfils_each setup.guest cs) (sym h.4) ∙ none h.0 h.1 h.2 before h.3
   where
     least : (j : ℕ) (y : Shown) → slice_get outcomes j ≡ Some y → place ≤ j → x.level ≤ y.level
     least j y there after = elim (cases_lt place j) [

@@ -6,7 +6,7 @@ use Rattle.std.proofs.lemmas.Grind.{flat_map-append}
 use Rattle.std.proofs.lemmas.Option.{same_Some, slice_get-get_or}
 use Rattle.ir_explore.specs.Following.{Stay}
 use Rattle.ir_explore.proofs.CallerLemmas.{slice_get_after_push_cases, place_of_element_is_below_length}
-use Rattle.ir_flat.specs.Flat.{Flat}
+use Rattle.ir_store.specs.Nodes.{SourcedFlat}
 use Rattle.ir_outcomes.specs.Explored.{IsAt}
 use Rattle.ir_outcomes.specs.declared.shown.Shown.{Shown}
 use Rattle.ir_explore_run.specs.Texts.{Objects, IsOutcomeText, AreTexts}
@@ -18,12 +18,12 @@ last_line_takes_all_left bytes k few =
     take_all (length bytes - k) (drop k bytes) (omega (arith, size)) ∙ sym (take_all 32 (drop k bytes) (omega (arith, size, few)))
 
 -- the lines of no outcome
-pub texts_of_no_outcome : (o : Objects) (flats : List Flat) (outcomes : List Shown) → AreTexts o flats outcomes 0 []
+pub texts_of_no_outcome : (o : Objects) (flats : List SourcedFlat) (outcomes : List Shown) → AreTexts o flats outcomes 0 []
 texts_of_no_outcome o flats outcomes = record { texts = []; count = refl; each = λ i x f own at is. absurd (cc is); joined = refl }
 
 -- those of one more
-pub texts_after_outcome : (o : Objects) (flats : List Flat) (outcomes : List Shown) (many : ℕ) (text own : List ℕ) (x : Shown) (f : Flat)
-    → AreTexts o flats outcomes many text → IsAt flats outcomes many x f → IsOutcomeText o f (suc many) x own
+pub texts_after_outcome : (o : Objects) (flats : List SourcedFlat) (outcomes : List Shown) (many : ℕ) (text own : List ℕ) (x : Shown) (f : SourcedFlat)
+    → AreTexts o flats outcomes many text → IsAt flats outcomes many x f → IsOutcomeText o f.flat (suc many) x own
     → AreTexts o flats outcomes (many + 1) (text ++ own)
 texts_after_outcome o flats outcomes many text own x f t at is = record {
   texts = t.texts ++ own ∷ [];
@@ -34,16 +34,16 @@ texts_after_outcome o flats outcomes many text own x f t at is = record {
         let place : i ≡ many = p.0 ∙ t.count in
         let shown : x ≡ y = same_Some x y (sym at.0 ∙ subst (λ z. slice_get outcomes z ≡ Some y) place there.0) in
         let state : f ≡ g = same_Some f g (sym at.1 ∙ subst (λ z. slice_get flats z.node ≡ Some g) (sym shown) there.1) in
-        subst (λ z. IsOutcomeText o g (suc z) y other) (sym place)
-        (subst (IsOutcomeText o g (suc many) y) p.1
-        (subst (λ z. IsOutcomeText o g (suc many) z own) shown (subst (λ z. IsOutcomeText o z (suc many) x own) state is)))
+        subst (λ z. IsOutcomeText o g.flat (suc z) y other) (sym place)
+        (subst (IsOutcomeText o g.flat (suc many) y) p.1
+        (subst (λ z. IsOutcomeText o g.flat (suc many) z own) shown (subst (λ (z : SourcedFlat). IsOutcomeText o z.flat (suc many) x own) state is)))
   ];
   joined = ap (λ z. z ++ own) t.joined
       ∙ sym (flat_map-append (λ z. z) t.texts (own ∷ []) ∙ ap (λ z. flat_map (λ z. z) t.texts ++ z) (append-nil own));
 }
 
 -- outcomes keep their lines while more are found
-pub texts_among_more : (o : Objects) (flats flats' : List Flat) (outcomes outcomes' : List Shown) (many : ℕ) (text : List ℕ)
+pub texts_among_more : (o : Objects) (flats flats' : List SourcedFlat) (outcomes outcomes' : List Shown) (many : ℕ) (text : List ℕ)
     → AreTexts o flats outcomes many text → many ≤ length outcomes
     → ((i : ℕ) (x : Shown) → slice_get outcomes i ≡ Some x → x.node < length flats) → Stay flats flats' → Stay outcomes outcomes'
     → AreTexts o flats' outcomes' many text

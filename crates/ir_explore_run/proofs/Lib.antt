@@ -1,3 +1,4 @@
+mod Answered
 mod Fulfilled
 mod Hits
 mod Joined

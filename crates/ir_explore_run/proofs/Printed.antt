@@ -8,7 +8,7 @@ use Rattle.ir_explore.specs.Following.{Stay}
 use Rattle.ir_explore.proofs.CallerLemmas.{place_of_element_is_below_length}
 use Rattle.ir_files.proofs.CallerLemmas.{appends_prefix_after_whole_text}
 use Rattle.ir_stream.specs.Answers.{AppendsPrefix}
-use Rattle.ir_thread.specs.declared.profile.Profile.{Profile}
+use Rattle.ir_graph.specs.Setup.{Setup}
 use Rattle.ir_outcomes.specs.declared.shown.Shown.{Shown}
 use Rattle.ir_files.specs.Writers.{Writer, Took, Failed}
 use Rattle.ir_files.specs.declared.exit_status.ExitStatus.{ExitStatus}
@@ -21,24 +21,24 @@ use Rattle.ir_explore_run.specs.Faults.{StopsPrinting}
 use Rattle.ir_explore_run.specs.Printing.{HasPrinted}
 use Rattle.ir_explore_run.specs.Texts.{Objects, objects_of, AreTexts, IsPart, AreKnown, known_of, IsEnding, IsAnswerAbout}
 use Rattle.ir_explore_run.specs.declared.fault.ExploreFault.TheVariants.{NoMem, Write}
-use Rattle.ir_explore_run.specs.declared.plan.ExplorePlan.{ExplorePlan}
+use Rattle.ir_explore_run.specs.Plan.{ExplorePlan, setup_of}
 use Rattle.ir_explore_run.proofs.Joined.{texts_of_no_outcome, texts_among_more}
 
 -- before the first outcome nothing is printed
-pub nothing_is_part : (guest : Guest) (profile : Profile) → IsPart guest profile []
-nothing_is_part guest profile = record {
+pub nothing_is_part : (setup : Setup) → IsPart setup []
+nothing_is_part setup = record {
   flats = [];
   outcomes = [];
   levels = 0;
-  explored = none_explored guest profile [];
-  texts = texts_of_no_outcome (objects_of guest) [] [];
+  explored = none_explored setup [];
+  texts = texts_of_no_outcome (objects_of setup.guest) [] [];
 }
 
 -- the lines of the outcomes that a search has found
-pub printed_outcomes_are_part : (guest : Guest) (profile : Profile) (o : Objects) (e : Exploring) (text : List ℕ) → o ≡ objects_of guest
-    → AreExplored guest profile e.states.graph.flats.items e.list.levels e.list.outcomes.items
-    → HasPrinted o e (length e.list.outcomes.items) text → IsPart guest profile text
-printed_outcomes_are_part guest profile o e text same explored printed = record {
+pub printed_outcomes_are_part : (setup : Setup) (o : Objects) (e : Exploring) (text : List ℕ) → o ≡ objects_of setup.guest
+    → AreExplored setup e.states.graph.flats.items e.list.levels e.list.outcomes.items
+    → HasPrinted o e (length e.list.outcomes.items) text → IsPart setup text
+printed_outcomes_are_part setup o e text same explored printed = record {
   flats = e.states.graph.flats.items;
   outcomes = e.list.outcomes.items;
   levels = e.list.levels;
@@ -49,7 +49,7 @@ printed_outcomes_are_part guest profile o e text same explored printed = record 
 -- out of memory before anything is printed
 pub stops_before_first_line : (guest : Guest) (plan : ExplorePlan) (w : Writer) → w.before ≡ w.after → StopsPrinting NoMem guest plan w
 stops_before_first_line guest plan w same =
-    inl ([], nothing_is_part guest plan.profile, subst (λ z. Took (record w { after = z }) []) same (Appends-nil w.before))
+    inl ([], nothing_is_part (setup_of guest plan), subst (λ z. Took (record w { after = z }) []) same (Appends-nil w.before))
 
 -- the writer fails in a whole answer
 pub stops_in_answer : (guest : Guest) (plan : ExplorePlan) (answered : ExitStatus) (text : List ℕ) (w : Writer) → IsAnswerAbout guest plan answered text
@@ -81,7 +81,7 @@ failed_after_taken_text w mid done text took prefix broken =
     (appends_prefix_after_whole_text {A = ℕ} {E = ℕ} (Err 0) w.before mid w.after done text took prefix, broken)
 
 -- what is known of a guest once it is explored
-pub explored_is_known : (guest : Guest) (plan : ExplorePlan) (e : Explored) → IsExplored guest plan.profile plan.bounds plan.switches e
+pub explored_is_known : (guest : Guest) (plan : ExplorePlan) (e : Explored) → IsExplored (setup_of guest plan) plan.bounds plan.switches e
     → AreKnown guest plan (known_of e)
 explored_is_known guest plan e is = record {
   explored = is.explored;
@@ -96,7 +96,7 @@ explored_is_known guest plan e is = record {
 -- the lines of all outcomes and then how the search ended are the answer
 pub answer_of_lines_and_ending : (guest : Guest) (plan : ExplorePlan) (o : Objects) (s : Exploring) (e : Explored) (lines last : List ℕ)
     (answered : ExitStatus) → o ≡ objects_of guest → e.states.graph.flats.items ≡ s.states.graph.flats.items
-    → e.outcomes.items ≡ s.list.outcomes.items → IsExplored guest plan.profile plan.bounds plan.switches e
+    → e.outcomes.items ≡ s.list.outcomes.items → IsExplored (setup_of guest plan) plan.bounds plan.switches e
     → HasPrinted o s (length s.list.outcomes.items) lines → IsEnding (known_of e) answered last → IsAnswerAbout guest plan answered (lines ++ last)
 answer_of_lines_and_ending guest plan o s e lines last answered same flats outcomes is printed ending = inl (
   known_of e,

@@ -7,7 +7,7 @@ use Rattle.ir_image.specs.Guest.{Guest}
 use Rattle.ir_explore_run.specs.Conditions.{IsFirst}
 use Rattle.ir_explore_run.specs.Texts.{Known, AreKnown, IsKnownText}
 use Rattle.ir_explore_run.specs.Until.{IsSought, IsVain}
-use Rattle.ir_explore_run.specs.declared.plan.ExplorePlan.{ExplorePlan}
+use Rattle.ir_explore_run.specs.Plan.{ExplorePlan, setup_of}
 use Rattle.ir_explore_run.proofs.Fulfilled.{never_within_if_none_before, never_fulfils_if_none_before}
 
 -- what was found out up to a number of switches that is the plan's, or is all
@@ -43,6 +43,6 @@ vain_text_if_none_found guest plan cs k answered text s printed = let a = s.whol
   answered = answered;
   printed = printed;
   none = s.first;
-  never = λ e. never_fulfils_if_none_before guest plan.profile cs k.flats k.outcomes (a.all e) s.first;
-  within = never_within_if_none_before guest plan.profile cs k.flats k.outcomes k.levels a.explored s.first;
+  never = λ e. never_fulfils_if_none_before (setup_of guest plan) cs k.flats k.outcomes (a.all e) s.first;
+  within = never_within_if_none_before (setup_of guest plan) cs k.flats k.outcomes k.levels a.explored s.first;
 }

@@ -4,14 +4,14 @@ use Rattle.std.specs.List.{list_all}
 use Rattle.ir_chaos.specs.Conditions as conditions
 use Rattle.ir_chaos.specs.Conditions.{Condition, fulfils}
 use Rattle.ir_flat.specs.Flat.{Flat, cell_of, tables}
-use Rattle.ir_graph.specs.Nodes.{told}
+use Rattle.ir_store.specs.Nodes.{SourcedFlat}
 use Rattle.ir_graph.specs.Outcomes.{Outcome, outcome_of}
 use Rattle.ir_image.specs.Guest.{Guest, most_object_words, object_count}
-use Rattle.ir_outcomes.specs.Explored.{outcome_by, switches_by, IsOutcomeOf, IsAt}
+use Rattle.ir_graph.specs.Setup.{Setup, IsCountedOf}
+use Rattle.ir_outcomes.specs.Explored.{IsOutcomeOf, IsAt}
+use Rattle.ir_outcomes.specs.Shown.{outcome_by, switches_by}
 use Rattle.ir_outcomes.specs.declared.shown.Shown.{Shown}
 use Rattle.ir_runs.specs.Run.{Step}
-use Rattle.ir_seen.specs.Seen.{IsCounted}
-use Rattle.ir_thread.specs.declared.profile.Profile.{Profile}
 
 -- what f gives of the first n numbers
 abbrev pub first_of : {A : Type 0} → ℕ → (ℕ → A) → List A
@@ -30,28 +30,27 @@ seen_outcome guest x = record {
 abbrev pub fulfils_each : Guest → List Condition → Outcome → Bool
 fulfils_each guest conditions x = list_all (λ c. fulfils c (seen_outcome guest x)) conditions
 
--- no complete run of the guest comes to an outcome that does, whatever its budget and whatever the world answers; runs in which a budget is
--- spent or a log is full aside
-abbrev pub NeverFulfils : Guest → Profile → List Condition → Type 0
-NeverFulfils guest profile conditions = (x : Outcome) → IsOutcomeOf guest profile x → fulfils_each guest conditions x ≡ false
+-- no complete run of the guest comes to an outcome that does, whatever its budget; runs in which a budget is spent or a log is full aside
+abbrev pub NeverFulfils : Setup → List Condition → Type 0
+NeverFulfils setup conditions = (x : Outcome) → IsOutcomeOf setup x → fulfils_each setup.guest conditions x ≡ false
 
 -- no such run of fewer switches than so many does
-abbrev pub NeverWithin : Guest → Profile → List Condition → ℕ → Type 0
-NeverWithin guest profile conditions most = (answers : ℕ → List ℕ) (budget : ℕ) (steps : List Step) → IsCounted guest budget profile told answers steps
-    → switches_by guest budget profile steps < most → fulfils_each guest conditions (outcome_by guest budget profile steps) ≡ false
+abbrev pub NeverWithin : Setup → List Condition → ℕ → Type 0
+NeverWithin setup conditions most = (budget : ℕ) (steps : List Step) → IsCountedOf setup budget steps → switches_by setup budget steps < most
+    → fulfils_each setup.guest conditions (outcome_by setup budget steps) ≡ false
 
 -- none of the first n that are listed does
-abbrev pub NoneBefore : Guest → List Condition → List Flat → List Shown → ℕ → Type 0
-NoneBefore guest conditions flats outcomes n = (i : ℕ) (x : Shown) (f : Flat) → i < n → IsAt flats outcomes i x f
-    → fulfils_each guest conditions (outcome_of (tables f)) ≡ false
+abbrev pub NoneBefore : Guest → List Condition → List SourcedFlat → List Shown → ℕ → Type 0
+NoneBefore guest conditions flats outcomes n = (i : ℕ) (x : Shown) (s : SourcedFlat) → i < n → IsAt flats outcomes i x s
+    → fulfils_each guest conditions (outcome_of (tables s.flat)) ≡ false
 
 -- this one that is listed does
-abbrev pub IsFulfilled : Guest → List Condition → List Flat → List Shown → ℕ → Type 0
-IsFulfilled guest conditions flats outcomes i = (x : Shown) × (f : Flat) × IsAt flats outcomes i x f
-    × (fulfils_each guest conditions (outcome_of (tables f)) ≡ true)
+abbrev pub IsFulfilled : Guest → List Condition → List SourcedFlat → List Shown → ℕ → Type 0
+IsFulfilled guest conditions flats outcomes i = (x : Shown) × (s : SourcedFlat) × IsAt flats outcomes i x s
+    × (fulfils_each guest conditions (outcome_of (tables s.flat)) ≡ true)
 
 -- the first that does, if any of the listed does
-abbrev pub IsFirst : Guest → List Condition → List Flat → List Shown → Option ℕ → Type 0
+abbrev pub IsFirst : Guest → List Condition → List SourcedFlat → List Shown → Option ℕ → Type 0
 IsFirst guest conditions flats outcomes None = NoneBefore guest conditions flats outcomes (length outcomes)
 IsFirst guest conditions flats outcomes (Some i) = NoneBefore guest conditions flats outcomes i × IsFulfilled guest conditions flats outcomes i
 

@@ -13,7 +13,7 @@ use Rattle.ir_thread.specs.State.{IsAllowed}
 use Rattle.ir_thread.specs.declared.profile.Profile.{Profile}
 use Rattle.ir_explore_run.specs.Printing.{EndsEarly}
 use Rattle.ir_explore_run.specs.Texts.{IsAnswerAbout}
-use Rattle.ir_explore_run.specs.declared.plan.ExplorePlan.{ExplorePlan}
+use Rattle.ir_explore_run.specs.Plan.{ExplorePlan, setup_of}
 use Rattle.ir_explore_run.specs.declared.fault.ExploreFault.{ExploreFault}
 use Rattle.ir_explore_run.specs.declared.fault.ExploreFault.TheVariants.{Image, TooLarge, NoMem, Write}
 
@@ -54,7 +54,7 @@ pub record Answers (bytes : List ℕ) (plan : ExplorePlan) (answered : ExitStatu
 
 -- why the answer about a guest isn't printed whole: out of memory, or the writer failed, while outcomes were printed, or in all of the answer
 abbrev pub StopsPrinting : ExploreFault → Guest → ExplorePlan → Writer → Type 0
-StopsPrinting e guest plan w = EndsEarly e guest plan.profile w
+StopsPrinting e guest plan w = EndsEarly e (setup_of guest plan) w
     ⊎ ((e ≡ Write) × (answered : ExitStatus) × (text : List ℕ) × IsAnswerAbout guest plan answered text × Failed w text)
 
 -- Why there is no answer, or not all of it. The image is refused for its first fault, or its guest is too large: then nothing is written. Or memory

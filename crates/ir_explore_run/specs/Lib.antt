@@ -1,3 +1,4 @@
+pub mod Plan
 pub mod Lines
 pub mod Texts
 pub mod Printing

@@ -1,9 +1,8 @@
 -- Outcomes that are printed while a search for them goes on.
 use Rattle.std.specs.Prelude.{ℕ, List}
 use Rattle.ir_files.specs.Writers.{Writer, Took, Failed}
-use Rattle.ir_image.specs.Guest.{Guest}
+use Rattle.ir_graph.specs.Setup.{Setup}
 use Rattle.ir_outcomes.specs.declared.exploring.Exploring.{Exploring}
-use Rattle.ir_thread.specs.declared.profile.Profile.{Profile}
 use Rattle.ir_explore_run.specs.Texts.{Objects, AreTexts, IsPart}
 use Rattle.ir_explore_run.specs.declared.fault.ExploreFault.{ExploreFault}
 use Rattle.ir_explore_run.specs.declared.fault.ExploreFault.TheVariants.{Image, TooLarge, NoMem, Write}
@@ -13,8 +12,8 @@ abbrev pub HasPrinted : Objects → Exploring → ℕ → List ℕ → Type 0
 HasPrinted o e many text = AreTexts o e.states.graph.flats.items e.list.outcomes.items many text
 
 -- why no more is printed: out of memory after the lines of the outcomes that were found by then, or the writer failed in these
-abbrev pub EndsEarly : ExploreFault → Guest → Profile → Writer → Type 0
-EndsEarly (Image e) guest profile w = ⊥
-EndsEarly TooLarge guest profile w = ⊥
-EndsEarly NoMem guest profile w = (text : List ℕ) × IsPart guest profile text × Took w text
-EndsEarly Write guest profile w = (text : List ℕ) × IsPart guest profile text × Failed w text
+abbrev pub EndsEarly : ExploreFault → Setup → Writer → Type 0
+EndsEarly (Image e) setup w = ⊥
+EndsEarly TooLarge setup w = ⊥
+EndsEarly NoMem setup w = (text : List ℕ) × IsPart setup text × Took w text
+EndsEarly Write setup w = (text : List ℕ) × IsPart setup text × Failed w text

@@ -11,6 +11,7 @@ use Rattle.ir_files.specs.declared.exit_status.ExitStatus.TheVariants as status
 use Rattle.ir_flat.specs.Flat.{Flat, idle, start_cells}
 use Rattle.ir_flat.specs.Room.{empty}
 use Rattle.ir_graph.specs.Reached.{AllReached}
+use Rattle.ir_graph.specs.Setup.{Setup}
 use Rattle.ir_graph.specs.Stops.{IsStop, MayStop}
 use Rattle.ir_image.specs.Guest.{Guest, object_count, object_words}
 use Rattle.ir_object.specs.Cell.{Cell}
@@ -22,9 +23,9 @@ use Rattle.ir_outcomes.specs.declared.shown.Shown.{Shown}
 use Rattle.ir_record.specs.Recording.{turns_of_items}
 use Rattle.ir_record.specs.Refusing.{Turn}
 use Rattle.ir_thread.specs.State.{ThreadState}
-use Rattle.ir_thread.specs.declared.profile.Profile.{Profile}
+use Rattle.ir_store.specs.Nodes.{SourcedFlat}
 use Rattle.ir_explore_run.specs.declared.started.Started.{Started}
-use Rattle.ir_explore_run.specs.declared.plan.ExplorePlan.{ExplorePlan}
+use Rattle.ir_explore_run.specs.Plan.{ExplorePlan, setup_of}
 use Rattle.ir_explore_run.specs.Lines.{outcome_line, thread_text, object_line, hang_line, ended_text, counts_text, hangs_text, last_line}
 
 -- the lines of the first n threads
@@ -66,21 +67,21 @@ IsOutcomeText o f number x text = (list : List ℕ) × IsListOf list (turns_of_i
     × (text ≡ outcome_line number x.level list ++ (threads_text f.threads (length f.threads) ++ objects_text o.words o.first f.objects (length f.objects)))
 
 -- the lines of all outcomes
-pub record AreTexts (o : Objects) (flats : List Flat) (outcomes : List Shown) (many : ℕ) (text : List ℕ) : Type 0 where
+pub record AreTexts (o : Objects) (flats : List SourcedFlat) (outcomes : List Shown) (many : ℕ) (text : List ℕ) : Type 0 where
   pub texts : List (List ℕ)
   pub count : length texts ≡ many
-  pub each : (i : ℕ) (x : Shown) (f : Flat) (own : List ℕ) → IsAt flats outcomes i x f → slice_get texts i ≡ Some own
-      → IsOutcomeText o f (suc i) x own
+  pub each : (i : ℕ) (x : Shown) (s : SourcedFlat) (own : List ℕ) → IsAt flats outcomes i x s → slice_get texts i ≡ Some own
+      → IsOutcomeText o s.flat (suc i) x own
   pub joined : text ≡ flat_map (λ own. own) texts
 
 -- the outcomes of a guest that were found so far are printed
-pub record IsPart (guest : Guest) (profile : Profile) (text : List ℕ) : Type 0 where
-  pub flats : List Flat
+pub record IsPart (setup : Setup) (text : List ℕ) : Type 0 where
+  pub flats : List SourcedFlat
   pub outcomes : List Shown
   -- those of runs with fewer switches are all among them
   pub levels : ℕ
-  pub explored : AreExplored guest profile flats levels outcomes
-  pub texts : AreTexts (objects_of guest) flats outcomes (length outcomes) text
+  pub explored : AreExplored setup flats levels outcomes
+  pub texts : AreTexts (objects_of setup.guest) flats outcomes (length outcomes) text
 
 -- the exit status of a search that ended so
 abbrev pub status_of : Ended → ExitStatus
@@ -100,12 +101,12 @@ end_line ended levels outcomes states hangs =
 
 -- why there is nothing to print of a search: it didn't begin
 abbrev pub IsReason : Guest → ExplorePlan → Stop → Type 0
-IsReason guest plan why = (why ≡ Memory) ⊎ IsStop guest plan.profile plan.bounds.private why
+IsReason guest plan why = (why ≡ Memory) ⊎ IsStop (setup_of guest plan) plan.bounds.private why
 
 -- what was found out about a guest
 pub record Known : Type 0 where
   -- its states
-  pub flats : List Flat
+  pub flats : List SourcedFlat
   -- its outcomes
   pub outcomes : List Shown
   -- those of runs with fewer switches are all among them
@@ -131,13 +132,13 @@ known_of e = record {
 -- hangs is known too, and only there. The search stopped early only for what the plan says, or where an order that was found led to its state no
 -- second time.
 pub record AreKnown (guest : Guest) (plan : ExplorePlan) (k : Known) : Type 0 where
-  pub explored : AreExplored guest plan.profile k.flats k.levels k.outcomes
-  pub all : k.ended ≡ Finished → AreAll guest plan.profile k.flats k.outcomes
-  pub reached : AllReached guest plan.profile k.flats
-  pub hanging : k.ended ≡ Finished → AreHangs guest plan.profile k.flats k.hangs k.hang
+  pub explored : AreExplored (setup_of guest plan) k.flats k.levels k.outcomes
+  pub all : k.ended ≡ Finished → AreAll (setup_of guest plan) k.flats k.outcomes
+  pub reached : AllReached (setup_of guest plan) k.flats
+  pub hanging : k.ended ≡ Finished → AreHangs (setup_of guest plan) k.flats k.hangs k.hang
   pub unknown : (k.ended ≡ Finished → ⊥) → k.hang ≡ None
   pub covered : k.ended ≡ Covered → k.levels ≡ suc plan.switches
-  pub stopped : (why : Stop) → k.ended ≡ Stopped why → MayStop guest plan.profile k.flats plan.bounds.nodes plan.bounds.private why ⊎ IsOrder why
+  pub stopped : (why : Stop) → k.ended ≡ Stopped why → MayStop (setup_of guest plan) k.flats plan.bounds.nodes plan.bounds.private why ⊎ IsOrder why
 
 -- a hang is printed if one is known, and then how the search ended
 pub record IsEnding (k : Known) (answered : ExitStatus) (text : List ℕ) : Type 0 where

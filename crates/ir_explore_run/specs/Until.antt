@@ -4,20 +4,19 @@ use Rattle.ir_chaos.specs.Conditions.{Condition}
 use Rattle.ir_explore.specs.declared.search.Ended.TheVariants.{Finished}
 use Rattle.ir_files.specs.Writers.{Writer, Took, Failed}
 use Rattle.ir_files.specs.declared.exit_status.ExitStatus.{ExitStatus}
-use Rattle.ir_flat.specs.Flat.{Flat}
-use Rattle.ir_graph.specs.Nodes.{told}
 use Rattle.ir_graph.specs.Reached.{AllReached}
+use Rattle.ir_graph.specs.Setup.{IsCountedOf}
 use Rattle.ir_image.specs.Guest.{Guest, guest_at}
 use Rattle.ir_order.specs.Recording.{IsPlannedInTurns, IsOfRun}
-use Rattle.ir_outcomes.specs.Explored.{outcome_by, switches_by, IsAt, AreExplored}
+use Rattle.ir_outcomes.specs.Explored.{IsAt, AreExplored}
+use Rattle.ir_outcomes.specs.Shown.{outcome_by, switches_by}
 use Rattle.ir_outcomes.specs.declared.shown.Shown.{Shown}
 use Rattle.ir_record.specs.Refusing.{Turn}
 use Rattle.ir_record_run.specs.Order.{order_of}
 use Rattle.ir_record_run.specs.Plan.{Plan}
 use Rattle.ir_runs.specs.Run.{Step}
-use Rattle.ir_seen.specs.Seen.{IsCounted}
+use Rattle.ir_store.specs.Nodes.{SourcedFlat}
 use Rattle.ir_thread.specs.State.{IsAllowed, most_budget}
-use Rattle.ir_thread.specs.declared.profile.Profile.{Profile}
 use Rattle.ir_trace.specs.Recorded.{Recorded}
 use Rattle.ir_explore_run.specs.Conditions.{fulfils_each, NeverFulfils, NeverWithin, NoneBefore, IsFirst}
 use Rattle.ir_explore_run.specs.Faults.{HasNone}
@@ -25,34 +24,35 @@ use Rattle.ir_explore_run.specs.Lines.{found_line}
 use Rattle.ir_explore_run.specs.Texts.{Known, AreKnown, IsKnownText, objects_of, AreTexts, IsStopped}
 use Rattle.ir_explore_run.specs.declared.fault.ExploreFault.{ExploreFault}
 use Rattle.ir_explore_run.specs.declared.fault.ExploreFault.TheVariants.{Image, TooLarge, NoMem, Write}
-use Rattle.ir_explore_run.specs.declared.plan.ExplorePlan.{ExplorePlan}
+use Rattle.ir_explore_run.specs.Plan.{ExplorePlan, setup_of}
 
--- how an outcome is recorded: with the highest budget, by a list, of threads that call nothing outside
-abbrev pub recording : Profile → Option (List ℕ) → Plan
-recording profile list = record { order = list; budget = most_budget; random = 0; input = []; profile = profile }
+-- how an outcome is recorded: with the highest budget, by a list, and as it was looked for
+abbrev pub recording : ExplorePlan → Option (List ℕ) → Plan
+recording plan list = record { order = list; budget = most_budget; random = plan.random; input = plan.input; profile = plan.profile }
 
--- A list spells the turns of a complete run of the guest, with these many switches, whose outcome fulfils each condition. No complete run with
--- fewer does, whatever its budget and whatever the world answers.
-pub record IsHit (guest : Guest) (profile : Profile) (conditions : List Condition) (level : ℕ) (list : List ℕ) : Type 0 where
+-- A list spells the turns of a complete run of the guest, with these many switches, whose outcome fulfils each condition. The run is the one that
+-- is recorded by the list: each call is answered by the plan's random words, its bytes and a count. No complete run with fewer switches fulfils
+-- them, whatever its budget.
+pub record IsHit (guest : Guest) (plan : ExplorePlan) (conditions : List Condition) (level : ℕ) (list : List ℕ) : Type 0 where
   pub turns : List Turn
   pub spelled : order_of (length guest.entries) list ≡ Some turns
   pub run : List Step
-  pub counted : (answers : ℕ → List ℕ) → IsCounted guest most_budget profile told answers run
-  pub planned : IsPlannedInTurns guest (recording profile (Some list)) turns run
-  pub fulfilled : fulfils_each guest conditions (outcome_by guest most_budget profile run) ≡ true
-  pub switched : switches_by guest most_budget profile run ≡ level
-  pub fewest : NeverWithin guest profile conditions level
+  pub counted : IsCountedOf (setup_of guest plan) most_budget run
+  pub planned : IsPlannedInTurns guest (recording plan (Some list)) turns run
+  pub fulfilled : fulfils_each guest conditions (outcome_by (setup_of guest plan) most_budget run) ≡ true
+  pub switched : switches_by (setup_of guest plan) most_budget run ≡ level
+  pub fewest : NeverWithin (setup_of guest plan) conditions level
 
 -- The outcomes of the guest are printed up to the first that fulfils each condition, and then which one that is.
-pub record IsHitText (guest : Guest) (profile : Profile) (conditions : List Condition) (list text : List ℕ) : Type 0 where
+pub record IsHitText (guest : Guest) (plan : ExplorePlan) (conditions : List Condition) (list text : List ℕ) : Type 0 where
   pub known : Known
-  pub explored : AreExplored guest profile known.flats known.levels known.outcomes
+  pub explored : AreExplored (setup_of guest plan) known.flats known.levels known.outcomes
   pub place : ℕ
   pub shown : Shown
-  pub state : Flat
+  pub state : SourcedFlat
   pub at : IsAt known.flats known.outcomes place shown state
   pub first : NoneBefore guest conditions known.flats known.outcomes place
-  pub hit : IsHit guest profile conditions shown.level list
+  pub hit : IsHit guest plan conditions shown.level list
   pub lines : List ℕ
   pub texts : AreTexts (objects_of guest) known.flats known.outcomes (suc place) lines
   pub whole : text ≡ lines ++ found_line (suc place) shown.level list
@@ -60,8 +60,8 @@ pub record IsHitText (guest : Guest) (profile : Profile) (conditions : List Cond
 -- What was looked for: the first outcome that fulfils each condition, among those that are known; and if there is none, the guest was explored as
 -- the plan says.
 pub record IsSought (guest : Guest) (plan : ExplorePlan) (conditions : List Condition) (known : Known) (found : Option ℕ) : Type 0 where
-  pub explored : AreExplored guest plan.profile known.flats known.levels known.outcomes
-  pub reached : AllReached guest plan.profile known.flats
+  pub explored : AreExplored (setup_of guest plan) known.flats known.levels known.outcomes
+  pub reached : AllReached (setup_of guest plan) known.flats
   pub first : IsFirst guest conditions known.flats known.outcomes found
   pub whole : found ≡ None → AreKnown guest plan known
 
@@ -73,8 +73,8 @@ pub record IsVain (guest : Guest) (plan : ExplorePlan) (conditions : List Condit
   pub answered : ExitStatus
   pub printed : IsKnownText guest known answered text
   pub none : NoneBefore guest conditions known.flats known.outcomes (length known.outcomes)
-  pub never : known.ended ≡ Finished → NeverFulfils guest plan.profile conditions
-  pub within : NeverWithin guest plan.profile conditions known.levels
+  pub never : known.ended ≡ Finished → NeverFulfils (setup_of guest plan) conditions
+  pub within : NeverWithin (setup_of guest plan) conditions known.levels
 
 -- or the search didn't begin
 abbrev pub IsMissText : Guest → ExplorePlan → List Condition → List ℕ → Type 0
@@ -83,7 +83,7 @@ IsMissText guest plan conditions text = IsVain guest plan conditions text ⊎ ((
 -- what is written about a guest: with the list of an outcome that fulfils each condition, or that there is none
 abbrev pub IsUntilText : Guest → ExplorePlan → List Condition → Option (List ℕ) → List ℕ → Type 0
 IsUntilText guest plan conditions None text = IsMissText guest plan conditions text
-IsUntilText guest plan conditions (Some list) text = IsHitText guest plan.profile conditions list text
+IsUntilText guest plan conditions (Some list) text = IsHitText guest plan conditions list text
 
 -- the same of the guest that these bytes encode, which the profile allows
 pub record IsUntil (image : List ℕ) (plan : ExplorePlan) (conditions : List Condition) (list : Option (List ℕ)) (text : List ℕ) : Type 0 where
@@ -93,11 +93,11 @@ pub record IsUntil (image : List ℕ) (plan : ExplorePlan) (conditions : List Co
   pub says : IsUntilText guest plan conditions list text
 
 -- what was found is recorded: the trace of its run, and what its threads printed
-pub record IsFinding (image : List ℕ) (profile : Profile) (conditions : List Condition) (list text : List ℕ) (trace : Recorded) (outputs : List (List ℕ)) : Type 0 where
+pub record IsFinding (image : List ℕ) (plan : ExplorePlan) (conditions : List Condition) (list text : List ℕ) (trace : Recorded) (outputs : List (List ℕ)) : Type 0 where
   pub guest : Guest
   pub is : guest_at image ≡ Ok guest
-  pub found : IsHitText guest profile conditions list text
-  pub recorded : IsOfRun guest most_budget profile found.hit.run trace outputs
+  pub found : IsHitText guest plan conditions list text
+  pub recorded : IsOfRun guest most_budget plan.profile found.hit.run trace outputs
 
 -- Why there is no answer: the image is refused or its guest too large, as without conditions; or memory ran out, and nothing was written; or the
 -- writer failed in it.

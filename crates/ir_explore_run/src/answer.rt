@@ -10,7 +10,7 @@ ghost use Rattle.ir_thread.specs.State.{IsAllowed};
 ghost use Rattle.ir_explore_run.specs.Conditions.{NoneBefore, IsFulfilled};
 ghost use Rattle.ir_explore_run.specs.Texts.{IsReason, IsStopped, AreKnown, IsEnding, IsKnownText, known_of, status_of};
 ghost use Rattle.ir_explore_run.specs.Until.{IsHitText};
-ghost use Rattle.ir_explore_run.specs.declared.plan.ExplorePlan.{ExplorePlan};
+ghost use Rattle.ir_explore_run.specs.Plan.{ExplorePlan, setup_of};
 
 use crate::lines::found_line;
 use crate::plan::ExplorePlan;
@@ -22,7 +22,6 @@ use ir_flat::Flat;
 use ir_image::Image;
 use ir_order::list_of_items;
 use ir_outcomes::Explored;
-use ir_thread::Profile;
 use std::alloc::{AllocError, Global};
 
 // The exit status of a search that ended so.
@@ -61,11 +60,11 @@ pub fn ending_text(
 pub fn known_text(
     alloc: Global,
     image: &Image,
-    plan: ExplorePlan,
+    plan: &ExplorePlan<'_>,
     explored: &Explored<'_>,
 ) -> Result<(Vec<u8>, ExitStatus), AllocError>
-    requires allowed { IsAllowed plan.profile image.now }
-    requires known { AreKnown image.now plan (known_of explored.now) }
+    requires allowed { IsAllowed plan.now.profile image.now }
+    requires known { AreKnown image.now plan.now (known_of explored.now) }
     ensures { IfOk result (λ answer. IsKnownText image.now (known_of explored.now) answer.1 answer.0.items) }
 {
     let start = Flat::start(alloc, image, 0, plan.profile)?;
@@ -101,18 +100,18 @@ pub fn stopped_text(alloc: Global, why: Stop) -> Result<(Vec<u8>, ExitStatus), A
 pub fn hit_text(
     alloc: Global,
     image: &Image,
-    profile: Profile,
+    plan: &ExplorePlan<'_>,
     explored: &Explored<'_>,
     place: usize,
 ) -> Result<(Vec<u8>, String), AllocError>
-    requires allowed { IsAllowed profile image.now }
-    requires explored { AreExplored image.now profile explored.now.states.graph.flats.items explored.now.levels explored.now.outcomes.items }
-    requires reached { AllReached image.now profile explored.now.states.graph.flats.items }
+    requires allowed { IsAllowed plan.now.profile image.now }
+    requires explored { AreExplored (setup_of image.now plan.now) explored.now.states.graph.flats.items explored.now.levels explored.now.outcomes.items }
+    requires reached { AllReached (setup_of image.now plan.now) explored.now.states.graph.flats.items }
     requires place { place < length explored.now.outcomes.items }
     ensures { IfOk result (λ told. (conditions : List Condition) → NoneBefore image.now conditions explored.now.states.graph.flats.items explored.now.outcomes.items place
-        → IsFulfilled image.now conditions explored.now.states.graph.flats.items explored.now.outcomes.items place → IsHitText image.now profile conditions (string_bytes told.1) told.0.items) }
+        → IsFulfilled image.now conditions explored.now.states.graph.flats.items explored.now.outcomes.items place → IsHitText image.now plan.now conditions (string_bytes told.1) told.0.items) }
 {
-    let start = Flat::start(alloc, image, 0, profile)?;
+    let start = Flat::start(alloc, image, 0, plan.profile)?;
     let flats = &explored.states.graph.flats;
     let outcomes = explored.outcomes.as_slice();
     let started = Started {

@@ -4,9 +4,8 @@ ghost use Rattle.std.specs.Prelude.{◌≡◌, ℕ, ◌<◌, Some, None, length,
 ghost use Rattle.std.specs.List.{list_all};
 ghost use Rattle.ir_chaos.specs.Conditions.{as_condition, fulfils, outcome_of};
 ghost use Rattle.ir_graph.specs.Reached.{AllReached};
-ghost use Rattle.ir_image.specs.Guest.{Guest};
+ghost use Rattle.ir_graph.specs.Setup.{Setup};
 ghost use Rattle.ir_outcomes.specs.declared.shown.Shown.{Shown};
-ghost use Rattle.ir_thread.specs.declared.profile.Profile.{Profile};
 ghost use Rattle.ir_explore_run.specs.Conditions.{OutcomesDecide, IsFirst};
 
 use crate::states::state_of;
@@ -38,11 +37,11 @@ pub fn first_fulfilling(
     conditions: &[Condition<'_>],
 ) -> Result<Option<usize>, AllocError>
     requires { (i : ℕ) (x : Shown) → slice_get outcomes.now i ≡ Some x → x.node < length flats.now.items }
-    ensures { IfOk result (λ first. (guest : Guest) (profile : Profile) → AllReached guest profile flats.now.items → IsFirst guest (map as_condition conditions.now) flats.now.items outcomes.now first) }
+    ensures { IfOk result (λ first. (setup : Setup) → AllReached setup flats.now.items → IsFirst setup.guest (map as_condition conditions.now) flats.now.items outcomes.now first) }
 {
     for i in 0..outcomes.len() {
         let state = state_of(flats, &outcomes[i])?;
-        if fulfils(&state, conditions) {
+        if fulfils(&state.flat, conditions) {
             return Ok(Some(i));
         }
     }

@@ -17,20 +17,14 @@ use std::alloc::Global;
 pub fn known<'a, W: Observer>(
     alloc: Global,
     image: &'a Image,
-    plan: ExplorePlan,
+    plan: &ExplorePlan<'a>,
     observer: &W,
 ) -> Result<Explored<'a>, Stop>
-    requires { IsAllowed plan.profile image.now }
-    ensures known { IfOk result (λ e. AreKnown image.now plan (known_of e)) }
-    ensures refused { IfErr result (λ why. IsReason image.now plan why) }
+    requires { IsAllowed plan.now.profile image.now }
+    ensures known { IfOk result (λ e. AreKnown image.now plan.now (known_of e)) }
+    ensures refused { IfErr result (λ why. IsReason image.now plan.now why) }
 {
-    let explored = explore(
-        alloc,
-        image,
-        plan.profile,
-        plan.bounds,
-        plan.switches,
-        observer,
-    )?;
+    let setup = plan.setup(image);
+    let explored = explore(alloc, &setup, plan.bounds, plan.switches, observer)?;
     Ok(explored)
 }

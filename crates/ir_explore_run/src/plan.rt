@@ -1,32 +1,55 @@
-//! How far a guest is explored.
+//! How a guest is explored.
 
 ghost use Rattle.std.specs.Prelude.{◌≡◌, ◌≤◌};
+ghost use Rattle.ir_explore_run.specs.Plan.{ExplorePlan, setup_of};
 
 use ir_chaos::Condition;
-use ir_graph::Bounds;
+use ir_graph::{Bounds, Setup};
+use ir_image::Image;
 use ir_record_run::ParsedImage;
 use ir_thread::Profile;
+use std::marker::Model;
 
-/// How far a guest is explored.
-#[derive(Clone, Copy, Debug)]
-pub struct ExplorePlan {
+/// How far a guest is explored, and what answers its threads.
+#[derive(Drop)]
+pub struct ExplorePlan<'a> {
     /// How many states there may be, and how many steps of a thread up to its next entry.
     pub bounds: Bounds,
     /// The most switches of the thread that enters.
     pub switches: usize,
     /// Which system calls there are.
     pub profile: Profile,
+    /// Where random words start.
+    pub random: u64,
+    /// The bytes that each thread reads.
+    pub input: &'a [u8],
     ghost some: { 1 ≤ bounds.nodes },
 }
 
-impl ExplorePlan {
-    /// At most so many states, steps of a thread up to its next entry, and switches; and which system calls there are.
-    pub fn new(states: usize, private: u64, switches: usize, profile: Profile) -> ExplorePlan
+impl<'a> Model for ExplorePlan<'a> {
+    ghost Value = { ExplorePlan };
+
+    ghost view = { λ p. record { bounds = p.bounds; switches = p.switches; profile = p.profile; random = p.random; input = p.input.now } };
+}
+
+impl<'a> ExplorePlan<'a> {
+    /// At most so many states, steps of a thread up to its next entry, and switches; which system calls there are; where random words start, and the
+    /// bytes that each thread reads.
+    pub fn new(
+        states: usize,
+        private: u64,
+        switches: usize,
+        profile: Profile,
+        random: u64,
+        input: &'a [u8],
+    ) -> ExplorePlan<'a>
         requires { 1 ≤ states }
         ensures states { result.bounds.nodes ≡ states }
         ensures private { result.bounds.private ≡ private }
         ensures switches { result.switches ≡ switches }
         ensures profile { result.profile ≡ profile }
+        ensures random { result.random ≡ random }
+        ensures input { result.input ≡ input.now }
     {
         ExplorePlan {
             bounds: Bounds {
@@ -35,17 +58,31 @@ impl ExplorePlan {
             },
             switches,
             profile,
+            random,
+            input,
+        }
+    }
+
+    /// The guest of an image that is explored so, and what answers its threads.
+    pub fn setup(&self, image: &'a Image) -> Setup<'a>
+        ensures { result ≡ setup_of image.now self.now }
+    {
+        Setup {
+            image,
+            profile: self.profile,
+            random: self.random,
+            input: self.input,
         }
     }
 }
 
 /// What is looked for among the outcomes of a guest, and how far.
-#[derive(Clone, Copy)]
+#[derive(Drop)]
 pub struct UntilPlan<'a, 'i, 'o, W> {
     /// The guest's image.
     pub image: &'a ParsedImage<'i>,
-    /// How far the guest is explored.
-    pub explore: ExplorePlan,
+    /// How the guest is explored.
+    pub explore: ExplorePlan<'a>,
     /// What has to hold of an outcome, all of it.
     pub conditions: &'a [Condition<'a>],
     /// What is told how far the search is.

@@ -3,7 +3,7 @@
 ghost use Rattle.std.specs.Prelude.{◌≡◌, ◌⊎◌, ◌++◌, ℕ, List, false, true, ◌<◌, ◌≤◌, None, Some, length, slice_get, IfErr, OnOk};
 ghost use Rattle.std.specs.Io.KnownBytes.{Appends};
 ghost use Rattle.ir_files.specs.Writers.{writer_of};
-ghost use Rattle.ir_flat.specs.Flat.{Flat};
+ghost use Rattle.ir_store.specs.Nodes.{SourcedFlat};
 ghost use Rattle.ir_outcomes.specs.Exploring.{IsExploring};
 ghost use Rattle.ir_stream.specs.Answers.{AppendsPrefix};
 ghost use Rattle.ir_thread.specs.State.{IsAllowed};
@@ -28,7 +28,7 @@ fn print_from<O: Sink>(
     out: &mut O,
 ) -> Result<(), ExploreFault>
     requires is { IsExploring exploring.now }
-    requires objects { (v : ℕ) (f : Flat) → slice_get exploring.now.states.graph.flats.items v ≡ Some f → length f.objects ≡ length started.first.now }
+    requires objects { (v : ℕ) (s : SourcedFlat) → slice_get exploring.now.states.graph.flats.items v ≡ Some s → length s.flat.objects ≡ length started.first.now }
     requires from { from ≤ length exploring.now.list.outcomes.items }
     requires works { O.broken out.old ≡ false }
     ensures printed { OnOk result ((before : List ℕ) → HasPrinted (objects_in started.entry) exploring.now from before → (text : List ℕ) × HasPrinted (objects_in started.entry) exploring.now (length exploring.now.list.outcomes.items) (before ++ text) × Appends (O.written out.old) (O.written out.new) text) }
@@ -54,14 +54,13 @@ pub fn print_levels<W: Observer, O: Sink>(
     observer: &W,
     out: &mut O,
 ) -> Result<(), ExploreFault>
-    requires allowed { IsAllowed exploring.old.states.graph.profile exploring.old.states.graph.image.now }
+    requires allowed { IsAllowed exploring.old.states.graph.setup.profile exploring.old.states.graph.setup.guest }
     requires is { IsExploring exploring.old }
     requires none { length exploring.old.list.outcomes.items ≡ 0 }
-    requires started { objects_in started ≡ objects_of exploring.old.states.graph.image.now }
+    requires started { objects_in started ≡ objects_of exploring.old.states.graph.setup.guest }
     requires works { O.broken out.old ≡ false }
     ensures is { IsExploring exploring.new }
-    ensures image { exploring.new.states.graph.image.now ≡ exploring.old.states.graph.image.now }
-    ensures profile { exploring.new.states.graph.profile ≡ exploring.old.states.graph.profile }
+    ensures setup { exploring.new.states.graph.setup ≡ exploring.old.states.graph.setup }
     ensures bounds { exploring.new.states.graph.bounds ≡ exploring.old.states.graph.bounds }
     ensures most { exploring.new.most ≡ exploring.old.most }
     // Once all are gone over
@@ -69,7 +68,7 @@ pub fn print_levels<W: Observer, O: Sink>(
     ensures printed { OnOk result ((text : List ℕ) × HasPrinted (objects_in started.entry) exploring.new (length exploring.new.list.outcomes.items) text × Appends (O.written out.old) (O.written out.new) text) }
     ensures works { OnOk result (O.broken out.new ≡ false) }
     // If not
-    ensures failed { IfErr result (λ e. EndsEarly e exploring.old.states.graph.image.now exploring.old.states.graph.profile (writer_of (O.written out.old) (O.written out.new) (O.broken out.new))) }
+    ensures failed { IfErr result (λ e. EndsEarly e exploring.old.states.graph.setup (writer_of (O.written out.old) (O.written out.new) (O.broken out.new))) }
 {
     'levels: while exploring.goes_on() {
         let printed = exploring.list.outcomes.len();

@@ -11,7 +11,7 @@ ghost use Rattle.ir_explore_run.specs.declared.fault.ExploreFault.TheVariants.{N
 ghost use Rattle.ir_files.specs.declared.exit_status.ExitStatus.{ExitStatus};
 ghost use Rattle.ir_stream.specs.Answers.{AppendsPrefix};
 ghost use Rattle.ir_explore_run.specs.declared.fault.ExploreFault.{ExploreFault};
-ghost use Rattle.ir_explore_run.specs.declared.plan.ExplorePlan.{ExplorePlan};
+ghost use Rattle.ir_explore_run.specs.Plan.{ExplorePlan};
 
 use crate::answer::{ending_text, stopped_text};
 use crate::fault::ExploreFault;
@@ -57,27 +57,22 @@ fn print_ending<O: Sink>(
 fn show<W: Observer, O: Sink>(
     alloc: Global,
     image: &Image,
-    plan: ExplorePlan,
+    plan: &ExplorePlan<'_>,
     observer: &W,
     out: &mut O,
 ) -> Result<ExitStatus, ExploreFault>
-    requires allowed { IsAllowed plan.profile image.now }
+    requires allowed { IsAllowed plan.now.profile image.now }
     requires works { O.broken out.old ≡ false }
-    ensures ok { IfOk result (λ answered. (text : List ℕ) × IsAnswerAbout image.now plan answered text × Appends (O.written out.old) (O.written out.new) text) }
-    ensures fails { IfErr result (λ e. StopsPrinting e image.now plan (writer_of (O.written out.old) (O.written out.new) (O.broken out.new))) }
+    ensures ok { IfOk result (λ answered. (text : List ℕ) × IsAnswerAbout image.now plan.now answered text × Appends (O.written out.old) (O.written out.new) text) }
+    ensures fails { IfErr result (λ e. StopsPrinting e image.now plan.now (writer_of (O.written out.old) (O.written out.new) (O.broken out.new))) }
 {
     let start = Flat::start(alloc, image, 0, plan.profile)?;
     let started = Started {
         words: image.object_words(),
         first: start.objects(),
     };
-    let mut exploring = match Exploring::start(
-        alloc,
-        image,
-        plan.profile,
-        plan.bounds,
-        plan.switches,
-    ) {
+    let setup = plan.setup(image);
+    let mut exploring = match Exploring::start(alloc, &setup, plan.bounds, plan.switches) {
         Ok(exploring) => exploring,
         Err(why) => return show_stop(alloc, why, out),
     };
@@ -90,13 +85,13 @@ fn show<W: Observer, O: Sink>(
 fn show_image<W: Observer, O: Sink>(
     alloc: Global,
     bytes: &[u8],
-    plan: ExplorePlan,
+    plan: &ExplorePlan<'_>,
     observer: &W,
     out: &mut O,
 ) -> Result<ExitStatus, ExploreFault>
     requires { O.broken out.old ≡ false }
-    ensures ok { IfOk result (λ answered. Answers bytes.now plan answered (writer_of (O.written out.old) (O.written out.new) (O.broken out.new))) }
-    ensures fails { IfErr result (λ e. HasNone e bytes.now plan (writer_of (O.written out.old) (O.written out.new) (O.broken out.new))) }
+    ensures ok { IfOk result (λ answered. Answers bytes.now plan.now answered (writer_of (O.written out.old) (O.written out.new) (O.broken out.new))) }
+    ensures fails { IfErr result (λ e. HasNone e bytes.now plan.now (writer_of (O.written out.old) (O.written out.new) (O.broken out.new))) }
 {
     let image = match read_image(alloc, bytes) {
         Ok(image) => image,
@@ -115,15 +110,15 @@ fn show_image<W: Observer, O: Sink>(
 pub fn explore_run<W: Observer, O: Sink, E: Sink>(
     alloc: Global,
     bytes: &[u8],
-    plan: ExplorePlan,
+    plan: &ExplorePlan<'_>,
     observer: &W,
     out: &mut O,
     faults: &mut E,
 ) -> ExitStatus
     requires writes { O.broken out.old ≡ false }
     requires reports { E.broken faults.old ≡ false }
-    ensures done { (Answers bytes.now plan result (writer_of (O.written out.old) (O.written out.new) (O.broken out.new)) × (faults.new ≡ faults.old))
-        ⊎ ((e : ExploreFault) × (result ≡ fault_status e) × HasNone e bytes.now plan (writer_of (O.written out.old) (O.written out.new) (O.broken out.new))
+    ensures done { (Answers bytes.now plan.now result (writer_of (O.written out.old) (O.written out.new) (O.broken out.new)) × (faults.new ≡ faults.old))
+        ⊎ ((e : ExploreFault) × (result ≡ fault_status e) × HasNone e bytes.now plan.now (writer_of (O.written out.old) (O.written out.new) (O.broken out.new))
         × Reports (writer_of (E.written faults.old) (E.written faults.new) (E.broken faults.new)) (fault_text (fault_words e))) }
 {
     match show_image(alloc, bytes, plan, observer, out) {

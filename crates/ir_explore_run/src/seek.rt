@@ -32,7 +32,7 @@ pub struct Sought<'a> {
 fn search<'a, W: Observer>(
     alloc: Global,
     image: &'a Image,
-    plan: &UntilPlan<'_, '_, '_, W>,
+    plan: &UntilPlan<'a, '_, '_, W>,
     switches: usize,
 ) -> Result<Sought<'a>, Stop>
     requires { IsAllowed plan.now.explore.profile image.now }
@@ -44,8 +44,10 @@ fn search<'a, W: Observer>(
         bounds: plan.explore.bounds,
         switches,
         profile: plan.explore.profile,
+        random: plan.explore.random,
+        input: plan.explore.input,
     };
-    let explored = known(alloc, image, explore, plan.observer)?;
+    let explored = known(alloc, image, &explore, plan.observer)?;
     let flats = &explored.states.graph.flats;
     let first = first_fulfilling(flats, explored.outcomes.as_slice(), plan.conditions)?;
     Ok(Sought { explored, first })
@@ -80,7 +82,7 @@ fn widened(switches: usize, most: usize) -> usize
 pub fn seek<'a, W: Observer>(
     alloc: Global,
     image: &'a Image,
-    plan: &UntilPlan<'_, '_, '_, W>,
+    plan: &UntilPlan<'a, '_, '_, W>,
 ) -> Result<Sought<'a>, Stop>
     requires { IsAllowed plan.now.explore.profile image.now }
     ensures sought { IfOk result (λ s. IsSought image.now plan.now.explore (map as_condition plan.now.conditions.now) (known_of s.explored) s.first) }

@@ -2,9 +2,7 @@
 
 ghost use Rattle.std.specs.Prelude.{◌≡◌, ℕ, ◌<◌, ◌≤◌, ◌++◌, List, length, Some, slice_get, IfOk};
 ghost use Rattle.std.specs.String.{string_bytes};
-ghost use Rattle.ir_flat.specs.Flat.{Flat};
-ghost use Rattle.ir_graph.specs.Reached.{AllReached};
-ghost use Rattle.ir_image.specs.Guest.{object_count};
+ghost use Rattle.ir_store.specs.Nodes.{SourcedFlat};
 ghost use Rattle.ir_outcomes.specs.declared.shown.Shown.{Shown};
 ghost use Rattle.ir_explore_run.specs.Texts.{AreTexts, IsHangText, end_line, objects_in};
 
@@ -29,7 +27,7 @@ pub fn outcomes_text(
 ) -> Result<Vec<u8>, AllocError>
     requires order { from ≤ until }
     requires until { until ≤ length outcomes.now }
-    requires objects { (v : ℕ) (f : Flat) → slice_get flats.now.items v ≡ Some f → length f.objects ≡ length started.first.now }
+    requires objects { (v : ℕ) (s : SourcedFlat) → slice_get flats.now.items v ≡ Some s → length s.flat.objects ≡ length started.first.now }
     requires nodes { (i : ℕ) (x : Shown) → slice_get outcomes.now i ≡ Some x → x.node < length flats.now.items }
     ensures { IfOk result (λ text. (before : List ℕ) → AreTexts (objects_in started.entry) flats.now.items outcomes.now from before → AreTexts (objects_in started.entry) flats.now.items outcomes.now until (before ++ text.items)) }
 {
@@ -37,7 +35,7 @@ pub fn outcomes_text(
     for i in from..until {
         let shown = &outcomes[i];
         let state = state_of(flats, shown)?;
-        let own = outcome_text(alloc, started, &state, i + 1, shown)?;
+        let own = outcome_text(alloc, started, &state.flat, i + 1, shown)?;
         text.extend_from_slice(own.as_slice())?;
     }
     Ok(text)

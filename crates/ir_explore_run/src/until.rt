@@ -18,7 +18,7 @@ ghost use Rattle.ir_explore_run.specs.Faults.{fault_status, fault_words};
 ghost use Rattle.ir_explore_run.specs.Texts.{known_of};
 ghost use Rattle.ir_explore_run.specs.Until.{recording, IsSought, IsUntilText, IsUntil, IsFinding, HasNoAnswer};
 ghost use Rattle.ir_explore_run.specs.declared.fault.ExploreFault.{ExploreFault};
-ghost use Rattle.ir_explore_run.specs.declared.plan.ExplorePlan.{ExplorePlan};
+ghost use Rattle.ir_explore_run.specs.Plan.{ExplorePlan};
 
 use crate::answer::{hit_text, known_text, stopped_text};
 use crate::fault::ExploreFault;
@@ -30,7 +30,7 @@ use ir_image::Image;
 use ir_object::OpenGate;
 use ir_record_run::{ParsedImage, RecordFault, RecordFiles, RecordPlan, Recording, record_run};
 use ir_stream::{Sink, write_all};
-use ir_thread::{MOST_BUDGET, Profile};
+use ir_thread::MOST_BUDGET;
 use ir_trace::Trace;
 use std::alloc::{AllocError, Global};
 use std::sync::Wait;
@@ -38,21 +38,21 @@ use std::thread::Threads;
 use std::time::Clock;
 
 // How an outcome is recorded by a list.
-fn recording(profile: Profile, list: Option<&str>) -> RecordPlan<'_>
-    ensures { result ≡ recording profile (option_map (λ s. s.now) list.entry) }
+fn recording<'a>(plan: &ExplorePlan<'a>, list: Option<&'a str>) -> RecordPlan<'a>
+    ensures { result ≡ recording plan.now (option_map (λ s. s.now) list.entry) }
 {
     RecordPlan {
         order: list,
         budget: MOST_BUDGET,
-        random: 0,
-        input: &[],
-        profile,
+        random: plan.random,
+        input: plan.input,
+        profile: plan.profile,
     }
 }
 
 // Why a guest isn't explored, by why it isn't recorded.
 fn refusal_of(why: RecordFault) -> ExploreFault
-    ensures { (image : List ℕ) (plan : ExplorePlan) (conditions : List Condition) (w : Writer) → Refuses why image (recording plan.profile None) → Took w [] → HasNoAnswer result image plan conditions w }
+    ensures { (image : List ℕ) (plan : ExplorePlan) (conditions : List Condition) (w : Writer) → Refuses why image (recording plan None) → Took w [] → HasNoAnswer result image plan conditions w }
 {
     match why {
         RecordFault::Image(why) => ExploreFault::Image(why),
@@ -63,12 +63,15 @@ fn refusal_of(why: RecordFault) -> ExploreFault
 }
 
 // The guest, if it is explored.
-fn guest_of<'a>(image: &'a ParsedImage<'_>, explore: ExplorePlan) -> Result<&'a Image, ExploreFault>
+fn guest_of<'a>(
+    image: &'a ParsedImage<'_>,
+    explore: &ExplorePlan<'_>,
+) -> Result<&'a Image, ExploreFault>
     ensures exact { IfOk result (λ guest. guest_at image.now ≡ Ok guest.now) }
-    ensures allowed { IfOk result (λ guest. IsAllowed explore.profile guest.now) }
-    ensures refused { IfErr result (λ e. (conditions : List Condition) (w : Writer) → Took w [] → HasNoAnswer e image.now explore conditions w) }
+    ensures allowed { IfOk result (λ guest. IsAllowed explore.now.profile guest.now) }
+    ensures refused { IfErr result (λ e. (conditions : List Condition) (w : Writer) → Took w [] → HasNoAnswer e image.now explore.now conditions w) }
 {
-    match image.allowed(&recording(explore.profile, None)) {
+    match image.allowed(&recording(explore, None)) {
         Ok(guest) => Ok(guest),
         Err(why) => Err(refusal_of(why)),
     }
@@ -95,14 +98,14 @@ fn sought_text<W>(
     let explored = &sought.explored;
     match sought.first {
         Some(place) => {
-            let (text, list) = hit_text(alloc, image, plan.explore.profile, explored, place)?;
+            let (text, list) = hit_text(alloc, image, &plan.explore, explored, place)?;
             Ok(Told {
                 text,
                 list: Some(list),
             })
         }
         None => {
-            let (text, _) = known_text(alloc, image, plan.explore, explored)?;
+            let (text, _) = known_text(alloc, image, &plan.explore, explored)?;
             Ok(Told { text, list: None })
         }
     }
@@ -138,7 +141,7 @@ fn tell_sought<W: Observer, O: Sink>(
     ensures works { OnOk result (O.broken out.new ≡ false) }
     ensures fails { IfErr result (λ e. HasNoAnswer e plan.now.image.now plan.now.explore (map as_condition plan.now.conditions.now) (writer_of (O.written out.old) (O.written out.new) (O.broken out.new))) }
 {
-    let guest = match guest_of(plan.image, plan.explore) {
+    let guest = match guest_of(plan.image, &plan.explore) {
         Ok(guest) => guest,
         Err(why) => return Err(why),
     };
@@ -174,7 +177,7 @@ where
     requires reports { E.broken faults.old ≡ false }
     // The outcomes up to the first that fulfils each condition were written, and of the run that is told of that one its trace, what its threads
     // printed, and their lines. No fault is reported.
-    ensures found { IfOk result (λ recorded. (text list : List ℕ) × (printed : List (List ℕ)) × IsFinding plan.now.image.now plan.now.explore.profile (map as_condition plan.now.conditions.now) list text recorded printed
+    ensures found { IfOk result (λ recorded. (text list : List ℕ) × (printed : List (List ℕ)) × IsFinding plan.now.image.now plan.now.explore (map as_condition plan.now.conditions.now) list text recorded printed
         × Appends (W.written files.old.trace) (W.written files.new.trace) (encoding recorded)
         × TookEach (output_writer_of (P.taken files.old.outputs) (P.taken files.new.outputs) (P.broken files.new.outputs)) printed
         × Appends (O.written out.old) (O.written out.new) (text ++ lines_of recorded)) }
@@ -189,9 +192,9 @@ where
         ⊎ ((e : RecordFault) × (status ≡ recorded.fault_status e) × (text list : List ℕ) × (said : O)
         × IsUntil plan.now.image.now plan.now.explore (map as_condition plan.now.conditions.now) (Some list) text
         × Appends (O.written out.old) (O.written said) text
-        × IsReported e plan.now.image.now (recording plan.now.explore.profile (Some list)) (unwritten_of (W.called files.new.trace) (W.cause files.new.trace)) (unwritten_of (P.called files.new.outputs) (P.cause files.new.outputs))
+        × IsReported e plan.now.image.now (recording plan.now.explore (Some list)) (unwritten_of (W.called files.new.trace) (W.cause files.new.trace)) (unwritten_of (P.called files.new.outputs) (P.cause files.new.outputs))
         (writer_of (E.written faults.old) (E.written faults.new) (E.broken faults.new))
-        × Stops e plan.now.image.now (recording plan.now.explore.profile (Some list))
+        × Stops e plan.now.image.now (recording plan.now.explore (Some list))
         (writer_of (W.written files.old.trace) (W.written files.new.trace) (W.broken files.new.trace))
         (output_writer_of (P.taken files.old.outputs) (P.taken files.new.outputs) (P.broken files.new.outputs))
         (writer_of (O.written said) (O.written out.new) (O.broken out.new))
@@ -205,7 +208,7 @@ where
             return Err(why.status());
         }
     };
-    let how = recording(plan.explore.profile, Some(list.as_str()));
+    let how = recording(&plan.explore, Some(list.as_str()));
     let recording = Recording {
         image: plan.image,
         plan: &how,

@@ -1,5 +1,7 @@
 //! What `ir explore` prints.
 
+ghost use Rattle.std.specs.Prelude.{◌≤◌};
+
 use crate::guests::{ENDLESS_LOOP, LOST_UPDATE, POLLS, PRINTS};
 use crate::page::{ENDLESS, Page, empty_page};
 use ir_asm::assemble;
@@ -39,8 +41,19 @@ const HANGING: &[u8] = b"hang switches 0 order 0x2,1x3
 finished outcomes 0 states 1 hangs 1
 ";
 
+// At most so many states and switches; random words start at 0, and there is no input.
+pub fn within<'a>(states: usize, switches: usize, profile: Profile) -> ExplorePlan<'a>
+    requires { 1 ≤ states }
+{
+    ExplorePlan::new(states, 1000, switches, profile, 0, &[])
+}
+
 // What is printed of a guest: the exit status, the lines and the faults.
-pub fn printed(rt: &HostRuntime, text: &str, plan: ExplorePlan) -> Result<(u8, Page, Page), Fail> {
+pub fn printed(
+    rt: &HostRuntime,
+    text: &str,
+    plan: &ExplorePlan<'_>,
+) -> Result<(u8, Page, Page), Fail> {
     let alloc = rt.alloc();
     let image = assemble(alloc, text)?;
     let bytes = write_image(alloc, &image)?;
@@ -59,11 +72,7 @@ pub fn printed(rt: &HostRuntime, text: &str, plan: ExplorePlan) -> Result<(u8, P
 
 #[test]
 fn a_lost_update_is_printed_with_both_orders(rt: HostRuntime) -> Result<(), Fail> {
-    let (status, out, faults) = printed(
-        &rt,
-        LOST_UPDATE,
-        ExplorePlan::new(100, 1000, 100, Profile::One),
-    )?;
+    let (status, out, faults) = printed(&rt, LOST_UPDATE, &within(100, 100, Profile::One))?;
     assert_eq!(rt; out.bytes.as_slice(), BOTH);
     assert_eq!(rt; status, 0);
     assert!(rt; faults.bytes.is_empty());
@@ -72,11 +81,7 @@ fn a_lost_update_is_printed_with_both_orders(rt: HostRuntime) -> Result<(), Fail
 
 #[test]
 fn with_one_switch_the_first_is_printed(rt: HostRuntime) -> Result<(), Fail> {
-    let (status, out, _) = printed(
-        &rt,
-        LOST_UPDATE,
-        ExplorePlan::new(100, 1000, 1, Profile::One),
-    )?;
+    let (status, out, _) = printed(&rt, LOST_UPDATE, &within(100, 1, Profile::One))?;
     assert_eq!(rt; out.bytes.as_slice(), FIRST);
     assert_eq!(rt; status, 0);
     Ok(())
@@ -84,11 +89,7 @@ fn with_one_switch_the_first_is_printed(rt: HostRuntime) -> Result<(), Fail> {
 
 #[test]
 fn too_many_states_stop_it(rt: HostRuntime) -> Result<(), Fail> {
-    let (status, out, _) = printed(
-        &rt,
-        LOST_UPDATE,
-        ExplorePlan::new(3, 1000, 100, Profile::One),
-    )?;
+    let (status, out, _) = printed(&rt, LOST_UPDATE, &within(3, 100, Profile::One))?;
     assert!(rt; out.bytes.as_slice().starts_with(b"stopped states covered "));
     assert_eq!(rt; status, 5);
     Ok(())
@@ -96,11 +97,7 @@ fn too_many_states_stop_it(rt: HostRuntime) -> Result<(), Fail> {
 
 #[test]
 fn a_thread_that_goes_on_for_ever_stops_it(rt: HostRuntime) -> Result<(), Fail> {
-    let (status, out, _) = printed(
-        &rt,
-        ENDLESS_LOOP,
-        ExplorePlan::new(100, 1000, 100, Profile::One),
-    )?;
+    let (status, out, _) = printed(&rt, ENDLESS_LOOP, &within(100, 100, Profile::One))?;
     assert_eq!(rt;
         out.bytes.as_slice(),
         b"stopped private 0 covered - outcomes 0 states 0\n".as_slice()
@@ -111,7 +108,7 @@ fn a_thread_that_goes_on_for_ever_stops_it(rt: HostRuntime) -> Result<(), Fail> 
 
 #[test]
 fn what_is_printed_by_threads_is_shown(rt: HostRuntime) -> Result<(), Fail> {
-    let (status, out, _) = printed(&rt, PRINTS, ExplorePlan::new(100, 1000, 100, Profile::One))?;
+    let (status, out, _) = printed(&rt, PRINTS, &within(100, 100, Profile::One))?;
     assert_eq!(rt; out.bytes.as_slice(), PRINTED);
     assert_eq!(rt; status, 0);
     Ok(())
@@ -119,7 +116,7 @@ fn what_is_printed_by_threads_is_shown(rt: HostRuntime) -> Result<(), Fail> {
 
 #[test]
 fn a_thread_that_waits_for_what_never_comes_hangs(rt: HostRuntime) -> Result<(), Fail> {
-    let (status, out, _) = printed(&rt, POLLS, ExplorePlan::new(100, 1000, 100, Profile::One))?;
+    let (status, out, _) = printed(&rt, POLLS, &within(100, 100, Profile::One))?;
     assert_eq!(rt; out.bytes.as_slice(), HANGING);
     assert_eq!(rt; status, 0);
     Ok(())
@@ -129,11 +126,11 @@ fn a_thread_that_waits_for_what_never_comes_hangs(rt: HostRuntime) -> Result<(),
 fn bytes_that_are_no_image_are_refused(rt: HostRuntime) {
     let mut out = empty_page(&rt, 1000, ENDLESS);
     let mut faults = empty_page(&rt, 1000, ENDLESS);
-    let plan = ExplorePlan::new(100, 1000, 100, Profile::One);
+    let plan = within(100, 100, Profile::One);
     let status = explore_run(
         rt.alloc(),
         b"no image",
-        plan,
+        &plan,
         &Unobserved,
         &mut out,
         &mut faults,

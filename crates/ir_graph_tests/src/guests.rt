@@ -2,11 +2,11 @@
 
 ghost use Rattle.ir_thread.specs.State.{IsAllowed};
 ghost use Rattle.ir_thread.specs.declared.profile.Profile.TheVariants.{One};
-ghost use Rattle.std.specs.Prelude.{IfOk};
+ghost use Rattle.std.specs.Prelude.{◌≡◌, IfOk};
 
 use ir_asm::assemble;
 use ir_explore::Unobserved;
-use ir_graph::Bounds;
+use ir_graph::{Bounds, Setup};
 use ir_image::Image;
 use ir_outcomes::{Explored, explore};
 use ir_thread::Profile;
@@ -209,6 +209,19 @@ pub fn guest_of(alloc: Global, text: &str, profile: Profile) -> Result<Image, Fa
     Ok(image)
 }
 
+// It, with the calls of a profile; random words start at 0, and there is no input.
+pub fn setup_of<'a>(image: &'a Image, profile: Profile) -> Setup<'a>
+    ensures guest { result.guest ≡ image.now }
+    ensures profile { result.profile ≡ profile }
+{
+    Setup {
+        image,
+        profile,
+        random: 0,
+        input: &[],
+    }
+}
+
 // What is found out about it up to so many switches, of at most 200 states.
 pub fn explored<'a>(alloc: Global, image: &'a Image, switches: usize) -> Result<Explored<'a>, Fail>
     requires { IsAllowed One image.now }
@@ -217,7 +230,8 @@ pub fn explored<'a>(alloc: Global, image: &'a Image, switches: usize) -> Result<
         nodes: 200,
         private: 1000,
     };
-    match explore(alloc, image, Profile::One, bounds, switches, &Unobserved) {
+    let setup = setup_of(image, Profile::One);
+    match explore(alloc, &setup, bounds, switches, &Unobserved) {
         Ok(found) => Ok(found),
         Err(_) => Err(Fail::from("no search")),
     }

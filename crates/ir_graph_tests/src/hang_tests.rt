@@ -1,6 +1,6 @@
 //! Runs that can't be brought to an end any more.
 
-use crate::guests::{LOST_UPDATE, LOST_WAKE_UP, guest};
+use crate::guests::{LOST_UPDATE, LOST_WAKE_UP, guest, setup_of};
 use ir_explore::{Ended, Unobserved};
 use ir_graph::Bounds;
 use ir_outcomes::explore;
@@ -16,7 +16,8 @@ const BOUNDS: Bounds = Bounds {
 fn a_lost_wake_up_hangs_after_one_switch(rt: HostRuntime) -> Result<(), Fail> {
     let alloc = rt.alloc();
     let image = guest(alloc, LOST_WAKE_UP)?;
-    let Ok(found) = explore(alloc, &image, Profile::One, BOUNDS, 100, &Unobserved) else {
+    let setup = setup_of(&image, Profile::One);
+    let Ok(found) = explore(alloc, &setup, BOUNDS, 100, &Unobserved) else {
         return Err(Fail::from("no search"));
     };
     assert!(rt; found.ended == Ended::Finished);
@@ -38,7 +39,8 @@ fn a_lost_wake_up_hangs_after_one_switch(rt: HostRuntime) -> Result<(), Fail> {
 fn a_lost_update_never_hangs(rt: HostRuntime) -> Result<(), Fail> {
     let alloc = rt.alloc();
     let image = guest(alloc, LOST_UPDATE)?;
-    let Ok(found) = explore(alloc, &image, Profile::One, BOUNDS, 100, &Unobserved) else {
+    let setup = setup_of(&image, Profile::One);
+    let Ok(found) = explore(alloc, &setup, BOUNDS, 100, &Unobserved) else {
         return Err(Fail::from("no search"));
     };
     assert_eq!(rt; found.hangs, 0);
@@ -50,7 +52,8 @@ fn a_lost_update_never_hangs(rt: HostRuntime) -> Result<(), Fail> {
 fn hangs_are_sought_only_once_it_is_finished(rt: HostRuntime) -> Result<(), Fail> {
     let alloc = rt.alloc();
     let image = guest(alloc, LOST_WAKE_UP)?;
-    let Ok(found) = explore(alloc, &image, Profile::One, BOUNDS, 1, &Unobserved) else {
+    let setup = setup_of(&image, Profile::One);
+    let Ok(found) = explore(alloc, &setup, BOUNDS, 1, &Unobserved) else {
         return Err(Fail::from("no search"));
     };
     assert!(rt; found.ended == Ended::Covered);

@@ -13,3 +13,5 @@ mod page;
 mod states_tests;
 #[cfg(test)]
 mod try_tests;
+#[cfg(test)]
+mod world_tests;

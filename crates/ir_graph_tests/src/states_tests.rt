@@ -21,8 +21,9 @@ fn words(flats: &Store<'_>) -> Result<(u32, u32), Fail> {
     let mut ones = 0u32;
     let mut twos = 0u32;
     for v in 0..flats.len() {
-        let flat = flats.get(v)?;
-        if is_done(&flat) && !flat.objects().is_empty() {
+        let state = flats.get(v)?;
+        let flat = &state.flat;
+        if is_done(flat) && !flat.objects().is_empty() {
             match flat.objects()[0].get(0) {
                 1 => ones = ones.saturating_add(1),
                 2 => twos = twos.saturating_add(1),

@@ -3,10 +3,9 @@
 ghost use Rattle.ir_thread.specs.State.{IsAllowed};
 ghost use Rattle.ir_thread.specs.declared.profile.Profile.TheVariants.{Two};
 
-use crate::explore_tests::printed;
-use crate::guests::guest_of;
+use crate::explore_tests::{printed, within};
+use crate::guests::{guest_of, setup_of};
 use ir_explore::{Ended, Unobserved};
-use ir_explore_run::ExplorePlan;
 use ir_graph::Bounds;
 use ir_image::Image;
 use ir_outcomes::{Explored, explore};
@@ -68,7 +67,8 @@ fn explored<'a>(alloc: Global, image: &'a Image) -> Result<Explored<'a>, Fail>
         nodes: 2000,
         private: 1000,
     };
-    match explore(alloc, image, Profile::Two, bounds, 100, &Unobserved) {
+    let setup = setup_of(image, Profile::Two);
+    match explore(alloc, &setup, bounds, 100, &Unobserved) {
         Ok(found) => Ok(found),
         Err(_) => Err(Fail::from("no search")),
     }
@@ -113,8 +113,8 @@ finished outcomes 4 states 9 hangs 0
 
 #[test]
 fn a_refused_try_has_a_mark_in_the_list(rt: HostRuntime) -> Result<(), Fail> {
-    let plan = ExplorePlan::new(100, 1000, 100, Profile::Two);
-    let (status, out, _) = printed(&rt, TRY_ONCE, plan)?;
+    let plan = within(100, 100, Profile::Two);
+    let (status, out, _) = printed(&rt, TRY_ONCE, &plan)?;
     assert_eq!(rt; out.bytes.as_slice(), FOUR);
     assert_eq!(rt; status, 0);
     Ok(())

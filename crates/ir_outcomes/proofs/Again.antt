@@ -1,25 +1,28 @@
 -- Runs of a guest by turns.
 use Rattle.std.proofs.lemmas.Bool.{cases_eq}
-use Rattle.std.proofs.Common.{◌≡◌, ◌≢◌, ◌⊎◌, inl, inr, ℕ, zero, suc, List, [], ◌∷◌, ◌++◌, Bool, replicate, append_assoc, ◌+◌, ◌≤◌, arith, refl, sym, ap, ◌∙◌, subst}
-use Rattle.ir_image.specs.Guest.{Guest}
-use Rattle.ir_runs.specs.Run.{State, Step, end}
+use Rattle.std.proofs.Common.{◌≡◌, ◌≢◌, ◌⊎◌, inl, inr, ℕ, zero, suc, List, [], ◌∷◌, ◌++◌, Bool, true, false, length, map, replicate, append_assoc, ◌+◌, ◌≤◌, arith, refl, sym, ap, ◌∙◌, subst}
+use Rattle.ir_runs.specs.Machine.{Machine}
+use Rattle.ir_runs.specs.Run.{State, Step, after, end}
 use Rattle.ir_runs.proofs.CallerLemmas.{end_append}
 use Rattle.ir_states.specs.Counting.{entering}
+use Rattle.ir_states.specs.Orders.{IsAlone}
 use Rattle.ir_states.proofs.CallerLemmas.{entering_append}
-use Rattle.ir_thread.specs.State.{most_budget, thread_machine}
-use Rattle.ir_thread.specs.State as thread
-use Rattle.ir_thread.specs.declared.profile.Profile.{Profile}
-use Rattle.ir_flat.specs.Flat.{Flat, tables, start_flat}
-use Rattle.ir_graph.specs.Plain.{result_by}
-use Rattle.ir_graph.specs.Reached.{IsQuietRun, beginning}
+use Rattle.ir_store.specs.Nodes.{SourcedFlat}
+use Rattle.ir_graph.specs.Plain.{full_by, full_of, IsAnsweredRun}
+use Rattle.ir_graph.specs.Reached.{beginning}
+use Rattle.ir_graph.specs.Setup.{Setup, start_of}
 use Rattle.ir_graph.specs.Turn.{GoesAlone}
-use Rattle.ir_graph.proofs.CallerLemmas.{like_reflexive, like_transitive, like_after_going_alone, quiet_run_append}
+use Rattle.ir_graph.proofs.CallerLemmas.{like_reflexive, like_transitive, like_after_going_alone, answered_run_append, goes_alone_in_turns}
 use Rattle.ir_explore.proofs.CallerLemmas.{switches_after_repeated_turn, switches_of_replicated_thread}
 use Rattle.ir_record.specs.Recording.{turns_of_items}
-use Rattle.ir_record.specs.Refusing.{Turn}
+use Rattle.ir_record.specs.Refusing.{Turn, InTurns}
 use Rattle.ir_record.specs.declared.item.Item.{Item}
+use Rattle.ir_flat.proofs.CallerLemmas.{length_of_start_threads}
+use Rattle.ir_sources.specs.Sources.{source, seed_of}
+use Rattle.ir_thread.specs.State.{most_budget}
 use Rattle.std.proofs.lemmas.List.{flat_map_more, append-nil}
-use Rattle.ir_outcomes.specs.Again.{steps_of, IsAgain, IsAgainWithin}
+use Rattle.std.proofs.lemmas.List.FromFn.{length-map-range_with_len}
+use Rattle.ir_outcomes.specs.Again.{IsAgain, IsAgainWithin}
 
 replicate_of_sum : (t n k : ℕ) → replicate (n + k) t ≡ replicate n t ++ replicate k t
 replicate_of_sum t zero k = let e : zero + k ≡ k = omega arith in ap (λ z. replicate z t) e
@@ -27,102 +30,141 @@ replicate_of_sum t (suc n) k =
     let e : suc n + k ≡ suc (n + k) = omega arith in
     ap (λ z. replicate z t) e ∙ (λ i. t ∷ replicate_of_sum t n k i)
 
-steps_of_appended_turns : (turns : List Turn) (t : ℕ) (refused : Bool) (n : ℕ)
-    → steps_of (turns ++ replicate n (t, refused)) ≡ steps_of turns ++ replicate n (t, result_by refused)
-steps_of_appended_turns [] t refused zero = refl
-steps_of_appended_turns [] t refused (suc n) = λ i. (t, result_by refused) ∷ steps_of_appended_turns [] t refused n i
-steps_of_appended_turns (u ∷ turns) t refused n = λ i. (u.0, result_by u.1) ∷ steps_of_appended_turns turns t refused n i
+-- ---- runs by turns
+
+-- turns after turns
+in_turns_append : {T : Type 0} (m : Machine T) (s : State T) (turns more : List Turn) (run rest : List Step) → InTurns m s turns run
+    → InTurns m (end m s run) more rest → InTurns m s (turns ++ more) (run ++ rest)
+in_turns_append m s [] more run rest e h = subst (λ z. InTurns m s more (z ++ rest)) (sym e) (subst (λ z. InTurns m (end m s z) more rest) e h)
+in_turns_append m s ((t, refused) ∷ turns) more run rest (inl (none, ok)) h = inl (none, in_turns_append m s turns more run rest ok h)
+in_turns_append m s ((t, refused) ∷ turns) more run rest (inr (r, run', e, can, tries, ok)) h = inr (
+  r,
+  run' ++ rest,
+  ap (λ z. z ++ rest) e,
+  can,
+  tries,
+  in_turns_append m (after m s (t, r)) turns more run' rest ok (subst (λ z. InTurns m (end m s z) more rest) e h),
+)
+
+-- the threads of steps
+threads_of_alone_run : (t : ℕ) (run : List Step) → IsAlone t run → map (λ (e : Step). e.0) run ≡ replicate (length run) t
+threads_of_alone_run t [] alone = refl
+threads_of_alone_run t (e ∷ run) alone = λ i. sym alone.0 i ∷ threads_of_alone_run t run alone.1 i
+
+threads_of_appended_run : (run more : List Step) → map (λ (e : Step). e.0) (run ++ more) ≡ map (λ (e : Step). e.0) run ++ map (λ (e : Step). e.0) more
+threads_of_appended_run [] more = refl
+threads_of_appended_run (e ∷ run) more = ap (λ z. e.0 ∷ z) (threads_of_appended_run run more)
+
+threads_of_appended_turns : (turns : List Turn) (t : ℕ) (refused : Bool) (n : ℕ)
+    → map (λ (u : Turn). u.0) (turns ++ replicate n (t, refused)) ≡ map (λ (u : Turn). u.0) turns ++ replicate n t
+threads_of_appended_turns [] t refused zero = refl
+threads_of_appended_turns [] t refused (suc n) = ap (λ z. t ∷ z) (threads_of_appended_turns [] t refused n)
+threads_of_appended_turns (u ∷ turns) t refused n = ap (λ z. u.0 ∷ z) (threads_of_appended_turns turns t refused n)
 
 -- the start is a run of no step
-pub start_is_run_again : (guest : Guest) (profile : Profile) → IsAgain guest profile [] [] (start_flat guest most_budget profile)
-start_is_run_again guest profile = record { like = like_reflexive (start_flat guest most_budget profile); quiet = tt; ends = refl; enters = refl }
+pub start_is_run_again : (setup : Setup) → IsAgain setup [] [] (start_of setup)
+start_is_run_again setup = record {
+  like = like_reflexive (start_of setup).flat;
+  steps = [];
+  answered = (tt, tt);
+  in_turns = refl;
+  taken = refl;
+  ends = refl;
+  enters = refl;
+  each = length-map-range_with_len (λ t. source (seed_of setup.random t) setup.input) 0 (length setup.guest.entries)
+      ∙ sym (length_of_start_threads setup.guest most_budget setup.profile 0 (length setup.guest.entries));
+}
 
 -- a thread goes on alone
-pub is_again_after_going_alone : (guest : Guest) (profile : Profile) (turns : List Turn) (before : List ℕ) (f g : Flat) (t : ℕ) (refused : Bool) (n e : ℕ)
-    → IsAgain guest profile turns before f → GoesAlone f g t refused n e
-    → IsAgain guest profile (turns ++ replicate n (t, refused)) (before ++ replicate e t) g
-is_again_after_going_alone guest profile turns before f g t refused n e a turn =
-    let s : State thread.ThreadState = beginning guest profile in
-    let more : List Step = replicate n (t, result_by refused) in
-    let steps : steps_of (turns ++ replicate n (t, refused)) ≡ steps_of turns ++ replicate n (t, result_by refused) =
-    steps_of_appended_turns turns t refused n in
-    let there : State thread.ThreadState = end (thread_machine guest.code) (beginning guest profile) (steps_of turns) in
-    let quiet : IsQuietRun guest.code there more =
-    subst (λ z. IsQuietRun guest.code z more) a.ends (subst (λ z. IsQuietRun z (tables f) more) a.like.code turn.quiet) in
-    let ends : tables g ≡ end (thread_machine guest.code) (beginning guest profile) (steps_of turns ++ replicate n (t, result_by refused)) =
-    turn.ends ∙ ap (λ z. end (thread_machine z) (tables f) more) a.like.code ∙ ap (λ z. end (thread_machine guest.code) z more) a.ends
-    ∙ sym (end_append (thread_machine guest.code) (beginning guest profile) (steps_of turns) more) in
-    let late : entering (thread_machine guest.code) there more ≡ replicate e t =
-    ap (λ z. entering (thread_machine guest.code) z more) (sym a.ends)
-    ∙ ap (λ z. entering (thread_machine z) (tables f) more) (sym a.like.code) ∙ turn.enters in
-    let enters : entering (thread_machine guest.code) (beginning guest profile) (steps_of turns ++ replicate n (t, result_by refused))
-    ≡ before ++ replicate e t =
-    entering_append (thread_machine guest.code) (beginning guest profile) (steps_of turns) more ∙ (λ i. a.enters i ++ late i) in record {
-      like = like_transitive (start_flat guest most_budget profile) f g a.like (like_after_going_alone f g t refused n e turn);
-      quiet = subst (IsQuietRun guest.code (beginning guest profile)) (sym steps)
-          (quiet_run_append guest.code (beginning guest profile) (steps_of turns) more a.quiet quiet);
-      ends = ends ∙ ap (end (thread_machine guest.code) (beginning guest profile)) (sym steps);
-      enters = ap (entering (thread_machine guest.code) (beginning guest profile)) steps ∙ enters;
+pub is_again_after_going_alone : (setup : Setup) (turns : List Turn) (before : List ℕ) (s u : SourcedFlat) (t : ℕ) (refused : Bool) (n e : ℕ)
+    → IsAgain setup turns before s → GoesAlone s u t refused n e
+    → IsAgain setup (turns ++ replicate n (t, refused)) (before ++ replicate e t) u
+is_again_after_going_alone setup turns before s u t refused n e a goes =
+    let code = setup.guest.code in
+    let own = s.flat.code in
+    let first = beginning setup in
+    let there = end (full_by code) first a.steps in
+    let same : own ≡ code = a.like.code in
+    let answered : IsAnsweredRun code there goes.run =
+    subst (λ z. IsAnsweredRun code z goes.run) a.ends (subst (λ z. IsAnsweredRun z (full_of s) goes.run) same goes.answered) in
+    let in_turns : InTurns (full_by code) there (replicate n (t, refused)) goes.run =
+    subst (λ z. InTurns (full_by code) z (replicate n (t, refused)) goes.run) a.ends
+    (subst (λ z. InTurns (full_by z) (full_of s) (replicate n (t, refused)) goes.run) same (goes_alone_in_turns s u t refused n e goes)) in
+    let ends : full_of u ≡ end (full_by code) first (a.steps ++ goes.run) =
+    goes.ends ∙ ap (λ z. end (full_by z) (full_of s) goes.run) same ∙ ap (λ z. end (full_by code) z goes.run) a.ends
+    ∙ sym (end_append (full_by code) first a.steps goes.run) in
+    let late : entering (full_by code) there goes.run ≡ replicate e t =
+    ap (λ z. entering (full_by code) z goes.run) (sym a.ends) ∙ ap (λ z. entering (full_by z) (full_of s) goes.run) (sym same) ∙ goes.enters in record {
+      like = like_transitive (start_of setup).flat s.flat u.flat a.like (like_after_going_alone s u t refused n e goes);
+      steps = a.steps ++ goes.run;
+      answered = answered_run_append code first a.steps goes.run a.answered answered;
+      in_turns = in_turns_append (full_by code) first turns (replicate n (t, refused)) a.steps goes.run a.in_turns in_turns;
+      taken = threads_of_appended_run a.steps goes.run
+          ∙ (λ i. a.taken i ++ (threads_of_alone_run t goes.run goes.alone ∙ ap (λ k. replicate k t) goes.many) i)
+          ∙ sym (threads_of_appended_turns turns t refused n);
+      ends = ends;
+      enters = entering_append (full_by code) first a.steps goes.run ∙ (λ i. a.enters i ++ late i);
+      each = goes.sources ∙ a.each ∙ sym goes.threads;
     }
 
 -- so it does with turns noted
-pub is_again_after_turns_noted : (guest : Guest) (profile : Profile) (items : List Item) (item : Item) (before : List ℕ) (f g : Flat) (e : ℕ)
-    → IsAgain guest profile (turns_of_items items) before f → GoesAlone f g item.thread item.refused item.count e
-    → IsAgain guest profile (turns_of_items (items ++ item ∷ [])) (before ++ replicate e item.thread) g
-is_again_after_turns_noted guest profile items item before f g e a goes =
-    subst (λ z. IsAgain guest profile z (before ++ replicate e item.thread) g)
+pub is_again_after_turns_noted : (setup : Setup) (items : List Item) (item : Item) (before : List ℕ) (f g : SourcedFlat) (e : ℕ)
+    → IsAgain setup (turns_of_items items) before f → GoesAlone f g item.thread item.refused item.count e
+    → IsAgain setup (turns_of_items (items ++ item ∷ [])) (before ++ replicate e item.thread) g
+is_again_after_turns_noted setup items item before f g e a goes =
+    subst (λ z. IsAgain setup z (before ++ replicate e item.thread) g)
     (flat_map_more (λ (i : Item). replicate i.count (i.thread, i.refused)) [] items item)
-    (is_again_after_going_alone guest profile (turns_of_items items) before f g item.thread item.refused item.count e a goes)
+    (is_again_after_going_alone setup (turns_of_items items) before f g item.thread item.refused item.count e a goes)
 
 -- so many entries of a thread after others of it
-pub is_again_with_entries_joined : (guest : Guest) (profile : Profile) (turns : List Turn) (before : List ℕ) (f : Flat) (t n k : ℕ)
-    → IsAgain guest profile turns ((before ++ replicate n t) ++ replicate k t) f → IsAgain guest profile turns (before ++ replicate (n + k) t) f
-is_again_with_entries_joined guest profile turns before f t n k a =
-    subst (λ z. IsAgain guest profile turns z f)
+pub is_again_with_entries_joined : (setup : Setup) (turns : List Turn) (before : List ℕ) (f : SourcedFlat) (t n k : ℕ)
+    → IsAgain setup turns ((before ++ replicate n t) ++ replicate k t) f → IsAgain setup turns (before ++ replicate (n + k) t) f
+is_again_with_entries_joined setup turns before f t n k a =
+    subst (λ z. IsAgain setup turns z f)
     (append_assoc before (replicate n t) (replicate k t) ∙ ap (λ z. before ++ z) (sym (replicate_of_sum t n k))) a
 
 -- no entry
-pub is_again_with_no_entry : (guest : Guest) (profile : Profile) (turns : List Turn) (before : List ℕ) (f : Flat) (t : ℕ)
-    → IsAgain guest profile turns before f → IsAgain guest profile turns (before ++ replicate 0 t) f
-is_again_with_no_entry guest profile turns before f t a = subst (λ z. IsAgain guest profile turns z f) (sym (append-nil before)) a
+pub is_again_with_no_entry : (setup : Setup) (turns : List Turn) (before : List ℕ) (f : SourcedFlat) (t : ℕ)
+    → IsAgain setup turns before f → IsAgain setup turns (before ++ replicate 0 t) f
+is_again_with_no_entry setup turns before f t a = subst (λ z. IsAgain setup turns z f) (sym (append-nil before)) a
 
 -- the first turn is no switch, and each other is one at most
-pub first_turn_is_within_one : (guest : Guest) (profile : Profile) (turns : List Turn) (f : Flat) (t e : ℕ) → IsAgain guest profile turns ([] ++ replicate e t) f
-    → IsAgainWithin guest profile turns 1 f
-first_turn_is_within_one guest profile turns f t e a = record { entries = replicate e t; again = a; few = let l = switches_of_replicated_thread t e in omega (arith, l) }
+pub first_turn_is_within_one : (setup : Setup) (turns : List Turn) (f : SourcedFlat) (t e : ℕ) → IsAgain setup turns ([] ++ replicate e t) f
+    → IsAgainWithin setup turns 1 f
+first_turn_is_within_one setup turns f t e a = record { entries = replicate e t; again = a; few = let l = switches_of_replicated_thread t e in omega (arith, l) }
 
-pub again_within_after_turn : (guest : Guest) (profile : Profile) (turns turns' : List Turn) (f g : Flat) (t e most : ℕ) → 1 ≤ most → (w : IsAgainWithin guest profile turns most f)
-    → IsAgain guest profile turns' (w.entries ++ replicate e t) g → IsAgainWithin guest profile turns' (most + 1) g
-again_within_after_turn guest profile turns turns' f g t e most some w a = record {
+pub again_within_after_turn : (setup : Setup) (turns turns' : List Turn) (f g : SourcedFlat) (t e most : ℕ) → 1 ≤ most → (w : IsAgainWithin setup turns most f)
+    → IsAgain setup turns' (w.entries ++ replicate e t) g → IsAgainWithin setup turns' (most + 1) g
+again_within_after_turn setup turns turns' f g t e most some w a = record {
   entries = w.entries ++ replicate e t;
   again = a;
   few = let l = switches_after_repeated_turn w.entries t e in let k = w.few in omega (arith, l, k, some);
 }
 
 -- a turn without an entry is none
-pub again_within_after_no_entry : (guest : Guest) (profile : Profile) (turns turns' : List Turn) (f g : Flat) (t most : ℕ) → (w : IsAgainWithin guest profile turns most f)
-    → IsAgain guest profile turns' (w.entries ++ replicate 0 t) g → IsAgainWithin guest profile turns' most g
-again_within_after_no_entry guest profile turns turns' f g t most w a = record {
+pub again_within_after_no_entry : (setup : Setup) (turns turns' : List Turn) (f g : SourcedFlat) (t most : ℕ) → (w : IsAgainWithin setup turns most f)
+    → IsAgain setup turns' (w.entries ++ replicate 0 t) g → IsAgainWithin setup turns' most g
+again_within_after_no_entry setup turns turns' f g t most w a = record {
   entries = w.entries;
-  again = subst (λ z. IsAgain guest profile turns' z g) (append-nil w.entries) a;
+  again = subst (λ z. IsAgain setup turns' z g) (append-nil w.entries) a;
   few = w.few;
 }
 
 -- one turn more
-pub again_within_step : (guest : Guest) (profile : Profile) (turns turns' : List Turn) (f g : Flat) (t k : ℕ) → (w : IsAgainWithin guest profile turns k f)
+pub again_within_step : (setup : Setup) (turns turns' : List Turn) (f g : SourcedFlat) (t k : ℕ) → (w : IsAgainWithin setup turns k f)
     → (k ≡ 0 → w.entries ≡ [])
-    → ((before : List ℕ) → IsAgain guest profile turns before f → (e : ℕ) × IsAgain guest profile turns' (before ++ replicate e t) g)
-    → (w' : IsAgainWithin guest profile turns' (k + 1) g) × (k + 1 ≡ 0 → w'.entries ≡ [])
-again_within_step guest profile turns turns' f g t k w none more = (
+    → ((before : List ℕ) → IsAgain setup turns before f → (e : ℕ) × IsAgain setup turns' (before ++ replicate e t) g)
+    → (w' : IsAgainWithin setup turns' (k + 1) g) × (k + 1 ≡ 0 → w'.entries ≡ [])
+again_within_step setup turns turns' f g t k w none more = (
   by (cases_eq k 0),
   λ is. absurd {0} (omega (arith, is)),
 )
   where
-    by : (k ≡ 0) ⊎ (k ≢ 0) → IsAgainWithin guest profile turns' (k + 1) g
+    by : (k ≡ 0) ⊎ (k ≢ 0) → IsAgainWithin setup turns' (k + 1) g
     by (inl first) =
         let one : 1 ≡ k + 1 = omega (arith, first) in
-        let a = more [] (subst (λ z. IsAgain guest profile turns z f) (none first) w.again) in
-        subst (λ z. IsAgainWithin guest profile turns' z g) one (first_turn_is_within_one guest profile turns' g t a.0 a.1)
+        let a = more [] (subst (λ z. IsAgain setup turns z f) (none first) w.again) in
+        subst (λ z. IsAgainWithin setup turns' z g) one (first_turn_is_within_one setup turns' g t a.0 a.1)
     by (inr later) =
         let a = more w.entries w.again in
-        again_within_after_turn guest profile turns turns' f g t a.0 k (omega (arith, later)) w a.1
+        again_within_after_turn setup turns turns' f g t a.0 k (omega (arith, later)) w a.1

@@ -3,33 +3,30 @@ use Rattle.std.proofs.Common.{◌≡◌, ℕ, zero, suc, ◌+◌, ◌<◌, ◌�
 use Rattle.std.specs.Prelude.{slice_get}
 use Rattle.std.proofs.lemmas.Bool.{cases_lt}
 use Rattle.std.proofs.lemmas.Option.{same_Some}
-use Rattle.ir_image.specs.Guest.{Guest}
 use Rattle.ir_explore.specs.declared.origin.Origin.{Origin}
 use Rattle.ir_explore.proofs.CallerLemmas.{slice_get_after_push_cases, slice_get_kept_by_append, place_of_element_is_below_length}
 use Rattle.ir_runs.specs.Run.{Step}
 use Rattle.ir_record.specs.Recording.{turns_of_items}
 use Rattle.ir_thread.specs.State.{most_budget}
-use Rattle.ir_thread.specs.declared.profile.Profile.{Profile}
 use Rattle.ir_flat.specs.Flat.{Flat, tables}
-use Rattle.ir_seen.specs.Seen.{IsCounted}
+use Rattle.ir_store.specs.Nodes.{SourcedFlat}
 use Rattle.ir_graph.specs.Listing.{HasOutcome, AreOutcomes}
-use Rattle.ir_graph.specs.Nodes.{told}
 use Rattle.ir_graph.specs.Outcomes.{outcome_of, AllListed}
 use Rattle.ir_graph.specs.Searched.{AreSearched}
-use Rattle.ir_outcomes.specs.Again.{steps_of}
+use Rattle.ir_graph.specs.Setup.{Setup, IsCountedOf}
 use Rattle.ir_explore.specs.Following.{Stay}
 use Rattle.ir_outcomes.specs.Exploring.{HasShown}
-use Rattle.ir_outcomes.specs.Explored.{outcome_by, switches_by, IsAt, IsIn, AreExplored, AreAll, AreShown}
-use Rattle.ir_outcomes.specs.Shown.{IsShown}
+use Rattle.ir_outcomes.specs.Explored.{IsAt, IsIn, AreExplored, AreAll, AreShown}
+use Rattle.ir_outcomes.specs.Shown.{outcome_by, switches_by, IsShown}
 use Rattle.ir_outcomes.specs.declared.shown.Shown.{Shown}
 
 -- one more is shown
-pub are_shown_step : (guest : Guest) (profile : Profile) (flats : List Flat) (origins : List Origin) (listed : List ℕ) (many : ℕ) (outcomes : List Shown) (x : Shown)
-    → AreShown guest profile flats origins listed many outcomes → slice_get listed many ≡ Some x.node
+pub are_shown_step : (setup : Setup) (flats : List SourcedFlat) (origins : List Origin) (listed : List ℕ) (many : ℕ) (outcomes : List Shown) (x : Shown)
+    → AreShown setup flats origins listed many outcomes → slice_get listed many ≡ Some x.node
     → ((n : Origin) → slice_get origins x.node ≡ Some n → x.level ≡ n.level)
-    → ((f : Flat) → slice_get flats x.node ≡ Some f → IsShown guest profile f x.level (turns_of_items x.turns.items))
-    → AreShown guest profile flats origins listed (many + 1) (outcomes ++ x ∷ [])
-are_shown_step guest profile flats origins listed many outcomes x s node level shown = record {
+    → ((f : SourcedFlat) → slice_get flats x.node ≡ Some f → IsShown setup f x.level (turns_of_items x.turns.items))
+    → AreShown setup flats origins listed (many + 1) (outcomes ++ x ∷ [])
+are_shown_step setup flats origins listed many outcomes x s node level shown = record {
   count = let a = length-append outcomes (x ∷ []) in let b = s.count in omega (arith, a, b);
   node = λ i y is. elim (slice_get_after_push_cases outcomes x i y is) [
     | inl old ↦ s.node i y old
@@ -44,7 +41,7 @@ are_shown_step guest profile flats origins listed many outcomes x s node level s
   shown = λ i y f at. elim (slice_get_after_push_cases outcomes x i y at.0) [
     | inl old ↦ s.shown i y f (old, at.1)
     | inr p ↦
-        subst (λ z. IsShown guest profile f z.level (turns_of_items z.turns.items)) p.1
+        subst (λ z. IsShown setup f z.level (turns_of_items z.turns.items)) p.1
         (shown f (subst (λ z. slice_get flats z.node ≡ Some f) (sym p.1) at.1))
   ];
 }
@@ -55,9 +52,9 @@ element_below_length_exists [] i l = absurd (omega (arith, l))
 element_below_length_exists (x ∷ xs) zero l = (x, refl)
 element_below_length_exists (x ∷ xs) (suc i) l = element_below_length_exists xs i (omega (arith, l))
 
-module _ (guest : Guest) (profile : Profile) (flats : List Flat) (origins : List Origin) (levels seen : ℕ) (listed : List ℕ) (outcomes : List Shown)
-    (searched : AreSearched guest profile flats origins levels) (within : seen ≤ length origins)
-    (has : HasShown guest profile flats origins seen listed outcomes) where
+module _ (setup : Setup) (flats : List SourcedFlat) (origins : List Origin) (levels seen : ℕ) (listed : List ℕ) (outcomes : List Shown)
+    (searched : AreSearched setup flats origins levels) (within : seen ≤ length origins)
+    (has : HasShown setup flats origins seen listed outcomes) where
   -- a listed node is shown
   in_list : (i v : ℕ) → slice_get listed i ≡ Some v → (x : Shown) × (slice_get outcomes i ≡ Some x) × (x.node ≡ v)
   in_list i v is =
@@ -81,27 +78,27 @@ module _ (guest : Guest) (profile : Profile) (flats : List Flat) (origins : List
   module _ (until : ℕ) (few : until ≤ levels) (late : (v : ℕ) (n : Origin) → seen ≤ v → slice_get origins v ≡ Some n → until ≤ n.level)
       (early : (v : ℕ) (n : Origin) → v < seen → slice_get origins v ≡ Some n → n.level ≤ until) where
     -- what a run of few switches comes to is in the list
-    in_covered : (c : ℕ) → c < until → (answers : ℕ → List ℕ) (budget : ℕ)
-        (steps : List Step) → IsCounted guest budget profile told answers steps → switches_by guest budget profile steps ≤ c
-        → IsIn flats outcomes (outcome_by guest budget profile steps)
-    in_covered c less answers budget steps counted most =
-        let r = searched.within c (omega (arith, less, few)) answers budget steps counted most in
+    in_covered : (c : ℕ) → c < until → (budget : ℕ)
+        (steps : List Step) → IsCountedOf setup budget steps → switches_by setup budget steps ≤ c
+        → IsIn flats outcomes (outcome_by setup budget steps)
+    in_covered c less budget steps counted most =
+        let r = searched.within c (omega (arith, less, few)) budget steps counted most in
         let near : r.0 < seen = elim (cases_lt r.0 seen) [
           | inl low ↦ low
           | inr high ↦ absurd (let a = late r.0 r.2 high r.4 in let b = r.5 in omega (arith, a, b, less))
         ] in
         let h = has.different.all r.0 r.1 near r.3.0 r.3.1 in
-        subst (IsIn flats outcomes) r.3.2 (has_in r.1 h.0)
+        subst (IsIn flats outcomes) r.3.2 (has_in r.1.flat h.0)
 
-    level_least : (i : ℕ) (x : Shown) (f : Flat) → IsAt flats outcomes i x f → (answers : ℕ → List ℕ) (budget : ℕ) (steps : List Step)
-        → IsCounted guest budget profile told answers steps → outcome_by guest budget profile steps ≡ outcome_of (tables f)
-        → x.level ≤ switches_by guest budget profile steps
-    level_least i x f at answers budget steps counted same = elim (cases_lt (switches_by guest budget profile steps) x.level) [
+    level_least : (i : ℕ) (x : Shown) (f : SourcedFlat) → IsAt flats outcomes i x f → (budget : ℕ) (steps : List Step)
+        → IsCountedOf setup budget steps → outcome_by setup budget steps ≡ outcome_of (tables f.flat)
+        → x.level ≤ switches_by setup budget steps
+    level_least i x f at budget steps counted same = elim (cases_lt (switches_by setup budget steps) x.level) [
       | inl less ↦
           let n = origin_at i x at.0 in
           let level : x.level ≡ n.0.level = has.shown.level i x n.0 at.0 n.1 in
           let most = searched.most x.node n.0 n.1 in
-          let r = searched.within (switches_by guest budget profile steps) (omega (arith, less, level, most)) answers budget steps counted (omega arith) in
+          let r = searched.within (switches_by setup budget steps) (omega (arith, less, level, most)) budget steps counted (omega arith) in
           let low = r.5 in
           let own = (has.different.done i x.node (has.shown.node i x at.0)).0 in
           let near : r.0 < seen = elim (cases_lt r.0 seen) [
@@ -120,7 +117,7 @@ module _ (guest : Guest) (profile : Profile) (flats : List Flat) (origins : List
       | inr most ↦ most
     ]
 
-    pub explored_to : AreExplored guest profile flats until outcomes
+    pub explored_to : AreExplored setup flats until outcomes
     explored_to = record {
       shown = has.shown.shown;
       fewest = level_least;
@@ -147,36 +144,35 @@ module _ (guest : Guest) (profile : Profile) (flats : List Flat) (origins : List
     }
 
   -- if all nodes were looked at
-  pub explored_whole : seen ≡ length origins → AreExplored guest profile flats levels outcomes
+  pub explored_whole : seen ≡ length origins → AreExplored setup flats levels outcomes
   explored_whole all = explored_to levels (omega arith)
       (λ v n high is. absurd (let a = place_of_element_is_below_length origins v n is in omega (arith, a, high, all)))
       (λ v n low is. searched.most v n is)
 
   -- if only those before this one were
-  pub explored_cut : (n : Origin) → slice_get origins seen ≡ Some n → AreExplored guest profile flats n.level outcomes
+  pub explored_cut : (n : Origin) → slice_get origins seen ≡ Some n → AreExplored setup flats n.level outcomes
   explored_cut n at = explored_to n.level (searched.most seen n at)
       (λ v m high is. searched.rising seen v n m at is high)
       (λ v m low is. searched.rising v seen m n is at (omega (arith, low)))
 
   -- once the search is finished, the list is that of all outcomes
-  pub all_outcomes : seen ≡ length origins → AllListed guest profile flats → length origins ≡ length flats → AreAll guest profile flats outcomes
+  pub all_outcomes : seen ≡ length origins → AllListed setup flats → length origins ≡ length flats → AreAll setup flats outcomes
   all_outcomes whole all nodes x = (
     λ h.
-        let r = all h.0 h.1 h.2 h.3 in
+        let r = all h.0 h.1 h.2 in
         let less : r.0 < seen = (let a = place_of_element_is_below_length flats r.0 r.1 r.2.0 in omega (arith, a, nodes, whole)) in
         let k = has.different.all r.0 r.1 less r.2.0 r.2.1 in
-        subst (IsIn flats outcomes) (r.2.2 ∙ h.4) (has_in r.1 k.0),
+        subst (IsIn flats outcomes) (r.2.2 ∙ h.3) (has_in r.1.flat k.0),
     λ h.
         let s = has.shown.shown h.0 h.1 h.2 h.3 in
-        let turns = turns_of_items h.1.turns.items in
-        ((λ t. []), most_budget, steps_of turns, s.counted (λ t. []), s.same ∙ h.4),
+        (most_budget, s.steps, s.counted, s.same ∙ h.4),
   )
 
 -- what was so of some nodes is so of them among more
-module _ (guest : Guest) (profile : Profile) (flats more : List Flat) (origins new : List Origin) (seen : ℕ) (listed : List ℕ) (outcomes : List Shown)
-    (has : HasShown guest profile flats origins seen listed outcomes) (few : seen ≤ length flats) (within : seen ≤ length origins)
+module _ (setup : Setup) (flats more : List SourcedFlat) (origins new : List Origin) (seen : ℕ) (listed : List ℕ) (outcomes : List Shown)
+    (has : HasShown setup flats origins seen listed outcomes) (few : seen ≤ length flats) (within : seen ≤ length origins)
     (stay : Stay flats more) (stays : Stay origins new) where
-  old_flat : (v : ℕ) (f : Flat) → v < seen → slice_get more v ≡ Some f → slice_get flats v ≡ Some f
+  old_flat : (v : ℕ) (f : SourcedFlat) → v < seen → slice_get more v ≡ Some f → slice_get flats v ≡ Some f
   old_flat v f low is =
       let g = element_below_length_exists flats v (omega (arith, low, few)) in
       g.1 ∙ sym (stay v g.0 g.1) ∙ is
@@ -196,12 +192,12 @@ module _ (guest : Guest) (profile : Profile) (flats more : List Flat) (origins n
     same = h.same;
   }
 
-  pub shown_among : HasShown guest profile more new seen listed outcomes
+  pub shown_among : HasShown setup more new seen listed outcomes
   unfolding kept
   shown_among = record {
     different = record {
       done = λ i v is. let d = has.different.done i v is in (d.0, λ f at. d.1 f (old_flat v f d.0 at));
-      all = λ v f low at done. let h = has.different.all v f low (old_flat v f low at) done in (kept f h.0, h.1);
+      all = λ v f low at done. let h = has.different.all v f low (old_flat v f low at) done in (kept f.flat h.0, h.1);
       different = λ i j v w f g is there at here same.
           has.different.different i j v w f g is there (old_flat v f (has.different.done i v is).0 at) (old_flat w g (has.different.done j w there).0 here) same;
       rising = has.different.rising;
@@ -217,8 +213,8 @@ module _ (guest : Guest) (profile : Profile) (flats more : List Flat) (origins n
   }
 
 -- no node was looked at
-pub none_shown : (guest : Guest) (profile : Profile) (flats : List Flat) (origins : List Origin) → HasShown guest profile flats origins 0 [] []
-none_shown guest profile flats origins = record {
+pub none_shown : (setup : Setup) (flats : List SourcedFlat) (origins : List Origin) → HasShown setup flats origins 0 [] []
+none_shown setup flats origins = record {
   different = record {
     done = λ i v is. absurd (cc is);
     all = λ v f less at done. absurd (omega (arith, less));
@@ -239,21 +235,21 @@ last_at [] x = refl
 last_at (y ∷ xs) x = last_at xs x
 
 -- one more node is listed and shown
-pub shown_one : (guest : Guest) (profile : Profile) (flats : List Flat) (origins : List Origin) (seen : ℕ) (listed : List ℕ) (outcomes : List Shown) (x : Shown)
-    → HasShown guest profile flats origins seen listed outcomes → AreOutcomes flats (suc seen) (listed ++ seen ∷ []) → x.node ≡ seen
+pub shown_one : (setup : Setup) (flats : List SourcedFlat) (origins : List Origin) (seen : ℕ) (listed : List ℕ) (outcomes : List Shown) (x : Shown)
+    → HasShown setup flats origins seen listed outcomes → AreOutcomes flats (suc seen) (listed ++ seen ∷ []) → x.node ≡ seen
     → ((n : Origin) → slice_get origins seen ≡ Some n → x.level ≡ n.level)
-    → ((f : Flat) → slice_get flats seen ≡ Some f → IsShown guest profile f x.level (turns_of_items x.turns.items))
-    → HasShown guest profile flats origins (suc seen) (listed ++ seen ∷ []) (outcomes ++ x ∷ [])
-shown_one guest profile flats origins seen listed outcomes x has different node level shown = record {
+    → ((f : SourcedFlat) → slice_get flats seen ≡ Some f → IsShown setup f x.level (turns_of_items x.turns.items))
+    → HasShown setup flats origins (suc seen) (listed ++ seen ∷ []) (outcomes ++ x ∷ [])
+shown_one setup flats origins seen listed outcomes x has different node level shown = record {
   different = different;
-  shown = subst (λ n. AreShown guest profile flats origins (listed ++ seen ∷ []) n (outcomes ++ x ∷ []))
+  shown = subst (λ n. AreShown setup flats origins (listed ++ seen ∷ []) n (outcomes ++ x ∷ []))
       (let a = length-append listed (seen ∷ []) in omega (arith, a))
-      (are_shown_step guest profile flats origins (listed ++ seen ∷ []) (length listed) outcomes x wide (last_at listed seen ∙ ap Some (sym node))
+      (are_shown_step setup flats origins (listed ++ seen ∷ []) (length listed) outcomes x wide (last_at listed seen ∙ ap Some (sym node))
       (λ n is. level n (subst (λ z. slice_get origins z ≡ Some n) node is))
       (λ f is. shown f (subst (λ z. slice_get flats z ≡ Some f) node is)));
 }
   where
-    wide : AreShown guest profile flats origins (listed ++ seen ∷ []) (length listed) outcomes
+    wide : AreShown setup flats origins (listed ++ seen ∷ []) (length listed) outcomes
     wide = record {
       count = has.shown.count;
       node = λ i y is. slice_get_kept_by_append listed (seen ∷ []) i y.node (has.shown.node i y is);
@@ -262,8 +258,8 @@ shown_one guest profile flats origins seen listed outcomes x has different node 
     }
 
 -- no outcomes, before the first level
-pub none_explored : (guest : Guest) (profile : Profile) (flats : List Flat) → AreExplored guest profile flats 0 []
-none_explored guest profile flats = record {
+pub none_explored : (setup : Setup) (flats : List SourcedFlat) → AreExplored setup flats 0 []
+none_explored setup flats = record {
   shown = λ i x f at. absurd (cc at.0);
   fewest = λ i x f at. absurd (cc at.0);
   different = λ i j x y f g at. absurd (cc at.0);

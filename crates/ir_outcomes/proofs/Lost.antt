@@ -3,7 +3,6 @@ use Rattle.std.proofs.Common.{◌≡◌, ℕ, zero, suc, ◌<◌, ◌≤◌, Boo
 use Rattle.std.specs.Prelude.{slice_get}
 use Rattle.std.proofs.lemmas.Bool.{cases_lt}
 use Rattle.std.proofs.lemmas.Option.{same_Some, slice_get_within}
-use Rattle.ir_image.specs.Guest.{Guest}
 use Rattle.ir_explore.specs.declared.origin.Origin.{Origin}
 use Rattle.ir_explore.specs.Following.{IsOpen}
 use Rattle.ir_explore.specs.Origins.{AreRising}
@@ -11,42 +10,44 @@ use Rattle.ir_explore.specs.Ways.{shut}
 use Rattle.ir_record.specs.Recording.{turns_of_items}
 use Rattle.ir_record.specs.Refusing.{Turn}
 use Rattle.ir_runs.specs.Run.{Step}
-use Rattle.ir_states.specs.Outcomes.{switches}
-use Rattle.ir_thread.specs.State.{most_budget}
-use Rattle.ir_thread.specs.declared.profile.Profile.{Profile}
-use Rattle.ir_flat.specs.Flat.{Flat}
+use Rattle.ir_sources.specs.Sources.{given}
+use Rattle.ir_thread.specs.State.{most_budget, thread_machine}
+use Rattle.ir_store.specs.Nodes.{SourcedFlat}
 use Rattle.ir_graph.specs.Hangs.{CanEndFrom, IsHangOf, AreMarked, AllStand}
 use Rattle.ir_graph.specs.Nodes.{LookAlike}
 use Rattle.ir_graph.specs.Plain.{IsLike}
 use Rattle.ir_graph.specs.Reached.{beginning}
-use Rattle.ir_graph.proofs.CallerLemmas.{quiet_run_is_counting, hang_never_completes, can_end_if_quiet_run_can}
-use Rattle.ir_outcomes.specs.Again.{steps_of, IsAgainWithin}
-use Rattle.ir_outcomes.specs.Explored.{switches_by, AreHangs}
+use Rattle.ir_graph.specs.Setup.{Setup}
+use Rattle.ir_graph.proofs.CallerLemmas.{answered_run_is_counting, hang_never_completes, can_end_if_answered_run_can, in_turns_of_plain}
+use Rattle.ir_outcomes.specs.Again.{IsAgainWithin}
+use Rattle.ir_outcomes.specs.Explored.{AreHangs}
 use Rattle.ir_outcomes.specs.Hang.{IsFirst}
-use Rattle.ir_outcomes.specs.Shown.{IsShownAt, IsHangShown}
+use Rattle.ir_outcomes.specs.Shown.{switches_by, IsShownAt, IsHangShown}
 use Rattle.ir_outcomes.specs.declared.shown.Shown.{Shown}
-use Rattle.ir_outcomes.proofs.Showing.{quiet_run_is_in_turns}
+use Rattle.ir_outcomes.proofs.Showing.{switches_again}
 
-pub shown_at_if_again_within : (guest : Guest) (profile : Profile) (turns : List Turn) (most level : ℕ) (f g : Flat)
-    → IsAgainWithin guest profile turns most g → most ≤ suc level → IsLike g f → LookAlike g f → IsShownAt guest profile f level turns
-shown_at_if_again_within guest profile turns most level f g w few like looks =
+pub shown_at_if_again_within : (setup : Setup) (turns : List Turn) (most level : ℕ) (s u : SourcedFlat) → IsAgainWithin setup turns most u
+    → most ≤ suc level → IsLike u.flat s.flat → LookAlike u s → IsShownAt setup s level turns
+shown_at_if_again_within setup turns most level s u w few like looks =
     let a = w.again in record {
-      counting = λ answers. quiet_run_is_counting guest profile (steps_of turns) answers a.quiet;
-      in_turns = quiet_run_is_in_turns guest.code (beginning guest profile) turns a.quiet;
-      stands = λ answers can.
-          can_end_if_quiet_run_can guest profile (steps_of turns) answers f g a.quiet a.ends a.like.code like.code looks can;
-      few = let l = w.few in let e = ap switches a.enters in omega (arith, l, e, few);
+      steps = a.steps;
+      counting = answered_run_is_counting setup a.steps a.answered;
+      in_turns = in_turns_of_plain (thread_machine setup.guest.code) given (beginning setup) turns a.steps a.in_turns;
+      taken = a.taken;
+      stands = λ can. can_end_if_answered_run_can setup a.steps s u a.answered a.ends a.like.code like.code looks can;
+      few = let l = w.few in let e = switches_again setup turns most u w in omega (arith, l, e, few);
     }
 
-hang_shown_if_cannot_end : (guest : Guest) (profile : Profile) (f : Flat) (level : ℕ) (turns : List Turn) → IsShownAt guest profile f level turns
-    → ((answers : ℕ → List ℕ) → CanEndFrom f answers → ⊥) → IsHangShown guest profile level turns
-hang_shown_if_cannot_end guest profile f level turns s lost =
-    let hangs : (answers : ℕ → List ℕ) → IsHangOf guest most_budget profile answers (steps_of turns) =
-    λ answers. (s.counting answers, λ can. lost answers (s.stands answers can)) in record {
+hang_shown_if_cannot_end : (setup : Setup) (s : SourcedFlat) (level : ℕ) (turns : List Turn) → IsShownAt setup s level turns
+    → (CanEndFrom s → ⊥) → IsHangShown setup level turns
+hang_shown_if_cannot_end setup s level turns shown lost =
+    let hangs : IsHangOf setup most_budget shown.steps = (shown.counting, λ can. lost (shown.stands can)) in record {
+      steps = shown.steps;
       hangs = hangs;
-      never = λ answers budget more c. hang_never_completes guest profile most_budget answers (steps_of turns) (hangs answers) budget more c;
-      in_turns = s.in_turns;
-      few = s.few;
+      never = λ budget more c. hang_never_completes setup most_budget shown.steps hangs budget more c;
+      in_turns = shown.in_turns;
+      taken = shown.taken;
+      few = shown.few;
     }
 
 element_below_length_exists : {A : Type 0} (xs : List A) (i : ℕ) → i < length xs → (x : A) × (slice_get xs i ≡ Some x)
@@ -101,30 +102,30 @@ no_hang_without_marks marks None few first = refl
 no_hang_without_marks marks (Some x) few first =
     let l = slice_get_within marks x.node false (first x refl).0 in absurd (omega (arith, l, few))
 
-module _ (guest : Guest) (profile : Profile) (flats : List Flat) (origins : List Origin) (marks : List Bool) (marked : AreMarked flats marks)
-    (stand : AllStand guest profile flats origins) where
+module _ (setup : Setup) (flats : List SourcedFlat) (origins : List Origin) (marks : List Bool) (marked : AreMarked flats marks)
+    (stand : AllStand setup flats origins) where
   -- a run that hangs stands at a state that isn't marked
-  lost_at : (answers : ℕ → List ℕ) (budget : ℕ) (steps : List Step) → IsHangOf guest budget profile answers steps
-      → (v : ℕ) × (n : Origin) × (v < length marks) × (slice_get origins v ≡ Some n) × (n.level ≤ switches_by guest budget profile steps)
+  lost_at : (budget : ℕ) (steps : List Step) → IsHangOf setup budget steps
+      → (v : ℕ) × (n : Origin) × (v < length marks) × (slice_get origins v ≡ Some n) × (n.level ≤ switches_by setup budget steps)
       × (IsOpen marks v → ⊥)
-  lost_at answers budget steps h =
-      let r = stand answers budget steps h.0 in (
+  lost_at budget steps h =
+      let r = stand budget steps h.0 in (
         r.0,
         r.2,
         let l = slice_get_within flats r.0 r.1 r.3 in let a = marked.all in omega (arith, l, a),
         r.4,
         r.5,
-        λ is. h.1 (r.6.1 (marked.marked r.0 r.1 r.3 is answers)),
+        λ is. h.1 (r.6.1 (marked.marked r.0 r.1 r.3 is)),
       )
 
-  no_hangs : ((v : ℕ) → v < length marks → IsOpen marks v) → AreHangs guest profile flats (shut marks) None
+  no_hangs : ((v : ℕ) → v < length marks → IsOpen marks v) → AreHangs setup flats (shut marks) None
   no_hangs all =
       let zero_is = shut_is_zero_if_all_open marks all in record {
         marks = marks;
         marked = marked;
         count = refl;
         exact = (
-          λ h. let r = lost_at h.0 h.1 h.2 h.3 in absurd (r.5 (all r.0 r.2)),
+          λ h. let r = lost_at h.0 h.1 h.2 in absurd (r.5 (all r.0 r.2)),
           λ l. absurd (omega (arith, l, zero_is)),
         );
         some = λ l. absurd (omega (arith, l, zero_is));
@@ -134,29 +135,29 @@ module _ (guest : Guest) (profile : Profile) (flats : List Flat) (origins : List
 
   one_hang : AreRising origins → (x : Shown) → IsFirst marks x.node
       → ((n : Origin) → slice_get origins x.node ≡ Some n → x.level ≡ n.level) → length flats ≤ length origins
-      → ((f : Flat) → slice_get flats x.node ≡ Some f → IsShownAt guest profile f x.level (turns_of_items x.turns.items))
-      → AreHangs guest profile flats (shut marks) (Some x)
+      → ((f : SourcedFlat) → slice_get flats x.node ≡ Some f → IsShownAt setup f x.level (turns_of_items x.turns.items))
+      → AreHangs setup flats (shut marks) (Some x)
   one_hang rising x first level wide shown =
       let some = shut_is_positive_if_some_closed marks x.node first.0 in
       let l : x.node < length flats =
       (let a = slice_get_within marks x.node false first.0 in let b = marked.all in omega (arith, a, b)) in
       let f = element_below_length_exists flats x.node l in
       let n = element_below_length_exists origins x.node (omega (arith, l, wide)) in
-      let here : IsHangShown guest profile x.level (turns_of_items x.turns.items) =
-      hang_shown_if_cannot_end guest profile f.0 x.level (turns_of_items x.turns.items) (shown f.0 f.1)
-      (λ answers can. closed_place_is_not_open marks x.node first.0 (marked.other x.node f.0 f.1 answers can)) in record {
+      let here : IsHangShown setup x.level (turns_of_items x.turns.items) =
+      hang_shown_if_cannot_end setup f.0 x.level (turns_of_items x.turns.items) (shown f.0 f.1)
+      (λ can. closed_place_is_not_open marks x.node first.0 (marked.other x.node f.0 f.1 can)) in record {
         marks = marks;
         marked = marked;
         count = refl;
         exact = (
           λ h. some,
-          λ less. ((λ t. []), most_budget, steps_of (turns_of_items x.turns.items), here.hangs (λ t. [])),
+          λ less. (most_budget, here.steps, here.hangs),
         );
         some = λ less. (x, refl);
         shown = λ y is.
-            subst (λ z. IsHangShown guest profile z.level (turns_of_items z.turns.items)) (same_Some x y is) here;
-        fewest = λ y is answers budget steps h.
-            let r = lost_at answers budget steps h in
+            subst (λ z. IsHangShown setup z.level (turns_of_items z.turns.items)) (same_Some x y is) here;
+        fewest = λ y is budget steps h.
+            let r = lost_at budget steps h in
             let e = level n.0 n.1 in
             let one = ap (λ z. z.level) (same_Some x y is) in
             elim (cases_lt r.0 x.node) [
@@ -169,8 +170,8 @@ module _ (guest : Guest) (profile : Profile) (flats : List Flat) (origins : List
       → (hang ≡ None → (v : ℕ) → v < length marks → IsOpen marks v)
       → ((x : Shown) → hang ≡ Some x → IsFirst marks x.node)
       → ((x : Shown) → hang ≡ Some x → (n : Origin) → slice_get origins x.node ≡ Some n → x.level ≡ n.level)
-      → ((x : Shown) → hang ≡ Some x → (f : Flat) → slice_get flats x.node ≡ Some f
-      → IsShownAt guest profile f x.level (turns_of_items x.turns.items))
-      → AreHangs guest profile flats (shut marks) hang
+      → ((x : Shown) → hang ≡ Some x → (f : SourcedFlat) → slice_get flats x.node ≡ Some f
+      → IsShownAt setup f x.level (turns_of_items x.turns.items))
+      → AreHangs setup flats (shut marks) hang
   are_hangs rising wide None none first level shown = no_hangs (none refl)
   are_hangs rising wide (Some x) none first level shown = one_hang rising x (first x refl) (level x refl) wide (shown x refl)

@@ -1,6 +1,7 @@
 -- Ways back to the first node.
-use Rattle.std.proofs.Common.{◌≡◌, ℕ, suc, Bool, true, false, List, [], ◌∷◌, ◌++◌, append_assoc, append-nil, Some, sym, ap, ◌∙◌, subst}
+use Rattle.std.proofs.Common.{◌≡◌, ℕ, suc, ◌+◌, ◌-◌, ◌<◌, Bool, true, false, List, [], ◌∷◌, ◌++◌, append_assoc, append-nil, Some, length, length-append, get_or, drop, refl, sym, ap, ◌∙◌, subst, arith}
 use Rattle.std.specs.Prelude.{slice_get, replicate}
+use Rattle.std.proofs.lemmas.List.{at_drop_more, length-replicate}
 use Rattle.ir_explore.specs.declared.origin.Origin.{Origin}
 use Rattle.ir_explore.specs.declared.origin.Refusal.{Refusal}
 use Rattle.ir_explore.specs.Origins.{Spells, Refused}
@@ -35,3 +36,32 @@ spelled_with_refusal_pushed table refusals number i x at found ways spelled =
     ap (λ z. z ++ ways_of refusals) (append_assoc ways (replicate x.entries false) (true ∷ []))
     ∙ append_assoc ways one (ways_of refusals) ∙ ap (λ z. ways ++ z) (sym (ways_with_refusal_pushed refusals x)) in
     subst (Spells table number) joined (found ((ways ++ replicate x.entries false) ++ true ∷ []) (Refused i x ways at spelled))
+
+-- how many steps the last k of these refused tries and those before them are, of which the last comes first
+abbrev pub steps_by : List Refusal → ℕ → ℕ
+steps_by xs k = length (ways_of (drop (length xs - k) xs))
+
+pub steps_by_none : (xs : List Refusal) → steps_by xs 0 ≡ 0
+steps_by_none xs = let all : length xs - 0 ≡ length xs = omega arith in
+    ap (λ n. length (ways_of (drop n xs))) all ∙ ap (λ ys. length (ways_of ys)) (over xs)
+  where
+    over : (ys : List Refusal) → drop (length ys) ys ≡ []
+    over [] = refl
+    over (y ∷ ys) = over ys
+
+pub steps_by_next : (xs : List Refusal) (k : ℕ) (d : Refusal) → k < length xs
+    → steps_by xs (k + 1) ≡ steps_by xs k + ((get_or xs (length xs - 1 - k) d).entries + 1)
+steps_by_next xs k d less =
+    let i = length xs - 1 - k in
+    let x = get_or xs i d in
+    let here : length xs - (k + 1) ≡ i = omega arith in
+    let there : i + 1 ≡ length xs - k = omega (arith, less) in
+    let more = at_drop_more (λ ys. length (ways_of ys)) xs i d (omega (arith, less)) in
+    let whole = length-append (ways_of (drop (i + 1) xs)) (replicate x.entries false ++ true ∷ []) in
+    let last = length-append (replicate x.entries false) (true ∷ []) in
+    let many = length-replicate x.entries false in
+    ap (λ n. length (ways_of (drop n xs))) here ∙ more ∙ whole ∙ ap (λ n. length (ways_of (drop (i + 1) xs)) + n) (last ∙ ap (λ n. n + 1) many)
+    ∙ ap (λ n. length (ways_of (drop n xs)) + (x.entries + 1)) there
+
+pub steps_by_all : (xs : List Refusal) → steps_by xs (length xs) ≡ length (ways_of xs)
+steps_by_all xs = let none : length xs - length xs ≡ 0 = omega arith in ap (λ n. length (ways_of (drop n xs))) none

@@ -1,54 +1,52 @@
 -- A run by turns that shows an outcome.
-use Rattle.std.proofs.Common.{◌≡◌, ℕ, suc, ◌≤◌, Bool, true, false, List, [], ◌∷◌, inr, refl, sym, ap, ◌∙◌, subst, arith}
+use Rattle.std.proofs.Common.{◌≡◌, ℕ, suc, ◌≤◌, List, sym, ap, ◌∙◌, subst, arith}
 use Rattle.std.proofs.lemmas.List.{append-nil}
-use Rattle.ir_image.specs.Guest.{Guest}
-use Rattle.ir_record.specs.Refusing.{Turn, Tries, InTurns}
-use Rattle.ir_runs.specs.Run.{State, IsDone, after, end}
+use Rattle.ir_record.specs.Refusing.{Turn, InTurns}
+use Rattle.ir_runs.specs.Run.{IsDone, end}
+use Rattle.ir_sources.specs.Sources.{given}
 use Rattle.ir_states.specs.Outcomes.{switches}
-use Rattle.ir_thread.specs.State.{thread_machine}
-use Rattle.ir_thread.specs.State as thread
-use Rattle.ir_thread.specs.declared.profile.Profile.{Profile}
-use Rattle.ir_flat.specs.Flat.{Flat, machine, tables}
+use Rattle.ir_states.specs.Sources.{plain}
+use Rattle.ir_states.proofs.CallerLemmas.{plain_end, sourced_entering}
+use Rattle.ir_thread.specs.State.{most_budget, thread_machine}
+use Rattle.ir_flat.specs.Flat.{machine, start_flat, tables}
+use Rattle.ir_store.specs.Nodes.{SourcedFlat}
 use Rattle.ir_graph.specs.Outcomes.{outcome_of}
-use Rattle.ir_graph.specs.Plain.{result_by}
-use Rattle.ir_graph.specs.Reached.{IsQuietRun, beginning}
-use Rattle.ir_graph.proofs.CallerLemmas.{done_quiet_run_is_counted}
-use Rattle.ir_outcomes.specs.Again.{steps_of, IsAgainWithin}
-use Rattle.ir_outcomes.specs.Shown.{IsShown}
+use Rattle.ir_graph.specs.Reached.{beginning}
+use Rattle.ir_graph.specs.Setup.{Setup}
+use Rattle.ir_graph.proofs.CallerLemmas.{done_answered_run_is_counted, in_turns_of_plain}
+use Rattle.ir_outcomes.specs.Again.{IsAgainWithin}
+use Rattle.ir_outcomes.specs.Shown.{switches_by, IsShown}
 
--- what a turn does with a try: it is refused, or it enters
-turn_tries_by_result : (code : List ℕ) (s : State thread.ThreadState) (t : ℕ) (refused : Bool) → Tries (thread_machine code) s refused (t, result_by refused)
-turn_tries_by_result code s t true = λ o tries. refl
-turn_tries_by_result code s t false = λ o tries enters. refl
+-- the threads after a run again, and how often the thread that enters is switched in it
+pub threads_again : (setup : Setup) (turns : List Turn) (most : ℕ) (u : SourcedFlat) (w : IsAgainWithin setup turns most u)
+    → tables u.flat ≡ end (thread_machine setup.guest.code) (tables (start_flat setup.guest most_budget setup.profile)) w.again.steps
+threads_again setup turns most u w =
+    ap plain w.again.ends ∙ plain_end (thread_machine setup.guest.code) given (beginning setup) w.again.steps
 
--- each of the steps is taken in turn
-pub quiet_run_is_in_turns : (code : List ℕ) (s : State thread.ThreadState) (turns : List Turn) → IsQuietRun code s (steps_of turns)
-    → InTurns (thread_machine code) s turns (steps_of turns)
-quiet_run_is_in_turns code s [] quiet = refl
-quiet_run_is_in_turns code s ((t, refused) ∷ turns) (can, live, sure, rest) =
-    inr (
-      result_by refused,
-      steps_of turns,
-      refl,
-      can,
-      turn_tries_by_result code s t refused,
-      quiet_run_is_in_turns code (after (thread_machine code) s (t, result_by refused)) turns rest,
-    )
+pub switches_again : (setup : Setup) (turns : List Turn) (most : ℕ) (u : SourcedFlat) (w : IsAgainWithin setup turns most u)
+    → switches_by setup most_budget w.again.steps ≡ switches w.entries
+switches_again setup turns most u w =
+    ap switches (sym (sourced_entering (thread_machine setup.guest.code) given (beginning setup) w.again.steps) ∙ w.again.enters)
 
-pub shown_if_again_within : (guest : Guest) (profile : Profile) (turns : List Turn) (most level : ℕ) (f g : Flat)
-    → IsAgainWithin guest profile turns most g → most ≤ suc level → IsDone (machine g) (tables g) → outcome_of (tables g) ≡ outcome_of (tables f)
-    → IsShown guest profile f level turns
-shown_if_again_within guest profile turns most level f g w few done same =
+pub shown_if_again_within : (setup : Setup) (turns : List Turn) (most level : ℕ) (s u : SourcedFlat) → IsAgainWithin setup turns most u
+    → most ≤ suc level → IsDone (machine u.flat) (tables u.flat) → outcome_of (tables u.flat) ≡ outcome_of (tables s.flat)
+    → IsShown setup s level turns
+shown_if_again_within setup turns most level s u w few done same =
     let a = w.again in
-    let really : IsDone (thread_machine guest.code) (end (thread_machine guest.code) (beginning guest profile) (steps_of turns)) =
-    subst (IsDone (thread_machine guest.code)) a.ends (subst (λ z. IsDone (thread_machine z) (tables g)) a.like.code done) in record {
-      counted = λ answers. done_quiet_run_is_counted guest profile (steps_of turns) answers a.quiet really;
+    let code = setup.guest.code in
+    let ends = threads_again setup turns most u w in
+    let first = tables (start_flat setup.guest most_budget setup.profile) in
+    let really : IsDone (thread_machine code) (end (thread_machine code) first a.steps) =
+    subst (IsDone (thread_machine code)) ends (subst (λ z. IsDone (thread_machine z) (tables u.flat)) a.like.code done) in record {
+      steps = a.steps;
+      counted = done_answered_run_is_counted setup a.steps a.answered really;
       by_turns = record {
         count = 0;
-        in_turns = subst (λ z. InTurns (thread_machine guest.code) (beginning guest profile) z (steps_of turns)) (sym (append-nil turns))
-            (quiet_run_is_in_turns guest.code (beginning guest profile) turns a.quiet);
+        in_turns = subst (λ z. InTurns (thread_machine code) first z a.steps) (sym (append-nil turns))
+            (in_turns_of_plain (thread_machine code) given (beginning setup) turns a.steps a.in_turns);
         done = really;
       };
-      same = ap outcome_of (sym a.ends) ∙ same;
-      few = let l = w.few in let e = ap switches a.enters in omega (arith, l, e, few);
+      taken = a.taken;
+      same = ap outcome_of (sym ends) ∙ same;
+      few = let l = w.few in let e = switches_again setup turns most u w in omega (arith, l, e, few);
     }

@@ -1,29 +1,32 @@
 -- Runs of a guest by turns of its threads.
-use Rattle.std.specs.Prelude.{◌≡◌, ℕ, ◌≤◌, ◌-◌, List, map}
-use Rattle.ir_image.specs.Guest.{Guest}
-use Rattle.ir_record.specs.Refusing.{Turn}
+use Rattle.std.specs.Prelude.{◌≡◌, ℕ, ◌≤◌, ◌-◌, List, length, map}
+use Rattle.ir_record.specs.Refusing.{Turn, InTurns}
 use Rattle.ir_runs.specs.Run.{Step, end}
 use Rattle.ir_states.specs.Counting.{entering}
 use Rattle.ir_states.specs.Outcomes.{switches}
-use Rattle.ir_thread.specs.State.{most_budget, thread_machine}
-use Rattle.ir_thread.specs.declared.profile.Profile.{Profile}
-use Rattle.ir_flat.specs.Flat.{Flat, tables, start_flat}
-use Rattle.ir_graph.specs.Plain.{IsLike, result_by}
-use Rattle.ir_graph.specs.Reached.{IsQuietRun, beginning}
+use Rattle.ir_store.specs.Nodes.{SourcedFlat}
+use Rattle.ir_graph.specs.Plain.{full_by, full_of, IsAnsweredRun, IsLike}
+use Rattle.ir_graph.specs.Reached.{beginning}
+use Rattle.ir_graph.specs.Setup.{Setup, start_of}
 
--- the steps of these turns: a try in a turn is refused, or it enters
-abbrev pub steps_of : List Turn → List Step
-steps_of turns = map (λ t. (t.0, result_by t.1)) turns
+-- each of the turns takes a step of its thread
+abbrev pub TakesEach : List Turn → List Step → Type 0
+TakesEach turns steps = map (λ (e : Step). e.0) steps ≡ map (λ (t : Turn). t.0) turns
 
--- f is the guest after a run by these turns from its start, in which these threads enter, in turn
-pub record IsAgain (guest : Guest) (profile : Profile) (turns : List Turn) (entries : List ℕ) (f : Flat) : Type 0 where
-  pub like : IsLike (start_flat guest most_budget profile) f
-  pub quiet : IsQuietRun guest.code (beginning guest profile) (steps_of turns)
-  pub ends : tables f ≡ end (thread_machine guest.code) (beginning guest profile) (steps_of turns)
-  pub enters : entering (thread_machine guest.code) (beginning guest profile) (steps_of turns) ≡ entries
+-- s is the guest after a run by these turns from its start, in which these threads enter, in turn, and each call is answered by its thread's
+-- source
+pub record IsAgain (setup : Setup) (turns : List Turn) (entries : List ℕ) (s : SourcedFlat) : Type 0 where
+  pub like : IsLike (start_of setup).flat s.flat
+  pub steps : List Step
+  pub answered : IsAnsweredRun setup.guest.code (beginning setup) steps
+  pub in_turns : InTurns (full_by setup.guest.code) (beginning setup) turns steps
+  pub taken : TakesEach turns steps
+  pub ends : full_of s ≡ end (full_by setup.guest.code) (beginning setup) steps
+  pub enters : entering (full_by setup.guest.code) (beginning setup) steps ≡ entries
+  pub each : length s.sources ≡ length s.flat.threads
 
 -- the same, with less than so many switches of the thread that enters
-pub record IsAgainWithin (guest : Guest) (profile : Profile) (turns : List Turn) (most : ℕ) (f : Flat) : Type 0 where
+pub record IsAgainWithin (setup : Setup) (turns : List Turn) (most : ℕ) (s : SourcedFlat) : Type 0 where
   pub entries : List ℕ
-  pub again : IsAgain guest profile turns entries f
+  pub again : IsAgain setup turns entries s
   pub few : switches entries ≤ most - 1

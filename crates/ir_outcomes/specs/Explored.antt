@@ -1,101 +1,88 @@
 -- The outcomes of a guest, listed.
 use Rattle.std.specs.Prelude.{◌≡◌, ◌↔◌, ◌⊎◌, ℕ, suc, ◌<◌, ◌≤◌, Bool, List, Option, Some, None, length, slice_get}
-use Rattle.ir_image.specs.Guest.{Guest}
 use Rattle.ir_explore.specs.declared.origin.Origin.{Origin}
 use Rattle.ir_explore.specs.declared.search.Ended.TheVariants.{Finished, Covered, Stopped}
 use Rattle.ir_explore.specs.declared.stop.Stop.{Stop}
 use Rattle.ir_explore.specs.Ways.{shut}
 use Rattle.ir_record.specs.Recording.{turns_of_items}
-use Rattle.ir_runs.specs.Run.{Step, end}
-use Rattle.ir_states.specs.Counting.{entering}
-use Rattle.ir_states.specs.Outcomes.{switches}
-use Rattle.ir_thread.specs.State.{thread_machine}
-use Rattle.ir_thread.specs.declared.profile.Profile.{Profile}
-use Rattle.ir_flat.specs.Flat.{Flat, tables, start_flat}
-use Rattle.ir_seen.specs.Seen.{IsCounted}
+use Rattle.ir_runs.specs.Run.{Step}
+use Rattle.ir_flat.specs.Flat.{tables}
+use Rattle.ir_store.specs.Nodes.{SourcedFlat}
 use Rattle.ir_graph.specs.Hangs.{IsHangOf, AreMarked}
-use Rattle.ir_graph.specs.Nodes.{told}
 use Rattle.ir_graph.specs.Reached.{AllReached}
+use Rattle.ir_graph.specs.Setup.{Setup, IsCountedOf}
 use Rattle.ir_graph.specs.Stops.{MayStop}
 use Rattle.ir_graph.specs.declared.nodes.Bounds.{Bounds}
 use Rattle.ir_graph.specs.Outcomes.{Outcome, outcome_of}
 use Rattle.ir_outcomes.specs.Hang.{IsOrder}
 use Rattle.ir_outcomes.specs.declared.explored.Explored.{Explored}
-use Rattle.ir_outcomes.specs.Shown.{IsShown, IsHangShown}
+use Rattle.ir_outcomes.specs.Shown.{outcome_by, switches_by, IsShown, IsHangShown}
 use Rattle.ir_outcomes.specs.declared.shown.Shown.{Shown}
 
--- what a run of a guest comes to
-abbrev pub outcome_by : Guest → ℕ → Profile → List Step → Outcome
-outcome_by guest budget profile steps = outcome_of (end (thread_machine guest.code) (tables (start_flat guest budget profile)) steps)
-
--- how often the thread that enters is switched in it
-abbrev pub switches_by : Guest → ℕ → Profile → List Step → ℕ
-switches_by guest budget profile steps = switches (entering (thread_machine guest.code) (tables (start_flat guest budget profile)) steps)
-
--- some complete run of the guest comes to it: one in which no budget is spent and no log is full, whatever the budget and the world's answers
-abbrev pub IsOutcomeOf : Guest → Profile → Outcome → Type 0
-IsOutcomeOf guest profile x = (answers : ℕ → List ℕ) × (budget : ℕ) × (steps : List Step) × IsCounted guest budget profile told answers steps
-    × (outcome_by guest budget profile steps ≡ x)
+-- some complete run of the guest comes to it: one in which each call is answered by its thread's source, no budget is spent and no log is full,
+-- whatever the budget
+abbrev pub IsOutcomeOf : Setup → Outcome → Type 0
+IsOutcomeOf setup x = (budget : ℕ) × (steps : List Step) × IsCountedOf setup budget steps × (outcome_by setup budget steps ≡ x)
 
 -- some run of the guest hangs: it counts, and no run that counts brings it to an end, even if no budget and no log came to its end
-abbrev pub HasHang : Guest → Profile → Type 0
-HasHang guest profile = (answers : ℕ → List ℕ) × (budget : ℕ) × (steps : List Step) × IsHangOf guest budget profile answers steps
+abbrev pub HasHang : Setup → Type 0
+HasHang setup = (budget : ℕ) × (steps : List Step) × IsHangOf setup budget steps
 
 -- the i-th of the listed is at this state
-abbrev pub IsAt : List Flat → List Shown → ℕ → Shown → Flat → Type 0
-IsAt flats outcomes i x f = (slice_get outcomes i ≡ Some x) × (slice_get flats x.node ≡ Some f)
+abbrev pub IsAt : List SourcedFlat → List Shown → ℕ → Shown → SourcedFlat → Type 0
+IsAt flats outcomes i x s = (slice_get outcomes i ≡ Some x) × (slice_get flats x.node ≡ Some s)
 
 -- one of the listed is this outcome
-abbrev pub IsIn : List Flat → List Shown → Outcome → Type 0
-IsIn flats outcomes y = (i : ℕ) × (x : Shown) × (f : Flat) × IsAt flats outcomes i x f × (outcome_of (tables f) ≡ y)
+abbrev pub IsIn : List SourcedFlat → List Shown → Outcome → Type 0
+IsIn flats outcomes y = (i : ℕ) × (x : Shown) × (s : SourcedFlat) × IsAt flats outcomes i x s × (outcome_of (tables s.flat) ≡ y)
 
 -- Different outcomes of the guest, each with turns that lead to it with fewest switches, by rising numbers of them. Those of runs with
 -- fewer switches than levels are all among them, and none needs more.
-pub record AreExplored (guest : Guest) (profile : Profile) (flats : List Flat) (levels : ℕ) (outcomes : List Shown) : Type 0 where
-  pub shown : (i : ℕ) (x : Shown) (f : Flat) → IsAt flats outcomes i x f → IsShown guest profile f x.level (turns_of_items x.turns.items)
-  pub fewest : (i : ℕ) (x : Shown) (f : Flat) → IsAt flats outcomes i x f → (answers : ℕ → List ℕ) (budget : ℕ) (steps : List Step)
-      → IsCounted guest budget profile told answers steps → outcome_by guest budget profile steps ≡ outcome_of (tables f)
-      → x.level ≤ switches_by guest budget profile steps
-  pub different : (i j : ℕ) (x y : Shown) (f g : Flat) → IsAt flats outcomes i x f → IsAt flats outcomes j y g
-      → outcome_of (tables f) ≡ outcome_of (tables g) → i ≡ j
+pub record AreExplored (setup : Setup) (flats : List SourcedFlat) (levels : ℕ) (outcomes : List Shown) : Type 0 where
+  pub shown : (i : ℕ) (x : Shown) (s : SourcedFlat) → IsAt flats outcomes i x s → IsShown setup s x.level (turns_of_items x.turns.items)
+  pub fewest : (i : ℕ) (x : Shown) (s : SourcedFlat) → IsAt flats outcomes i x s → (budget : ℕ) (steps : List Step)
+      → IsCountedOf setup budget steps → outcome_by setup budget steps ≡ outcome_of (tables s.flat) → x.level ≤ switches_by setup budget steps
+  pub different : (i j : ℕ) (x y : Shown) (s u : SourcedFlat) → IsAt flats outcomes i x s → IsAt flats outcomes j y u
+      → outcome_of (tables s.flat) ≡ outcome_of (tables u.flat) → i ≡ j
   pub rising : (i j : ℕ) (x y : Shown) → slice_get outcomes i ≡ Some x → slice_get outcomes j ≡ Some y → i < j → x.level ≤ y.level
   pub nodes : (i : ℕ) (x : Shown) → slice_get outcomes i ≡ Some x → x.node < length flats
   pub most : (i : ℕ) (x : Shown) → slice_get outcomes i ≡ Some x → x.level ≤ levels
-  pub covered : (c : ℕ) → c < levels → (answers : ℕ → List ℕ) (budget : ℕ) (steps : List Step)
-      → IsCounted guest budget profile told answers steps → switches_by guest budget profile steps ≤ c → IsIn flats outcomes (outcome_by guest budget profile steps)
+  pub covered : (c : ℕ) → c < levels → (budget : ℕ) (steps : List Step) → IsCountedOf setup budget steps
+      → switches_by setup budget steps ≤ c → IsIn flats outcomes (outcome_by setup budget steps)
 
 -- exactly the outcomes of the guest are listed
-abbrev pub AreAll : Guest → Profile → List Flat → List Shown → Type 0
-AreAll guest profile flats outcomes = (x : Outcome) → IsOutcomeOf guest profile x ↔ IsIn flats outcomes x
+abbrev pub AreAll : Setup → List SourcedFlat → List Shown → Type 0
+AreAll setup flats outcomes = (x : Outcome) → IsOutcomeOf setup x ↔ IsIn flats outcomes x
 
 -- each of the listed nodes, up to a place, is shown
-pub record AreShown (guest : Guest) (profile : Profile) (flats : List Flat) (origins : List Origin) (listed : List ℕ) (many : ℕ) (outcomes : List Shown) : Type 0 where
+pub record AreShown (setup : Setup) (flats : List SourcedFlat) (origins : List Origin) (listed : List ℕ) (many : ℕ) (outcomes : List Shown)
+    : Type 0 where
   pub count : length outcomes ≡ many
   pub node : (i : ℕ) (x : Shown) → slice_get outcomes i ≡ Some x → slice_get listed i ≡ Some x.node
   pub level : (i : ℕ) (x : Shown) (n : Origin) → slice_get outcomes i ≡ Some x → slice_get origins x.node ≡ Some n → x.level ≡ n.level
-  pub shown : (i : ℕ) (x : Shown) (f : Flat) → IsAt flats outcomes i x f → IsShown guest profile f x.level (turns_of_items x.turns.items)
+  pub shown : (i : ℕ) (x : Shown) (s : SourcedFlat) → IsAt flats outcomes i x s → IsShown setup s x.level (turns_of_items x.turns.items)
 
 -- So many states can't be brought to an end, each of which some run leads to. Where there is one, a run is shown that hangs, with fewest
 -- switches of those that do.
-pub record AreHangs (guest : Guest) (profile : Profile) (flats : List Flat) (hangs : ℕ) (hang : Option Shown) : Type 0 where
+pub record AreHangs (setup : Setup) (flats : List SourcedFlat) (hangs : ℕ) (hang : Option Shown) : Type 0 where
   pub marks : List Bool
   pub marked : AreMarked flats marks
   pub count : hangs ≡ shut marks
-  pub exact : HasHang guest profile ↔ (0 < hangs)
+  pub exact : HasHang setup ↔ (0 < hangs)
   pub some : 0 < hangs → (x : Shown) × (hang ≡ Some x)
-  pub shown : (x : Shown) → hang ≡ Some x → IsHangShown guest profile x.level (turns_of_items x.turns.items)
-  pub fewest : (x : Shown) → hang ≡ Some x → (answers : ℕ → List ℕ) (budget : ℕ) (steps : List Step)
-      → IsHangOf guest budget profile answers steps → x.level ≤ switches_by guest budget profile steps
+  pub shown : (x : Shown) → hang ≡ Some x → IsHangShown setup x.level (turns_of_items x.turns.items)
+  pub fewest : (x : Shown) → hang ≡ Some x → (budget : ℕ) (steps : List Step) → IsHangOf setup budget steps
+      → x.level ≤ switches_by setup budget steps
 
 -- what was found out about a guest, explored within these bounds and up to so many switches
-pub record IsExplored (guest : Guest) (profile : Profile) (bounds : Bounds) (most : ℕ) (e : Explored) : Type 0 where
+pub record IsExplored (setup : Setup) (bounds : Bounds) (most : ℕ) (e : Explored) : Type 0 where
   -- however it ended, what is listed is right, and complete up to a number of switches
-  pub explored : AreExplored guest profile e.states.graph.flats.items e.levels e.outcomes.items
-  pub reached : AllReached guest profile e.states.graph.flats.items
+  pub explored : AreExplored setup e.states.graph.flats.items e.levels e.outcomes.items
+  pub reached : AllReached setup e.states.graph.flats.items
   -- once it is finished, an outcome is listed exactly where some complete run of the guest has it
-  pub all : e.ended ≡ Finished → AreAll guest profile e.states.graph.flats.items e.outcomes.items
+  pub all : e.ended ≡ Finished → AreAll setup e.states.graph.flats.items e.outcomes.items
   -- so are its hangs: one is shown exactly where some run of the guest can't be brought to an end
-  pub hangs : e.ended ≡ Finished → AreHangs guest profile e.states.graph.flats.items e.hangs e.hang
+  pub hangs : e.ended ≡ Finished → AreHangs setup e.states.graph.flats.items e.hangs e.hang
   pub unknown : (e.ended ≡ Finished → ⊥) → e.hang ≡ None
   -- it ended so only where all levels that are wanted are gone over, and some state was found in the last of them
   pub covered : e.ended ≡ Covered → e.levels ≡ suc most
@@ -104,4 +91,4 @@ pub record IsExplored (guest : Guest) (profile : Profile) (bounds : Bounds) (mos
   -- It stopped only where the states are as many as may be, memory ends, a run leads to a thread that is not followed, or an order that was
   -- found doesn't lead to its state once more.
   pub stopped : (why : Stop) → e.ended ≡ Stopped why
-      → MayStop guest profile e.states.graph.flats.items bounds.nodes bounds.private why ⊎ IsOrder why
+      → MayStop setup e.states.graph.flats.items bounds.nodes bounds.private why ⊎ IsOrder why

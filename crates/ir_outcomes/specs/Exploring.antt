@@ -1,12 +1,11 @@
 -- The outcomes of a guest while a search for them goes on, level by level.
 use Rattle.std.specs.Prelude.{◌≡◌, ◌⊎◌, ℕ, suc, ◌<◌, ◌≤◌, List, Option, Some, None, length}
-use Rattle.ir_image.specs.Guest.{Guest}
 use Rattle.ir_explore.specs.declared.origin.Origin.{Origin}
 use Rattle.ir_explore.specs.declared.stop.Stop.{Stop}
-use Rattle.ir_thread.specs.declared.profile.Profile.{Profile}
-use Rattle.ir_flat.specs.Flat.{Flat}
+use Rattle.ir_store.specs.Nodes.{SourcedFlat}
 use Rattle.ir_graph.specs.Listing.{AreOutcomes}
 use Rattle.ir_graph.specs.Searched.{AreSearched, IsSearch, StandsBetween}
+use Rattle.ir_graph.specs.Setup.{Setup}
 use Rattle.ir_graph.specs.Stops.{MayStop}
 use Rattle.ir_outcomes.specs.Explored.{AreExplored, AreShown}
 use Rattle.ir_outcomes.specs.Hang.{IsOrder}
@@ -14,17 +13,17 @@ use Rattle.ir_outcomes.specs.declared.exploring.Exploring.{Exploring}
 use Rattle.ir_outcomes.specs.declared.shown.Shown.{Shown}
 
 -- of the first `seen` nodes where all threads are done, the first with each outcome is listed, and shown
-pub record HasShown (guest : Guest) (profile : Profile) (flats : List Flat) (origins : List Origin) (seen : ℕ) (listed : List ℕ) (outcomes : List Shown) : Type 0 where
+pub record HasShown (setup : Setup) (flats : List SourcedFlat) (origins : List Origin) (seen : ℕ) (listed : List ℕ) (outcomes : List Shown) : Type 0 where
   pub different : AreOutcomes flats seen listed
-  pub shown : AreShown guest profile flats origins listed (length listed) outcomes
+  pub shown : AreShown setup flats origins listed (length listed) outcomes
 
 -- The search can go on: it stands between two levels, and the outcomes among all states that it has found are shown, once it has gone over a
 -- level.
 pub record CanGoOn (e : Exploring) : Type 0 where
   pub between : StandsBetween e.states
   pub searched : 0 < e.states.search.level.first
-      → AreSearched e.states.graph.image.now e.states.graph.profile e.states.graph.flats.items e.states.search.found.nodes.items e.states.search.level.number
-  pub has : HasShown e.states.graph.image.now e.states.graph.profile e.states.graph.flats.items e.states.search.found.nodes.items e.list.seen e.list.listed.items
+      → AreSearched e.states.graph.setup e.states.graph.flats.items e.states.search.found.nodes.items e.states.search.level.number
+  pub has : HasShown e.states.graph.setup e.states.graph.flats.items e.states.search.found.nodes.items e.list.seen e.list.listed.items
       e.list.outcomes.items
   pub few : e.list.seen ≤ length e.states.search.found.nodes.items
   pub seen : 0 < e.states.search.level.first → e.list.seen ≡ length e.states.search.found.nodes.items
@@ -33,11 +32,11 @@ pub record CanGoOn (e : Exploring) : Type 0 where
 -- what is listed is right, and complete up to a number of switches; and if the search can't go on, why
 pub record IsExploring (e : Exploring) : Type 0 where
   pub search : IsSearch e.states
-  pub explored : AreExplored e.states.graph.image.now e.states.graph.profile e.states.graph.flats.items e.list.levels e.list.outcomes.items
+  pub explored : AreExplored e.states.graph.setup e.states.graph.flats.items e.list.levels e.list.outcomes.items
   pub wanted : e.states.search.level.number ≤ suc e.most
   pub going : e.stop ≡ None → CanGoOn e
   pub stopped : (why : Stop) → e.stop ≡ Some why
-      → MayStop e.states.graph.image.now e.states.graph.profile e.states.graph.flats.items e.states.graph.bounds.nodes e.states.graph.bounds.private why ⊎ IsOrder why
+      → MayStop e.states.graph.setup e.states.graph.flats.items e.states.graph.bounds.nodes e.states.graph.bounds.private why ⊎ IsOrder why
 
 -- more than so many levels are left to go over, or none where the search can't go on
 abbrev pub levels_left : Option Stop → ℕ → ℕ

@@ -9,9 +9,7 @@ ghost use Rattle.ir_thread.specs.State.{IsAllowed};
 use crate::exploring::Exploring;
 use crate::shown::Shown;
 use ir_explore::{Ended, Observer, Stop};
-use ir_graph::{Bounds, States};
-use ir_image::Image;
-use ir_thread::Profile;
+use ir_graph::{Bounds, Setup, States};
 use std::alloc::Global;
 
 /// What was found out about a guest.
@@ -31,25 +29,24 @@ pub struct Explored<'a> {
     pub hang: Option<Shown>,
 }
 
-/// The different outcomes of a guest whose threads call no environment, each with turns that lead to it, by rising number of switches
-/// from thread to thread: of `most` switches, if they aren't all found before. The observer is told how far the search is.
+/// The different outcomes of a guest, each with turns that lead to it, by rising number of switches from thread to thread: of `most` switches,
+/// if they aren't all found before. The observer is told how far the search is.
 ///
 /// # Errors
 /// Some thread doesn't come to its first entry or try, or out of memory before the first level.
 pub fn explore<'a, O: Observer>(
     alloc: Global,
-    image: &'a Image,
-    profile: Profile,
+    setup: &Setup<'a>,
     bounds: Bounds,
     most: usize,
     observer: &O,
 ) -> Result<Explored<'a>, Stop>
-    requires allowed { IsAllowed profile image.now }
+    requires allowed { IsAllowed setup.now.profile setup.now.guest }
     requires some { 1 ≤ bounds.nodes }
-    ensures explored { IfOk result (λ found. IsExplored image.now profile bounds most found) }
-    ensures refused { IfErr result (λ why. (why ≡ Memory) ⊎ IsStop image.now profile bounds.private why) }
+    ensures explored { IfOk result (λ found. IsExplored setup.now bounds most found) }
+    ensures refused { IfErr result (λ why. (why ≡ Memory) ⊎ IsStop setup.now bounds.private why) }
 {
-    let mut exploring = Exploring::start(alloc, image, profile, bounds, most)?;
+    let mut exploring = Exploring::start(alloc, setup, bounds, most)?;
     'levels: while exploring.goes_on() {
         exploring.go_over(observer);
     }

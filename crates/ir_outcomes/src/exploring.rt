@@ -17,9 +17,7 @@ use crate::hang::{count_lost, find_hang};
 use crate::listing::{Listing, show_new};
 use crate::shown::Shown;
 use ir_explore::{Ended, Observer, Stop};
-use ir_graph::{Bounds, States};
-use ir_image::Image;
-use ir_thread::Profile;
+use ir_graph::{Bounds, Setup, States};
 use std::alloc::Global;
 
 /// A guest whose outcomes are looked for.
@@ -59,28 +57,26 @@ fn first_stop(first: Result<(), Stop>, second: Result<(), Stop>) -> Option<Stop>
 }
 
 impl<'a> Exploring<'a> {
-    /// A guest whose threads call no environment, before it is explored: up to `most` switches from thread to thread.
+    /// A guest before it is explored: up to `most` switches from thread to thread.
     ///
     /// # Errors
     /// Some thread doesn't come to its first entry or try, or out of memory.
     pub fn start(
         alloc: Global,
-        image: &'a Image,
-        profile: Profile,
+        setup: &Setup<'a>,
         bounds: Bounds,
         most: usize,
     ) -> Result<Exploring<'a>, Stop>
-        requires allowed { IsAllowed profile image.now }
+        requires allowed { IsAllowed setup.now.profile setup.now.guest }
         requires some { 1 ≤ bounds.nodes }
-        ensures image { IfOk result (λ e. e.states.graph.image.now ≡ image.now) }
-        ensures profile { IfOk result (λ e. e.states.graph.profile ≡ profile) }
+        ensures setup { IfOk result (λ e. e.states.graph.setup ≡ setup.now) }
         ensures bounds { IfOk result (λ e. e.states.graph.bounds ≡ bounds) }
         ensures most { IfOk result (λ e. e.most ≡ most) }
         ensures none { IfOk result (λ e. length e.list.outcomes.items ≡ 0) }
         ensures is { IfOk result IsExploring }
-        ensures refused { IfErr result (λ why. (why ≡ Memory) ⊎ IsStop image.now profile bounds.private why) }
+        ensures refused { IfErr result (λ why. (why ≡ Memory) ⊎ IsStop setup.now bounds.private why) }
     {
-        let states = States::start(alloc, image, profile, bounds)?;
+        let states = States::start(alloc, setup, bounds)?;
         Ok(Exploring {
             alloc,
             states,
@@ -113,14 +109,13 @@ impl<'a> Exploring<'a> {
 
     /// Goes over the next level, and shows the new outcomes. The observer is told how far it is.
     pub fn go_over<O: Observer>(&mut self, observer: &O)
-        requires allowed { IsAllowed self.old.states.graph.profile self.old.states.graph.image.now }
+        requires allowed { IsAllowed self.old.states.graph.setup.profile self.old.states.graph.setup.guest }
         requires is { IsExploring self.old }
         requires stop { self.old.stop ≡ None }
         requires more { self.old.states.search.level.first < self.old.states.search.level.until }
         requires wanted { self.old.states.search.level.number ≤ self.old.most }
         ensures is { IsExploring self.new }
-        ensures image { self.new.states.graph.image.now ≡ self.old.states.graph.image.now }
-        ensures profile { self.new.states.graph.profile ≡ self.old.states.graph.profile }
+        ensures setup { self.new.states.graph.setup ≡ self.old.states.graph.setup }
         ensures bounds { self.new.states.graph.bounds ≡ self.old.states.graph.bounds }
         ensures most { self.new.most ≡ self.old.most }
         ensures stay { Stay self.old.states.graph.flats.items self.new.states.graph.flats.items }
@@ -135,12 +130,12 @@ impl<'a> Exploring<'a> {
 
     // Of a finished search: how many of the states can't be brought to an end, and a run that leads to the first of them.
     fn hangs(&self) -> Result<(usize, Option<Shown>), Stop>
-        requires allowed { IsAllowed self.now.states.graph.profile self.now.states.graph.image.now }
+        requires allowed { IsAllowed self.now.states.graph.setup.profile self.now.states.graph.setup.guest }
         requires is { IsExploring self.now }
         requires stop { self.now.stop ≡ None }
         requires over { self.now.states.search.level.until ≤ self.now.states.search.level.first }
         requires whole { IsWhole self.now.states }
-        ensures hangs { IfOk result (λ found. AreHangs self.now.states.graph.image.now self.now.states.graph.profile self.now.states.graph.flats.items found.0 found.1) }
+        ensures hangs { IfOk result (λ found. AreHangs self.now.states.graph.setup self.now.states.graph.flats.items found.0 found.1) }
         ensures refused { IfErr result (λ why. (why ≡ Memory) ⊎ IsOrder why) }
     {
         let marks = self.states.marks(self.alloc)?;
@@ -151,12 +146,12 @@ impl<'a> Exploring<'a> {
 
     // How the search ended.
     fn ending(&self) -> Ending
-        requires allowed { IsAllowed self.now.states.graph.profile self.now.states.graph.image.now }
+        requires allowed { IsAllowed self.now.states.graph.setup.profile self.now.states.graph.setup.guest }
         requires is { IsExploring self.now }
-        ensures stopped { (why : Stop) → result.ended ≡ Stopped why → MayStop self.now.states.graph.image.now self.now.states.graph.profile self.now.states.graph.flats.items self.now.states.graph.bounds.nodes self.now.states.graph.bounds.private why ⊎ IsOrder why }
+        ensures stopped { (why : Stop) → result.ended ≡ Stopped why → MayStop self.now.states.graph.setup self.now.states.graph.flats.items self.now.states.graph.bounds.nodes self.now.states.graph.bounds.private why ⊎ IsOrder why }
         ensures finished { result.ended ≡ Finished → (self.now.stop ≡ None) × (self.now.states.search.level.until ≤ self.now.states.search.level.first) × IsWhole self.now.states }
         ensures covered { result.ended ≡ Covered → (self.now.stop ≡ None) × (self.now.states.search.level.first < self.now.states.search.level.until) }
-        ensures hangs { result.ended ≡ Finished → AreHangs self.now.states.graph.image.now self.now.states.graph.profile self.now.states.graph.flats.items result.hangs result.hang }
+        ensures hangs { result.ended ≡ Finished → AreHangs self.now.states.graph.setup self.now.states.graph.flats.items result.hangs result.hang }
         ensures unknown { (result.ended ≡ Finished → ⊥) → result.hang ≡ None }
     {
         let (ended, hangs, hang) = match self.stop {
@@ -172,10 +167,10 @@ impl<'a> Exploring<'a> {
 
     /// What was found out, once no level is to be gone over.
     pub fn end(self) -> Explored<'a>
-        requires allowed { IsAllowed self.states.graph.profile self.states.graph.image.now }
+        requires allowed { IsAllowed self.states.graph.setup.profile self.states.graph.setup.guest }
         requires is { IsExploring self }
         requires over { self.stop ≡ None → (self.states.search.level.until ≤ self.states.search.level.first) ⊎ (self.most < self.states.search.level.number) }
-        ensures explored { IsExplored self.entry.states.graph.image.now self.entry.states.graph.profile self.entry.states.graph.bounds self.entry.most result }
+        ensures explored { IsExplored self.entry.states.graph.setup self.entry.states.graph.bounds self.entry.most result }
         ensures flats { result.states.graph.flats.items ≡ self.entry.states.graph.flats.items }
         ensures outcomes { result.outcomes.items ≡ self.entry.list.outcomes.items }
     {

@@ -5,9 +5,9 @@ ghost use Rattle.ir_explore.specs.declared.stop.Stop.TheVariants.{Memory, Order}
 ghost use Rattle.ir_explore.specs.declared.origin.Origin.{Origin};
 ghost use Rattle.ir_explore.specs.Following.{IsOpen};
 ghost use Rattle.ir_explore.specs.Ways.{shut};
-ghost use Rattle.ir_flat.specs.Flat.{Flat};
 ghost use Rattle.ir_graph.specs.Reached.{AllReached};
 ghost use Rattle.ir_record.specs.Recording.{turns_of_items};
+ghost use Rattle.ir_store.specs.Nodes.{SourcedFlat};
 ghost use Rattle.ir_thread.specs.State.{IsAllowed};
 ghost use Rattle.ir_outcomes.specs.Hang.{IsFirst, IsOrder};
 ghost use Rattle.ir_outcomes.specs.Shown.{IsShownAt};
@@ -48,20 +48,20 @@ fn first_lost(marks: &[bool]) -> Option<usize>
 
 // Turns that lead to a node.
 fn lead(alloc: Global, states: &States<'_>, node: usize) -> Result<Shown, Stop>
-    requires allowed { IsAllowed states.now.graph.profile states.now.graph.image.now }
-    requires reached { AllReached states.now.graph.image.now states.now.graph.profile states.now.graph.flats.items }
+    requires allowed { IsAllowed states.now.graph.setup.profile states.now.graph.setup.guest }
+    requires reached { AllReached states.now.graph.setup states.now.graph.flats.items }
     requires node { node < length states.now.graph.flats.items }
     requires origin { node < length states.now.search.found.nodes.items }
     ensures refused { IfErr result (λ stop. (stop ≡ Memory) ⊎ (stop ≡ Order node)) }
     ensures node { IfOk result (λ shown. shown.node ≡ node) }
     ensures level { IfOk result (λ shown. (n : Origin) → slice_get states.now.search.found.nodes.items node ≡ Some n → shown.level ≡ n.level) }
-    ensures shown { IfOk result (λ shown. (f : Flat) → slice_get states.now.graph.flats.items node ≡ Some f → IsShownAt states.now.graph.image.now states.now.graph.profile f shown.level (turns_of_items shown.turns.items)) }
+    ensures shown { IfOk result (λ shown. (s : SourcedFlat) → slice_get states.now.graph.flats.items node ≡ Some s → IsShownAt states.now.graph.setup s shown.level (turns_of_items shown.turns.items)) }
 {
     let origins = states.search.found.nodes.as_slice();
     let path = path_to(alloc, origins, node)?;
-    let (flat, turns) = run_to_node(alloc, states, path.as_slice(), node)?;
+    let (state, turns) = run_to_node(alloc, states, path.as_slice(), node)?;
     let kept = states.graph.flats.get(node)?;
-    if !same_state(alloc, &flat, &kept)? {
+    if !same_state(alloc, &state, &kept)? {
         return Err(Stop::Order(node));
     }
     Ok(Shown {
@@ -76,15 +76,15 @@ fn lead(alloc: Global, states: &States<'_>, node: usize) -> Result<Shown, Stop>
 /// # Errors
 /// Out of memory. No turns were found that lead to it.
 pub fn find_hang(alloc: Global, states: &States<'_>, marks: &[bool]) -> Result<Option<Shown>, Stop>
-    requires allowed { IsAllowed states.now.graph.profile states.now.graph.image.now }
-    requires reached { AllReached states.now.graph.image.now states.now.graph.profile states.now.graph.flats.items }
+    requires allowed { IsAllowed states.now.graph.setup.profile states.now.graph.setup.guest }
+    requires reached { AllReached states.now.graph.setup states.now.graph.flats.items }
     requires few { length states.now.search.found.nodes.items ≤ length states.now.graph.flats.items }
     requires marks { length marks.now ≤ length states.now.search.found.nodes.items }
     ensures refused { IfErr result (λ stop. (stop ≡ Memory) ⊎ IsOrder stop) }
     ensures none { IfOk result (λ hang. hang ≡ None → (v : ℕ) → v < length marks.now → IsOpen marks.now v) }
     ensures first { IfOk result (λ hang. (x : Shown) → hang ≡ Some x → IsFirst marks.now x.node) }
     ensures level { IfOk result (λ hang. (x : Shown) → hang ≡ Some x → (n : Origin) → slice_get states.now.search.found.nodes.items x.node ≡ Some n → x.level ≡ n.level) }
-    ensures shown { IfOk result (λ hang. (x : Shown) → hang ≡ Some x → (f : Flat) → slice_get states.now.graph.flats.items x.node ≡ Some f → IsShownAt states.now.graph.image.now states.now.graph.profile f x.level (turns_of_items x.turns.items)) }
+    ensures shown { IfOk result (λ hang. (x : Shown) → hang ≡ Some x → (s : SourcedFlat) → slice_get states.now.graph.flats.items x.node ≡ Some s → IsShownAt states.now.graph.setup s x.level (turns_of_items x.turns.items)) }
 {
     let Some(node) = first_lost(marks) else {
         return Ok(None);

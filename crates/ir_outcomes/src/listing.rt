@@ -29,11 +29,11 @@ pub struct Listing {
 
 // A node's outcome is shown, if all threads are done there and it is new.
 fn add_node(alloc: Global, states: &States<'_>, list: &mut Listing, node: usize) -> Result<(), Stop>
-    requires allowed { IsAllowed states.now.graph.profile states.now.graph.image.now }
-    requires searched { AreSearched states.now.graph.image.now states.now.graph.profile states.now.graph.flats.items states.now.search.found.nodes.items states.now.search.level.number }
+    requires allowed { IsAllowed states.now.graph.setup.profile states.now.graph.setup.guest }
+    requires searched { AreSearched states.now.graph.setup states.now.graph.flats.items states.now.search.found.nodes.items states.now.search.level.number }
     requires node { node < length states.now.search.found.nodes.items }
-    requires has { HasShown states.now.graph.image.now states.now.graph.profile states.now.graph.flats.items states.now.search.found.nodes.items node list.old.listed.items list.old.outcomes.items }
-    ensures has { OnOk result (HasShown states.now.graph.image.now states.now.graph.profile states.now.graph.flats.items states.now.search.found.nodes.items (suc node) list.new.listed.items list.new.outcomes.items) }
+    requires has { HasShown states.now.graph.setup states.now.graph.flats.items states.now.search.found.nodes.items node list.old.listed.items list.old.outcomes.items }
+    ensures has { OnOk result (HasShown states.now.graph.setup states.now.graph.flats.items states.now.search.found.nodes.items (suc node) list.new.listed.items list.new.outcomes.items) }
     ensures same { OnErr result (list.new.outcomes.items ≡ list.old.outcomes.items) }
     ensures stay { Stay list.old.outcomes.items list.new.outcomes.items }
     ensures refused { IfErr result (λ why. (why ≡ Memory) ⊎ IsOrder why) }
@@ -54,15 +54,15 @@ fn add_node(alloc: Global, states: &States<'_>, list: &mut Listing, node: usize)
 /// # Errors
 /// Out of memory, or some turns lead to their state no second time. Then only the outcomes before are shown.
 pub fn show_new(alloc: Global, states: &States<'_>, list: &mut Listing) -> Result<(), Stop>
-    requires allowed { IsAllowed states.now.graph.profile states.now.graph.image.now }
-    requires searched { AreSearched states.now.graph.image.now states.now.graph.profile states.now.graph.flats.items states.now.search.found.nodes.items states.now.search.level.number }
+    requires allowed { IsAllowed states.now.graph.setup.profile states.now.graph.setup.guest }
+    requires searched { AreSearched states.now.graph.setup states.now.graph.flats.items states.now.search.found.nodes.items states.now.search.level.number }
     requires few { list.old.seen ≤ length states.now.search.found.nodes.items }
-    requires has { HasShown states.now.graph.image.now states.now.graph.profile states.now.graph.flats.items states.now.search.found.nodes.items list.old.seen list.old.listed.items list.old.outcomes.items }
+    requires has { HasShown states.now.graph.setup states.now.graph.flats.items states.now.search.found.nodes.items list.old.seen list.old.listed.items list.old.outcomes.items }
     // What is listed is right, and complete up to a number of switches.
-    ensures explored { AreExplored states.now.graph.image.now states.now.graph.profile states.now.graph.flats.items list.new.levels list.new.outcomes.items }
+    ensures explored { AreExplored states.now.graph.setup states.now.graph.flats.items list.new.levels list.new.outcomes.items }
     ensures stay { Stay list.old.outcomes.items list.new.outcomes.items }
     // Once all are shown
-    ensures has { OnOk result (HasShown states.now.graph.image.now states.now.graph.profile states.now.graph.flats.items states.now.search.found.nodes.items list.new.seen list.new.listed.items list.new.outcomes.items) }
+    ensures has { OnOk result (HasShown states.now.graph.setup states.now.graph.flats.items states.now.search.found.nodes.items list.new.seen list.new.listed.items list.new.outcomes.items) }
     ensures seen { OnOk result (list.new.seen ≡ length states.now.search.found.nodes.items) }
     ensures levels { OnOk result (list.new.levels ≡ states.now.search.level.number) }
     ensures refused { IfErr result (λ why. (why ≡ Memory) ⊎ IsOrder why) }

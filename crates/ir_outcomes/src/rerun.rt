@@ -1,25 +1,22 @@
 //! A guest that is run once more, turn by turn.
 
 ghost use Rattle.std.specs.Prelude.{◌≡◌, ◌⊎◌, ℕ, Bool, ◌<◌, ◌+◌, ◌++◌, List, [], length, replicate, IfOk, IfErr, OnOk};
-ghost use Rattle.ir_image.specs.Guest.{Guest};
 ghost use Rattle.ir_explore.specs.declared.stop.Stop.TheVariants.{Memory, Order};
-ghost use Rattle.ir_flat.specs.Flat.{thread_of, start_flat};
+ghost use Rattle.ir_explore.specs.Origins.{AreWaysOf};
+ghost use Rattle.ir_flat.specs.Flat.{thread_of};
 ghost use Rattle.ir_graph.specs.Plain.{Rests, result_by};
+ghost use Rattle.ir_graph.specs.Setup.{Setup};
 ghost use Rattle.ir_graph.specs.Turn.{GoesAlone};
 ghost use Rattle.ir_record.specs.Recording.{turns_of_items};
-ghost use Rattle.ir_thread.specs.State.{IsAllowed, ask_of, most_budget};
-ghost use Rattle.ir_thread.specs.declared.profile.Profile.{Profile};
+ghost use Rattle.ir_thread.specs.State.{IsAllowed, ask_of};
 ghost use Rattle.ir_outcomes.specs.Again.{IsAgain, IsAgainWithin};
 
 use crate::path::refusals_to;
 use ir_explore::{Origin, Refusal, Stop};
-use ir_flat::Flat;
 use ir_graph::{States, run_to_rest};
 use ir_record::Item;
+use ir_store::SourcedFlat;
 use std::alloc::Global;
-
-// As many steps as a thread may take.
-const MOST_BUDGET: u64 = 1_000_000_000_000;
 
 // So many steps of a thread from where it rests, in which its tries are refused or enter, each up to where it rests again.
 #[derive(Clone, Copy)]
@@ -48,42 +45,49 @@ fn try_result(refused: bool) -> u32
 
 // A thread that rests takes one step, an entry or a try that is refused or enters, and runs on alone to where it rests again; how many steps
 // that takes.
-fn enter(flat: &mut Flat<'_>, thread: usize, refused: bool, limit: u64) -> Result<u64, Stop>
-    requires thread { thread < length flat.old.threads }
-    requires rests { Rests (ask_of flat.old.code (thread_of flat.old thread)) }
-    ensures alone { IfOk result (λ steps. GoesAlone flat.old flat.new thread refused steps 1) }
-    ensures rests { OnOk result (Rests (ask_of flat.new.code (thread_of flat.new thread))) }
+fn enter(state: &mut SourcedFlat<'_>, thread: usize, refused: bool, limit: u64) -> Result<u64, Stop>
+    requires thread { thread < length state.old.flat.threads }
+    requires source { thread < length state.old.sources }
+    requires rests { Rests (ask_of state.old.flat.code (thread_of state.old.flat thread)) }
+    ensures alone { IfOk result (λ steps. GoesAlone state.old state.new thread refused steps 1) }
+    ensures rests { OnOk result (Rests (ask_of state.new.flat.code (thread_of state.new.flat thread))) }
 {
     let tried = try_result(refused);
-    if let Err(_) = flat.step(thread, tried) {
+    if let Err(_) = state.flat.step(thread, tried) {
         return Err(Stop::Order(0));
     }
-    let steps = run_to_rest(flat, thread, limit)?;
+    let steps = run_to_rest(state, thread, limit)?;
     let all = add_steps(1, steps, thread)?;
     Ok(all)
 }
 
-// A thread runs on alone to where it rests, and then takes the steps of a leg; how many steps that takes.
-fn take_leg(flat: &mut Flat<'_>, leg: Leg, limit: u64) -> Result<u64, Stop>
-    requires { leg.thread < length flat.old.threads }
-    ensures { IfOk result (λ steps. GoesAlone flat.old flat.new leg.thread leg.refused steps leg.steps) }
+// A thread runs on alone to where it rests, and then takes the steps of a leg; how many steps that takes. Each call is answered by its source.
+fn take_leg(state: &mut SourcedFlat<'_>, leg: Leg, limit: u64) -> Result<u64, Stop>
+    requires thread { leg.thread < length state.old.flat.threads }
+    requires source { leg.thread < length state.old.sources }
+    ensures { IfOk result (λ steps. GoesAlone state.old state.new leg.thread leg.refused steps leg.steps) }
 {
-    let mut steps = run_to_rest(flat, leg.thread, limit)?;
+    let mut steps = run_to_rest(state, leg.thread, limit)?;
     for _ in 0..leg.steps {
-        let more = enter(flat, leg.thread, leg.refused, limit)?;
+        let more = enter(state, leg.thread, leg.refused, limit)?;
         steps = add_steps(steps, more, leg.thread)?;
     }
     Ok(steps)
 }
 
 // So does a thread of the guest, and its steps are noted.
-fn add_leg(flat: &mut Flat<'_>, items: &mut Vec<Item>, leg: Leg, limit: u64) -> Result<(), Stop>
-    ensures { OnOk result ((guest : Guest) (profile : Profile) (before : List ℕ) → IsAgain guest profile (turns_of_items items.old.items) before flat.old → IsAgain guest profile (turns_of_items items.new.items) (before ++ replicate leg.steps leg.thread) flat.new) }
+fn add_leg(
+    state: &mut SourcedFlat<'_>,
+    items: &mut Vec<Item>,
+    leg: Leg,
+    limit: u64,
+) -> Result<(), Stop>
+    ensures { OnOk result ((setup : Setup) (before : List ℕ) → IsAgain setup (turns_of_items items.old.items) before state.old → IsAgain setup (turns_of_items items.new.items) (before ++ replicate leg.steps leg.thread) state.new) }
 {
-    if leg.thread >= flat.threads().len() {
+    if leg.thread >= state.flat.threads().len() || leg.thread >= state.sources.len() {
         return Err(Stop::Order(0));
     }
-    let count = take_leg(flat, leg, limit)?;
+    let count = take_leg(state, leg, limit)?;
     items.push(Item {
         thread: leg.thread as u8,
         count,
@@ -94,84 +98,84 @@ fn add_leg(flat: &mut Flat<'_>, items: &mut Vec<Item>, leg: Leg, limit: u64) -> 
 
 // A thread of the guest makes some entries, and then its try is refused.
 fn add_refusal(
-    flat: &mut Flat<'_>,
+    state: &mut SourcedFlat<'_>,
     items: &mut Vec<Item>,
     thread: usize,
     refusal: Refusal,
     limit: u64,
 ) -> Result<(), Stop>
-    ensures { OnOk result ((guest : Guest) (profile : Profile) (before : List ℕ) → IsAgain guest profile (turns_of_items items.old.items) before flat.old → (n : ℕ) × IsAgain guest profile (turns_of_items items.new.items) (before ++ replicate n thread) flat.new) }
+    ensures { OnOk result ((setup : Setup) (before : List ℕ) → IsAgain setup (turns_of_items items.old.items) before state.old → IsAgain setup (turns_of_items items.new.items) (before ++ replicate (refusal.entries + 1) thread) state.new) }
 {
     let entries = Leg {
         thread,
         refused: false,
         steps: refusal.entries as usize,
     };
-    add_leg(flat, items, entries, limit)?;
+    add_leg(state, items, entries, limit)?;
     let tries = Leg {
         thread,
         refused: true,
         steps: 1,
     };
-    add_leg(flat, items, tries, limit)?;
+    add_leg(state, items, tries, limit)?;
     Ok(())
 }
 
 // A thread of the guest has a turn.
 fn add_turn(
     alloc: Global,
-    flat: &mut Flat<'_>,
+    state: &mut SourcedFlat<'_>,
     items: &mut Vec<Item>,
     table: &[Refusal],
     origin: Origin,
     limit: u64,
 ) -> Result<(), Stop>
-    ensures { OnOk result ((guest : Guest) (profile : Profile) (before : List ℕ) → IsAgain guest profile (turns_of_items items.old.items) before flat.old → (n : ℕ) × IsAgain guest profile (turns_of_items items.new.items) (before ++ replicate n origin.thread) flat.new) }
+    ensures { OnOk result ((setup : Setup) (before : List ℕ) → IsAgain setup (turns_of_items items.old.items) before state.old → (ways : List Bool) × AreWaysOf table.now origin ways × IsAgain setup (turns_of_items items.new.items) (before ++ replicate (length ways) origin.thread) state.new) }
 {
     let thread = origin.thread as usize;
     let refusals = refusals_to(alloc, table, origin.refusals as usize)?;
     for k in 0..refusals.len() {
         let refusal = refusals[refusals.len() - 1 - k];
-        add_refusal(flat, items, thread, refusal, limit)?;
+        add_refusal(state, items, thread, refusal, limit)?;
     }
     let entries = Leg {
         thread,
         refused: false,
         steps: origin.entries as usize,
     };
-    add_leg(flat, items, entries, limit)?;
+    add_leg(state, items, entries, limit)?;
     Ok(())
 }
 
 // The guest takes the turns of a path, the last of which comes first.
 fn add_path(
     alloc: Global,
-    flat: &mut Flat<'_>,
+    state: &mut SourcedFlat<'_>,
     items: &mut Vec<Item>,
     table: &[Refusal],
     path: &[Origin],
     limit: u64,
 ) -> Result<(), Stop>
-    ensures { OnOk result ((guest : Guest) (profile : Profile) → IsAgain guest profile (turns_of_items items.old.items) [] flat.old → IsAgainWithin guest profile (turns_of_items items.new.items) (length path.now) flat.new) }
+    ensures { OnOk result ((setup : Setup) → IsAgain setup (turns_of_items items.old.items) [] state.old → IsAgainWithin setup (turns_of_items items.new.items) (length path.now) state.new) }
 {
     for k in 0..path.len() {
         let origin = path[path.len() - 1 - k];
-        add_turn(alloc, flat, items, table, origin, limit)?;
+        add_turn(alloc, state, items, table, origin, limit)?;
     }
     Ok(())
 }
 
 // Each thread runs on alone to its next entry or try.
-fn add_rests(flat: &mut Flat<'_>, items: &mut Vec<Item>, limit: u64) -> Result<(), Stop>
-    ensures { OnOk result ((guest : Guest) (profile : Profile) (most : ℕ) → IsAgainWithin guest profile (turns_of_items items.old.items) most flat.old → IsAgainWithin guest profile (turns_of_items items.new.items) most flat.new) }
+fn add_rests(state: &mut SourcedFlat<'_>, items: &mut Vec<Item>, limit: u64) -> Result<(), Stop>
+    ensures { OnOk result ((setup : Setup) (most : ℕ) → IsAgainWithin setup (turns_of_items items.old.items) most state.old → IsAgainWithin setup (turns_of_items items.new.items) most state.new) }
 {
-    for thread in 0..flat.threads().len() {
+    for thread in 0..state.flat.threads().len() {
         let none = Leg {
             thread,
             refused: false,
             steps: 0,
         };
-        add_leg(flat, items, none, limit)?;
+        add_leg(state, items, none, limit)?;
     }
     Ok(())
 }
@@ -181,17 +185,17 @@ fn run_again<'a>(
     alloc: Global,
     states: &States<'a>,
     path: &[Origin],
-) -> Result<(Flat<'a>, Vec<Item>), Stop>
-    requires { IsAllowed states.now.graph.profile states.now.graph.image.now }
-    ensures { IfOk result (λ run. IsAgainWithin states.now.graph.image.now states.now.graph.profile (turns_of_items run.1.items) (length path.now) run.0) }
+) -> Result<(SourcedFlat<'a>, Vec<Item>), Stop>
+    requires { IsAllowed states.now.graph.setup.profile states.now.graph.setup.guest }
+    ensures { IfOk result (λ run. IsAgainWithin states.now.graph.setup (turns_of_items run.1.items) (length path.now) run.0) }
 {
     let limit = states.graph.bounds.private;
-    let mut flat = Flat::start(alloc, states.graph.image, MOST_BUDGET, states.graph.profile)?;
+    let mut state = states.graph.setup.start(alloc)?;
     let mut items = Vec::new(alloc);
     let table = states.search.found.refusals.as_slice();
-    add_path(alloc, &mut flat, &mut items, table, path, limit)?;
-    add_rests(&mut flat, &mut items, limit)?;
-    Ok((flat, items))
+    add_path(alloc, &mut state, &mut items, table, path, limit)?;
+    add_rests(&mut state, &mut items, limit)?;
+    Ok((state, items))
 }
 
 /// The guest after the turns of a path that led to a node, the last of which comes first, and the steps that its threads took.
@@ -203,9 +207,9 @@ pub fn run_to_node<'a>(
     states: &States<'a>,
     path: &[Origin],
     node: usize,
-) -> Result<(Flat<'a>, Vec<Item>), Stop>
-    requires { IsAllowed states.now.graph.profile states.now.graph.image.now }
-    ensures again { IfOk result (λ run. IsAgainWithin states.now.graph.image.now states.now.graph.profile (turns_of_items run.1.items) (length path.now) run.0) }
+) -> Result<(SourcedFlat<'a>, Vec<Item>), Stop>
+    requires { IsAllowed states.now.graph.setup.profile states.now.graph.setup.guest }
+    ensures again { IfOk result (λ run. IsAgainWithin states.now.graph.setup (turns_of_items run.1.items) (length path.now) run.0) }
     ensures refused { IfErr result (λ stop. (stop ≡ Memory) ⊎ (stop ≡ Order node)) }
 {
     match run_again(alloc, states, path) {

@@ -3,9 +3,9 @@
 ghost use Rattle.std.specs.Prelude.{◌≡◌, ◌⊎◌, ℕ, ◌<◌, Some, length, slice_get, IfOk, IfErr};
 ghost use Rattle.ir_explore.specs.declared.stop.Stop.TheVariants.{Memory, Order};
 ghost use Rattle.ir_explore.specs.declared.origin.Origin.{Origin};
-ghost use Rattle.ir_flat.specs.Flat.{Flat};
 ghost use Rattle.ir_graph.specs.Reached.{AllReached};
 ghost use Rattle.ir_record.specs.Recording.{turns_of_items};
+ghost use Rattle.ir_store.specs.Nodes.{SourcedFlat};
 ghost use Rattle.ir_thread.specs.State.{IsAllowed};
 ghost use Rattle.ir_outcomes.specs.Shown.{IsShown};
 
@@ -32,20 +32,20 @@ pub struct Shown {
 /// # Errors
 /// Out of memory. No turns were found that lead to it.
 pub fn show(alloc: Global, states: &States<'_>, node: usize) -> Result<Shown, Stop>
-    requires allowed { IsAllowed states.now.graph.profile states.now.graph.image.now }
-    requires reached { AllReached states.now.graph.image.now states.now.graph.profile states.now.graph.flats.items }
+    requires allowed { IsAllowed states.now.graph.setup.profile states.now.graph.setup.guest }
+    requires reached { AllReached states.now.graph.setup states.now.graph.flats.items }
     requires node { node < length states.now.graph.flats.items }
     requires origin { node < length states.now.search.found.nodes.items }
     ensures refused { IfErr result (λ stop. (stop ≡ Memory) ⊎ (stop ≡ Order node)) }
     ensures node { IfOk result (λ shown. shown.node ≡ node) }
     ensures level { IfOk result (λ shown. (n : Origin) → slice_get states.now.search.found.nodes.items node ≡ Some n → shown.level ≡ n.level) }
-    ensures shown { IfOk result (λ shown. (f : Flat) → slice_get states.now.graph.flats.items node ≡ Some f → IsShown states.now.graph.image.now states.now.graph.profile f shown.level (turns_of_items shown.turns.items)) }
+    ensures shown { IfOk result (λ shown. (s : SourcedFlat) → slice_get states.now.graph.flats.items node ≡ Some s → IsShown states.now.graph.setup s shown.level (turns_of_items shown.turns.items)) }
 {
     let origins = states.search.found.nodes.as_slice();
     let path = path_to(alloc, origins, node)?;
-    let (flat, turns) = run_to_node(alloc, states, path.as_slice(), node)?;
+    let (state, turns) = run_to_node(alloc, states, path.as_slice(), node)?;
     let kept = states.graph.flats.get(node)?;
-    if !is_done(&flat) || !same_outcome(&flat, &kept) {
+    if !is_done(&state.flat) || !same_outcome(&state.flat, &kept.flat) {
         return Err(Stop::Order(node));
     }
     Ok(Shown {

@@ -3,6 +3,7 @@
 ghost use Rattle.std.specs.Prelude.{◌≡◌, false};
 
 use crate::commands::bytes_of;
+use crate::commands::recording::input_of;
 use crate::dispatch::Surroundings;
 use ir_arguments::ExploreArguments;
 use ir_explore::Observer;
@@ -27,11 +28,12 @@ where
     requires reports { E.broken faults.old ≡ false }
 {
     let (alloc, folder) = (around.rt.alloc(), around.folder);
-    match bytes_of(alloc, folder, faults, arguments.image.as_str(), MOST_BYTES) {
-        Some(image) => {
-            let (bytes, observer) = (image.as_slice(), around.gate);
-            explore_run(alloc, bytes, arguments.plan, observer, out, faults)
-        }
-        None => ExitStatus::Failed,
-    }
+    let Some(image) = bytes_of(alloc, folder, faults, arguments.image.as_str(), MOST_BYTES) else {
+        return ExitStatus::Failed;
+    };
+    let Some(input) = input_of(alloc, folder, faults, arguments.input.as_ref()) else {
+        return ExitStatus::Failed;
+    };
+    let plan = arguments.plan(input.as_slice());
+    explore_run(alloc, image.as_slice(), &plan, around.gate, out, faults)
 }

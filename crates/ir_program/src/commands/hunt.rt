@@ -86,7 +86,7 @@ where
         Ok(outputs) => outputs,
         Err(status) => return status,
     };
-    let Some(input) = input_of(alloc, folder, faults, &paths(arguments)) else {
+    let Some(input) = input_of(alloc, folder, faults, paths(arguments).input) else {
         return ExitStatus::Failed;
     };
     let plan = HuntPlan {

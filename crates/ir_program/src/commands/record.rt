@@ -139,7 +139,7 @@ impl Beside {
     {
         let paths = paths(arguments);
         let outputs = output_places(alloc, folder, faults, &paths, image)?;
-        let Some(input) = input_of(alloc, folder, faults, &paths) else {
+        let Some(input) = input_of(alloc, folder, faults, paths.input) else {
             return Err(ExitStatus::Failed);
         };
         let list = match arguments.chaos {

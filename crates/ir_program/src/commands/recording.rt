@@ -53,11 +53,11 @@ pub fn input_of<D: Folder, E: Sink>(
     alloc: Global,
     folder: &D,
     faults: &mut E,
-    paths: &RecordingPaths<'_>,
+    file: Option<&String>,
 ) -> Option<Vec<u8>>
     ensures kept { OnSome result (faults.new ≡ faults.old) }
 {
-    match paths.input {
+    match file {
         Some(path) => bytes_of(alloc, folder, faults, path.as_str(), MOST_INPUT),
         None => Some(Vec::new(alloc)),
     }

@@ -1,11 +1,11 @@
 //! `ir explore --until`: the first outcome that fulfils conditions is recorded.
 
-ghost use Rattle.std.specs.Prelude.{◌≡◌, false};
+ghost use Rattle.std.specs.Prelude.{◌≡◌, OnOk, false};
 
 use crate::commands::bytes_of;
 use crate::commands::conditions::conditions_of;
 use crate::commands::recording::{
-    Places, RecordingPaths, loses_input, output_places, record_files,
+    Places, RecordingPaths, input_of, loses_input, output_places, record_files,
 };
 use crate::dispatch::Surroundings;
 use crate::ends::tell_ends;
@@ -16,6 +16,7 @@ use ir_files::{ExitStatus, Folder, MOST_BYTES};
 use ir_record_run::ParsedImage;
 use ir_stream::Sink;
 use ir_trace::Trace;
+use std::alloc::Global;
 use std::sync::Wait;
 use std::thread::Threads;
 use std::time::Clock;
@@ -25,9 +26,26 @@ fn paths(arguments: &UntilArguments) -> RecordingPaths<'_> {
     RecordingPaths {
         image: arguments.explore.image.as_str(),
         trace: arguments.trace.as_str(),
-        input: None,
+        input: arguments.explore.input.as_ref(),
         list: None,
         output: arguments.output.as_ref(),
+    }
+}
+
+// Where what the threads print goes, if it is asked for, and the bytes that they read. If there are none, the reason is reported.
+fn beside_of<D: Folder, E: Sink>(
+    alloc: Global,
+    folder: &D,
+    faults: &mut E,
+    paths: &RecordingPaths<'_>,
+    image: &ParsedImage<'_>,
+) -> Result<(Option<Vec<String>>, Vec<u8>), ExitStatus>
+    ensures kept { OnOk result (faults.new ≡ faults.old) }
+{
+    let outputs = output_places(alloc, folder, faults, paths, image)?;
+    match input_of(alloc, folder, faults, paths.input) {
+        Some(input) => Ok((outputs, input)),
+        None => Err(ExitStatus::Failed),
     }
 }
 
@@ -84,13 +102,13 @@ where
         Ok(conditions) => conditions,
         Err(status) => return status,
     };
-    let outputs = match output_places(alloc, folder, faults, &paths, &image) {
-        Ok(outputs) => outputs,
+    let (outputs, input) = match beside_of(alloc, folder, faults, &paths, &image) {
+        Ok(beside) => beside,
         Err(status) => return status,
     };
     let plan = UntilPlan {
         image: &image,
-        explore: arguments.explore.plan,
+        explore: arguments.explore.plan(input.as_slice()),
         conditions: conditions.as_slice(),
         observer: around.gate,
     };

@@ -8,6 +8,7 @@ use Rattle.ir_outcomes.specs.declared.shown.Shown.{Shown}
 use Rattle.ir_record.specs.Recording.{turns_of_items}
 use Rattle.ir_record.specs.declared.item.Item.{Item}
 use Rattle.ir_explore_run.specs.Lines.{found_line}
+use Rattle.ir_explore_run.specs.Plan.{setup_of}
 use Rattle.ir_explore_run.specs.Texts.{Objects, objects_of, AreTexts, known_of}
 use Rattle.ir_explore_run.proofs.Hits.{shown_order_is_not_empty, is_hit_if_shown_outcome_fulfils}
 use Rattle.ir_explore_run.proofs.Joined.{texts_of_no_outcome}
@@ -19,7 +20,7 @@ outcomes_text-requires-clause-objects c = λ v f is.
     ∙ sym (ap length c.objects.ensures.value ∙ ap (λ z. length z.objects) c.in_ok-start.ensures)
 
 pub returns : goal.returns
-returns c = λ cs none (x, f, at, does).
+returns c = λ cs none (x, s, at, does).
     let guest = c.args.image.now in
     let flats = c.args.explored.now.states.graph.flats.items in
     let outcomes = c.args.explored.now.outcomes.items in
@@ -40,7 +41,7 @@ returns c = λ cs none (x, f, at, does).
     let same : y ≡ x = same_Some y x (sym here ∙ at.0) in
     let next : place + 1 ≡ suc place = omega arith in
     let turns = c.as_slice.ensures.value ∙ ap (λ (z : Shown). z.turns.items) same in
-    let some = shown_order_is_not_empty guest c.args.profile f x.level (turns_of_items x.turns.items) c.entries.ensures.within.some_thread (c.requires.explored.shown place x f at) in
+    let some = shown_order_is_not_empty (setup_of guest c.args.plan.now) s x.level (turns_of_items x.turns.items) c.entries.ensures.within.some_thread (c.requires.explored.shown place x s at) in
     let spells : SpellsTurns list (turns_of_items x.turns.items) =
     subst (λ (ts : List Item). turns_of_items ts ≢ [] → SpellsTurns list (turns_of_items ts)) turns c.in_ok-list.ensures.spelled some in
     record {
@@ -48,10 +49,10 @@ returns c = λ cs none (x, f, at, does).
       explored = c.requires.explored;
       place = place;
       shown = x;
-      state = f;
+      state = s;
       at = at;
       first = none;
-      hit = is_hit_if_shown_outcome_fulfils guest c.args.profile cs flats outcomes c.args.explored.now.levels place x f list c.requires.explored at none does spells;
+      hit = is_hit_if_shown_outcome_fulfils guest c.args.plan.now cs flats outcomes c.args.explored.now.levels place x s list c.requires.explored at none does spells;
       lines = lines;
       texts = subst (λ z. AreTexts z flats outcomes (suc place) lines) first
           (subst (λ z. AreTexts own flats z (suc place) lines) value

@@ -13,37 +13,37 @@ state_of-requires c =
     c.requires c.loop-i.i x (slice_get-get_or c.args.outcomes.now c.loop-i.i x less ∙ ap Some (sym c.index-outcomes-i.is))
 
 pub returns-then-fulfils : goal.returns-then-fulfils
-returns-then-fulfils c = λ guest profile reached.
+returns-then-fulfils c = λ setup reached.
     let less : c.loop-i.i < length c.args.outcomes.now = (let a = c.loop-i-test.true in let b = c.loop-i.auto.i-end in omega (arith, a, b)) in
     let x = c.index-outcomes-i.result in
-    let f = c.in_ok-state.state in
+    let s = c.in_ok-state.state in
     let at : slice_get c.args.outcomes.now c.loop-i.i ≡ Some x =
     slice_get-get_or c.args.outcomes.now c.loop-i.i x less ∙ ap Some (sym c.index-outcomes-i.is) in (
-      c.loop-i.invariant guest profile reached,
+      c.loop-i.invariant setup reached,
       (
         x,
-        f,
+        s,
         (at, c.in_ok-state.ensures.value),
-        sym (reached_state_fulfils_declared_conditions guest profile c.args.conditions.now f (reached x.node f c.in_ok-state.ensures.value) c.in_ok-state.ensures.flat)
+        sym (reached_state_fulfils_declared_conditions setup c.args.conditions.now s (reached x.node s c.in_ok-state.ensures.value) c.in_ok-state.ensures.flat)
             ∙ sym c.fulfils.ensures ∙ c.if-fulfils.true,
       ),
     )
 
 pub loop-i-preserved : goal.loop-i-preserved
-loop-i-preserved c = λ guest profile reached.
+loop-i-preserved c = λ setup reached.
     let less : c.loop-i.i < length c.args.outcomes.now = (let a = c.loop-i-test.true in let b = c.loop-i.auto.i-end in omega (arith, a, b)) in
     let x = c.index-outcomes-i.result in
-    let f = c.in_ok-state.state in
+    let s = c.in_ok-state.state in
     let cs = map as_condition c.args.conditions.now in
     let at : slice_get c.args.outcomes.now c.loop-i.i ≡ Some x =
     slice_get-get_or c.args.outcomes.now c.loop-i.i x less ∙ ap Some (sym c.index-outcomes-i.is) in
     let next : suc c.loop-i.i ≡ c.loop-i.i + 1 = omega arith in
-    subst (NoneBefore guest cs c.args.flats.now.items c.args.outcomes.now) next
-    (none_before_step guest cs c.args.flats.now.items c.args.outcomes.now c.loop-i.i x f (c.loop-i.invariant guest profile reached) (at, c.in_ok-state.ensures.value)
-    (sym (reached_state_fulfils_declared_conditions guest profile c.args.conditions.now f (reached x.node f c.in_ok-state.ensures.value) c.in_ok-state.ensures.flat)
+    subst (NoneBefore setup.guest cs c.args.flats.now.items c.args.outcomes.now) next
+    (none_before_step setup.guest cs c.args.flats.now.items c.args.outcomes.now c.loop-i.i x s (c.loop-i.invariant setup reached) (at, c.in_ok-state.ensures.value)
+    (sym (reached_state_fulfils_declared_conditions setup c.args.conditions.now s (reached x.node s c.in_ok-state.ensures.value) c.in_ok-state.ensures.flat)
     ∙ sym c.fulfils.ensures ∙ c.if-fulfils.false))
 
 pub returns : goal.returns
-returns c = λ guest profile reached i x f less at.
-    c.loop-i.invariant guest profile reached i x f
+returns c = λ setup reached i x s less at.
+    c.loop-i.invariant setup reached i x s
     (let a = c.loop-i-test.false in let b = c.loop-i.auto.i-end in omega (arith, less, a, b)) at

@@ -1,5 +1,11 @@
+use Rattle.std.proofs.Common.{subst}
+use Rattle.ir_outcomes.specs.Explored.{IsExplored}
 use Rattle.ir_explore_run.proofs.Printed.{explored_is_known}
 use Rattle.ir_explore_run.proofs.known.known.Goals as goal
 
 pub returns-clause-known : goal.returns-clause-known
-returns-clause-known g c = explored_is_known c.args.image.now c.args.plan c.in_ok-explored.explored c.in_ok-explored.ensures.explored
+returns-clause-known g c =
+    let plan = c.args.plan.now in
+    let e = c.in_ok-explored.explored in
+    explored_is_known c.args.image.now plan e
+    (subst (λ z. IsExplored z plan.bounds plan.switches e) c.setup.ensures c.in_ok-explored.ensures.explored)

@@ -5,6 +5,7 @@ use Rattle.std.proofs.lemmas.Result.{err_from_is_err_and}
 use Rattle.ir_files.proofs.CallerLemmas.{if_err_for_handed_on_error}
 use Rattle.ir_files.specs.Writers.{writer_of}
 use Rattle.ir_flat.specs.Flat.{start_cells}
+use Rattle.ir_graph.specs.Setup.{Setup}
 use Rattle.ir_image.specs.Guest.{object_count}
 use Rattle.ir_outcomes.specs.Explored.{AreExplored}
 use Rattle.ir_outcomes.specs.Exploring.{levels_left}
@@ -22,8 +23,7 @@ levels-init g c =
     let o = objects_in c.args.started in
     record {
       is = c.requires.is;
-      image = refl;
-      profile = refl;
+      setup = refl;
       bounds = refl;
       most = refl;
       works = c.requires.works;
@@ -35,13 +35,12 @@ levels-init g c =
     }
 
 pub go_over-requires-clause-allowed : goal.go_over-requires-clause-allowed
-go_over-requires-clause-allowed g c = subst (λ p. IsAllowed p c.levels.exploring.states.graph.image.now) (sym c.levels.invariant.profile)
-    (subst (IsAllowed c.args.exploring.now.states.graph.profile) (sym c.levels.invariant.image) c.requires.allowed)
+go_over-requires-clause-allowed g c = subst (λ (z : Setup). IsAllowed z.profile z.guest) (sym c.levels.invariant.setup) c.requires.allowed
 
 pub print_from-requires-clause-objects : goal.print_from-requires-clause-objects
-print_from-requires-clause-objects g c = λ v f is.
-    (c.go_over.ensures.is.search.graph.reached v f is).like.objects
-    ∙ ap (λ z. length (start_cells z 0 (object_count z))) (c.go_over.ensures.image ∙ c.levels.invariant.image)
+print_from-requires-clause-objects g c = λ v s is.
+    (c.go_over.ensures.is.search.graph.reached v s is).like.objects
+    ∙ ap (λ (z : Setup). length (start_cells z.guest 0 (object_count z.guest))) (c.go_over.ensures.setup ∙ c.levels.invariant.setup)
     ∙ sym (ap (λ (o : Objects). length o.first) c.requires.started)
 
 pub print_from-requires-clause-from : goal.print_from-requires-clause-from
@@ -65,8 +64,7 @@ levels-preserved g c =
     let more = c.in_ok-print_from.ensures.printed before.0 kept in
     record {
       is = c.go_over.ensures.is;
-      image = c.go_over.ensures.image ∙ c.levels.invariant.image;
-      profile = c.go_over.ensures.profile ∙ c.levels.invariant.profile;
+      setup = c.go_over.ensures.setup ∙ c.levels.invariant.setup;
       bounds = c.go_over.ensures.bounds ∙ c.levels.invariant.bounds;
       most = c.go_over.ensures.most ∙ c.levels.invariant.most;
       works = c.in_ok-print_from.ensures.works;
@@ -91,8 +89,7 @@ levels-smaller g c =
 pub returns-in_err-print_from-clause-failed : goal.returns-in_err-print_from-clause-failed
 returns-in_err-print_from-clause-failed g c =
     let p = err_from_is_err_and c.from_residual.result c.from_residual.ensures.1 in
-    let guest = c.args.exploring.now.states.graph.image.now in
-    let profile = c.args.exploring.now.states.graph.profile in
+    let setup = c.args.exploring.now.states.graph.setup in
     let w = writer_of (g.O.Sink.written c.args.out.now) (g.O.Sink.written c.print_from.new.out) (g.O.Sink.broken c.print_from.new.out) in
     let o = objects_in c.args.started in
     let old = c.levels.exploring in
@@ -102,25 +99,22 @@ returns-in_err-print_from-clause-failed g c =
     let same = c.len-printed.ensures in
     let kept = printed_among_more o old new c.len-printed.result before.0 (omega (arith, same, size)) c.levels.invariant.is.explored.nodes
     c.go_over.ensures.stay c.go_over.ensures.outcomes before.1 in
-    let explored = subst (λ z. AreExplored z profile old.states.graph.flats.items old.list.levels old.list.outcomes.items) c.levels.invariant.image
-    (subst (λ p. AreExplored old.states.graph.image.now p old.states.graph.flats.items old.list.levels old.list.outcomes.items)
-    c.levels.invariant.profile c.levels.invariant.is.explored) in
-    let later = subst (λ z. AreExplored z profile new.states.graph.flats.items new.list.levels new.list.outcomes.items)
-    (c.go_over.ensures.image ∙ c.levels.invariant.image)
-    (subst (λ p. AreExplored new.states.graph.image.now p new.states.graph.flats.items new.list.levels new.list.outcomes.items)
-    (c.go_over.ensures.profile ∙ c.levels.invariant.profile) c.go_over.ensures.is.explored) in
-    if_err_for_handed_on_error (λ e. EndsEarly e guest profile w) c.from_residual.result c.in_err-print_from.field-0.0 p.0 p.1 p.2
+    let explored = subst (λ z. AreExplored z old.states.graph.flats.items old.list.levels old.list.outcomes.items) c.levels.invariant.setup
+    c.levels.invariant.is.explored in
+    let later = subst (λ z. AreExplored z new.states.graph.flats.items new.list.levels new.list.outcomes.items)
+    (c.go_over.ensures.setup ∙ c.levels.invariant.setup) c.go_over.ensures.is.explored in
+    if_err_for_handed_on_error (λ e. EndsEarly e setup w) c.from_residual.result c.in_err-print_from.field-0.0 p.0 p.1 p.2
     (elim c.in_err-print_from.ensures.failed [
-      | inl (memory, stays) ↦ subst (λ z. EndsEarly z guest profile w) (sym memory) (
+      | inl (memory, stays) ↦ subst (λ z. EndsEarly z setup w) (sym memory) (
         before.0,
-        printed_outcomes_are_part guest profile o old before.0 c.requires.started explored before.1,
+        printed_outcomes_are_part setup o old before.0 c.requires.started explored before.1,
         subst (λ z. Appends (g.O.Sink.written c.args.out.now) (g.O.Sink.written z) before.0) (sym stays) before.2,
       )
       | inr (write, broken, prints) ↦
           let more = prints before.0 kept in
-          subst (λ z. EndsEarly z guest profile w) (sym write) (
+          subst (λ z. EndsEarly z setup w) (sym write) (
             before.0 ++ more.0,
-            printed_outcomes_are_part guest profile o new (before.0 ++ more.0) c.requires.started later more.1,
+            printed_outcomes_are_part setup o new (before.0 ++ more.0) c.requires.started later more.1,
             failed_after_taken_text w (g.O.Sink.written c.levels.out) before.0 more.0 before.2 more.2 broken,
           )
     ])

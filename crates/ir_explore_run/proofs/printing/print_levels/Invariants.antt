@@ -8,8 +8,7 @@ use Rattle.ir_explore_run.proofs.printing.print_levels.Given as goal
 abbrev pub invariant-levels : goal.invariant-levels
 invariant-levels g l = record {
   is : IsExploring l.exploring;
-  image : l.exploring.states.graph.image.now ≡ l.fn.exploring.states.graph.image.now;
-  profile : l.exploring.states.graph.profile ≡ l.fn.exploring.states.graph.profile;
+  setup : l.exploring.states.graph.setup ≡ l.fn.exploring.states.graph.setup;
   bounds : l.exploring.states.graph.bounds ≡ l.fn.exploring.states.graph.bounds;
   most : l.exploring.most ≡ l.fn.exploring.most;
   works : g.O.Sink.broken l.out ≡ false;

@@ -12,7 +12,7 @@ use Rattle.ir_explore_run.specs.Faults.{StopsPrinting}
 use Rattle.ir_explore_run.specs.Printing.{EndsEarly}
 use Rattle.ir_explore_run.specs.Texts.{Objects, objects_of, IsReason, IsStopped, IsEnding, IsAnswerAbout, known_of}
 use Rattle.ir_explore_run.specs.declared.fault.ExploreFault.TheVariants.{NoMem, Write}
-use Rattle.ir_explore_run.specs.declared.plan.ExplorePlan.{ExplorePlan}
+use Rattle.ir_explore_run.specs.Plan.{ExplorePlan, setup_of}
 use Rattle.ir_explore_run.proofs.Printed.{stops_before_first_line, printed_outcomes_are_part, failed_after_taken_text, answer_of_lines_and_ending}
 use Rattle.ir_explore_run.proofs.run.show.Goals as goal
 
@@ -21,13 +21,13 @@ returns-in_err-start-clause-fails g c =
     let p = err_from_is_err_and c.from_residual.result c.from_residual.ensures.1 in
     let out = g.O.Sink.written c.args.out.now in
     let w = writer_of out out (g.O.Sink.broken c.args.out.now) in
-    if_err_for_handed_on_error (λ e. StopsPrinting e c.args.image.now c.args.plan w) c.from_residual.result NoMem p.0 p.1 p.2
-    (stops_before_first_line c.args.image.now c.args.plan w refl)
+    if_err_for_handed_on_error (λ e. StopsPrinting e c.args.image.now c.args.plan.now w) c.from_residual.result NoMem p.0 p.1 p.2
+    (stops_before_first_line c.args.image.now c.args.plan.now w refl)
 
 pub returns-in-Err-clause-ok : goal.returns-in-Err-clause-ok
 returns-in-Err-clause-ok g c =
     let guest = c.args.image.now in
-    let plan = c.args.plan in
+    let plan = c.args.plan.now in
     let old = g.O.Sink.written c.args.out.now in
     let new = g.O.Sink.written c.show_stop.new.out in
     IfOk-weaker c.show_stop.result
@@ -39,7 +39,7 @@ returns-in-Err-clause-ok g c =
 pub returns-clause-ok : goal.returns-clause-ok
 returns-clause-ok g c =
     let guest = c.args.image.now in
-    let plan = c.args.plan in
+    let plan = c.args.plan.now in
     let s = c.print_levels.new.exploring in
     let e = c.end-explored.result in
     let own : Objects = record { words = c.object_words.result; first = c.objects.result.now } in
@@ -48,11 +48,11 @@ returns-clause-ok g c =
       words = c.object_words.ensures.value i;
       first = (c.objects.ensures.value ∙ ap (λ z. z.objects) c.in_ok-start.ensures) i;
     } in
-    let is = subst (λ z. IsExplored z plan.profile plan.bounds plan.switches e) (c.print_levels.ensures.image ∙ c.in-Ok.ensures.image)
-    (subst (λ z. IsExplored s.states.graph.image.now z plan.bounds plan.switches e) (c.print_levels.ensures.profile ∙ c.in-Ok.ensures.profile)
-    (subst (λ z. IsExplored s.states.graph.image.now s.states.graph.profile z plan.switches e) (c.print_levels.ensures.bounds ∙ c.in-Ok.ensures.bounds)
-    (subst (λ z. IsExplored s.states.graph.image.now s.states.graph.profile s.states.graph.bounds z e) (c.print_levels.ensures.most ∙ c.in-Ok.ensures.most)
-    c.end-explored.ensures.explored))) in
+    let same_setup = c.print_levels.ensures.setup ∙ c.in-Ok.ensures.setup ∙ c.setup.ensures in
+    let is = subst (λ z. IsExplored z plan.bounds plan.switches e) same_setup
+    (subst (λ z. IsExplored s.states.graph.setup z plan.switches e) (c.print_levels.ensures.bounds ∙ c.in-Ok.ensures.bounds)
+    (subst (λ z. IsExplored s.states.graph.setup s.states.graph.bounds z e) (c.print_levels.ensures.most ∙ c.in-Ok.ensures.most)
+    c.end-explored.ensures.explored)) in
     let before = c.in_ok-print_levels.ensures.printed in
     let old = g.O.Sink.written c.args.out.now in
     let mid = g.O.Sink.written c.print_levels.new.out in
@@ -70,7 +70,7 @@ returns-clause-ok g c =
 pub returns-clause-fails : goal.returns-clause-fails
 returns-clause-fails g c =
     let guest = c.args.image.now in
-    let plan = c.args.plan in
+    let plan = c.args.plan.now in
     let s = c.print_levels.new.exploring in
     let e = c.end-explored.result in
     let own : Objects = record { words = c.object_words.result; first = c.objects.result.now } in
@@ -79,15 +79,13 @@ returns-clause-fails g c =
       words = c.object_words.ensures.value i;
       first = (c.objects.ensures.value ∙ ap (λ z. z.objects) c.in_ok-start.ensures) i;
     } in
-    let is = subst (λ z. IsExplored z plan.profile plan.bounds plan.switches e) (c.print_levels.ensures.image ∙ c.in-Ok.ensures.image)
-    (subst (λ z. IsExplored s.states.graph.image.now z plan.bounds plan.switches e) (c.print_levels.ensures.profile ∙ c.in-Ok.ensures.profile)
-    (subst (λ z. IsExplored s.states.graph.image.now s.states.graph.profile z plan.switches e) (c.print_levels.ensures.bounds ∙ c.in-Ok.ensures.bounds)
-    (subst (λ z. IsExplored s.states.graph.image.now s.states.graph.profile s.states.graph.bounds z e) (c.print_levels.ensures.most ∙ c.in-Ok.ensures.most)
-    c.end-explored.ensures.explored))) in
-    let explored = subst (λ z. AreExplored z plan.profile s.states.graph.flats.items s.list.levels s.list.outcomes.items)
-    (c.print_levels.ensures.image ∙ c.in-Ok.ensures.image)
-    (subst (λ z. AreExplored s.states.graph.image.now z s.states.graph.flats.items s.list.levels s.list.outcomes.items)
-    (c.print_levels.ensures.profile ∙ c.in-Ok.ensures.profile) c.print_levels.ensures.is.explored) in
+    let same_setup = c.print_levels.ensures.setup ∙ c.in-Ok.ensures.setup ∙ c.setup.ensures in
+    let is = subst (λ z. IsExplored z plan.bounds plan.switches e) same_setup
+    (subst (λ z. IsExplored s.states.graph.setup z plan.switches e) (c.print_levels.ensures.bounds ∙ c.in-Ok.ensures.bounds)
+    (subst (λ z. IsExplored s.states.graph.setup s.states.graph.bounds z e) (c.print_levels.ensures.most ∙ c.in-Ok.ensures.most)
+    c.end-explored.ensures.explored)) in
+    let explored = subst (λ z. AreExplored z s.states.graph.flats.items s.list.levels s.list.outcomes.items) same_setup
+    c.print_levels.ensures.is.explored in
     let before = c.in_ok-print_levels.ensures.printed in
     let old = g.O.Sink.written c.args.out.now in
     let mid = g.O.Sink.written c.print_levels.new.out in
@@ -98,9 +96,9 @@ returns-clause-fails g c =
     × (answered : ExitStatus) × (text : List ℕ) × IsEnding (known_of e) answered text × AppendsPrefix mid new text))
     (λ f. StopsPrinting f guest plan w)
     (λ f p. elim p [
-      | inl (memory, stays) ↦ inl (subst (λ z. EndsEarly z guest plan.profile w) (sym memory) (
+      | inl (memory, stays) ↦ inl (subst (λ z. EndsEarly z (setup_of guest plan) w) (sym memory) (
         before.0,
-        printed_outcomes_are_part guest plan.profile own s before.0 same explored before.1,
+        printed_outcomes_are_part (setup_of guest plan) own s before.0 same explored before.1,
         subst (λ z. Appends old (g.O.Sink.written z) before.0) (sym stays) before.2,
       ))
       | inr (write, broken, answered, text, ending, prefix) ↦ inr (

@@ -7,7 +7,7 @@ use Rattle.ir_stream.specs.Answers.{AppendsPrefix}
 use Rattle.ir_explore_run.specs.Faults.{StopsPrinting}
 use Rattle.ir_explore_run.specs.Texts.{IsReason}
 use Rattle.ir_explore_run.specs.declared.fault.ExploreFault.TheVariants.{NoMem, Write}
-use Rattle.ir_explore_run.specs.declared.plan.ExplorePlan.{ExplorePlan}
+use Rattle.ir_explore_run.specs.Plan.{ExplorePlan}
 use Rattle.ir_explore_run.proofs.Printed.{stops_before_first_line, stops_in_answer}
 use Rattle.ir_explore_run.proofs.run.show_stop.Goals as goal
 

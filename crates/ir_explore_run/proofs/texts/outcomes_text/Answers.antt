@@ -20,7 +20,7 @@ loop-i-preserved c =
     let less : c.loop-i.i < length c.args.outcomes.now =
     (let a = c.loop-i-test.true in let b = c.loop-i.auto.i-end in let m = c.requires.until in omega (arith, a, b, m)) in
     let x = c.index-outcomes-i.result in
-    let f = c.in_ok-state.state in
+    let s = c.in_ok-state.state in
     let at : slice_get c.args.outcomes.now c.loop-i.i ≡ Some x =
     slice_get-get_or c.args.outcomes.now c.loop-i.i x less ∙ ap Some (sym c.index-outcomes-i.is) in
     let next : c.loop-i.i + 1 ≡ suc c.loop-i.i = omega arith in
@@ -28,5 +28,5 @@ loop-i-preserved c =
     subst (AreTexts o c.args.flats.now.items c.args.outcomes.now (c.loop-i.i + 1))
     (append_assoc before c.loop-i.text.items c.in_ok-own.own.items
     ∙ ap (λ z. before ++ z) (sym (c.in_ok-extend_from_slice.ensures.items ∙ ap (λ z. c.loop-i.text.items ++ z) c.as_slice.ensures.value)))
-    (texts_after_outcome o c.args.flats.now.items c.args.outcomes.now c.loop-i.i (before ++ c.loop-i.text.items) c.in_ok-own.own.items x f
-    (c.loop-i.invariant before first) (at, c.in_ok-state.ensures.value) (subst (λ z. IsOutcomeText o f z x c.in_ok-own.own.items) next c.in_ok-own.ensures))
+    (texts_after_outcome o c.args.flats.now.items c.args.outcomes.now c.loop-i.i (before ++ c.loop-i.text.items) c.in_ok-own.own.items x s
+    (c.loop-i.invariant before first) (at, c.in_ok-state.ensures.value) (subst (λ z. IsOutcomeText o s.flat z x c.in_ok-own.own.items) next c.in_ok-own.ensures))

@@ -38,7 +38,7 @@ returns-clause-found g c =
       told.0,
       list,
       done.0,
-      recording_of_hit_is_finding c.args.plan.now.image.now c.args.plan.now.explore.profile (map as_condition c.args.plan.now.conditions.now) list told.0 c.in_ok-recorded.recorded done.0 says.guest says.is
+      recording_of_hit_is_finding c.args.plan.now.image.now c.args.plan.now.explore (map as_condition c.args.plan.now.conditions.now) list told.0 c.in_ok-recorded.recorded done.0 says.guest says.is
           says.says done.1,
       done.2,
       done.3,

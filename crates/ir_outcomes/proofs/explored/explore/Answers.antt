@@ -1,4 +1,5 @@
 use Rattle.std.proofs.Common.{◌-◌, ◌<◌, None, suc, sym, ◌∙◌, subst}
+use Rattle.ir_graph.specs.Setup.{Setup}
 use Rattle.ir_outcomes.specs.Explored.{IsExplored}
 use Rattle.ir_outcomes.specs.Exploring.{levels_left}
 use Rattle.ir_thread.specs.State.{IsAllowed}
@@ -7,14 +8,12 @@ use Rattle.ir_outcomes.proofs.explored.explore.Goals as goal
 
 pub go_over-requires-clause-allowed : goal.go_over-requires-clause-allowed
 go_over-requires-clause-allowed g c =
-    subst (λ z. IsAllowed z c.levels.exploring.states.graph.image.now) (sym c.levels.invariant.profile)
-    (subst (IsAllowed c.args.profile) (sym c.levels.invariant.image) c.requires.allowed)
+    subst (λ (z : Setup). IsAllowed z.profile z.guest) (sym c.levels.invariant.setup) c.requires.allowed
 
 pub levels-preserved : goal.levels-preserved
 levels-preserved g c = record {
   is = c.go_over.ensures.is;
-  image = c.go_over.ensures.image ∙ c.levels.invariant.image;
-  profile = c.go_over.ensures.profile ∙ c.levels.invariant.profile;
+  setup = c.go_over.ensures.setup ∙ c.levels.invariant.setup;
   bounds = c.go_over.ensures.bounds ∙ c.levels.invariant.bounds;
   most = c.go_over.ensures.most ∙ c.levels.invariant.most;
 }
@@ -31,14 +30,12 @@ levels-smaller g c =
 
 pub end-requires-clause-allowed : goal.end-requires-clause-allowed
 end-requires-clause-allowed g c =
-    subst (λ z. IsAllowed z c.levels.exploring.states.graph.image.now) (sym c.levels.invariant.profile)
-    (subst (IsAllowed c.args.profile) (sym c.levels.invariant.image) c.requires.allowed)
+    subst (λ (z : Setup). IsAllowed z.profile z.guest) (sym c.levels.invariant.setup) c.requires.allowed
 
 pub returns-clause-explored : goal.returns-clause-explored
 returns-clause-explored g c =
     let e = c.levels.exploring in
     let r = c.end.result in
-    subst (λ z. IsExplored z c.args.profile c.args.bounds c.args.most r) c.levels.invariant.image
-    (subst (λ z. IsExplored e.states.graph.image.now z c.args.bounds c.args.most r) c.levels.invariant.profile
-    (subst (λ z. IsExplored e.states.graph.image.now e.states.graph.profile z c.args.most r) c.levels.invariant.bounds
-    (subst (λ z. IsExplored e.states.graph.image.now e.states.graph.profile e.states.graph.bounds z r) c.levels.invariant.most c.end.ensures.explored)))
+    subst (λ z. IsExplored z c.args.bounds c.args.most r) c.levels.invariant.setup
+    (subst (λ z. IsExplored e.states.graph.setup z c.args.most r) c.levels.invariant.bounds
+    (subst (λ z. IsExplored e.states.graph.setup e.states.graph.bounds z r) c.levels.invariant.most c.end.ensures.explored))

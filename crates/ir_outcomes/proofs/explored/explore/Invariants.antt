@@ -5,8 +5,7 @@ use Rattle.ir_outcomes.proofs.explored.explore.Given as goal
 abbrev pub invariant-levels : goal.invariant-levels
 invariant-levels g l = record {
   is : IsExploring l.exploring;
-  image : l.exploring.states.graph.image.now ≡ l.image;
-  profile : l.exploring.states.graph.profile ≡ l.fn.profile;
+  setup : l.exploring.states.graph.setup ≡ l.setup;
   bounds : l.exploring.states.graph.bounds ≡ l.fn.bounds;
   most : l.exploring.most ≡ l.most;
 }

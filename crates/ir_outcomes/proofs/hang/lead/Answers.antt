@@ -4,21 +4,23 @@ use Rattle.std.specs.List.{slice_index_or}
 use Rattle.std.proofs.lemmas.Option.{same_Some, slice_get-get_or}
 use Rattle.ir_explore.specs.declared.origin.Origin.{Origin}
 use Rattle.ir_explore.specs.Origins.{first_origin}
-use Rattle.ir_flat.specs.Flat.{start_flat}
 use Rattle.ir_graph.specs.Nodes.{LookAlike}
 use Rattle.ir_graph.proofs.CallerLemmas.{like_symmetric, like_transitive}
 use Rattle.ir_record.specs.Recording.{turns_of_items}
-use Rattle.ir_thread.specs.State.{most_budget}
+use Rattle.ir_graph.specs.Setup.{start_of}
 use Rattle.ir_outcomes.proofs.Lost.{shown_at_if_again_within}
 use Rattle.ir_outcomes.proofs.hang.lead.Goals as goal
 
-pub same_state-requires : goal.same_state-requires
-same_state-requires c =
-    let f = c.in_ok-kept.kept in
-    let at : slice_get c.args.states.now.graph.flats.items c.args.node ≡ Some f = c.in_ok-kept.ensures.found in
-    like_transitive c.in_ok-flat.flat (start_flat c.args.states.now.graph.image.now most_budget c.args.states.now.graph.profile) f
-    (like_symmetric (start_flat c.args.states.now.graph.image.now most_budget c.args.states.now.graph.profile) c.in_ok-flat.flat c.in_ok-flat.ensures.again.again.like)
-    (c.requires.reached c.args.node f at).like
+pub same_state-requires-clause-like : goal.same_state-requires-clause-like
+same_state-requires-clause-like c =
+    let s = c.in_ok-kept.kept in
+    let u = c.in_ok-state.state in
+    let first = (start_of c.args.states.now.graph.setup).flat in
+    like_transitive u.flat first s.flat (like_symmetric first u.flat c.in_ok-state.ensures.again.again.like)
+    (c.requires.reached c.args.node s c.in_ok-kept.ensures.found).like
+
+pub same_state-requires-clause-sources : goal.same_state-requires-clause-sources
+same_state-requires-clause-sources c = c.in_ok-state.ensures.again.again.each
 
 pub returns-clause-level : goal.returns-clause-level
 returns-clause-level c = λ n is.
@@ -29,18 +31,18 @@ returns-clause-level c = λ n is.
     (same_Some (slice_index_or origins c.args.node first_origin) n (sym (slice_get-get_or origins c.args.node first_origin wide) ∙ at))
 
 pub returns-clause-shown : goal.returns-clause-shown
-returns-clause-shown c = λ g here.
-    let f = c.in_ok-kept.kept in
-    let at : slice_get c.args.states.now.graph.flats.items c.args.node ≡ Some f = c.in_ok-kept.ensures.found in
-    let one = same_Some f g (sym at ∙ here) in
+returns-clause-shown c = λ s here.
+    let kept = c.in_ok-kept.kept in
+    let u = c.in_ok-state.state in
+    let at : slice_get c.args.states.now.graph.flats.items c.args.node ≡ Some kept = c.in_ok-kept.ensures.found in
+    let first = (start_of c.args.states.now.graph.setup).flat in
     let origins = c.as_slice-origins.result.now in
     let wide : c.args.node < length origins = subst (λ z. c.args.node < length z) (sym c.as_slice-origins.ensures.value) c.requires.origin in
     let n : Origin = slice_index_or origins c.args.node first_origin in
-    shown_at_if_again_within c.args.states.now.graph.image.now c.args.states.now.graph.profile (turns_of_items c.in_ok-flat.turns.items) (length c.as_slice.result.now) n.level g c.in_ok-flat.flat
-    c.in_ok-flat.ensures.again
+    shown_at_if_again_within c.args.states.now.graph.setup (turns_of_items c.in_ok-state.turns.items) (length c.as_slice.result.now) n.level s u
+    c.in_ok-state.ensures.again
     (subst (λ z. length z ≤ suc n.level) (sym c.as_slice.ensures.value)
     (c.in_ok-path.ensures.few n (slice_get-get_or origins c.args.node first_origin wide)))
-    (like_transitive c.in_ok-flat.flat (start_flat c.args.states.now.graph.image.now most_budget c.args.states.now.graph.profile) g
-    (like_symmetric (start_flat c.args.states.now.graph.image.now most_budget c.args.states.now.graph.profile) c.in_ok-flat.flat c.in_ok-flat.ensures.again.again.like)
-    (c.requires.reached c.args.node g here).like)
-    (subst (LookAlike c.in_ok-flat.flat) one (c.in_ok-same_state.ensures c.if-not-branch.false))
+    (like_transitive u.flat first s.flat (like_symmetric first u.flat c.in_ok-state.ensures.again.again.like)
+    (c.requires.reached c.args.node s here).like)
+    (subst (LookAlike u) (same_Some kept s (sym at ∙ here)) (c.in_ok-same_state.ensures c.if-not-branch.false))

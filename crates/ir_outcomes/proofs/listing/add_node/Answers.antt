@@ -8,8 +8,7 @@ use Rattle.ir_outcomes.proofs.listing.add_node.Goals as goal
 
 pub returns-clause-has : goal.returns-clause-has
 returns-clause-has c =
-    let guest = c.args.states.now.graph.image.now in
-    let profile = c.args.states.now.graph.profile in
+    let setup = c.args.states.now.graph.setup in
     let flats = c.args.states.now.graph.flats.items in
     let origins = c.args.states.now.search.found.nodes.items in
     let listed = c.args.list.now.listed.items in
@@ -17,9 +16,9 @@ returns-clause-has c =
     let node = c.args.node in
     let x = c.in_ok-shown.shown in
     let different = subst (λ z. AreOutcomes flats (suc node) (z ++ node ∷ [])) c.as_slice.ensures.value (c.in_ok-new.ensures.new c.if-not-new.false) in
-    subst (λ z. HasShown guest profile flats origins (suc node) z c.push-2.new.self.items) (sym c.in_ok-push.ensures.items)
-    (subst (HasShown guest profile flats origins (suc node) (listed ++ node ∷ [])) (sym c.in_ok-push-2.ensures.items)
-    (shown_one guest profile flats origins node listed outcomes x c.requires.has different c.in_ok-shown.ensures.node
+    subst (λ z. HasShown setup flats origins (suc node) z c.push-2.new.self.items) (sym c.in_ok-push.ensures.items)
+    (subst (HasShown setup flats origins (suc node) (listed ++ node ∷ [])) (sym c.in_ok-push-2.ensures.items)
+    (shown_one setup flats origins node listed outcomes x c.requires.has different c.in_ok-shown.ensures.node
     c.in_ok-shown.ensures.level c.in_ok-shown.ensures.shown))
 
 pub returns-clause-stay : goal.returns-clause-stay

@@ -5,8 +5,8 @@ use Rattle.ir_outcomes.proofs.Again.{is_again_after_turns_noted}
 use Rattle.ir_outcomes.proofs.rerun.add_leg.Goals as goal
 
 pub returns : goal.returns
-returns c = λ guest profile before again.
-    subst (λ z. IsAgain guest profile (turns_of_items z) (before ++ replicate c.args.leg.steps c.args.leg.thread) c.take_leg.new.flat)
+returns c = λ setup before again.
+    subst (λ z. IsAgain setup (turns_of_items z) (before ++ replicate c.args.leg.steps c.args.leg.thread) c.take_leg.new.state)
     (sym c.in_ok-push.ensures.items)
-    (is_again_after_turns_noted guest profile c.args.items.now.items _ before c.args.flat.now c.take_leg.new.flat c.args.leg.steps again
+    (is_again_after_turns_noted setup c.args.items.now.items _ before c.args.state.now c.take_leg.new.state c.args.leg.steps again
     c.in_ok-count.ensures)

@@ -8,9 +8,10 @@ loop-preserved c =
     let one = c.in_ok-more.ensures.alone in
     let leg = c.args.leg in
     record {
-      alone = subst (λ z. GoesAlone c.args.flat.now c.enter.new.flat leg.thread leg.refused z (c.loop.counter + 1)) (sym c.in_ok-steps-2.ensures)
-          (goes_alone_append c.args.flat.now c.loop.flat c.enter.new.flat leg.thread leg.refused c.loop.steps c.in_ok-more.more c.loop.counter 1
+      alone = subst (λ z. GoesAlone c.args.state.now c.enter.new.state leg.thread leg.refused z (c.loop.counter + 1)) (sym c.in_ok-steps-2.ensures)
+          (goes_alone_append c.args.state.now c.loop.state c.enter.new.state leg.thread leg.refused c.loop.steps c.in_ok-more.more c.loop.counter 1
           c.loop.invariant.alone one);
       rests = c.in_ok-more.ensures.rests;
       thread = let a = one.threads in let b = c.loop.invariant.thread in omega (arith, a, b);
+      source = let a = one.sources in let b = c.loop.invariant.source in omega (arith, a, b);
     }

@@ -7,7 +7,8 @@ use Rattle.ir_outcomes.proofs.rerun.take_leg.Given as goal
 
 abbrev pub invariant-loop : goal.invariant-loop
 invariant-loop l = record {
-  alone : GoesAlone l.fn.flat l.flat l.leg.thread l.leg.refused l.steps l.counter;
-  rests : Rests (ask_of l.flat.code (thread_of l.flat l.leg.thread));
-  thread : l.leg.thread < length l.flat.threads;
+  alone : GoesAlone l.fn.state l.state l.leg.thread l.leg.refused l.steps l.counter;
+  rests : Rests (ask_of l.state.flat.code (thread_of l.state.flat l.leg.thread));
+  thread : l.leg.thread < length l.state.flat.threads;
+  source : l.leg.thread < length l.state.sources;
 }

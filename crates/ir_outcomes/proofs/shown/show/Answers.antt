@@ -4,21 +4,27 @@ use Rattle.std.specs.List.{slice_index_or}
 use Rattle.ir_explore.specs.declared.origin.Origin.{Origin}
 use Rattle.ir_explore.specs.Origins.{first_origin}
 use Rattle.std.proofs.lemmas.Option.{same_Some, slice_get-get_or}
-use Rattle.ir_flat.specs.Flat.{start_flat, tables}
+use Rattle.ir_flat.specs.Flat.{machine, tables}
+use Rattle.ir_runs.specs.Run.{IsDone}
 use Rattle.ir_graph.specs.Outcomes.{outcome_of}
+use Rattle.ir_graph.specs.Plain.{IsLike}
 use Rattle.ir_graph.proofs.CallerLemmas.{like_symmetric, like_transitive}
-use Rattle.ir_thread.specs.State.{most_budget}
+use Rattle.ir_graph.specs.Setup.{start_of}
+use Rattle.ir_store.specs.Nodes.{SourcedFlat}
 use Rattle.ir_record.specs.Recording.{turns_of_items}
 use Rattle.ir_outcomes.proofs.Showing.{shown_if_again_within}
 use Rattle.ir_outcomes.proofs.shown.show.Goals as goal
 
 pub same_outcome-requires : goal.same_outcome-requires
 same_outcome-requires c =
-    let f = c.in_ok-kept.kept in
-    let at : slice_get c.args.states.now.graph.flats.items c.args.node ≡ Some f = c.in_ok-kept.ensures.found in
-    like_transitive c.in_ok-flat.flat (start_flat c.args.states.now.graph.image.now most_budget c.args.states.now.graph.profile) f
-    (like_symmetric (start_flat c.args.states.now.graph.image.now most_budget c.args.states.now.graph.profile) c.in_ok-flat.flat c.in_ok-flat.ensures.again.again.like)
-    (c.requires.reached c.args.node f at).like
+    let s = c.in_ok-kept.kept in
+    let u = c.in_ok-state.state in
+    let first = (start_of c.args.states.now.graph.setup).flat in
+    let like : IsLike u.flat s.flat =
+    like_transitive u.flat first s.flat (like_symmetric first u.flat c.in_ok-state.ensures.again.again.like)
+    (c.requires.reached c.args.node s c.in_ok-kept.ensures.found).like in
+    subst (λ (z : SourcedFlat). IsLike z.flat c.kept.inside.flat) (sym c.state.view_is)
+    (subst (λ (z : SourcedFlat). IsLike u.flat z.flat) (sym c.kept.view_is) like)
 
 pub returns-clause-level : goal.returns-clause-level
 returns-clause-level c = λ n is.
@@ -29,16 +35,16 @@ returns-clause-level c = λ n is.
     (same_Some (slice_index_or origins c.args.node first_origin) n (sym (slice_get-get_or origins c.args.node first_origin wide) ∙ at))
 
 pub returns-clause-shown : goal.returns-clause-shown
-returns-clause-shown c = λ g here.
-    let f = c.in_ok-kept.kept in
-    let at : slice_get c.args.states.now.graph.flats.items c.args.node ≡ Some f = c.in_ok-kept.ensures.found in
+returns-clause-shown c = λ s here.
+    let kept = c.in_ok-kept.kept in
+    let at : slice_get c.args.states.now.graph.flats.items c.args.node ≡ Some kept = c.in_ok-kept.ensures.found in
     let origins = c.as_slice-origins.result.now in
     let wide : c.args.node < length origins = subst (λ z. c.args.node < length z) (sym c.as_slice-origins.ensures.value) c.requires.origin in
     let n : Origin = slice_index_or origins c.args.node first_origin in
-    shown_if_again_within c.args.states.now.graph.image.now c.args.states.now.graph.profile (turns_of_items c.in_ok-flat.turns.items) (length c.as_slice.result.now) n.level g c.in_ok-flat.flat
-    c.in_ok-flat.ensures.again
+    shown_if_again_within c.args.states.now.graph.setup (turns_of_items c.in_ok-state.turns.items) (length c.as_slice.result.now) n.level s
+    c.in_ok-state.state c.in_ok-state.ensures.again
     (subst (λ z. length z ≤ suc n.level) (sym c.as_slice.ensures.value)
     (c.in_ok-path.ensures.few n (slice_get-get_or origins c.args.node first_origin wide)))
-    (c.is_done.ensures.done c.if-not-is_done.false)
-    (c.same_outcome.ensures.same c.if-not-same_outcome.false
-    ∙ ap (λ z. outcome_of (tables z)) (same_Some f g (sym at ∙ here)))
+    (subst (λ (z : SourcedFlat). IsDone (machine z.flat) (tables z.flat)) c.state.view_is (c.is_done.ensures.done c.if-not-is_done.false))
+    (ap (λ (z : SourcedFlat). outcome_of (tables z.flat)) (sym c.state.view_is) ∙ c.same_outcome.ensures.same c.if-not-same_outcome.false
+    ∙ ap (λ (z : SourcedFlat). outcome_of (tables z.flat)) (c.kept.view_is ∙ same_Some kept s (sym at ∙ here)))

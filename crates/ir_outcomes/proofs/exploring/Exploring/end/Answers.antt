@@ -20,7 +20,7 @@ returns-clause-explored c =
           let until = going.between.until in
           let some = place_of_element_is_below_length s.search.found.nodes.items 0 first_origin going.between.has.first in
           let later : 0 < level.first = omega (arith, over, until, some) in
-          all_outcomes s.graph.image.now s.graph.profile s.graph.flats.items s.search.found.nodes.items level.number e.list.seen e.list.listed.items e.list.outcomes.items
+          all_outcomes s.graph.setup s.graph.flats.items s.search.found.nodes.items level.number e.list.seen e.list.listed.items e.list.outcomes.items
           (going.searched later) going.few going.has (going.seen later) f.2.all f.2.nodes;
       hangs = c.ending-ended.ensures.hangs;
       unknown = c.ending-ended.ensures.unknown;

@@ -2,6 +2,7 @@ use Rattle.std.proofs.Common.{◌≡◌, ◌≤◌, ◌⊎◌, suc, inl, inr, sy
 use Rattle.ir_explore.specs.declared.origin.Level.{Level}
 use Rattle.ir_explore.specs.declared.stop.Stop.TheVariants.{Memory}
 use Rattle.ir_graph.specs.Searched.{AreSearched}
+use Rattle.ir_graph.specs.Setup.{Setup}
 use Rattle.ir_graph.specs.Stops.{MayStop}
 use Rattle.ir_thread.specs.State.{IsAllowed}
 use Rattle.ir_outcomes.specs.Exploring.{HasShown}
@@ -12,13 +13,12 @@ use Rattle.ir_outcomes.proofs.exploring.Exploring.go_over.Goals as goal
 
 pub show_new-shown-requires-clause-allowed : goal.show_new-shown-requires-clause-allowed
 show_new-shown-requires-clause-allowed g c =
-    subst (λ z. IsAllowed z c.go_over-searched.new.self.graph.image.now) (sym c.go_over-searched.ensures.profile)
-    (subst (IsAllowed c.args.self.now.states.graph.profile) (sym c.go_over-searched.ensures.image) c.requires.allowed)
+    subst (λ (z : Setup). IsAllowed z.profile z.guest) (sym c.go_over-searched.ensures.setup) c.requires.allowed
 
 pub show_new-shown-requires-clause-searched : goal.show_new-shown-requires-clause-searched
 show_new-shown-requires-clause-searched g c =
     let s = c.go_over-searched.new.self in
-    either_way (λ (l : Level). AreSearched s.graph.image.now s.graph.profile s.graph.flats.items s.search.found.nodes.items l.number) c.go_over-searched.result s.search.level
+    either_way (λ (l : Level). AreSearched s.graph.setup s.graph.flats.items s.search.found.nodes.items l.number) c.go_over-searched.result s.search.level
     c.args.self.now.states.search.level c.go_over-searched.ensures.searched c.go_over-searched.ensures.level c.go_over-searched.ensures.part
 
 pub show_new-shown-requires-clause-few : goal.show_new-shown-requires-clause-few
@@ -31,21 +31,19 @@ show_new-shown-requires-clause-has g c =
     let old = c.args.self.now in
     let s = c.go_over-searched.new.self in
     let going = c.requires.is.going c.requires.stop in
-    subst (λ z. HasShown s.graph.image.now z s.graph.flats.items s.search.found.nodes.items old.list.seen old.list.listed.items old.list.outcomes.items)
-    (sym c.go_over-searched.ensures.profile)
-    (subst (λ z. HasShown z old.states.graph.profile s.graph.flats.items s.search.found.nodes.items old.list.seen old.list.listed.items
-    old.list.outcomes.items) (sym c.go_over-searched.ensures.image)
-    (shown_among old.states.graph.image.now old.states.graph.profile old.states.graph.flats.items s.graph.flats.items old.states.search.found.nodes.items s.search.found.nodes.items
+    subst (λ z. HasShown z s.graph.flats.items s.search.found.nodes.items old.list.seen old.list.listed.items old.list.outcomes.items)
+    (sym c.go_over-searched.ensures.setup)
+    (shown_among old.states.graph.setup old.states.graph.flats.items s.graph.flats.items old.states.search.found.nodes.items s.search.found.nodes.items
     old.list.seen old.list.listed.items old.list.outcomes.items going.has
     (let a = going.few in let b = going.between.all in omega (arith, a, b)) going.few c.go_over-searched.ensures.stay
-    c.go_over-searched.ensures.adds.stays))
+    c.go_over-searched.ensures.adds.stays)
 
 pub returns-clause-is : goal.returns-clause-is
 returns-clause-is g c =
     let s = c.go_over-searched.new.self in
     let searched = c.go_over-searched in
     let shown = c.show_new-shown in
-    let may = MayStop s.graph.image.now s.graph.profile s.graph.flats.items s.graph.bounds.nodes s.graph.bounds.private in
+    let may = MayStop s.graph.setup s.graph.flats.items s.graph.bounds.nodes s.graph.bounds.private in
     let most = c.args.self.now.most in
     record {
       search = searched.ensures.is;

@@ -7,20 +7,19 @@ use Rattle.ir_outcomes.proofs.exploring.Exploring.start.Goals as goal
 pub returns-clause-is : goal.returns-clause-is
 returns-clause-is c =
     let s = c.in_ok-states.states in
-    let guest = s.graph.image.now in
-    let profile = s.graph.profile in
+    let setup = s.graph.setup in
     let flats = s.graph.flats.items in
     let origins = s.search.found.nodes.items in
     let first = c.in_ok-states.ensures.first in
     record {
       search = c.in_ok-states.ensures.is;
-      explored = subst (AreExplored guest profile flats 0) (sym c.new.ensures.items) (none_explored guest profile flats);
+      explored = subst (AreExplored setup flats 0) (sym c.new.ensures.items) (none_explored setup flats);
       wanted = let a = c.in_ok-states.ensures.number in omega (arith, a);
       going = λ none. record {
         between = c.in_ok-states.ensures.between;
         searched = λ some. absurd (omega (arith, first, some));
-        has = subst (λ z. HasShown guest profile flats origins 0 z c.new.result.items) (sym c.new-2.ensures.items)
-            (subst (HasShown guest profile flats origins 0 []) (sym c.new.ensures.items) (none_shown guest profile flats origins));
+        has = subst (λ z. HasShown setup flats origins 0 z c.new.result.items) (sym c.new-2.ensures.items)
+            (subst (HasShown setup flats origins 0 []) (sym c.new.ensures.items) (none_shown setup flats origins));
         few = omega arith;
         seen = λ some. absurd (omega (arith, first, some));
         levels = sym c.in_ok-states.ensures.number;
