@@ -6,10 +6,10 @@ use Rattle.ir_graph.proofs.likeness.same_state.Goals as goal
 
 pub returns : goal.returns
 returns c = λ _.
-    look_alike_by_threads_and_words c.args.first.now c.args.second.now c.requires
+    look_alike_by_threads_and_words c.args.first.now c.args.second.now c.requires.like c.requires.sources c.requires.others
     (λ u l. c.loop-t.invariant u
-    (let a = c.loop-t-test.false in let b = c.loop-t.auto.t-end in let d = ap length c.threads-t-end.ensures.value in omega (arith, l, a, b, d)))
-    (subst (λ xs. (o : ℕ) → (slice_index_or xs o empty).words ≡ (slice_index_or c.args.second.now.objects o empty).words)
+    (let a = c.loop-t-test.false in let b = c.loop-t.auto.t-end in let d : length c.threads-t-end.result.now ≡ length c.args.first.now.flat.threads = ap length c.threads-t-end.ensures.value in omega (arith, l, a, b, d)))
+    (subst (λ xs. (o : ℕ) → (slice_index_or xs o empty).words ≡ (slice_index_or c.args.second.now.flat.objects o empty).words)
     c.objects.ensures.value
     (subst (λ ys. (o : ℕ) → (slice_index_or c.objects.result.now o empty).words ≡ (slice_index_or ys o empty).words)
     c.objects-2.ensures.value (c.same_words.ensures.same c.if-not-same_words.false)))

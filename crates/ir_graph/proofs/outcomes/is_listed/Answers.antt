@@ -46,7 +46,7 @@ loop-i-preserved c = λ i v f less is here same. elim (cases_lt i c.loop-i.i) [
       let node : n ≡ v = same_Some n v (sym stands ∙ subst (λ z. slice_get c.args.listed.now z ≡ Some v) now is) in
       let state : c.in_ok-kept.kept ≡ f =
       same_Some c.in_ok-kept.kept f (sym (subst (λ z. slice_get c.args.flats.now.items z ≡ Some c.in_ok-kept.kept) node there) ∙ here) in
-      c.same_outcome.ensures.other c.if-same_outcome.false (ap (λ z. outcome_of (tables z)) state ∙ same)
+      c.same_outcome.ensures.other c.if-same_outcome.false (ap (λ z. outcome_of (tables z.flat)) state ∙ same)
 ]
 
 pub returns-clause-other : goal.returns-clause-other
