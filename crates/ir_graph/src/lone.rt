@@ -92,17 +92,16 @@ fn take_beside(
 // A thread goes on to where it rests, if all its steps up to there, at most `limit`, are about this object; whether it came there.
 fn go_beside(
     code: &Code,
-    own: &mut SourcedThread<'_>,
+    thread: &mut Thread,
+    source: &mut Sources<'_>,
     object: &mut Object,
     number: u8,
     limit: u64,
 ) -> bool
-    requires { AreBeside code.now number own.old.0 object.old }
-    ensures goes { result ≡ true → (k : ℕ) × GoesLone code.now number k own.old object.old own.new object.new }
-    ensures rests { result ≡ true → Rests (ask_of code.now own.new.0) }
+    requires { AreBeside code.now number thread.old object.old }
+    ensures goes { result ≡ true → (k : ℕ) × GoesLone code.now number k (thread.old, source.old) object.old (thread.new, source.new) object.new }
+    ensures rests { result ≡ true → Rests (ask_of code.now thread.new) }
 {
-    let thread = &mut own.thread;
-    let source = &mut own.source;
     let mut left = limit;
     'beside: loop {
         let (steps, asked) = thread.run_to_ask(code, left);
@@ -162,9 +161,23 @@ pub fn turn_beside(
     let Some(asked) = first_ask(code, &own.thread, object, number, refused) else {
         return false;
     };
-    let took = take_beside(code, &mut own.thread, &mut own.source, object, asked, refused);
+    let took = take_beside(
+        code,
+        &mut own.thread,
+        &mut own.source,
+        object,
+        asked,
+        refused,
+    );
     if !took {
         return false;
     }
-    go_beside(code, own, object, number, limit)
+    go_beside(
+        code,
+        &mut own.thread,
+        &mut own.source,
+        object,
+        number,
+        limit,
+    )
 }

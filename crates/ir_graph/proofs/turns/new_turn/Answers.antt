@@ -1,7 +1,7 @@
 use Rattle.std.proofs.Common.{◌≡◌, Some, refl, sym, ap, ◌∙◌, subst}
 use Rattle.std.specs.Prelude.{slice_get}
 use Rattle.ir_sources.specs.Sources.{Source}
-use Rattle.ir_thread.specs.State.{ThreadState}
+use Rattle.ir_thread.specs.State.{ThreadState, ask_of}
 use Rattle.ir_graph.specs.Plain.{IsNoTry}
 use Rattle.ir_graph.proofs.KnownTurns.{found_turn_is_turn_of_thread}
 use Rattle.ir_graph.proofs.Grown.{element_below_length_exists}
@@ -25,7 +25,7 @@ turn_beside-requires c =
 
 pub add_thread-requires : goal.add_thread-requires
 add_thread-requires c =
-    sym (form_kept_by_turn c.args.code.now c.in-Some.number c.args.way.refused c.in_ok-own.own c.turn_beside.new.thread c.object-beside.result c.turn_beside.new.object
+    sym (form_kept_by_turn c.args.code.now c.in-Some.number c.args.way.refused c.in_ok-own.own c.turn_beside.new.own c.object-beside.result c.turn_beside.new.object
     (c.turn_beside.ensures c.if-not-turn_beside.false))
     ∙ c.in_ok-own.ensures.form
 
@@ -48,8 +48,8 @@ returns-clause-turn c = λ f at.
     found_turn_is_turn_of_thread c.args.code.now c.args.flats.now.shared c.add_thread.new.self.shared c.add_object.new.self.shared c.add_thread.ensures.grows
     c.add_object.ensures.grows f c.args.way.thread c.args.way.refused
     (record { from = c.thread_number-from.result; object = c.in-Some.number; tries = c.in-Some.tries; refused = c.args.way.refused; spot = c.in-Some-spot.spot; to = c.in_ok-to.to; after = c.in_ok-after.after }) refl
-    c.in_ok-own.own c.turn_beside.new.thread c.object-beside.result c.turn_beside.new.object c.thread_number-from.ensures.within
+    c.in_ok-own.own c.turn_beside.new.own c.object-beside.result c.turn_beside.new.object c.thread_number-from.ensures.within
     c.in_ok-own.ensures.found (c.thread_number-from.ensures.thread f here) c.in-Some-spot.ensures.within c.object-beside.ensures own.0 own.1
     c.in_ok-to.ensures.within c.in_ok-to.ensures.found c.in_ok-after.ensures.within c.in_ok-after.ensures.found
-    (λ no. subst IsNoTry c.ask.ensures.value (c.in-Some.ensures no))
+    (λ no. subst (λ (z : ThreadState × Source). IsNoTry (ask_of c.args.code.now z.0)) c.own.view_is (subst IsNoTry c.ask.ensures.value (c.in-Some.ensures no)))
     (c.turn_beside.ensures c.if-not-turn_beside.false)
