@@ -1,9 +1,12 @@
 -- The form of the image that threads are of.
-use Rattle.std.proofs.Common.{◌≡◌, ◌<◌, ℕ, zero, suc, List, [], ◌∷◌, length, get_or, refl, sym, ◌∙◌, subst, arith}
-use Rattle.std.specs.List.{AllByRecursion}
+use Rattle.std.proofs.Common.{◌≡◌, ◌<◌, ℕ, zero, suc, List, [], ◌∷◌, length, get_or, map, refl, sym, ap, ◌∙◌, subst, arith}
+use Rattle.std.specs.List.{AllByRecursion, range_with_len}
 use Rattle.ir_image.specs.Guest.{Guest}
 use Rattle.ir_image.specs.declared.form.ImageForm.{ImageForm}
-use Rattle.ir_thread.specs.State.{ThreadState}
+use Rattle.ir_thread.specs.State.{ThreadState, most_budget}
+use Rattle.ir_sources.specs.Sources.{source, seed_of}
+use Rattle.ir_flat.proofs.CallerLemmas.{length_of_start_threads}
+use Rattle.ir_graph.specs.Setup.{Setup, start_of}
 use Rattle.ir_thread.specs.declared.profile.Profile.{Profile}
 use Rattle.ir_flat.specs.Flat.{Flat, idle, start_threads}
 use Rattle.ir_store.specs.Table.{HaveForm}
@@ -27,3 +30,18 @@ have_form_of_like_moment form f g like all = all_by_recursion_of_elements (λ (s
 pub start_threads_have_form : (guest : Guest) (budget : ℕ) (profile : Profile) (from n : ℕ) → HaveForm guest.form (start_threads guest budget profile from n)
 start_threads_have_form guest budget profile from zero = tt
 start_threads_have_form guest budget profile from (suc n) = (refl, start_threads_have_form guest budget profile (suc from) n)
+
+length_of_map : {X Y : Type 0} (f : X → Y) (xs : List X) → length (map f xs) ≡ length xs
+length_of_map f [] = refl
+length_of_map f (x ∷ xs) = ap suc (length_of_map f xs)
+
+length_of_range : (a n : ℕ) → length (range_with_len a n) ≡ n
+length_of_range a zero = refl
+length_of_range a (suc n) = ap suc (length_of_range (suc a) n)
+
+-- at the start each thread has a source
+pub start_has_sources : (x : Setup) → length (start_of x).sources ≡ length (start_of x).flat.threads
+start_has_sources x =
+    length_of_map (λ t. source (seed_of x.random t) x.input) (range_with_len 0 (length x.guest.entries))
+    ∙ length_of_range 0 (length x.guest.entries)
+    ∙ sym (length_of_start_threads x.guest most_budget x.profile 0 (length x.guest.entries))

@@ -4,6 +4,7 @@ mod Alike
 mod Leads
 mod Reached
 mod Turn
+mod Beside
 mod Stops
 mod OneOutcome
 mod Found

@@ -1,11 +1,11 @@
 use Rattle.std.proofs.Common.{◌≡◌, Some, sym, subst}
 use Rattle.std.specs.Prelude.{slice_get}
-use Rattle.ir_store.specs.Nodes.{flat_in}
-use Rattle.ir_flat.specs.Flat.{Flat, IsFlat}
+use Rattle.ir_store.specs.Nodes.{SourcedFlat, IsSourced, sourced_in}
 use Rattle.ir_graph.specs.Nodes.{LookAlike, AllRest, LeadsFrom}
 use Rattle.ir_graph.specs.Plain.{IsLike}
 use Rattle.ir_graph.specs.Reached.{IsReached}
-use Rattle.ir_graph.proofs.Both.{both_flat, both_like, both_rests, both_reached, both_leads, if_ok_weaker}
+use Rattle.ir_graph.proofs.Both.{both_sourced, both_like, both_rests, both_reached, both_leads}
+use Rattle.ir_graph.proofs.KnownTurns.{if_ok_weaker}
 use Rattle.ir_graph.proofs.Grown.{element_below_length_exists}
 use Rattle.ir_graph.proofs.nodes.node_by.Goals as goal
 
@@ -26,43 +26,43 @@ node_of-requires-clause-is c =
     let f = element_below_length_exists flats.items c.args.way.node c.requires.node in
     record {
       within = c.in_ok-new.ensures.within;
-      flat = subst IsFlat (sym (c.in_ok-new.ensures.flat f.0 f.1))
-          (both_flat flats.items flats.shared f.0 c.args.way.thread c.args.way.refused c.args.way.node c.args.turn c.requires.nodes f.1 (c.requires.thread f.0 f.1)
-          (c.thread_number.ensures.flat f.0 f.1) (c.requires.turn f.0 f.1));
+      sourced = subst IsSourced (sym (c.in_ok-new.ensures.state f.0 f.1))
+          (both_sourced flats.items flats.shared f.0 c.args.way.thread c.args.way.refused c.args.way.node c.args.turn c.requires.nodes f.1 (c.requires.thread f.0 f.1)
+          (c.thread_number.ensures.sourced f.0 f.1) (c.requires.turn f.0 f.1));
     }
 
 pub node_of-requires-clause-like : goal.node_of-requires-clause-like
 node_of-requires-clause-like c = λ u k there.
     let flats = c.args.flats.now in
     let f = element_below_length_exists flats.items c.args.way.node c.requires.node in
-    subst (λ z. IsLike z k) (sym (c.in_ok-new.ensures.flat f.0 f.1))
+    subst (λ (z : SourcedFlat). IsLike z.flat k.flat) (sym (c.in_ok-new.ensures.state f.0 f.1))
     (both_like flats.items flats.shared f.0 c.args.way.thread c.args.way.refused c.args.way.node c.args.turn c.requires.nodes f.1 (c.requires.thread f.0 f.1)
-    (c.thread_number.ensures.flat f.0 f.1) (c.requires.turn f.0 f.1) u k there)
+    (c.thread_number.ensures.sourced f.0 f.1) (c.requires.turn f.0 f.1) u k there)
 
 pub node_of-requires-clause-rest : goal.node_of-requires-clause-rest
 node_of-requires-clause-rest c =
     let flats = c.args.flats.now in
     let f = element_below_length_exists flats.items c.args.way.node c.requires.node in
-    subst AllRest (sym (c.in_ok-new.ensures.flat f.0 f.1))
+    subst (λ (z : SourcedFlat). AllRest z.flat) (sym (c.in_ok-new.ensures.state f.0 f.1))
     (both_rests flats.items flats.shared f.0 c.args.way.thread c.args.way.refused c.args.way.node c.args.turn c.requires.nodes f.1 (c.requires.thread f.0 f.1)
-    (c.thread_number.ensures.flat f.0 f.1) (c.requires.turn f.0 f.1))
+    (c.thread_number.ensures.sourced f.0 f.1) (c.requires.turn f.0 f.1))
 
 pub returns-clause-reached : goal.returns-clause-reached
-returns-clause-reached c = λ guest profile all.
+returns-clause-reached c = λ x all.
     let flats = c.args.flats.now in
     let f = element_below_length_exists flats.items c.args.way.node c.requires.node in
-    c.node_of.ensures.reached guest profile all
-    (subst (IsReached guest profile) (sym (c.in_ok-new.ensures.flat f.0 f.1))
+    c.node_of.ensures.reached x all
+    (subst (IsReached x) (sym (c.in_ok-new.ensures.state f.0 f.1))
     (both_reached flats.items flats.shared f.0 c.args.way.thread c.args.way.refused c.args.way.node c.args.turn c.requires.nodes f.1 (c.requires.thread f.0 f.1)
-    (c.thread_number.ensures.flat f.0 f.1) (c.requires.turn f.0 f.1) guest profile (all c.args.way.node f.0 f.1)))
+    (c.thread_number.ensures.sourced f.0 f.1) (c.requires.turn f.0 f.1) x (all c.args.way.node f.0 f.1)))
 
 pub returns-clause-leads : goal.returns-clause-leads
 returns-clause-leads c =
     let flats = c.args.flats.now in
     let f = element_below_length_exists flats.items c.args.way.node c.requires.node in
-    let h = flat_in flats.shared c.in_ok-new.new in
+    let h = sourced_in flats.shared c.in_ok-new.new in
     let new = c.node_of.new.flats.items in
-    if_ok_weaker (λ w. (k : Flat) → slice_get new w ≡ Some k → LookAlike h k) (λ w. LeadsFrom new c.args.way.thread c.args.way.refused c.args.way.node (Some w)) c.node_of.result
+    if_ok_weaker (λ w. (k : SourcedFlat) → slice_get new w ≡ Some k → LookAlike h k) (λ w. LeadsFrom new c.args.way.thread c.args.way.refused c.args.way.node (Some w)) c.node_of.result
     (λ w alike. both_leads flats.items flats.shared f.0 c.args.way.thread c.args.way.refused c.args.way.node c.args.turn c.requires.nodes f.1 (c.requires.thread f.0 f.1)
-    (c.thread_number.ensures.flat f.0 f.1) (c.requires.turn f.0 f.1) new w c.node_of.ensures.stay
-    (λ k is. subst (λ z. LookAlike z k) (c.in_ok-new.ensures.flat f.0 f.1) (alike k is))) c.node_of.ensures.alike
+    (c.thread_number.ensures.sourced f.0 f.1) (c.requires.turn f.0 f.1) new w c.node_of.ensures.stay
+    (λ k is. subst (λ z. LookAlike z k) (c.in_ok-new.ensures.state f.0 f.1) (alike k is))) c.node_of.ensures.alike

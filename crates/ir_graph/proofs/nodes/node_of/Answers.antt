@@ -1,7 +1,7 @@
 use Rattle.std.proofs.Common.{◌≡◌, Some, sym, subst, [], ◌∷◌}
 use Rattle.std.specs.Prelude.{slice_get}
 use Rattle.ir_explore.proofs.CallerLemmas.{slice_get_kept_by_append}
-use Rattle.ir_store.specs.Nodes.{flat_in}
+use Rattle.ir_store.specs.Nodes.{sourced_in}
 use Rattle.ir_graph.specs.Nodes.{AreNodes}
 use Rattle.ir_graph.specs.Reached.{AllReached}
 use Rattle.ir_graph.proofs.Both.{look_alike_if_same_looks}
@@ -11,25 +11,26 @@ use Rattle.ir_graph.proofs.nodes.node_of.Goals as goal
 
 pub returns-in-Some-clause-alike : goal.returns-in-Some-clause-alike
 returns-in-Some-clause-alike c = λ f is.
-    look_alike_if_same_looks (flat_in c.args.flats.now.shared c.args.new) f (c.requires.like c.in-Some.v f is) (c.in-Some.ensures.alike f is)
+    look_alike_if_same_looks (sourced_in c.args.flats.now.shared c.args.new) f (c.requires.like c.in-Some.v f is) c.requires.is.sourced.each
+    (c.requires.nodes.each c.in-Some.v f is) (c.in-Some.ensures.alike f is)
 
 pub returns-clause-nodes : goal.returns-clause-nodes
 returns-clause-nodes c =
-    let h = flat_in c.args.flats.now.shared c.args.new in
-    subst AreNodes (sym c.in_ok-push.ensures.ok) (are_nodes_after_node_added c.args.flats.now.items h c.requires.nodes c.requires.like c.requires.rest)
+    let h = sourced_in c.args.flats.now.shared c.args.new in
+    subst AreNodes (sym c.in_ok-push.ensures.ok) (are_nodes_after_node_added c.args.flats.now.items h c.requires.nodes c.requires.is.sourced.each c.requires.like c.requires.rest)
 
 pub returns-clause-stay : goal.returns-clause-stay
 returns-clause-stay c = λ v f is.
-    let h = flat_in c.args.flats.now.shared c.args.new in
+    let h = sourced_in c.args.flats.now.shared c.args.new in
     subst (λ z. slice_get z v ≡ Some f) (sym c.in_ok-push.ensures.ok) (slice_get_kept_by_append c.args.flats.now.items (h ∷ []) v f is)
 
 pub returns-clause-alike : goal.returns-clause-alike
 returns-clause-alike c = λ f is.
-    let h = flat_in c.args.flats.now.shared c.args.new in
+    let h = sourced_in c.args.flats.now.shared c.args.new in
     new_node_looks_alike c.args.flats.now.items h f c.len-node.result c.len-node.ensures
     (subst (λ z. slice_get z c.len-node.result ≡ Some f) c.in_ok-push.ensures.ok is)
 
 pub returns-clause-reached : goal.returns-clause-reached
-returns-clause-reached c = λ guest profile all is.
-    let h = flat_in c.args.flats.now.shared c.args.new in
-    subst (AllReached guest profile) (sym c.in_ok-push.ensures.ok) (all_reached_after_state_added guest profile c.args.flats.now.items h all is)
+returns-clause-reached c = λ x all is.
+    let h = sourced_in c.args.flats.now.shared c.args.new in
+    subst (AllReached x) (sym c.in_ok-push.ensures.ok) (all_reached_after_state_added x c.args.flats.now.items h all is)

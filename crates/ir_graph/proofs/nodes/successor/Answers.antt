@@ -1,34 +1,33 @@
 use Rattle.std.proofs.Common.{◌≡◌, Some, sym, subst}
 use Rattle.std.specs.Prelude.{slice_get, IfSome}
 use Rattle.ir_explore.specs.declared.stop.Stop.{Stop}
-use Rattle.ir_flat.specs.Flat.{Flat}
-use Rattle.ir_image.specs.Guest.{Guest}
-use Rattle.ir_thread.specs.declared.profile.Profile.{Profile}
+use Rattle.ir_store.specs.Nodes.{SourcedFlat}
+use Rattle.ir_graph.specs.Setup.{Setup}
 use Rattle.ir_graph.specs.declared.known.Turn.{Turn}
 use Rattle.ir_graph.specs.Ahead.{IsTurnOf}
 use Rattle.ir_graph.specs.Reached.{AllReached}
 use Rattle.ir_graph.specs.Stops.{MayStop}
-use Rattle.ir_graph.proofs.Both.{turns_grown, if_err_weaker}
+use Rattle.ir_graph.proofs.KnownTurns.{turns_grown, if_err_weaker}
 use Rattle.ir_graph.proofs.nodes.successor.Goals as goal
 
 pub returns-in_err-turn-clause-reached : goal.returns-in_err-turn-clause-reached
-returns-in_err-turn-clause-reached c = λ guest profile all. subst (AllReached guest profile) (sym c.turn_of.ensures.items) all
+returns-in_err-turn-clause-reached c = λ x all. subst (AllReached x) (sym c.turn_of.ensures.items) all
 
 pub node_by-requires-clause-turn : goal.node_by-requires-clause-turn
 node_by-requires-clause-turn c = λ f at.
     let new = c.turn_of.new.flats in
     let here = subst (λ z. slice_get z c.args.way.node ≡ Some f) c.turn_of.ensures.items at in
-    let one = subst (λ z. IfSome z (λ (x : Turn). (f : Flat) → slice_get new.items c.args.way.node ≡ Some f
+    let one = subst (λ z. IfSome z (λ (x : Turn). (f : SourcedFlat) → slice_get new.items c.args.way.node ≡ Some f
     → IsTurnOf c.args.code.now new.shared f c.args.way.thread c.args.way.refused x)) c.in-Some.is c.in_ok-turn.ensures.turn in
     subst (λ z. IsTurnOf z new.shared f c.args.way.thread c.args.way.refused c.in-Some.turn) (sym (c.requires.code f here)) (one f at)
 
 pub returns-in-Ok-clause-reached : goal.returns-in-Ok-clause-reached
-returns-in-Ok-clause-reached c = λ guest profile all.
-    c.node_by.ensures.reached guest profile (subst (AllReached guest profile) (sym c.turn_of.ensures.items) all)
+returns-in-Ok-clause-reached c = λ x all.
+    c.node_by.ensures.reached x (subst (AllReached x) (sym c.turn_of.ensures.items) all)
 
 pub returns-in-Err-clause-reached : goal.returns-in-Err-clause-reached
-returns-in-Err-clause-reached c = λ guest profile all.
-    c.node_by.ensures.reached guest profile (subst (AllReached guest profile) (sym c.turn_of.ensures.items) all)
+returns-in-Err-clause-reached c = λ x all.
+    c.node_by.ensures.reached x (subst (AllReached x) (sym c.turn_of.ensures.items) all)
 
 pub returns-clause-turns : goal.returns-clause-turns
 returns-clause-turns c =
@@ -36,14 +35,14 @@ returns-clause-turns c =
     c.turn_of.ensures.turns
 
 pub returns-clause-reached : goal.returns-clause-reached
-returns-clause-reached c = λ guest profile all.
-    c.node_by_steps.ensures.reached guest profile (subst (AllReached guest profile) (sym c.turn_of.ensures.items) all)
+returns-clause-reached c = λ x all.
+    c.node_by_steps.ensures.reached x (subst (AllReached x) (sym c.turn_of.ensures.items) all)
 
 pub returns-clause-stopped : goal.returns-clause-stopped
 returns-clause-stopped c =
     let new = c.node_by_steps.new.flats.items in
-    if_err_weaker (λ (stop : Stop). (guest : Guest) (profile : Profile) → AllReached guest profile c.turn_of.new.flats.items
-    → MayStop guest profile new c.args.bounds.nodes c.args.bounds.private stop)
-    (λ (stop : Stop). (guest : Guest) (profile : Profile) → AllReached guest profile c.args.flats.now.items → MayStop guest profile new c.args.bounds.nodes c.args.bounds.private stop)
-    c.node_by_steps.result (λ stop may guest profile all. may guest profile (subst (AllReached guest profile) (sym c.turn_of.ensures.items) all))
+    if_err_weaker (λ (stop : Stop). (x : Setup) → AllReached x c.turn_of.new.flats.items
+    → MayStop x new c.args.bounds.nodes c.args.bounds.private stop)
+    (λ (stop : Stop). (x : Setup) → AllReached x c.args.flats.now.items → MayStop x new c.args.bounds.nodes c.args.bounds.private stop)
+    c.node_by_steps.result (λ stop may x all. may x (subst (AllReached x) (sym c.turn_of.ensures.items) all))
     c.node_by_steps.ensures.stopped

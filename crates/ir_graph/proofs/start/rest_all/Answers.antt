@@ -9,24 +9,26 @@ use Rattle.ir_graph.proofs.start.rest_all.Goals as goal
 
 pub returns-in-Err-clause-goes : goal.returns-in-Err-clause-goes
 returns-in-Err-clause-goes c =
-    goes_plain_transitive c.args.flat.now c.loop-thread.flat c.run_to_rest.new.flat c.loop-thread.invariant.goes c.run_to_rest.ensures.goes
+    goes_plain_transitive c.args.state.now c.loop-thread.state c.run_to_rest.new.state c.loop-thread.invariant.goes c.run_to_rest.ensures.goes
 
 pub loop-thread-preserved : goal.loop-thread-preserved
 loop-thread-preserved c =
-    let f = c.loop-thread.flat in
-    let g = c.run_to_rest.new.flat in record {
-      goes = goes_plain_transitive c.args.flat.now f g c.loop-thread.invariant.goes c.run_to_rest.ensures.goes;
+    let s = c.loop-thread.state in
+    let u = c.run_to_rest.new.state in record {
+      goes = goes_plain_transitive c.args.state.now s u c.loop-thread.invariant.goes c.run_to_rest.ensures.goes;
       rest = λ t less. elim (cases_eq t c.loop-thread.thread) [
-        | inl same ↦ subst (λ z. Rests (ask_of g.code (thread_of g z))) (sym same) c.in_default.ensures.rests
+        | inl same ↦ subst (λ z. Rests (ask_of u.flat.code (thread_of u.flat z))) (sym same) c.in_default.ensures.rests
         | inr other ↦
-            subst (λ z. Rests (ask_of z (thread_of g t))) (sym c.run_to_rest.ensures.goes.code)
-            (subst (λ z. Rests (ask_of f.code z)) (sym (c.run_to_rest.ensures.others t other))
+            subst (λ z. Rests (ask_of z (thread_of u.flat t))) (sym c.run_to_rest.ensures.goes.code)
+            (subst (λ z. Rests (ask_of s.flat.code z)) (sym (c.run_to_rest.ensures.others.threads t other))
             (c.loop-thread.invariant.rest t (omega (arith, less, other))))
       ];
       threads = c.run_to_rest.ensures.goes.threads ∙ c.loop-thread.invariant.threads;
+      sources = c.run_to_rest.ensures.goes.sources ∙ c.loop-thread.invariant.sources;
+      flat = c.run_to_rest.ensures.flat;
     }
 
 pub returns-in-Err-clause-stopped : goal.returns-in-Err-clause-stopped
-returns-in-Err-clause-stopped c = λ guest profile is.
-    is_stop_after_start guest profile c.args.limit c.loop-thread.thread c.in-Err.stop c.args.flat.now c.loop-thread.flat c.run_to_rest.new.flat is
+returns-in-Err-clause-stopped c = λ x is.
+    is_stop_after_start x c.args.limit c.loop-thread.thread c.in-Err.stop c.args.state.now c.loop-thread.state c.run_to_rest.new.state is
     c.loop-thread.invariant.goes c.run_to_rest.ensures.goes c.in-Err.ensures.stopped

@@ -9,33 +9,30 @@ go_over-requires-clause-sound g c = (c.requires.is.graph, c.requires.is.turns)
 
 pub returns-clause-is : goal.returns-clause-is
 returns-clause-is g c =
-    let image = ap (λ z. z.0) c.go_over.ensures.origin in record {
+    let setup = ap (λ z. z.0) c.go_over.ensures.origin in record {
       graph = c.go_over.ensures.sound.0;
       turns = c.go_over.ensures.sound.1;
       room = c.go_over.ensures.room;
-      threads = c.go_over.ensures.threads ∙ c.requires.is.threads ∙ c.requires.is.graph.number ∙ ap (λ z. length z.entries) (sym image)
+      threads = c.go_over.ensures.threads ∙ c.requires.is.threads ∙ c.requires.is.graph.number ∙ ap (λ z. length z.guest.entries) (sym setup)
           ∙ sym c.go_over.ensures.sound.0.number;
     }
 
-pub returns-clause-image : goal.returns-clause-image
-returns-clause-image g c = ap (λ z. z.0) c.go_over.ensures.origin
-
-pub returns-clause-profile : goal.returns-clause-profile
-returns-clause-profile g c = ap (λ z. z.1) c.go_over.ensures.origin
+pub returns-clause-setup : goal.returns-clause-setup
+returns-clause-setup g c = ap (λ z. z.0) c.go_over.ensures.origin
 
 pub returns-clause-bounds : goal.returns-clause-bounds
-returns-clause-bounds g c = λ i. record { nodes = c.go_over.ensures.limit i; private = (ap (λ z. z.2) c.go_over.ensures.origin) i }
+returns-clause-bounds g c = λ i. record { nodes = c.go_over.ensures.limit i; private = (ap (λ z. z.1) c.go_over.ensures.origin) i }
 
 pub returns-clause-searched : goal.returns-clause-searched
 returns-clause-searched g c =
     let graph = c.go_over.new.graph in
     let search = c.go_over.new.self in
-    let image = ap (λ z. z.0) c.go_over.ensures.origin in
+    let setup = ap (λ z. z.0) c.go_over.ensures.origin in
     let sound = c.go_over.ensures.sound.0 in
     let threads : length (rows search.opened.items) ≡ length graph.rows.items =
-    c.go_over.ensures.threads ∙ c.requires.is.threads ∙ c.requires.is.graph.number ∙ ap (λ z. length z.entries) (sym image) ∙ sym sound.number in
+    c.go_over.ensures.threads ∙ c.requires.is.threads ∙ c.requires.is.graph.number ∙ ap (λ z. length z.guest.entries) (sym setup) ∙ sym sound.number in
     on_ok c.go_over.result
-    (λ between. searched_by graph.image.now graph.profile graph.flats.items graph.rows.items graph.refusals.items search.found.nodes.items
+    (λ between. searched_by graph.setup graph.flats.items graph.rows.items graph.refusals.items search.found.nodes.items
     search.found.refusals.items (length (rows search.opened.items))
     search.level.number sound threads between.has) c.go_over.ensures.between
 
@@ -43,11 +40,11 @@ pub returns-clause-part : goal.returns-clause-part
 returns-clause-part g c =
     let graph = c.go_over.new.graph in
     let search = c.go_over.new.self in
-    let image = ap (λ z. z.0) c.go_over.ensures.origin in
+    let setup = ap (λ z. z.0) c.go_over.ensures.origin in
     let sound = c.go_over.ensures.sound.0 in
     let threads : length (rows search.opened.items) ≡ length graph.rows.items =
-    c.go_over.ensures.threads ∙ c.requires.is.threads ∙ c.requires.is.graph.number ∙ ap (λ z. length z.entries) (sym image) ∙ sym sound.number in
-    searched_by graph.image.now graph.profile graph.flats.items graph.rows.items graph.refusals.items search.found.nodes.items
+    c.go_over.ensures.threads ∙ c.requires.is.threads ∙ c.requires.is.graph.number ∙ ap (λ z. length z.guest.entries) (sym setup) ∙ sym sound.number in
+    searched_by graph.setup graph.flats.items graph.rows.items graph.refusals.items search.found.nodes.items
     search.found.refusals.items (length (rows search.opened.items))
     c.args.self.now.search.level.number sound threads c.go_over.ensures.has
 
@@ -55,6 +52,6 @@ pub returns-clause-stopped : goal.returns-clause-stopped
 returns-clause-stopped g c =
     let graph = c.go_over.new.graph in
     if_err c.go_over.result (λ stop why. elim why [
-      | inl e ↦ may_stop_by_memory graph.image.now graph.profile graph.flats.items graph.bounds.nodes graph.bounds.private stop e
+      | inl e ↦ may_stop_by_memory graph.setup graph.flats.items graph.bounds.nodes graph.bounds.private stop e
       | inr may ↦ may
     ]) c.go_over.ensures.stopped

@@ -13,7 +13,7 @@ returns c =
     let asked = finished_asked (noted_by graph.rows.items graph.refusals.items) (length graph.flats.items) search.found.nodes.items
     search.found.refusals.items (rows search.opened.items) search.level between
     c.requires.over in
-    if_ok c.mark_states.result (λ marks ways. marked_by graph.image.now graph.profile graph.flats.items graph.rows.items graph.refusals.items
+    if_ok c.mark_states.result (λ marks ways. marked_by graph.setup graph.flats.items graph.rows.items graph.refusals.items
     search.found.nodes.items search.found.refusals.items
     (length (rows search.opened.items)) search.level.number c.requires.is.graph c.requires.is.threads between.has between.all asked marks.items ways)
     c.mark_states.ensures
