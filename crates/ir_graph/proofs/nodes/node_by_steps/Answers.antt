@@ -1,10 +1,213 @@
+use Rattle.std.proofs.Common.{◌≡◌, ◌<◌, Some, length, sym, ◌∙◌, subst}
+use Rattle.std.specs.Prelude.{slice_get}
+use Rattle.ir_runs.specs.Run.{Can, after}
+use Rattle.ir_flat.specs.Flat.{machine, tables}
+use Rattle.ir_store.specs.Nodes.{SourcedFlat}
+use Rattle.ir_store.specs.Table.{HaveForm}
+use Rattle.ir_graph.specs.Nodes.{LookAlike, AllRest, Stay}
+use Rattle.ir_graph.specs.Plain.{sourced_flat, IsLike, MayGo}
+use Rattle.ir_graph.specs.Reached.{IsReached, AllReached}
+use Rattle.ir_graph.proofs.Reached.{step_of_reached_is_reached}
+use Rattle.ir_graph.proofs.Stops.{is_stop_after_entry, may_stop_by_thread_stop}
+use Rattle.ir_graph.proofs.Found.{leads_nowhere_if_no_step, reached_like, reached_each, reached_rests, reached_leads}
+use Rattle.ir_graph.proofs.Forms.{have_form_of_like_moment}
+use Rattle.ir_graph.proofs.Plain.{TakesStep, step_at_rest, like_transitive, like_after_step, like_after_plain_steps}
 use Rattle.ir_graph.proofs.nodes.node_by_steps.Goals as goal
 
+pub run_to_rest-requires-clause-source : goal.run_to_rest-requires-clause-source
+run_to_rest-requires-clause-source c =
+    let s = sourced_flat c.state.inside.flat c.state.inside.sources.items in
+    let at = subst (λ z. slice_get c.args.flats.now.items c.args.way.node ≡ Some z) (sym c.state.view_is) c.in_ok-state.ensures.found in
+    subst (λ n. c.args.way.thread < n) (sym (c.requires.nodes.each c.args.way.node s at)) (c.requires.thread s at)
+
 pub by_numbers-requires-clause-sourced : goal.by_numbers-requires-clause-sourced
-by_numbers-requires-clause-sourced c = ?
+by_numbers-requires-clause-sourced c =
+    let f = c.state.inside.flat in
+    let g = c.take.new.self in
+    let sources = c.state.inside.sources.items in
+    let s = sourced_flat f sources in
+    let u = sourced_flat g sources in
+    let t = c.args.way.thread in
+    let at = subst (λ z. slice_get c.args.flats.now.items c.args.way.node ≡ Some z) (sym c.state.view_is) c.in_ok-state.ensures.found in
+    let less = c.requires.thread s at in
+    let rests = c.requires.nodes.rest c.args.way.node s at t less in
+    let one = c.in_default-take.ensures in
+    let step : TakesStep (sourced_flat c.state.inside.flat c.state.inside.sources.items) (sourced_flat c.take.new.self c.state.inside.sources.items)
+    c.args.way.thread c.in-Some.answer =
+    step_at_rest f g sources t c.in-Some.answer rests one.admitted one.taken one.code one.threads one.objects in
+    let w = c.run_to_rest.new.state in
+    let goes = c.run_to_rest.ensures.goes in
+    record {
+      flat = c.run_to_rest.ensures.flat;
+      each = reached_each c.args.flats.now.items s u w t c.in-Some.answer c.args.way.node c.requires.nodes at less step goes;
+    }
+
+pub by_numbers-requires-clause-form : goal.by_numbers-requires-clause-form
+by_numbers-requires-clause-form c =
+    let f = c.state.inside.flat in
+    let g = c.take.new.self in
+    let sources = c.state.inside.sources.items in
+    let s = sourced_flat f sources in
+    let u = sourced_flat g sources in
+    let t = c.args.way.thread in
+    let at = subst (λ z. slice_get c.args.flats.now.items c.args.way.node ≡ Some z) (sym c.state.view_is) c.in_ok-state.ensures.found in
+    let less = c.requires.thread s at in
+    let rests = c.requires.nodes.rest c.args.way.node s at t less in
+    let one = c.in_default-take.ensures in
+    let step : TakesStep (sourced_flat c.state.inside.flat c.state.inside.sources.items) (sourced_flat c.take.new.self c.state.inside.sources.items)
+    c.args.way.thread c.in-Some.answer =
+    step_at_rest f g sources t c.in-Some.answer rests one.admitted one.taken one.code one.threads one.objects in
+    let w = c.run_to_rest.new.state in
+    let goes = c.run_to_rest.ensures.goes in
+    let form = subst (λ (z : SourcedFlat). HaveForm c.args.flats.now.form z.flat.threads) (sym c.state.view_is) c.in_ok-state.ensures.form in
+    have_form_of_like_moment c.args.flats.now.form f w.flat
+    (like_transitive f g w.flat (like_after_step s u t c.in-Some.answer step) (like_after_plain_steps u w goes)) form
+
+pub returns-in-Err-clause-leads : goal.returns-in-Err-clause-leads
+returns-in-Err-clause-leads c =
+    let f = c.state.inside.flat in
+    let s = sourced_flat f c.state.inside.sources.items in
+    let t = c.args.way.thread in
+    let at = subst (λ z. slice_get c.args.flats.now.items c.args.way.node ≡ Some z) (sym c.state.view_is) c.in_ok-state.ensures.found in
+    let less = c.requires.thread s at in
+    leads_nowhere_if_no_step c.args.flats.now.items s t c.args.way.refused c.args.way.node c.requires.nodes at less
+    (subst (λ r. Can (machine f) (tables f) (t, r) → ⊥) c.in-Some.ensures.result c.in-Err.ensures.refused)
+
+pub node_of-requires-clause-like : goal.node_of-requires-clause-like
+node_of-requires-clause-like c = λ v k is.
+    let f = c.state.inside.flat in
+    let g = c.take.new.self in
+    let sources = c.state.inside.sources.items in
+    let s = sourced_flat f sources in
+    let u = sourced_flat g sources in
+    let t = c.args.way.thread in
+    let at = subst (λ z. slice_get c.args.flats.now.items c.args.way.node ≡ Some z) (sym c.state.view_is) c.in_ok-state.ensures.found in
+    let less = c.requires.thread s at in
+    let rests = c.requires.nodes.rest c.args.way.node s at t less in
+    let one = c.in_default-take.ensures in
+    let step : TakesStep (sourced_flat c.state.inside.flat c.state.inside.sources.items) (sourced_flat c.take.new.self c.state.inside.sources.items)
+    c.args.way.thread c.in-Some.answer =
+    step_at_rest f g sources t c.in-Some.answer rests one.admitted one.taken one.code one.threads one.objects in
+    let w = c.run_to_rest.new.state in
+    let goes = c.run_to_rest.ensures.goes in
+    subst (λ (z : SourcedFlat). IsLike z.flat k.flat) (sym c.in_ok-new.ensures.state)
+    (reached_like c.args.flats.now.items s u w t c.in-Some.answer c.args.way.node c.requires.nodes at less step goes v k
+    (subst (λ z. slice_get z v ≡ Some k) c.by_numbers.ensures.items is))
+
+pub node_of-requires-clause-rest : goal.node_of-requires-clause-rest
+node_of-requires-clause-rest c =
+    let f = c.state.inside.flat in
+    let g = c.take.new.self in
+    let sources = c.state.inside.sources.items in
+    let s = sourced_flat f sources in
+    let u = sourced_flat g sources in
+    let t = c.args.way.thread in
+    let at = subst (λ z. slice_get c.args.flats.now.items c.args.way.node ≡ Some z) (sym c.state.view_is) c.in_ok-state.ensures.found in
+    let less = c.requires.thread s at in
+    let rests = c.requires.nodes.rest c.args.way.node s at t less in
+    let one = c.in_default-take.ensures in
+    let step : TakesStep (sourced_flat c.state.inside.flat c.state.inside.sources.items) (sourced_flat c.take.new.self c.state.inside.sources.items)
+    c.args.way.thread c.in-Some.answer =
+    step_at_rest f g sources t c.in-Some.answer rests one.admitted one.taken one.code one.threads one.objects in
+    let w = c.run_to_rest.new.state in
+    let goes = c.run_to_rest.ensures.goes in
+    subst (λ (z : SourcedFlat). AllRest z.flat) (sym c.in_ok-new.ensures.state)
+    (reached_rests c.args.flats.now.items s u w t c.in-Some.answer c.args.way.node c.requires.nodes at less step goes c.run_to_rest.ensures.others
+    c.in_default-run_to_rest.ensures.rests)
 
 pub returns-in-Ok-clause-leads : goal.returns-in-Ok-clause-leads
-returns-in-Ok-clause-leads c = ?
+returns-in-Ok-clause-leads c =
+    let f = c.state.inside.flat in
+    let g = c.take.new.self in
+    let sources = c.state.inside.sources.items in
+    let s = sourced_flat f sources in
+    let u = sourced_flat g sources in
+    let t = c.args.way.thread in
+    let at = subst (λ z. slice_get c.args.flats.now.items c.args.way.node ≡ Some z) (sym c.state.view_is) c.in_ok-state.ensures.found in
+    let less = c.requires.thread s at in
+    let rests = c.requires.nodes.rest c.args.way.node s at t less in
+    let one = c.in_default-take.ensures in
+    let step : TakesStep (sourced_flat c.state.inside.flat c.state.inside.sources.items) (sourced_flat c.take.new.self c.state.inside.sources.items)
+    c.args.way.thread c.in-Some.answer =
+    step_at_rest f g sources t c.in-Some.answer rests one.admitted one.taken one.code one.threads one.objects in
+    let w = c.run_to_rest.new.state in
+    let goes = c.run_to_rest.ensures.goes in
+    let r = c.in-Some.ensures.result in
+    let may = subst (MayGo c.args.way.refused) c.ask-asked.ensures.value c.in-Some.ensures.has in
+    reached_leads c.args.flats.now.items s u w t c.args.way.refused c.args.way.node c.requires.nodes at less may
+    (subst (TakesStep (sourced_flat c.state.inside.flat c.state.inside.sources.items) (sourced_flat c.take.new.self c.state.inside.sources.items)
+    c.args.way.thread) r step) goes c.node_of.new.flats.items c.in-Ok.next
+    (subst (λ z. Stay z c.node_of.new.flats.items) c.by_numbers.ensures.items c.node_of.ensures.stay)
+    (λ k is. subst (λ z. LookAlike z k) c.in_ok-new.ensures.state (c.in-Ok.ensures.alike k is))
 
-pub run_to_rest-requires-clause-source : goal.run_to_rest-requires-clause-source
-run_to_rest-requires-clause-source c = ?
+pub returns-in-Ok-clause-reached : goal.returns-in-Ok-clause-reached
+returns-in-Ok-clause-reached c = λ x all.
+    let f = c.state.inside.flat in
+    let g = c.take.new.self in
+    let sources = c.state.inside.sources.items in
+    let s = sourced_flat f sources in
+    let u = sourced_flat g sources in
+    let t = c.args.way.thread in
+    let at = subst (λ z. slice_get c.args.flats.now.items c.args.way.node ≡ Some z) (sym c.state.view_is) c.in_ok-state.ensures.found in
+    let less = c.requires.thread s at in
+    let rests = c.requires.nodes.rest c.args.way.node s at t less in
+    let one = c.in_default-take.ensures in
+    let step : TakesStep (sourced_flat c.state.inside.flat c.state.inside.sources.items) (sourced_flat c.take.new.self c.state.inside.sources.items)
+    c.args.way.thread c.in-Some.answer =
+    step_at_rest f g sources t c.in-Some.answer rests one.admitted one.taken one.code one.threads one.objects in
+    let w = c.run_to_rest.new.state in
+    let goes = c.run_to_rest.ensures.goes in
+    c.node_of.ensures.reached x (subst (AllReached x) (sym c.by_numbers.ensures.items) all)
+    (subst (IsReached x) (sym c.in_ok-new.ensures.state)
+    (step_of_reached_is_reached x s u w t c.in-Some.answer (all c.args.way.node s at) rests step goes))
+
+pub returns-clause-reached : goal.returns-clause-reached
+returns-clause-reached c = λ x all.
+    let f = c.state.inside.flat in
+    let g = c.take.new.self in
+    let sources = c.state.inside.sources.items in
+    let s = sourced_flat f sources in
+    let u = sourced_flat g sources in
+    let t = c.args.way.thread in
+    let at = subst (λ z. slice_get c.args.flats.now.items c.args.way.node ≡ Some z) (sym c.state.view_is) c.in_ok-state.ensures.found in
+    let less = c.requires.thread s at in
+    let rests = c.requires.nodes.rest c.args.way.node s at t less in
+    let one = c.in_default-take.ensures in
+    let step : TakesStep (sourced_flat c.state.inside.flat c.state.inside.sources.items) (sourced_flat c.take.new.self c.state.inside.sources.items)
+    c.args.way.thread c.in-Some.answer =
+    step_at_rest f g sources t c.in-Some.answer rests one.admitted one.taken one.code one.threads one.objects in
+    let w = c.run_to_rest.new.state in
+    let goes = c.run_to_rest.ensures.goes in
+    c.node_of.ensures.reached x (subst (AllReached x) (sym c.by_numbers.ensures.items) all)
+    (subst (IsReached x) (sym c.in_ok-new.ensures.state)
+    (step_of_reached_is_reached x s u w t c.in-Some.answer (all c.args.way.node s at) rests step goes))
+
+pub returns-in-Err-run_to_rest-clause-stopped : goal.returns-in-Err-run_to_rest-clause-stopped
+returns-in-Err-run_to_rest-clause-stopped c = λ x all.
+    let f = c.state.inside.flat in
+    let g = c.take.new.self in
+    let sources = c.state.inside.sources.items in
+    let s = sourced_flat f sources in
+    let u = sourced_flat g sources in
+    let t = c.args.way.thread in
+    let at = subst (λ z. slice_get c.args.flats.now.items c.args.way.node ≡ Some z) (sym c.state.view_is) c.in_ok-state.ensures.found in
+    let less = c.requires.thread s at in
+    let rests = c.requires.nodes.rest c.args.way.node s at t less in
+    let one = c.in_default-take.ensures in
+    let step : TakesStep (sourced_flat c.state.inside.flat c.state.inside.sources.items) (sourced_flat c.take.new.self c.state.inside.sources.items)
+    c.args.way.thread c.in-Some.answer =
+    step_at_rest f g sources t c.in-Some.answer rests one.admitted one.taken one.code one.threads one.objects in
+    let w = c.run_to_rest.new.state in
+    let goes = c.run_to_rest.ensures.goes in
+    may_stop_by_thread_stop x c.args.flats.now.items c.args.bounds.nodes c.args.bounds.private c.in-Err-run_to_rest.stop
+    (is_stop_after_entry x c.args.bounds.private c.in-Err-run_to_rest.stop s u w t c.in-Some.answer (all c.args.way.node s at) rests step goes
+    c.in-Err-run_to_rest.ensures.stopped)
+
+pub returns-in_err-new-clause-reached : goal.returns-in_err-new-clause-reached
+returns-in_err-new-clause-reached c = λ x all. subst (AllReached x) (sym c.by_numbers.ensures.items) all
+
+pub returns-in-Ok-clause-stay : goal.returns-in-Ok-clause-stay
+returns-in-Ok-clause-stay c = subst (λ z. Stay z c.node_of.new.flats.items) c.by_numbers.ensures.items c.node_of.ensures.stay
+
+pub returns-clause-stay : goal.returns-clause-stay
+returns-clause-stay c = subst (λ z. Stay z c.node_of.new.flats.items) c.by_numbers.ensures.items c.node_of.ensures.stay
