@@ -81,11 +81,7 @@ fn first_memory(alloc: Global, image: &Image) -> Result<Vec<u8>, AllocError>
 ///
 /// # Errors
 /// What `run_to_rest` gives, or out of memory.
-pub fn start_graph<'a>(
-    alloc: Global,
-    setup: &Setup<'a>,
-    bounds: Bounds,
-) -> Result<Graph<'a>, Stop>
+pub fn start_graph<'a>(alloc: Global, setup: &Setup<'a>, bounds: Bounds) -> Result<Graph<'a>, Stop>
     requires allowed { IsAllowed setup.now.profile setup.now.guest }
     ensures stopped { IfErr result (λ stop. (stop ≡ Memory) ⊎ IsStop setup.now bounds.private stop) }
     ensures setup { IfOk result (λ graph. graph.setup ≡ setup.now) }
@@ -99,9 +95,10 @@ pub fn start_graph<'a>(
     rest_all(&mut state, bounds.private)?;
     let threads = state.flat.threads().len();
     let rows = no_notes(alloc, threads)?;
-    let refusals = no_refusals(alloc, threads, setup.profile)?;
-    let start = first_memory(alloc, setup.image)?;
-    let mut flats = Store::new(alloc, setup.image.form(), start.as_slice())?;
+    let refusals = no_refusals(alloc, threads, setup.profile())?;
+    let image = setup.image();
+    let start = first_memory(alloc, image)?;
+    let mut flats = Store::new(alloc, image.form(), start.as_slice())?;
     let first = flats.by_numbers(&state)?;
     flats.push(first)?;
     Ok(Graph {
