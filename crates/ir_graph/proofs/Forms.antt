@@ -1,5 +1,5 @@
 -- The form of the image that threads are of.
-use Rattle.std.proofs.Common.{◌≡◌, ◌<◌, ℕ, zero, suc, List, [], ◌∷◌, length, get_or, map, refl, sym, ap, ◌∙◌, subst, arith}
+use Rattle.std.proofs.Common.{◌≡◌, ◌<◌, ◌+◌, ℕ, zero, suc, List, [], ◌∷◌, length, get_or, map, refl, sym, ap, ◌∙◌, subst, arith}
 use Rattle.std.specs.List.{AllByRecursion, range_with_len}
 use Rattle.ir_image.specs.Guest.{Guest}
 use Rattle.ir_image.specs.declared.form.ImageForm.{ImageForm}
@@ -37,7 +37,7 @@ length_of_map f (x ∷ xs) = ap suc (length_of_map f xs)
 
 length_of_range : (a n : ℕ) → length (range_with_len a n) ≡ n
 length_of_range a zero = refl
-length_of_range a (suc n) = ap suc (length_of_range (suc a) n)
+length_of_range a (suc n) = ap suc (length_of_range (a + 1) n)
 
 -- at the start each thread has a source
 pub start_has_sources : (x : Setup) → length (start_of x).sources ≡ length (start_of x).flat.threads

@@ -66,7 +66,7 @@ impl<'a> Successors for Graph<'a> {
             refused,
             node,
         };
-        let code = self.setup.image.code();
+        let code = self.setup.code();
         let next = successor(&mut self.flats, &mut self.ahead, code, way, self.bounds)?;
         let nodes = self.flats.len();
         note_way(&mut self.rows, &mut self.refusals, nodes, way, next)?;

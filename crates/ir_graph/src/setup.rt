@@ -6,7 +6,7 @@ ghost use Rattle.ir_sources.specs.Sources.{seed_of, source};
 ghost use Rattle.ir_graph.specs.Setup.{Setup, first_sources, start_of};
 
 use ir_flat::Flat;
-use ir_image::Image;
+use ir_image::{Code, Image};
 use ir_sources::Sources;
 use ir_store::SourcedFlat;
 use ir_thread::Profile;
@@ -46,6 +46,27 @@ impl<'a> Setup<'a> {
             random: self.random,
             input: self.input,
         }
+    }
+
+    /// The image of the guest.
+    pub fn image(&self) -> &'a Image
+        ensures { result.now ≡ self.now.guest }
+    {
+        self.image
+    }
+
+    /// Its code.
+    pub fn code(&self) -> &'a Code
+        ensures { result.now ≡ self.now.guest.code }
+    {
+        self.image.code()
+    }
+
+    /// Which calls its threads make.
+    pub fn profile(&self) -> Profile
+        ensures { result ≡ self.now.profile }
+    {
+        self.profile
     }
 
     // What answers a thread at first.

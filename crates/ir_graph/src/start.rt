@@ -99,9 +99,10 @@ pub fn start_graph<'a>(
     rest_all(&mut state, bounds.private)?;
     let threads = state.flat.threads().len();
     let rows = no_notes(alloc, threads)?;
-    let refusals = no_refusals(alloc, threads, setup.profile)?;
-    let start = first_memory(alloc, setup.image)?;
-    let mut flats = Store::new(alloc, setup.image.form(), start.as_slice())?;
+    let refusals = no_refusals(alloc, threads, setup.profile())?;
+    let image = setup.image();
+    let start = first_memory(alloc, image)?;
+    let mut flats = Store::new(alloc, image.form(), start.as_slice())?;
     let first = flats.by_numbers(&state)?;
     flats.push(first)?;
     Ok(Graph {

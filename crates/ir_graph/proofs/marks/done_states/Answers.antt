@@ -12,8 +12,8 @@ loop-v-preserved c =
     let f = element_below_length_exists flats c.loop-v.v less in
     let is = c.is_over.ensures f.0 f.1 in
     subst (AreEnded flats (c.loop-v.v + 1)) (sym c.in_ok-push.ensures.items)
-    (are_ended_step flats c.loop-v.v c.loop-v.done.items f.0 c.is_over.result c.loop-v.invariant f.1 (λ e. is_done_if_all_over f.0 (sym is ∙ e))
-    (λ e. not_done_unless_all_over f.0 (sym is ∙ e)))
+    (are_ended_step flats c.loop-v.v c.loop-v.done.items f.0 c.is_over.result c.loop-v.invariant f.1 (λ e. is_done_if_all_over f.0.flat (sym is ∙ e))
+    (λ e. not_done_unless_all_over f.0.flat (sym is ∙ e)))
 
 pub returns-clause-nodes : goal.returns-clause-nodes
 returns-clause-nodes c =

@@ -1,15 +1,25 @@
-use Rattle.std.proofs.Common.{inl, inr, sym, ◌∙◌, subst, arith}
+use Rattle.std.proofs.Common.{refl, inl, inr, sym, ◌∙◌, subst, arith}
 use Rattle.std.proofs.lemmas.Bool.{cases_eq}
 use Rattle.ir_thread.specs.State.{ask_of}
-use Rattle.ir_flat.specs.Flat.{thread_of}
+use Rattle.ir_flat.specs.Flat.{IsFlat, thread_of}
+use Rattle.ir_store.specs.Nodes.{SourcedFlat}
 use Rattle.ir_graph.specs.Plain.{Rests}
-use Rattle.ir_graph.proofs.Plain.{goes_plain_transitive}
+use Rattle.ir_graph.proofs.Plain.{goes_plain_reflexive, goes_plain_transitive}
 use Rattle.ir_graph.proofs.Stops.{is_stop_after_start}
 use Rattle.ir_graph.proofs.start.rest_all.Goals as goal
 
 pub returns-in-Err-clause-goes : goal.returns-in-Err-clause-goes
 returns-in-Err-clause-goes c =
     goes_plain_transitive c.args.state.now c.loop-thread.state c.run_to_rest.new.state c.loop-thread.invariant.goes c.run_to_rest.ensures.goes
+
+pub loop-thread-init : goal.loop-thread-init
+loop-thread-init c = record {
+  goes = goes_plain_reflexive c.args.state.now;
+  rest = λ t less. absurd (omega (arith, less));
+  threads = refl;
+  sources = refl;
+  flat = subst (λ (z : SourcedFlat). IsFlat z.flat) c.state.view_is c.threads-thread-end.ensures.within;
+}
 
 pub loop-thread-preserved : goal.loop-thread-preserved
 loop-thread-preserved c =

@@ -7,7 +7,8 @@ use Rattle.ir_graph.specs.Notes.{noted_by, noted_in}
 use Rattle.ir_graph.specs.Plain.{GoesPlain}
 use Rattle.ir_graph.specs.Setup.{Setup, start_of}
 use Rattle.ir_graph.proofs.Grown.{free_to_try, noted_by_past_threads, start_is_graph}
-use Rattle.ir_store.specs.Nodes.{sourced_in}
+use Rattle.ir_image.specs.Guest.{Guest}
+use Rattle.ir_store.specs.Nodes.{SourcedFlat, sourced_in}
 use Rattle.ir_store.specs.Table.{HaveForm}
 use Rattle.ir_graph.proofs.Forms.{have_form_of_like_moment, start_threads_have_form, start_has_sources}
 use Rattle.ir_graph.proofs.Plain.{like_after_plain_steps}
@@ -21,7 +22,7 @@ by_numbers-requires-clause-form c =
     let x = c.args.setup.now in
     let h = c.rest_all.new.state in
     let goes = subst (λ z. GoesPlain z h) c.in_ok-state.ensures c.in_ok-rest_all.ensures.goes in
-    subst (λ z. HaveForm z h.flat.threads) (sym (c.in_ok-flats.ensures.form ∙ c.form.ensures.value))
+    subst (λ z. HaveForm z h.flat.threads) (sym (c.in_ok-flats.ensures.form ∙ c.form.ensures.value ∙ ap (λ (z : Guest). z.form) c.image-image.ensures))
     (have_form_of_like_moment x.guest.form (start_of x).flat h.flat (like_after_plain_steps (start_of x) h goes)
     (start_threads_have_form x.guest most_budget x.profile 0 (length x.guest.entries)))
 
@@ -36,7 +37,8 @@ by_numbers-requires-clause-sourced c =
 pub returns-clause-threads : goal.returns-clause-threads
 returns-clause-threads c =
     let x = c.args.setup.now in
-    c.in_ok-rows.ensures.threads ∙ ap length c.threads-threads.ensures.value ∙ c.in_ok-rest_all.ensures.goes.threads
+    c.in_ok-rows.ensures.threads ∙ ap length c.threads-threads.ensures.value ∙ ap (λ (z : SourcedFlat). length z.flat.threads) c.state.view_is
+    ∙ c.in_ok-rest_all.ensures.goes.threads
     ∙ ap (λ z. length z.flat.threads) c.in_ok-state.ensures ∙ length_of_start_threads x.guest most_budget x.profile 0 (length x.guest.entries)
 
 pub returns-clause-sound : goal.returns-clause-sound
@@ -45,13 +47,13 @@ returns-clause-sound c =
     let h = c.rest_all.new.state in
     let rows = c.in_ok-rows.rows.items in
     let refusals = c.in_ok-refusals.refusals.items in
-    let value = ap length c.threads-threads.ensures.value in
+    let value = ap length c.threads-threads.ensures.value ∙ ap (λ (z : SourcedFlat). length z.flat.threads) c.state.view_is in
     let goes = subst (λ z. GoesPlain z h) c.in_ok-state.ensures c.in_ok-rest_all.ensures.goes in
     let same = c.in_ok-rows.ensures.threads in
     let many : length rows ≡ length h.flat.threads = same ∙ value in
     let free = subst (λ n. (t v : ℕ) → t < n → noted_in rows t v ≡ None) (sym same) c.in_ok-rows.ensures.free in
-    let tries = free_to_try x.profile (length rows) rows refusals c.in_ok-refusals.ensures.one
-    (subst (λ n. x.profile ≡ Two → (t v : ℕ) → t < n → noted_in refusals t v ≡ None) (sym same) c.in_ok-refusals.ensures.two) in
+    let tries = free_to_try x.profile (length rows) rows refusals (λ one. c.in_ok-refusals.ensures.one (c.profile.ensures ∙ one))
+    (λ two. subst (λ n. (t v : ℕ) → t < n → noted_in refusals t v ≡ None) (sym same) (c.in_ok-refusals.ensures.two (c.profile.ensures ∙ two))) in
     let states : c.push.new.self.items ≡ h ∷ [] =
     c.in_ok-push.ensures.ok ∙ ap (λ z. z ++ sourced_in c.by_numbers.new.self.shared c.in_ok-first.first ∷ []) (c.by_numbers.ensures.items ∙ c.in_ok-flats.ensures.items)
     ∙ ap (λ z. z ∷ []) c.in_ok-first.ensures.state in

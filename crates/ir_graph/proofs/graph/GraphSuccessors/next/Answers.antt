@@ -16,11 +16,11 @@ successor-requires-clause-code c = λ f is.
     let g = c.args.self.now in
     code_of_node g.setup g.flats.items (noted_by g.rows.items g.refusals.items) (length g.rows.items) c.args.node f
     c.requires.sound.0 is
-    ∙ sym c.code-code.ensures.value
+    ∙ sym c.code-code.ensures
 
 pub successor-requires-clause-turns : goal.successor-requires-clause-turns
 successor-requires-clause-turns c =
-    subst (λ z. AreTurns z c.args.self.now.flats.shared c.args.self.now.ahead) (sym c.code-code.ensures.value) c.requires.sound.1
+    subst (λ z. AreTurns z c.args.self.now.flats.shared c.args.self.now.ahead) (sym c.code-code.ensures) c.requires.sound.1
 
 pub returns-in_err-next-clause-sound : goal.returns-in_err-next-clause-sound
 returns-in_err-next-clause-sound c =
@@ -28,7 +28,7 @@ returns-in_err-next-clause-sound c =
     let grown = c.successor.ensures in (
       is_graph_after_nodes_added g.setup g.flats.items c.successor.new.flats.items (noted_by g.rows.items g.refusals.items)
           (length g.rows.items) c.requires.sound.0 grown.stay grown.nodes (grown.reached g.setup c.requires.sound.0.reached) grown.grown,
-      subst (λ z. AreTurns z c.successor.new.flats.shared c.successor.new.ahead) c.code-code.ensures.value grown.turns,
+      subst (λ z. AreTurns z c.successor.new.flats.shared c.successor.new.ahead) c.code-code.ensures grown.turns,
     )
 
 pub returns-in_err-note_way-clause-sound : goal.returns-in_err-note_way-clause-sound
@@ -54,7 +54,7 @@ returns-in_err-note_way-clause-sound c =
     (grown.reached g.setup c.requires.sound.0.reached) grown.grown only threads (sym c.known.ensures ∙ c.in_default.is)
     c.requires.node c.in_ok-next.ensures.within c.in_ok-next.ensures.leads in (
       is_graph_of_equal_rows g.setup flats new tries same also noted,
-      subst (λ z. AreTurns z c.successor.new.flats.shared c.successor.new.ahead) c.code-code.ensures.value grown.turns,
+      subst (λ z. AreTurns z c.successor.new.flats.shared c.successor.new.ahead) c.code-code.ensures grown.turns,
     )
 
 pub returns-clause-sound : goal.returns-clause-sound
@@ -80,5 +80,5 @@ returns-clause-sound c =
     (grown.reached g.setup c.requires.sound.0.reached) grown.grown only threads (sym c.known.ensures ∙ c.in_default.is)
     c.requires.node c.in_ok-next.ensures.within c.in_ok-next.ensures.leads in (
       is_graph_of_equal_rows g.setup flats new tries same also noted,
-      subst (λ z. AreTurns z c.successor.new.flats.shared c.successor.new.ahead) c.code-code.ensures.value grown.turns,
+      subst (λ z. AreTurns z c.successor.new.flats.shared c.successor.new.ahead) c.code-code.ensures grown.turns,
     )
