@@ -1,20 +1,20 @@
 -- A guest's threads beside their sources, step by step, and as a search sees them.
-use Rattle.std.proofs.Common.{◌≡◌, ◌≢◌, ℕ, ◌<◌, List, [], ◌∷◌, ◌++◌, inl, inr, refl, sym, ap, ◌∙◌, subst, length, set, get_or}
+use Rattle.std.proofs.Common.{◌≡◌, ℕ, ◌<◌, List, [], ◌∷◌, ◌++◌, inl, inr, sym, ap, ◌∙◌, subst, length, set, get_or}
 use Rattle.std.proofs.lemmas.Bool.{cases_eq}
 use Rattle.std.proofs.lemmas.List.{get_or-set_same, get_or-set_other}
 use Rattle.ir_runs.specs.Machine.{Machine, upd, target, reply, acted}
-use Rattle.ir_runs.specs.Run.{State, Step, asked, act, Can, after, end, IsRun}
+use Rattle.ir_runs.specs.Run.{State, Step, asked, act, after, end}
 use Rattle.ir_runs.proofs.CallerLemmas.{upd_at_own_place, upd_at_other_place, upd_with_old_value}
 use Rattle.ir_states.specs.Counting.{Counts, is_own, GoesAhead, entering}
-use Rattle.ir_states.specs.Sources.{Giving, answer_of, left_of, sourced, by_source, plain}
+use Rattle.ir_states.specs.Sources.{Giving, answer_of, left_of, sourced, plain}
 use Rattle.ir_states.specs.Views.{IsView, viewed, IsLiveRun, beside}
-use Rattle.ir_states.proofs.CallerLemmas.{counting_run_is_run, goes_ahead_counts, counts_append, goes_ahead_append, plain_end, sourced_view_is_view, viewed_end, viewed_entering, viewed_counts}
-use Rattle.ir_thread.specs.State.{ThreadState, ask_of, thread_machine, shared_ask}
+use Rattle.ir_states.proofs.CallerLemmas.{goes_ahead_counts, counts_append, goes_ahead_append, plain_end, sourced_view_is_view, viewed_end, viewed_entering, viewed_counts}
+use Rattle.ir_thread.specs.State.{ThreadState, thread_machine}
 use Rattle.ir_sources.specs.Sources.{Source, given}
 use Rattle.ir_seen.specs.Seen.{view, seen_machine, IsLive}
 use Rattle.ir_seen.proofs.CallerLemmas.{seen_machine_is_view}
-use Rattle.ir_flat.specs.Flat.{tables, machine, thread_of}
-use Rattle.ir_store.specs.Nodes.{SourcedFlat, source_of}
+use Rattle.ir_flat.specs.Flat.{tables, machine}
+use Rattle.ir_store.specs.Nodes.{SourcedFlat}
 use Rattle.ir_store.specs.Table.{no_source}
 use Rattle.ir_graph.specs.Nodes.{seen_by, answered_by}
 use Rattle.ir_graph.specs.Plain.{full_by, sources_by, full_of, AreLive, IsAnsweredRun, IsPlainRun}

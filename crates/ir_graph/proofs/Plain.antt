@@ -3,7 +3,7 @@ use Rattle.std.proofs.Common.{◌≡◌, ◌≢◌, ℕ, zero, suc, ◌<◌, Boo
 use Rattle.std.specs.Prelude.{◌==◌, replicate}
 use Rattle.ir_runs.specs.Machine as machine
 use Rattle.ir_runs.specs.Machine.{target, reply, upd}
-use Rattle.ir_runs.specs.Run.{State, Step, asked, act, Can, after, end, IsRun}
+use Rattle.ir_runs.specs.Run.{State, Step, act, Can, after, end, IsRun}
 use Rattle.ir_runs.proofs.CallerLemmas.{upd_by_cases, upd_with_old_value, thread_after_step_of_other, end_append}
 use Rattle.ir_states.specs.Counting.{IsAnswered, is_own}
 use Rattle.ir_states.specs.Sources.{answer_of, left_of}
@@ -23,7 +23,7 @@ use Rattle.ir_flat.specs.Alone.{WentAlone}
 use Rattle.ir_flat.specs.Flat.{Flat, tables, machine, thread_of}
 use Rattle.ir_store.specs.Nodes.{SourcedFlat, source_of}
 use Rattle.ir_graph.specs.Plain.{full_by, full_of, sourced_flat, IsAnsweredRun, IsPlainRun, GoesPlain, OthersStay, IsLike, Rests, IsFair}
-use Rattle.ir_graph.proofs.Full.{after_step_beside_sources, after_step_beside_same_sources, source_of_set, tables_at_end, plain_run_append, plain_run_is_answered}
+use Rattle.ir_graph.proofs.Full.{after_step_beside_sources, after_step_beside_same_sources, source_of_set, tables_at_end, plain_run_append}
 
 -- what a step of a thread makes of a guest's state
 pub record TakesStep (s u : SourcedFlat) (t r : ℕ) : Type 0 where

@@ -1,5 +1,5 @@
 -- One thread that goes on alone.
-use Rattle.std.proofs.Common.{◌≡◌, ℕ, zero, suc, ◌+◌, ◌<◌, Bool, true, false, cond, List, [], ◌∷◌, ◌++◌, length, length-append, inl, inr, refl, sym, ap, ◌∙◌, subst, arith}
+use Rattle.std.proofs.Common.{◌≡◌, ℕ, zero, suc, ◌+◌, Bool, true, false, cond, List, [], ◌∷◌, ◌++◌, length, length-append, inl, inr, refl, sym, ap, ◌∙◌, subst, arith}
 use Rattle.std.specs.Prelude.{replicate}
 use Rattle.std.proofs.lemmas.List.{length-replicate}
 use Rattle.ir_record.specs.Refusing.{Turn, Tries, InTurns}
@@ -13,13 +13,11 @@ use Rattle.ir_states.specs.Orders.{IsAlone}
 use Rattle.ir_states.specs.Sources.{Giving, answer_of, sourced, plain}
 use Rattle.ir_states.proofs.CallerLemmas.{counting_run_is_run, entering_append, goes_ahead_enters_nothing, plain_end}
 use Rattle.ir_thread.specs.State.{ask_of, shared_ask}
-use Rattle.ir_thread.specs.declared.ask.Ask.{Ask}
-use Rattle.ir_thread.specs.declared.ask.Ask.TheVariants as ask
 use Rattle.ir_sources.specs.Sources.{Source, given}
 use Rattle.ir_flat.specs.Alone.{WentAlone}
 use Rattle.ir_flat.specs.Flat.{Flat, tables, machine, thread_of}
 use Rattle.ir_store.specs.Nodes.{SourcedFlat, source_of}
-use Rattle.ir_graph.specs.Plain.{full_by, sources_by, full_of, sourced_flat, IsAnsweredRun, IsPlainRun, GoesPlain, IsFair, Rests, IsLike, result_by}
+use Rattle.ir_graph.specs.Plain.{full_by, sources_by, full_of, sourced_flat, IsAnsweredRun, IsPlainRun, IsFair, Rests, IsLike, result_by}
 use Rattle.ir_graph.specs.Turn.{EachTries, GoesAlone}
 use Rattle.ir_graph.proofs.Full.{answered_run_append, plain_run_is_answered}
 use Rattle.ir_graph.proofs.Plain.{step_at_rest, step_at_rest_is_answered_run, rest_ask_is_not_own, TakesStep, fair_step_is_plain_run, private_steps_are_plain_run, like_after_run}

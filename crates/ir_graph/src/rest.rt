@@ -108,10 +108,5 @@ pub fn run_to_rest(state: &mut SourcedFlat<'_>, thread: usize, limit: u64) -> Re
     ensures flat { IsFlat state.new.flat }
     ensures stopped { IfErr result (λ stop. StopsAt state.old state.new thread limit stop) }
 {
-    run_thread(
-        &mut state.flat,
-        &mut state.sources[thread],
-        thread,
-        limit,
-    )
+    run_thread(&mut state.flat, &mut state.sources[thread], thread, limit)
 }

@@ -81,11 +81,7 @@ fn first_memory(alloc: Global, image: &Image) -> Result<Vec<u8>, AllocError>
 ///
 /// # Errors
 /// What `run_to_rest` gives, or out of memory.
-pub fn start_graph<'a>(
-    alloc: Global,
-    setup: &Setup<'a>,
-    bounds: Bounds,
-) -> Result<Graph<'a>, Stop>
+pub fn start_graph<'a>(alloc: Global, setup: &Setup<'a>, bounds: Bounds) -> Result<Graph<'a>, Stop>
     requires allowed { IsAllowed setup.now.profile setup.now.guest }
     ensures stopped { IfErr result (λ stop. (stop ≡ Memory) ⊎ IsStop setup.now bounds.private stop) }
     ensures setup { IfOk result (λ graph. graph.setup ≡ setup.now) }

@@ -31,11 +31,7 @@ impl<'a> States<'a> {
     ///
     /// # Errors
     /// Some thread doesn't come to its first entry or try, as `run_to_rest` says, or out of memory.
-    pub fn start(
-        alloc: Global,
-        setup: &Setup<'a>,
-        bounds: Bounds,
-    ) -> Result<States<'a>, Stop>
+    pub fn start(alloc: Global, setup: &Setup<'a>, bounds: Bounds) -> Result<States<'a>, Stop>
         requires allowed { IsAllowed setup.now.profile setup.now.guest }
         requires some { 1 ≤ bounds.nodes }
         ensures setup { IfOk result (λ s. s.graph.setup ≡ setup.now) }

@@ -1,4 +1,4 @@
-use Rattle.std.proofs.Common.{◌≡◌, ℕ, ◌≤◌}
+use Rattle.std.proofs.Common.{ℕ, ◌≤◌}
 use Rattle.ir_graph.specs.Lone.{GoesLone, AreBeside}
 use Rattle.ir_graph.proofs.lone.go_beside.Given as goal
 

@@ -1,6 +1,6 @@
-use Rattle.std.proofs.Common.{◌≡◌, ◌<◌, Some, length, sym, ◌∙◌, subst}
+use Rattle.std.proofs.Common.{◌≡◌, ◌<◌, Some, sym, subst}
 use Rattle.std.specs.Prelude.{slice_get}
-use Rattle.ir_runs.specs.Run.{Can, after}
+use Rattle.ir_runs.specs.Run.{Can}
 use Rattle.ir_flat.specs.Flat.{machine, tables}
 use Rattle.ir_store.specs.Nodes.{SourcedFlat}
 use Rattle.ir_store.specs.Table.{HaveForm}

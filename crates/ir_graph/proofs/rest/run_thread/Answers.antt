@@ -1,8 +1,7 @@
 use Rattle.std.proofs.Common.{◌+◌, false, refl, sym, ap, ◌∙◌, subst, arith}
 use Rattle.ir_states.specs.Sources.{answer_of, left_of}
-use Rattle.ir_thread.specs.State.{ask_of, shared_ask}
+use Rattle.ir_thread.specs.State.{shared_ask}
 use Rattle.ir_sources.specs.Sources.{given}
-use Rattle.ir_flat.specs.Flat.{thread_of}
 use Rattle.ir_graph.specs.Plain.{sourced_flat, IsFair}
 use Rattle.std.specs.Prelude.{slice_set}
 use Rattle.ir_graph.specs.Stops.{IsRefused}
@@ -98,9 +97,9 @@ returns-then-taken-limit-clause-stopped c = λ sources at. (
   subst (λ z. GoesAlone (sourced_flat c.args.flat.now sources)
       (sourced_flat c.run_to_ask-steps.new.self (slice_set sources c.args.thread c.private.source)) c.args.thread false z 0) c.if-taken-limit.true
       ((runs_beside_append c.args.flat.now c.private.flat c.run_to_ask-steps.new.self c.args.source.now c.private.source c.private.source c.args.thread
-    c.private.taken c.run_to_ask-steps.result.0 c.private.invariant.runs
-    (runs_beside_private_steps c.private.flat c.run_to_ask-steps.new.self c.private.source c.args.thread c.run_to_ask-steps.result.0
-    c.run_to_ask-steps.ensures.went)).alone sources at false),
+      c.private.taken c.run_to_ask-steps.result.0 c.private.invariant.runs
+      (runs_beside_private_steps c.private.flat c.run_to_ask-steps.new.self c.private.source c.args.thread c.run_to_ask-steps.result.0
+      c.run_to_ask-steps.ensures.went)).alone sources at false),
   subst IsFair c.run_to_ask-steps.ensures.asked (c.in-Ok.ensures.plain c.if-rests.false),
 )
 
@@ -124,9 +123,9 @@ private-preserved c =
     let left = c.in-Ok-answer.ensures.left ∙ ap (λ z. left_of given (shared_ask z) a) asked in record {
       runs = runs_beside_append f g h c.args.source.now a c.answer.new.source t (c.private.taken + c.run_to_ask-steps.result.0) 1
           (runs_beside_append c.args.flat.now c.private.flat c.run_to_ask-steps.new.self c.args.source.now c.private.source c.private.source c.args.thread
-    c.private.taken c.run_to_ask-steps.result.0 c.private.invariant.runs
-    (runs_beside_private_steps c.private.flat c.run_to_ask-steps.new.self c.private.source c.args.thread c.run_to_ask-steps.result.0
-    c.run_to_ask-steps.ensures.went))
+          c.private.taken c.run_to_ask-steps.result.0 c.private.invariant.runs
+          (runs_beside_private_steps c.private.flat c.run_to_ask-steps.new.self c.private.source c.args.thread c.run_to_ask-steps.result.0
+          c.run_to_ask-steps.ensures.went))
           (runs_beside_fair_step g h a c.answer.new.source t c.in-Ok-answer.answer fair answer left one.admitted one.taken one.code one.threads one.objects);
       thread = let n = one.threads in let w = c.run_to_ask-steps.ensures.went.threads in let b = c.private.invariant.thread in omega (arith, n, w, b);
       within = let n = c.private.invariant.within in let b = c.run_to_ask-steps.ensures.within in let d = c.if-taken-limit.false in

@@ -1,11 +1,10 @@
 use Rattle.std.proofs.Common.{◌≡◌, ℕ, ◌<◌, None, [], ◌∷◌, ◌++◌, length, sym, ap, ◌∙◌, subst, arith}
 use Rattle.ir_flat.proofs.CallerLemmas.{length_of_start_threads}
-use Rattle.ir_thread.specs.declared.profile.Profile.TheVariants.{Two}
 use Rattle.ir_thread.specs.State.{most_budget}
 use Rattle.ir_graph.specs.Graph.{IsGraph}
 use Rattle.ir_graph.specs.Notes.{noted_by, noted_in}
 use Rattle.ir_graph.specs.Plain.{GoesPlain}
-use Rattle.ir_graph.specs.Setup.{Setup, start_of}
+use Rattle.ir_graph.specs.Setup.{start_of}
 use Rattle.ir_graph.proofs.Grown.{free_to_try, noted_by_past_threads, start_is_graph}
 use Rattle.ir_image.specs.Guest.{Guest}
 use Rattle.ir_store.specs.Nodes.{SourcedFlat, sourced_in}
