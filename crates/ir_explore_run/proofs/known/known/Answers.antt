@@ -8,4 +8,4 @@ returns-clause-known g c =
     let plan = c.args.plan.now in
     let e = c.in_ok-explored.explored in
     explored_is_known c.args.image.now plan e
-    (subst (λ z. IsExplored z plan.bounds plan.switches e) c.setup.ensures c.in_ok-explored.ensures.explored)
+    (subst (λ z. IsExplored z plan.bounds plan.switches e) c.setup-setup.ensures c.in_ok-explored.ensures.explored)

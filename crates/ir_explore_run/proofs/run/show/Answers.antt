@@ -48,7 +48,7 @@ returns-clause-ok g c =
       words = c.object_words.ensures.value i;
       first = (c.objects.ensures.value ∙ ap (λ z. z.objects) c.in_ok-start.ensures) i;
     } in
-    let same_setup = c.print_levels.ensures.setup ∙ c.in-Ok.ensures.setup ∙ c.setup.ensures in
+    let same_setup = c.print_levels.ensures.setup ∙ c.in-Ok.ensures.setup ∙ c.setup-setup.ensures in
     let is = subst (λ z. IsExplored z plan.bounds plan.switches e) same_setup
     (subst (λ z. IsExplored s.states.graph.setup z plan.switches e) (c.print_levels.ensures.bounds ∙ c.in-Ok.ensures.bounds)
     (subst (λ z. IsExplored s.states.graph.setup s.states.graph.bounds z e) (c.print_levels.ensures.most ∙ c.in-Ok.ensures.most)
@@ -79,7 +79,7 @@ returns-clause-fails g c =
       words = c.object_words.ensures.value i;
       first = (c.objects.ensures.value ∙ ap (λ z. z.objects) c.in_ok-start.ensures) i;
     } in
-    let same_setup = c.print_levels.ensures.setup ∙ c.in-Ok.ensures.setup ∙ c.setup.ensures in
+    let same_setup = c.print_levels.ensures.setup ∙ c.in-Ok.ensures.setup ∙ c.setup-setup.ensures in
     let is = subst (λ z. IsExplored z plan.bounds plan.switches e) same_setup
     (subst (λ z. IsExplored s.states.graph.setup z plan.switches e) (c.print_levels.ensures.bounds ∙ c.in-Ok.ensures.bounds)
     (subst (λ z. IsExplored s.states.graph.setup s.states.graph.bounds z e) (c.print_levels.ensures.most ∙ c.in-Ok.ensures.most)
