@@ -63,6 +63,26 @@ impl<'a> ExplorePlan<'a> {
         }
     }
 
+    /// The same, up to so many switches.
+    pub fn within(&self, switches: usize) -> ExplorePlan<'a>
+        ensures { result ≡ record self.now { switches = switches } }
+    {
+        ExplorePlan {
+            bounds: self.bounds,
+            switches,
+            profile: self.profile,
+            random: self.random,
+            input: self.input,
+        }
+    }
+
+    /// The most switches of the thread that enters.
+    pub fn most(&self) -> usize
+        ensures { result ≡ self.now.switches }
+    {
+        self.switches
+    }
+
     /// The guest of an image that is explored so, and what answers its threads.
     pub fn setup(&self, image: &'a Image) -> Setup<'a>
         ensures { result ≡ setup_of image.now self.now }

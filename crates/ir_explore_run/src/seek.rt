@@ -10,7 +10,7 @@ ghost use Rattle.ir_explore_run.specs.Until.{IsSought};
 
 use crate::conditions::first_fulfilling;
 use crate::known::known;
-use crate::plan::{ExplorePlan, UntilPlan};
+use crate::plan::UntilPlan;
 use ir_explore::{Ended, Observer, Stop};
 use ir_image::Image;
 use ir_outcomes::Explored;
@@ -40,13 +40,7 @@ fn search<'a, W: Observer>(
     ensures first { IfOk result (λ s. IsFirst image.now (map as_condition plan.now.conditions.now) s.explored.states.graph.flats.items s.explored.outcomes.items s.first) }
     ensures refused { IfErr result (λ why. IsReason image.now plan.now.explore why) }
 {
-    let explore = ExplorePlan {
-        bounds: plan.explore.bounds,
-        switches,
-        profile: plan.explore.profile,
-        random: plan.explore.random,
-        input: plan.explore.input,
-    };
+    let explore = plan.explore.within(switches);
     let explored = known(alloc, image, &explore, plan.observer)?;
     let flats = &explored.states.graph.flats;
     let first = first_fulfilling(flats, explored.outcomes.as_slice(), plan.conditions)?;
@@ -88,7 +82,7 @@ pub fn seek<'a, W: Observer>(
     ensures sought { IfOk result (λ s. IsSought image.now plan.now.explore (map as_condition plan.now.conditions.now) (known_of s.explored) s.first) }
     ensures refused { IfErr result (λ why. IsReason image.now plan.now.explore why) }
 {
-    let most = plan.explore.switches;
+    let most = plan.explore.most();
     let mut switches = FIRST.min(most);
     'wider: loop {
         let sought = search(alloc, image, plan, switches)?;

@@ -2,9 +2,11 @@ use Rattle.std.proofs.Common.{◌≡◌, ◌⊎◌, ◌++◌, ℕ, true, List, r
 use Rattle.std.specs.Io.KnownBytes.{Appends}
 use Rattle.std.proofs.KnownBytes.{Appends-trans}
 use Rattle.std.proofs.lemmas.Result.{err_from_is_err_and, IfOk-weaker, IfErr-weaker}
+use Rattle.ir_explore.specs.declared.stop.Stop.TheVariants.{Memory}
 use Rattle.ir_files.proofs.CallerLemmas.{if_err_for_handed_on_error}
 use Rattle.ir_files.specs.Writers.{writer_of}
 use Rattle.ir_files.specs.declared.exit_status.ExitStatus.{ExitStatus}
+use Rattle.ir_graph.specs.Stops.{IsStop}
 use Rattle.ir_image.specs.Guest.{Guest}
 use Rattle.ir_outcomes.specs.Explored.{AreExplored, IsExplored}
 use Rattle.ir_stream.specs.Answers.{AppendsPrefix}
@@ -30,10 +32,14 @@ returns-in-Err-clause-ok g c =
     let plan = c.args.plan.now in
     let old = g.O.Sink.written c.args.out.now in
     let new = g.O.Sink.written c.show_stop.new.out in
+    let why = c.in-Err.why in
+    let reason : IsReason guest plan why =
+    subst (λ z. (why ≡ Memory) ⊎ IsStop z plan.bounds.private why) c.setup-setup.ensures
+    (subst (λ (z : ExplorePlan). (why ≡ Memory) ⊎ IsStop c.setup-setup.result z.bounds.private why) c.plan.view_is c.in-Err.ensures.refused) in
     IfOk-weaker c.show_stop.result
     (λ answered. (guest : Guest) (plan : ExplorePlan) → IsReason guest plan c.in-Err.why → (text : List ℕ) × IsStopped guest plan answered text × Appends old new text)
     (λ answered. (text : List ℕ) × IsAnswerAbout guest plan answered text × Appends old new text)
-    (λ answered p. let q = p guest plan c.in-Err.ensures.refused in (q.0, inr q.1, q.2))
+    (λ answered p. let q = p guest plan reason in (q.0, inr q.1, q.2))
     c.show_stop.ensures.ok
 
 pub returns-clause-ok : goal.returns-clause-ok
@@ -48,10 +54,10 @@ returns-clause-ok g c =
       words = c.object_words.ensures.value i;
       first = (c.objects.ensures.value ∙ ap (λ z. z.objects) c.in_ok-start.ensures) i;
     } in
-    let same_setup = c.print_levels.ensures.setup ∙ c.in-Ok.ensures.setup ∙ c.setup.ensures in
+    let same_setup = c.print_levels.ensures.setup ∙ c.in-Ok.ensures.setup ∙ c.setup-setup.ensures in
     let is = subst (λ z. IsExplored z plan.bounds plan.switches e) same_setup
-    (subst (λ z. IsExplored s.states.graph.setup z plan.switches e) (c.print_levels.ensures.bounds ∙ c.in-Ok.ensures.bounds)
-    (subst (λ z. IsExplored s.states.graph.setup s.states.graph.bounds z e) (c.print_levels.ensures.most ∙ c.in-Ok.ensures.most)
+    (subst (λ z. IsExplored s.states.graph.setup z plan.switches e) (c.print_levels.ensures.bounds ∙ c.in-Ok.ensures.bounds ∙ ap (λ (z : ExplorePlan). z.bounds) c.plan.view_is)
+    (subst (λ z. IsExplored s.states.graph.setup s.states.graph.bounds z e) (c.print_levels.ensures.most ∙ c.in-Ok.ensures.most ∙ ap (λ (z : ExplorePlan). z.switches) c.plan.view_is)
     c.end-explored.ensures.explored)) in
     let before = c.in_ok-print_levels.ensures.printed in
     let old = g.O.Sink.written c.args.out.now in
@@ -79,10 +85,10 @@ returns-clause-fails g c =
       words = c.object_words.ensures.value i;
       first = (c.objects.ensures.value ∙ ap (λ z. z.objects) c.in_ok-start.ensures) i;
     } in
-    let same_setup = c.print_levels.ensures.setup ∙ c.in-Ok.ensures.setup ∙ c.setup.ensures in
+    let same_setup = c.print_levels.ensures.setup ∙ c.in-Ok.ensures.setup ∙ c.setup-setup.ensures in
     let is = subst (λ z. IsExplored z plan.bounds plan.switches e) same_setup
-    (subst (λ z. IsExplored s.states.graph.setup z plan.switches e) (c.print_levels.ensures.bounds ∙ c.in-Ok.ensures.bounds)
-    (subst (λ z. IsExplored s.states.graph.setup s.states.graph.bounds z e) (c.print_levels.ensures.most ∙ c.in-Ok.ensures.most)
+    (subst (λ z. IsExplored s.states.graph.setup z plan.switches e) (c.print_levels.ensures.bounds ∙ c.in-Ok.ensures.bounds ∙ ap (λ (z : ExplorePlan). z.bounds) c.plan.view_is)
+    (subst (λ z. IsExplored s.states.graph.setup s.states.graph.bounds z e) (c.print_levels.ensures.most ∙ c.in-Ok.ensures.most ∙ ap (λ (z : ExplorePlan). z.switches) c.plan.view_is)
     c.end-explored.ensures.explored)) in
     let explored = subst (λ z. AreExplored z s.states.graph.flats.items s.list.levels s.list.outcomes.items) same_setup
     c.print_levels.ensures.is.explored in

@@ -3,6 +3,7 @@ use Rattle.std.specs.Prelude.{slice_get}
 use Rattle.ir_chaos.specs.Conditions.{as_condition}
 use Rattle.ir_explore_run.specs.Conditions.{IsFirst}
 use Rattle.ir_explore_run.specs.Plan.{setup_of}
+use Rattle.ir_explore_run.specs.Texts.{AreKnown, known_of}
 use Rattle.ir_explore_run.proofs.seek.search.Goals as goal
 
 pub first_fulfilling-requires : goal.first_fulfilling-requires
@@ -12,20 +13,11 @@ first_fulfilling-requires g c = λ i x is.
 pub returns-clause-first : goal.returns-clause-first
 returns-clause-first g c =
     let guest = c.args.image.now in
-    let setup = setup_of guest c.args.plan.now.explore in
+    let setup = setup_of guest c.within-explore.result in
     let cs = map as_condition c.args.plan.now.conditions.now in
     subst (λ z. IsFirst guest cs c.in_ok-explored.explored.states.graph.flats.items z c.in_ok-first.first) c.as_slice.ensures.value
     (c.in_ok-first.ensures setup c.in_ok-explored.ensures.known.reached)
 
 pub returns-clause-known : goal.returns-clause-known
 returns-clause-known g c =
-    let known = c.in_ok-explored.ensures.known in
-    record {
-      explored = known.explored;
-      all = known.all;
-      reached = known.reached;
-      hanging = known.hanging;
-      unknown = known.unknown;
-      covered = known.covered;
-      stopped = known.stopped;
-    }
+    subst (λ z. AreKnown c.args.image.now z (known_of c.in_ok-explored.explored)) c.within-explore.ensures c.in_ok-explored.ensures.known

@@ -1,6 +1,7 @@
 use Rattle.std.proofs.Common.{◌≡◌, ◌+◌, ◌<◌, ◌++◌, suc, Some, length, sym, ap, ◌∙◌, subst, append_assoc, arith}
 use Rattle.std.specs.Prelude.{slice_get}
 use Rattle.std.proofs.lemmas.Option.{slice_get-get_or}
+use Rattle.ir_store.specs.Nodes.{SourcedFlat}
 use Rattle.ir_explore_run.specs.Texts.{IsOutcomeText, AreTexts, objects_in}
 use Rattle.ir_explore_run.proofs.Joined.{texts_after_outcome}
 use Rattle.ir_explore_run.proofs.texts.outcomes_text.Goals as goal
@@ -13,7 +14,9 @@ state_of-requires c =
     c.requires.nodes c.loop-i.i x (slice_get-get_or c.args.outcomes.now c.loop-i.i x less ∙ ap Some (sym c.index-outcomes-i.is))
 
 pub outcome_text-requires : goal.outcome_text-requires
-outcome_text-requires c = c.requires.objects c.index-outcomes-i.result.node c.in_ok-state.state c.in_ok-state.ensures.value
+outcome_text-requires c =
+    subst (λ (z : SourcedFlat). length z.flat.objects ≡ length c.args.started.first.now) (sym c.state.view_is)
+    (c.requires.objects c.index-outcomes-i.result.node c.in_ok-state.state c.in_ok-state.ensures.value)
 
 pub loop-i-preserved : goal.loop-i-preserved
 loop-i-preserved c =
@@ -29,4 +32,6 @@ loop-i-preserved c =
     (append_assoc before c.loop-i.text.items c.in_ok-own.own.items
     ∙ ap (λ z. before ++ z) (sym (c.in_ok-extend_from_slice.ensures.items ∙ ap (λ z. c.loop-i.text.items ++ z) c.as_slice.ensures.value)))
     (texts_after_outcome o c.args.flats.now.items c.args.outcomes.now c.loop-i.i (before ++ c.loop-i.text.items) c.in_ok-own.own.items x s
-    (c.loop-i.invariant before first) (at, c.in_ok-state.ensures.value) (subst (λ z. IsOutcomeText o s.flat z x c.in_ok-own.own.items) next c.in_ok-own.ensures))
+    (c.loop-i.invariant before first) (at, c.in_ok-state.ensures.value)
+    (subst (λ z. IsOutcomeText o s.flat z x c.in_ok-own.own.items) next
+    (subst (λ (z : SourcedFlat). IsOutcomeText o z.flat (c.loop-i.i + 1) x c.in_ok-own.own.items) c.state.view_is c.in_ok-own.ensures)))
