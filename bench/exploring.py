@@ -61,6 +61,7 @@ def large():
     """Guests of more than 10^5 states."""
     yield "lost update, 4 threads, 2 rounds", lost_update(4, 2), 7, None
     yield "own objects, 8 threads, 3 rounds", own_objects(8, 3), 1, 4**8
+    yield "own objects, 6 threads, 9 rounds", own_objects(6, 9), 1, 10**6
 
 
 def explored(program, folder, source):
