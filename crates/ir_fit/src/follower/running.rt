@@ -1,6 +1,6 @@
 //! A run that follows the trace as far as any can.
 
-ghost use Rattle.std.specs.Prelude.{◌≡◌, ◌<◌, ℕ, length, IfSome, IfNone};
+ghost use Rattle.std.specs.Prelude.{◌≡◌, ◌<◌, ℕ, true, length, IfSome, IfNone};
 ghost use Rattle.ir_fit.specs.Ahead.{IsMove, IsStopped};
 ghost use Rattle.ir_fit.specs.Follower.{all_ahead, GoesOn, IsFollower, IsSized};
 ghost use Rattle.ir_fit.specs.Passed.{IsAlong, ArePassed};
@@ -12,8 +12,15 @@ use crate::follower::Follower;
 use crate::follower::look::{Look, Move};
 use crate::follower::passing::Passing;
 use crate::follower::readiness::Readiness;
-use ir_object::{Gate, Untold};
+use ir_object::{Gate, MOST_UNTOLD};
 use ir_thread::Ask;
+
+// How far a thread came: how many steps it took, and whether it continues.
+#[derive(Clone, Copy)]
+struct Advanced {
+    taken: u64,
+    more: bool,
+}
 
 impl Follower<'_> {
     // Thread t, which asks so, takes its next step, if that follows the trace; or else what is seen of it.
@@ -57,6 +64,37 @@ impl Follower<'_> {
         }
     }
 
+    // Thread t continues while its steps follow the trace, up to where it pauses, or until it has taken as many as a gate is told of at once. It
+    // names no gate: so this loop is there once for all kinds of them, and the compiler puts into it what a step takes.
+    fn advance_untold(&mut self, t: usize, pause: u64) -> Advanced
+        requires sized { IsSized self.old }
+        requires thread { t < length self.old.flat.threads }
+        ensures goes { GoesOn self.old.trace self.old.flat self.old.places.items self.new.flat self.new.places.items }
+        ensures fewer { result.more ≡ true → all_ahead self.new.trace self.new.flat < all_ahead self.old.trace self.old.flat }
+        ensures trace { self.new.trace ≡ self.old.trace }
+        ensures sized { IsSized self.new }
+    {
+        let mut taken = 0u64;
+        'steps: loop {
+            let ahead = self.steps_left(t);
+            let stretch = self.stretch(t, ahead, pause);
+            let (steps, asked) = self.flat.run_to_ask(t, stretch);
+            // With the step that it takes then.
+            taken = taken.saturating_add(steps).saturating_add(1);
+            if let Some(look) = self.follow_ask(t, asked) {
+                self.note(t, look);
+                return Advanced { taken, more: false };
+            }
+            if self.thread(t).steps() >= pause {
+                self.pause(t);
+                return Advanced { taken, more: false };
+            }
+            if taken >= MOST_UNTOLD {
+                return Advanced { taken, more: true };
+            }
+        }
+    }
+
     // Thread t continues while its steps follow the trace, up to where it pauses. The gate is told of its steps now and then.
     pub fn advance<G: Gate>(&mut self, t: usize, pause: u64, gate: &G)
         requires sized { IsSized self.old }
@@ -66,21 +104,10 @@ impl Follower<'_> {
         ensures sized { IsSized self.new }
     {
         let number = self.flat.threads()[t].number();
-        let mut untold = Untold::new();
-        'steps: loop {
-            let ahead = self.steps_left(t);
-            let stretch = self.stretch(t, ahead, pause);
-            let (taken, asked) = self.flat.run_to_ask(t, stretch);
-            // With the step that it took before.
-            untold.add(gate, number, taken.saturating_add(1));
-            if let Some(look) = self.follow_ask(t, asked) {
-                self.note(t, look);
-                untold.tell(gate, number);
-                return;
-            }
-            if self.thread(t).steps() >= pause {
-                self.pause(t);
-                untold.tell(gate, number);
+        'told: loop {
+            let Advanced { taken, more } = self.advance_untold(t, pause);
+            gate.stepped(number, taken);
+            if !more {
                 return;
             }
         }
