@@ -6,7 +6,7 @@ use Rattle.ir_image.specs.Guest.{Guest}
 use Rattle.ir_image.specs.declared.form.ImageForm.TheVariants.{Small}
 use Rattle.ir_thread.specs.declared.end.End.TheVariants.{Breakpoint}
 use Rattle.ir_thread.specs.declared.profile.Profile.TheVariants.{One}
-use Rattle.ir_command.specs.Commands.{words_of, command_of, command_named, number_of, numeral}
+use Rattle.ir_command.specs.Commands.{words_of, command_of, command_named, number_of}
 use Rattle.ir_command.specs.declared.command.Command.{Command}
 use Rattle.ir_command.specs.declared.command.Command.TheVariants.{Move, Position, Show, Set, Quit}
 use Rattle.ir_command.specs.declared.command.Point.TheVariants.{Break}
@@ -39,7 +39,7 @@ lines : (command_of (codes "jump") ≡ command_refused UnknownCommand)
     × (command_of (codes "  pos\t") ≡ command_asked Position)
     × (command_of (codes "quit 1") ≡ command_refused BadArgument)
     × (command_of (codes "goto 1 0xFFFFFFFFFFFFFFFF\r") ≡ command_asked (Move (Goto 1 0xFFFFFFFFFFFFFFFF)))
-unfolding command_of command_named words_of number_of numeral
+unfolding command_of command_named words_of number_of
 lines = (refl, refl, refl, refl, refl, refl, refl, refl, refl, refl, refl)
 
 row_longest_blank_line : (b : ℕ) → command_of (replicate 1024 32) ≡ Ok None

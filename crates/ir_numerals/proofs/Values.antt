@@ -1,6 +1,6 @@
 -- The value of digits so far.
 use Rattle.std.proofs.Common.{◌≡◌, ◌+◌, ◌*◌, ◌^◌, ◌<◌, ◌≤◌, ℕ, Bool, true, List, length, get_or, take, add-one, arith, refl, sym, ap, ◌∙◌}
-use Rattle.std.specs.Prelude.{◌&&◌}
+use Rattle.std.specs.Prelude.{◌&&◌, Option, Some, None, IfSome}
 use Rattle.std.specs.List.{list_all}
 use Rattle.std.specs.Char.{digit_value}
 use Rattle.std.specs.Str.Parse.{digits_value}
@@ -8,7 +8,7 @@ use Rattle.std.proofs.Math.Nat.{pow-le-pow_right, pow-suc, mul-le-mul_left}
 use Rattle.std.proofs.lemmas.Bool.{lt-ltb}
 use Rattle.std.proofs.lemmas.Int.Digits.{digits_value_more}
 use Rattle.std.proofs.lemmas.List.Folds.{list_all_more}
-use Rattle.ir_command.specs.Cuts.{is_digit}
+use Rattle.ir_numerals.specs.Numerals.{is_digit}
 
 and_true_from_both : (a b : Bool) → a ≡ true → b ≡ true → (a && b) ≡ true
 and_true_from_both a b p q = rw (p, q) refl
@@ -55,3 +55,16 @@ value_of_prefix_step r i v d byte ds lt is digit radix so_far = record {
   value = digits_value_step r i v d byte ds lt is digit.1 so_far.value;
   small = value_with_digit_below_power v r d i so_far.small radix (digit_below_radix d (digit_value byte) r digit);
 }
+
+-- more digits write no less at most
+power_of_16_rises : (v i j : ℕ) → v < 16 ^ i → i ≤ j → v < 16 ^ j
+power_of_16_rises v i j small more =
+    let most : 16 ^ i ≤ 16 ^ j = pow-le-pow_right {n = 16} (omega arith) {i = i} {j = j} more in
+    omega (arith, small, most)
+
+pub found_value_below_greater_power : (found : Option ℕ) (i j : ℕ) → i ≤ j → IfSome found (λ v. v < 16 ^ i) → IfSome found (λ v. v < 16 ^ j)
+found_value_below_greater_power None i j more small = small
+found_value_below_greater_power (Some v) i j more small = power_of_16_rises v i j small more
+
+pub found_value_of_ten_digits_fits : (found : Option ℕ) (i : ℕ) → i ≤ 10 → IfSome found (λ v. v < 16 ^ i) → IfSome found (λ v. v < 2 ^ 40)
+found_value_of_ten_digits_fits found i few small = found_value_below_greater_power found i 10 few small

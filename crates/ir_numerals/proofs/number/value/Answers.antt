@@ -1,7 +1,7 @@
 use Rattle.std.proofs.Common.{arith}
 use Rattle.std.specs.Char.{digit_value}
-use Rattle.ir_command.proofs.Values.{digit_below_radix, value_with_digit_fits, value_of_prefix_step}
-use Rattle.ir_command.proofs.number.value.Goals as goal
+use Rattle.ir_numerals.proofs.Values.{digit_below_radix, value_with_digit_fits, value_of_prefix_step}
+use Rattle.ir_numerals.proofs.number.value.Goals as goal
 
 pub overflow_mul-value : goal.overflow_mul-value
 overflow_mul-value c =
