@@ -29,7 +29,7 @@ check:
 # The merge gate: the rooms of the crates, and then every proof from nothing, must-fail edits, tests, programs.
 test:
 	python3 scripts/rooms.py
-	RT_JOBS=$$(python3 scripts/prove.py --jobs) rt ci
+	RT_JOBS=$$(python3 scripts/prove.py --jobs) python3 scripts/rt.py ci
 
 # Every edit, those that the gate tries and those beside it, each of which the prover has to refuse at what it changes.
 edits: ir

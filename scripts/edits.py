@@ -105,7 +105,7 @@ def refused(crate, edits):
     room = laid(crate)
     for path, text in changed(crate, edits).items():
         (room / path).write_text(text, encoding="utf-8")
-    ran = subprocess.run(["rt", "check", "--jobs", "1"], cwd=room, text=True, errors="replace",
+    ran = subprocess.run([sys.executable, TOP / "scripts" / "rt.py", "check", "--jobs", "1"], cwd=room, text=True, errors="replace",
                          stdout=subprocess.PIPE, stderr=subprocess.STDOUT, check=False)
     laid(crate)
     failed = FAILED.findall(ran.stdout)

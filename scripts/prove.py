@@ -71,7 +71,7 @@ def proved(crate, jobs, count):
     """Proves the crate and those below it, and prints a line as each ends. Answers the exit status and what was said."""
     start, sections, name = time.monotonic(), {"": []}, ""
     ended, earlier = {}, earlier_times()
-    words = ["rt", "all", "check", "--jobs", jobs]
+    words = [sys.executable, TOP / "scripts" / "rt.py", "all", "check", "--jobs", jobs]
     with subprocess.Popen(words, cwd=TOP / "crates" / crate, text=True, errors="replace",
                           stdout=subprocess.PIPE, stderr=subprocess.STDOUT) as run:
         for line in run.stdout:
