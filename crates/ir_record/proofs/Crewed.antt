@@ -20,8 +20,8 @@ use Rattle.ir_record.specs.Worlds.{answers_at, Answered, answers_in, NoneFailed,
 use Rattle.ir_record.specs.Recording.{WentOn, EachWentOn}
 use Rattle.ir_record.specs.Threads.{IsNew, AreNew, IsOver, AreTraces, HasRoom, IsSeatOf, views_of, Pairs}
 use Rattle.ir_record.specs.Working.{Work, work_of, IsWorking, IsReadyWorker, RanToEnd}
-use Rattle.ir_record.specs.declared.room.Room.{Room}
-use Rattle.ir_record.specs.declared.worker.Worker.{Worker}
+use Rattle.ir_record.specs.declared.by_threads.buffers.Buffers.{Buffers}
+use Rattle.ir_record.specs.declared.by_threads.worker.Worker.{Worker}
 use Rattle.ir_record.proofs.ByThreads.{AllWorkDone, work_at, tracks_of}
 use Rattle.ir_record.proofs.Working.{worked_by_no_replies, answers_ignore_object_labels}
 
@@ -190,7 +190,7 @@ module _ {W O : Type 0} {answers : W → List Answered} {broken : W → Bool} {o
   pub threads_there : length ws ≡ length g.entries
   threads_there = same_count ∙ sym (length-map vs (λ w. w.world)) ∙ ap (λ z. length z) ran.same ∙ ran.each
 
-  pub room_there : {room : Room W} {n m : ℕ} → HasRoom n room → n ≡ length vs → m ≡ length ws → HasRoom m room
+  pub room_there : {room : Buffers W} {n m : ℕ} → HasRoom n room → n ≡ length vs → m ≡ length ws → HasRoom m room
   room_there {room} {n} {m} h was now = subst (λ z. HasRoom z room) (was ∙ sym same_count ∙ sym now) h
 
   pub worlds_there : AreSameWorlds origin worlds (map (λ w. w.world) ws)

@@ -48,7 +48,7 @@ recording_start_is_ready guest budget profile answers failed size works =
     → log_at (replicate (length guest.entries) new_log) t ≡ new_log =
     λ t l. get_or-replicate (length guest.entries) t new_log no_log (omega (arith, l, n)) in
     record {
-      tape = record {
+      has_logs = record {
         one_each = length-replicate (length guest.entries) new_log ∙ sym n;
         rooms = λ t l. ap (λ z. z.room) (own t l);
         counts = λ t l. ap (λ z. length z.events) (own t l) ∙ sym (start_thread_is_fresh guest budget profile 0 (length guest.entries) t).events;
@@ -152,7 +152,7 @@ module _ {guest : Guest} {budget : ℕ} {profile : Profile} {turns : List Turn} 
       → (answers : List (List Answered)) → answers ≡ b.answers → IsRecordingByTurns guest budget profile turns before trace outputs answers
   recorded_there failed ready trace objects limit same traces outputs printed answers given =
       let n : length b.flat.threads ≡ length guest.entries = threads_there in
-      let logs : length b.logs ≡ length guest.entries = ready.tape.one_each ∙ n in
+      let logs : length b.logs ≡ length guest.entries = ready.has_logs.one_each ∙ n in
       let size : length answers ≡ length guest.entries = ap (λ z. length z) given ∙ ready.worlds ∙ n in
       record {
         run = o.took.run;

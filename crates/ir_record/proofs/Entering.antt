@@ -16,10 +16,10 @@ use Rattle.ir_log.specs.Logged.{Logged}
 use Rattle.ir_log.specs.Logging.{label_of}
 use Rattle.ir_log.specs.declared.event.Event.{Event}
 use Rattle.ir_trace.specs.Recorded.{IsEvent}
-use Rattle.ir_record.specs.Progress.{TookIf, IsTape, IsQuiet, log_at, labels_at}
+use Rattle.ir_record.specs.Progress.{TookIf, HasLogs, IsQuiet, log_at, labels_at}
 use Rattle.ir_record.specs.Worlds.{answers_at, Answered, answers_in}
 use Rattle.ir_record.proofs.Steps.{OneStep, turn_taken_by_step, turn_without_step_changes_nothing, ask_not_try_enters_if_free}
-use Rattle.ir_record.proofs.Logs.{tape_after_unlogged_step, tape_after_event_pushed, labels_after_event_pushed, labels_of_other_thread_after_set}
+use Rattle.ir_record.proofs.Logs.{has_logs_after_unlogged_step, has_logs_after_event_pushed, labels_after_event_pushed, labels_of_other_thread_after_set}
 use Rattle.ir_record.proofs.Running.{hold_few_objects_if_flat}
 
 -- whether a step can be taken is no matter of its result, unless it calls the environment
@@ -74,7 +74,7 @@ on_err_holds_if_not_ok (Err x) b P e h p = p
 
 -- a step was taken that emits k, and this event was logged of it, which is no answer
 pub record OneEventLogged (f g : Flat) (logs more : List Logged) (t r : ℕ) (k : Label) (e : Event) : Type 0 where
-  pub tape : IsTape f logs
+  pub has_logs : HasLogs f logs
   pub flat : IsFlat f
   pub below : t < length f.threads
   pub one : events_added_by (ask_of f.code (thread_of f t)) ≡ 1
@@ -92,9 +92,9 @@ pub record OneEventLogged (f g : Flat) (logs more : List Logged) (t r : ℕ) (k 
   pub pushed : new ≡ record (log_at logs t) { events = (log_at logs t).events ++ e ∷ [] }
   pub logs_are : more ≡ set logs t new
 
-pub tape_after_logged_event : (f g : Flat) (logs more : List Logged) (t r : ℕ) (k : Label) (e : Event) → OneEventLogged f g logs more t r k e → IsTape g more
-tape_after_logged_event f g logs more t r k e x =
-    subst (IsTape g) (sym x.logs_are) (tape_after_event_pushed f g logs t r e x.new x.tape x.below x.taken x.threads x.objects x.one x.fits x.pushed)
+pub has_logs_after_logged_event : (f g : Flat) (logs more : List Logged) (t r : ℕ) (k : Label) (e : Event) → OneEventLogged f g logs more t r k e → HasLogs g more
+has_logs_after_logged_event f g logs more t r k e x =
+    subst (HasLogs g) (sym x.logs_are) (has_logs_after_event_pushed f g logs t r e x.new x.has_logs x.below x.taken x.threads x.objects x.one x.fits x.pushed)
 
 -- the step that it is of
 pub event_step : (f g : Flat) (logs more : List Logged) (t r : ℕ) (k : Label) (e : Event) → OneEventLogged f g logs more t r k e
@@ -110,7 +110,7 @@ event_step f g logs more t r k e x answers = record {
   objects = x.objects;
   emits = x.emits;
   own_log = subst (λ z. labels_at z t ≡ labels_at logs t ++ logged k []) (sym x.logs_are)
-      (labels_after_event_pushed logs t e x.new (omega (arith, x.below, x.tape.one_each)) x.pushed
+      (labels_after_event_pushed logs t e x.new (omega (arith, x.below, x.has_logs.one_each)) x.pushed
       ∙ ap (λ z. labels_at logs t ++ z) (ap (λ z. z ∷ []) x.event ∙ sym x.once));
   own_answers = sym (append-nil (answers_at answers t)) ∙ ap (λ z. answers_at answers t ++ z) (sym x.unanswered);
   other_logs = λ u ne. subst (λ z. labels_at z u ≡ labels_at logs u) (sym x.logs_are) (labels_of_other_thread_after_set logs t u x.new ne);
@@ -141,7 +141,7 @@ entry_logs_no_answer o Writing v b = refl
 
 -- a step was taken that nothing is logged of
 pub record QuietStep (f g : Flat) (logs : List Logged) (t : ℕ) : Type 0 where
-  pub tape : IsTape f logs
+  pub has_logs : HasLogs f logs
   pub flat : IsFlat f
   pub below : t < length f.threads
   pub quiet : IsQuiet (ask_of f.code (thread_of f t))
@@ -187,8 +187,8 @@ quiet_ask_is_no_try Print k o e = cc e
 quiet_ask_is_no_try (End x) k o e = cc e
 quiet_ask_is_no_try Done k o e = cc e
 
-pub tape_after_quiet_step : (f g : Flat) (logs : List Logged) (t : ℕ) → QuietStep f g logs t → IsTape g logs
-tape_after_quiet_step f g logs t x = tape_after_unlogged_step f g logs t 0 x.tape x.taken x.threads x.objects (quiet_ask_adds_nothing (ask_of f.code (thread_of f t)) x.quiet)
+pub has_logs_after_quiet_step : (f g : Flat) (logs : List Logged) (t : ℕ) → QuietStep f g logs t → HasLogs g logs
+has_logs_after_quiet_step f g logs t x = has_logs_after_unlogged_step f g logs t 0 x.has_logs x.taken x.threads x.objects (quiet_ask_adds_nothing (ask_of f.code (thread_of f t)) x.quiet)
 
 pub turn_taken_by_quiet_step : (f g : Flat) (logs : List Logged) (t : ℕ) → QuietStep f g logs t → (answers : List (List Answered))
     → TookIf true (t ∷ []) (record { flat = f; logs = logs; answers = answers }) (record { flat = g; logs = logs; answers = answers })
@@ -216,23 +216,23 @@ pub turn_passed_by_waiting : (f g : Flat) (logs : List Logged) (t : ℕ) → Has
 turn_passed_by_waiting f g logs t none same answers = turn_without_step_changes_nothing t (record { flat = f; logs = logs; answers = answers })
     (record { flat = g; logs = logs; answers = answers }) none (ap (λ z. record { flat = z; logs = logs; answers = answers }) same)
 
-pub tape_after_waiting : (f g : Flat) (logs : List Logged) → IsTape f logs → g ≡ f → IsTape g logs
-tape_after_waiting f g logs tape same = subst (λ z. IsTape z logs) (sym same) tape
+pub has_logs_after_waiting : (f g : Flat) (logs : List Logged) → HasLogs f logs → g ≡ f → HasLogs g logs
+has_logs_after_waiting f g logs has_logs same = subst (λ z. HasLogs z logs) (sym same) has_logs
 
 -- a step that nothing is logged of, if there is one
 pub record QuietTurn (f g : Flat) (logs : List Logged) (t : ℕ) (moved : Bool) : Type 0 where
   pub took : (answers : List (List Answered)) → TookIf moved (t ∷ []) (record { flat = f; logs = logs; answers = answers })
       (record { flat = g; logs = logs; answers = answers })
-  pub tape : IsTape g logs
+  pub has_logs : HasLogs g logs
 
 pub quiet_turn_by_result : {X E : Type 0} (result : Result X E) (f g : Flat) (logs : List Logged) (t : ℕ) (moved : Bool) → moved ≡ is_ok result
-    → IsTape f logs → IsFlat f → t < length f.threads → IsQuiet (ask_of f.code (thread_of f t))
+    → HasLogs f logs → IsFlat f → t < length f.threads → IsQuiet (ask_of f.code (thread_of f t))
     → OnOk result (Can (machine f) (tables f) (t, 0)) → OnOk result (tables g ≡ after (machine f) (tables f) (t, 0)) → g.code ≡ f.code
     → length g.threads ≡ length f.threads → length g.objects ≡ length f.objects
     → OnErr result (Can (machine f) (tables f) (t, 0) → ⊥) → OnErr result (g ≡ f) → QuietTurn f g logs t moved
-quiet_turn_by_result (Ok x) f g logs t moved e tape flat l quiet can taken code threads objects never same =
+quiet_turn_by_result (Ok x) f g logs t moved e has_logs flat l quiet can taken code threads objects never same =
     let going : QuietStep f g logs t = record {
-      tape = tape;
+      has_logs = has_logs;
       flat = flat;
       below = l;
       quiet = quiet;
@@ -243,10 +243,10 @@ quiet_turn_by_result (Ok x) f g logs t moved e tape flat l quiet can taken code 
       threads = threads;
       objects = objects;
     } in
-    subst (QuietTurn f g logs t) (sym e) (record { took = turn_taken_by_quiet_step f g logs t going; tape = tape_after_quiet_step f g logs t going })
-quiet_turn_by_result (Err x) f g logs t moved e tape flat l quiet can taken code threads objects never same =
+    subst (QuietTurn f g logs t) (sym e) (record { took = turn_taken_by_quiet_step f g logs t going; has_logs = has_logs_after_quiet_step f g logs t going })
+quiet_turn_by_result (Err x) f g logs t moved e has_logs flat l quiet can taken code threads objects never same =
     subst (QuietTurn f g logs t) (sym e) (record {
       took = turn_passed_by_waiting f g logs t (no_step_if_quiet_step_cannot f t quiet never) same;
-      tape =
-          tape_after_waiting f g logs tape same;
+      has_logs =
+          has_logs_after_waiting f g logs has_logs same;
     })

@@ -12,7 +12,7 @@ use Rattle.ir_record.specs.Refusing.{Turn, plain_turns}
 use Rattle.ir_record.specs.Worlds.{Answered}
 use Rattle.ir_record.specs.Recording.{order_of_turns, turns_of_items}
 use Rattle.ir_record.specs.declared.item.Item.{Item}
-use Rattle.ir_record.specs.declared.turn.Failed.{Failed}
+use Rattle.ir_record.specs.declared.in_order.turn.Failed.{Failed}
 use Rattle.ir_record.specs.declared.turns.Turns.{Turns}
 use Rattle.ir_record.proofs.Refusing.{plain_turns-append}
 use Rattle.ir_record.proofs.Steps.{took_no_turns, took_both_orders, turn_without_step_changes_nothing, plain_took, turns_both, no_turns, turns_none}

@@ -4,7 +4,7 @@ use Rattle.std.proofs.lemmas.Bool.{cases_eq}
 use Rattle.std.specs.List.{range_with_len}
 use Rattle.ir_runs.specs.Machine.{Machine}
 use Rattle.ir_runs.specs.Run.{State, InTurn, rounds, HasNone}
-use Rattle.ir_record.specs.Progress.{Progress, Took, TookTurns, IsReady, IsTape}
+use Rattle.ir_record.specs.Progress.{Progress, Took, TookTurns, IsReady, HasLogs}
 use Rattle.ir_record.specs.Refusing.{Turn}
 
 pub append_non_empty_by_first : {X : Type 0} (xs ys : List X) → 0 < length xs → 0 < length (xs ++ ys)
@@ -42,13 +42,13 @@ rounds_add_up n (suc first) more = append_assoc (range_with_len 0 n) (rounds n f
     ∙ ap (rounds n) (let e : suc (first + more) ≡ suc first + more = omega arith in e)
 
 -- what holds before turns holds after them
-pub ready_after_turns : (order : List ℕ) (a b : Progress) (was : List Bool) → IsReady a was → Took order a b → IsTape b.flat b.logs
+pub ready_after_turns : (order : List ℕ) (a b : Progress) (was : List Bool) → IsReady a was → Took order a b → HasLogs b.flat b.logs
     → b.answers ≡ a.answers → IsReady b was
-ready_after_turns order a b was ready took tape same =
-    record { tape = tape; worlds = ap (λ xs. length xs) same ∙ ready.worlds ∙ sym took.threads; works = ready.works }
+ready_after_turns order a b was ready took has_logs same =
+    record { has_logs = has_logs; worlds = ap (λ xs. length xs) same ∙ ready.worlds ∙ sym took.threads; works = ready.works }
 
 -- the same of turns in which tries may be refused
-pub turns_ready : (turns : List Turn) (a b : Progress) (was : List Bool) → IsReady a was → TookTurns turns a b → IsTape b.flat b.logs
+pub turns_ready : (turns : List Turn) (a b : Progress) (was : List Bool) → IsReady a was → TookTurns turns a b → HasLogs b.flat b.logs
     → b.answers ≡ a.answers → IsReady b was
-turns_ready turns a b was ready took tape same =
-    record { tape = tape; worlds = ap (λ xs. length xs) same ∙ ready.worlds ∙ sym took.moved.threads; works = ready.works }
+turns_ready turns a b was ready took has_logs same =
+    record { has_logs = has_logs; worlds = ap (λ xs. length xs) same ∙ ready.worlds ∙ sym took.moved.threads; works = ready.works }

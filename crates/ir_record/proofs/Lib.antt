@@ -18,7 +18,7 @@ mod Leading
 mod Kept
 mod Going
 mod Skipping
-mod Passing
+mod RoundResults
 mod Telling
 mod Ended
 mod Stopped

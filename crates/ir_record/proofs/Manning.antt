@@ -12,7 +12,7 @@ use Rattle.ir_crew.specs.Rule.{View}
 use Rattle.ir_trace.specs.Recorded.{RecordedThread}
 use Rattle.ir_record.specs.Gathered.{IsThreadTrace}
 use Rattle.ir_record.specs.Threads.{IsNew, AreNew, AreTraces, views_of, Pairs}
-use Rattle.ir_record.specs.declared.worker.Worker.{Worker}
+use Rattle.ir_record.specs.declared.by_threads.worker.Worker.{Worker}
 
 pub new_workers_with_one_added : {W : Type 0} (g : Guest) (budget : ℕ) (profile : Profile) (id : TableId) (t n : ℕ) (ws : List (Worker W)) (w : Worker W)
     → AreNew g budget profile id t ws → n ≡ t + length ws → IsNew g budget profile id n w → AreNew g budget profile id t (ws ++ w ∷ [])

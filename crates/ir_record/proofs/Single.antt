@@ -6,7 +6,7 @@ use Rattle.ir_flat.specs.Flat.{tables}
 use Rattle.ir_runs.specs.Run.{State, rounds}
 use Rattle.ir_record.specs.Failures.{StoppedAt}
 use Rattle.ir_record.specs.Worlds.{Answered}
-use Rattle.ir_record.specs.declared.turn.Failed.{Failed}
+use Rattle.ir_record.specs.declared.in_order.turn.Failed.{Failed}
 use Rattle.ir_record.specs.Progress.{Progress, Took, TookIf, all_left}
 use Rattle.ir_record.proofs.Following.{turns_of_thread_add_up}
 

@@ -16,7 +16,7 @@ use Rattle.ir_log.specs.Logging.{label_of}
 use Rattle.ir_log.specs.declared.event.Event.{Event}
 use Rattle.ir_log.specs.declared.event.Event.TheVariants as event
 use Rattle.ir_trace.specs.Recorded.{IsEvent}
-use Rattle.ir_record.specs.Progress.{IsTape, log_at}
+use Rattle.ir_record.specs.Progress.{HasLogs, log_at}
 use Rattle.ir_record.proofs.Entering.{OneEventLogged, label_is_of_ask, entry_logs_itself, entry_logs_no_answer}
 
 -- there is room to log a try
@@ -30,7 +30,7 @@ refused_try_can_be_taken f t o is = subst (λ q. Admits (machine_of f) (act_of (
 
 -- a try was taken with this result, and this event was logged of it
 pub record TryLogged (f g : Flat) (logs more : List Logged) (t o r : ℕ) (e : Event) : Type 0 where
-  pub tape : IsTape f logs
+  pub has_logs : HasLogs f logs
   pub flat : IsFlat f
   pub below : t < length f.threads
   pub asked : ask_of f.code (thread_of f t) ≡ Try o
@@ -51,7 +51,7 @@ entry_label f o = emitted (machine.Entry o Writing 0) ((tables f).objects o)
 pub entering_try_logs_one_event : (f g : Flat) (logs more : List Logged) (t o : ℕ) (e : Event) → TryLogged f g logs more t o 1 e → label_of e ≡ entry_label f o
     → ((profile : Profile) → IsEvent profile (length f.objects) e) → OneEventLogged f g logs more t 1 (entry_label f o) e
 entering_try_logs_one_event f g logs more t o e x emits fits = record {
-  tape = x.tape;
+  has_logs = x.has_logs;
   flat = x.flat;
   below = x.below;
   one = ap events_added_by x.asked;
@@ -74,7 +74,7 @@ entering_try_logs_one_event f g logs more t o e x emits fits = record {
 pub refused_try_logs_one_event : (f g : Flat) (logs more : List Logged) (t o : ℕ) → TryLogged f g logs more t o 0 (event.Try o)
     → OneEventLogged f g logs more t 0 (Refused o) (event.Try o)
 refused_try_logs_one_event f g logs more t o x = record {
-  tape = x.tape;
+  has_logs = x.has_logs;
   flat = x.flat;
   below = x.below;
   one = ap events_added_by x.asked;

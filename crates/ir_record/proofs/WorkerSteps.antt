@@ -37,7 +37,7 @@ use Rattle.ir_crew.specs.declared.deed.Deed.TheVariants.{Leave}
 use Rattle.ir_crew.specs.declared.deed.ObjectStep.{ObjectStep}
 use Rattle.ir_crew.proofs.CallerLemmas.{entries_with_step_added, track, step_of_deed, target_of_deed}
 use Rattle.ir_record.specs.Worlds.{Answered, answers_in}
-use Rattle.ir_record.specs.declared.worker.Worker.{Worker}
+use Rattle.ir_record.specs.declared.by_threads.worker.Worker.{Worker}
 use Rattle.ir_record.specs.Working.{Work, IsWorking, StillWorks, IsOwn, IsInside, IsSeated, Stays}
 use Rattle.ir_record.proofs.Profiles.{profile_after_ask}
 use Rattle.ir_record.proofs.Working.{worked_with_reply_added, held_after_own_act, held_after_is_inside_if}

@@ -42,6 +42,11 @@ pub record AreAsks (asks : List ask.Ask) (f : Flat) : Type 0 where
   pub places : length asks ≡ length f.threads
   pub asked : (t : ℕ) → t < length f.threads → slice_index_or asks t Done ≡ ask_of f.code (thread_of f t)
 
+-- each thread has a place for how many steps it is ahead, and one for what it asks
+pub record HasPlaces (numbers : List ℕ) (kept : List ask.Ask) (f : Flat) : Type 0 where
+  pub leads : length numbers ≡ length f.threads
+  pub asks : AreAsks kept f
+
 -- none of these threads is ahead
 abbrev pub NoneAhead : List ℕ → List ℕ → Type 0
 NoneAhead [] ahead = Unit {0}

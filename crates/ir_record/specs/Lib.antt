@@ -5,7 +5,7 @@ pub mod Recorders
 pub mod Progress
 pub mod Gathered
 pub mod Ahead
-pub mod Noting
+pub mod RoundResults
 pub mod Working
 pub mod Threads
 pub mod Failures

@@ -7,7 +7,7 @@ use Rattle.ir_record.specs.Recording.{EachWentOn}
 use Rattle.ir_record.specs.Threads.{Pairs, IsSeatOf, views_of}
 use Rattle.ir_record.specs.Working.{work_of, IsReadyWorker, RanToEnd}
 use Rattle.ir_record.specs.Worlds.{NoneFailed, IsFirstFailed, AreSameWorlds}
-use Rattle.ir_record.specs.declared.worker.Worker.{Worker}
+use Rattle.ir_record.specs.declared.by_threads.worker.Worker.{Worker}
 use Rattle.ir_record.proofs.ByThreads.{recorded_of}
 use Rattle.ir_record.proofs.Crewed.{NoneBroken, HaveRun, new_workers_are_ready, threads_there, room_there, worlds_there, seats_there, ended_there, all_over, each_there, views_are_tracks_of_work, trace_at_worker_place, map_map}
 use Rattle.ir_record.proofs.Manning.{traces_count_workers}
@@ -62,10 +62,10 @@ abbrev at_count : (g : given.Over) → goal.After-drop-objects-2 g → goal.Afte
 at_count g c = c.before.before.before.before.before.before.before.before
 
 pub worlds_of-requires : goal.worlds_of-requires
-worlds_of-requires g c = room_there (ran_some g c) c.in_ok-room.ensures (search rules) (search rules)
+worlds_of-requires g c = room_there (ran_some g c) c.in_ok-buffers.ensures (search rules) (search rules)
 
-pub gathered-seats-requires-clause-room : goal.gathered-seats-requires-clause-room
-gathered-seats-requires-clause-room g c = room_there (ran_all g c) c.in_ok-room.ensures (search rules) (search rules)
+pub gathered-seats-requires-clause-buffers : goal.gathered-seats-requires-clause-buffers
+gathered-seats-requires-clause-buffers g c = room_there (ran_all g c) c.in_ok-buffers.ensures (search rules) (search rules)
 
 pub overflow_cast-result : goal.overflow_cast-result
 overflow_cast-result g c =
