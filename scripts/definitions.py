@@ -67,6 +67,9 @@ The relations by which the [main theorem](theorem.md) is read, word for word as 
 [Notation](theorem.md#how-to-read-it) has the rest. A record says each of its fields.
 """
 
+# The files that restate the RISC-V manual, of which theorem.md says which chapters.
+MANUAL = {("ir_isa", "Fields"), ("ir_isa", "Code"), ("ir_mach", "Core"), ("ir_mach", "Execution"), ("ir_disasm", "Printed")}
+
 # What a law says all of: who believes the law needn't read the definition. The file of the law and its name.
 PINNED = {("ir_isa", "Decoded", "instruction_of"): ("ir_isa/src/laws.rt", "found_by_code")}
 
@@ -259,18 +262,24 @@ def parts():
         yield title, heading, added, more
 
 
+def count(files, definitions):
+    """How many files these are, their lines, how many definitions, and the lines of these."""
+    needed = sum(len(module(crate, name).definitions[item].lines) for crate, name, item in definitions)
+    return [len(files), sum(len(module(*file).lines) for file in files), len(definitions), needed]
+
+
 def counts():
     """The table of what the headline rests on."""
-    rows, totals = [], [0] * 4
+    rows, all_files, all_definitions = [], set(), set()
     for title, _, files, definitions in parts():
-        lines = sum(len(module(*file).lines) for file in files)
-        needed = sum(len(module(crate, name).definitions[item].lines) for crate, name, item in definitions)
-        row = [len(files), lines, len(definitions), needed]
-        totals = [total + more for total, more in zip(totals, row)]
-        rows.append((title, row))
+        rows.append((title, count(files, definitions)))
+        all_files |= files
+        all_definitions |= definitions
+    of_manual = {definition for definition in all_definitions if definition[:2] in MANUAL}
+    total, manual = count(all_files, all_definitions), count(MANUAL, of_manual)
     yield "| Part | Files | Lines | Definitions | Their lines |\n|---|---|---|---|---|"
-    for title, row in [*rows, ("in all", totals)]:
-        yield f"| {title} | " + " | ".join(f"{count:,}" for count in row) + " |"
+    for title, row in [*rows, ("in all", total), ("of these the restated RISC-V manual", manual), ("beside the manual", map(int.__sub__, total, manual))]:
+        yield f"| {title} | " + " | ".join(f"{number:,}" for number in row) + " |"
 
 
 def named_by_public(crate):

@@ -10,9 +10,10 @@ use Rattle.ir_runs.specs.Verdicts.{IsWhole}
 use Rattle.ir_thread.specs.declared.profile.Profile.{Profile}
 use Rattle.ir_flat.specs.Flat.{start_flat, tables, machine}
 use Rattle.ir_trace.specs.Recorded.{Recorded, trace_of}
-use Rattle.ir_record.specs.Recording.{AreAnswers, IsRecordingInOrder, IsRecordingByTurns, IsRecordingOf}
+use Rattle.ir_record.specs.Recording.{AreAnswers, IsRecordingOf}
+use Rattle.ir_record.specs.Recordings.{IsRecordingByTurns}
 use Rattle.ir_record.specs.Refusing.{Turn, plain_turns}
-use Rattle.ir_record.proofs.CallerLemmas.{in_turns-run, plain_of_order}
+use Rattle.ir_record.proofs.CallerLemmas.{in_turns-run}
 use Rattle.ir_record.specs.Worlds.{Answered, answers_in}
 use Rattle.ir_record_run.specs.Order.{order_of}
 use Rattle.ir_record_run.specs.Plan.{Plan}
@@ -68,11 +69,11 @@ kept_answers_are_logged guest budget profile run answers t l h =
 recorded_run_is_planned : (guest : Guest) (plan : Plan) (list : List ℕ) (turns : List Turn) (trace : Recorded) (outputs : List (List ℕ)) (answers : List (List Answered))
     → plan.order ≡ Some list → (r : IsRecordingByTurns guest plan.budget plan.profile turns (unasked guest) trace outputs answers)
     → ((t : ℕ) → t < length guest.entries → IsAnswered (origin_of (is_some plan.order) plan.random plan.input t) (get_or answers t []))
-    → IsPlannedInTurns guest plan turns r.run
+    → IsPlannedInTurns guest plan turns r.0
 recorded_run_is_planned guest plan list turns trace outputs answers is r answered = record {
-  by_turns = r.by_turns;
+  by_turns = r.1;
   answered = λ t l. subst (IsAnswered (origin_of true plan.random plan.input t))
-      (kept_answers_are_logged guest plan.budget plan.profile r.run answers t l r.of.answered)
+      (kept_answers_are_logged guest plan.budget plan.profile r.0 answers t l r.2.answered)
       (subst (λ c. IsAnswered (origin_of c plan.random plan.input t) (get_or answers t [])) (ap is_some is) (answered t l));
 }
 
@@ -82,9 +83,9 @@ recording_is_of_planned_run : (guest : Guest) (plan : Plan) (list : List ℕ) (t
     → ((t : ℕ) → t < length guest.entries → IsAnswered (origin_of (is_some plan.order) plan.random plan.input t) (get_or answers t []))
     → IsOfRun guest plan.budget plan.profile run trace outputs
 recording_is_of_planned_run guest plan list turns run trace outputs answers is x r answered =
-    recording_is_of_same_run guest plan.budget plan.profile turns run r.run (unasked guest) trace outputs answers (origin_of true plan.random plan.input) x
-    (one_run_by_turns guest plan.budget plan.profile turns (origin_of true plan.random plan.input) run r.run (λ t l. refl) x
-    (recorded_run_is_planned guest plan list turns trace outputs answers is r answered)) r.of
+    recording_is_of_same_run guest plan.budget plan.profile turns run r.0 (unasked guest) trace outputs answers (origin_of true plan.random plan.input) x
+    (one_run_by_turns guest plan.budget plan.profile turns (origin_of true plan.random plan.input) run r.0 (λ t l. refl) x
+    (recorded_run_is_planned guest plan list turns trace outputs answers is r answered)) r.2
 
 -- a run by an order is one by its turns
 planned_in_turns : (guest : Guest) (plan : Plan) (order : List ℕ) (run : List Step) → IsPlanned guest plan order run
@@ -93,12 +94,12 @@ planned_in_turns guest plan order run x = answered_by_turns guest plan.budget pl
 
 -- what is recorded in turns is of each run that the guest makes by their order with the same answers
 pub recording_in_turns_is_of_run : (guest : Guest) (plan : Plan) (order : List ℕ) (run : List Step) (trace : Recorded) (outputs : List (List ℕ)) (answers : List (List Answered))
-    → IsPlanned guest plan order run → IsRecordingInOrder guest plan.budget plan.profile order (unasked guest) trace outputs answers
+    → IsPlanned guest plan order run → IsRecordingByTurns guest plan.budget plan.profile (plain_turns order) (unasked guest) trace outputs answers
     → ((t : ℕ) → t < length guest.entries → IsAnswered (origin_of true plan.random plan.input t) (get_or answers t []))
     → IsOfRun guest plan.budget plan.profile run trace outputs
 recording_in_turns_is_of_run guest plan order run trace outputs answers x r answered =
-    recording_is_of_planned_run guest (record plan { order = Some [] }) [] (plain_turns order) run trace outputs answers refl (planned_in_turns guest plan order run x)
-    (plain_of_order guest plan.budget plan.profile order (unasked guest) trace outputs answers r) answered
+    recording_is_of_planned_run guest (record plan { order = Some [] }) [] (plain_turns order) run trace outputs answers refl (planned_in_turns guest plan order run x) r
+    answered
 
 -- the same of a recording by the list
 recording_by_list_is_of_run : (guest : Guest) (plan : Plan) (list : List ℕ) (turns : List Turn) (run : List Step) (trace : Recorded) (outputs : List (List ℕ))
@@ -150,10 +151,10 @@ recording_by_list_has_run : (image : List ℕ) (plan : Plan) (list : List ℕ) (
     → RecordedRun image plan list guest trace outputs
 recording_by_list_has_run image plan list guest trace outputs answers is (turns, spelled, r) answered = record {
   turns = turns;
-  run = r.run;
+  run = r.0;
   spelled = spelled;
   planned = recorded_run_is_planned guest plan list turns trace outputs answers is r answered;
-  of = record { trace_of = r.of.emitted; printed = r.of.printed };
+  of = record { trace_of = r.2.emitted; printed = r.2.printed };
 }
 
 recordings_by_list_equal_of_run : (image : List ℕ) (plan : Plan) (list : List ℕ) (a b : Recorded) (x y : List (List ℕ)) → plan.order ≡ Some list

@@ -35,7 +35,7 @@ use Rattle.ir_trace.specs.Absent.{absent}
 use Rattle.ir_record.specs.Gathered.{IsThreadTrace}
 use Rattle.ir_record.specs.Progress.{no_log}
 use Rattle.ir_record.specs.Worlds.{answers_at, Answered, answers_in}
-use Rattle.ir_record.specs.Recording.{IsRecordingOfSome}
+use Rattle.ir_record.specs.Recordings.{IsRecordingOfSome}
 use Rattle.ir_record.specs.Working.{Work, IsWorking}
 use Rattle.ir_record.proofs.Telling.{StandAtEnd, emitted_there, printed_there, answered_there}
 
@@ -196,10 +196,9 @@ module _ {g : Guest} {budget : ℕ} {profile : Profile} {before : List (List Ans
         logged = own_log;
         answered = λ t l. (over.working t l).answered ∙ ap (λ z. answers_at before t ++ answers_in z) (own_log t l);
       } in
-      let size = over.size in
-      record {
-        run = run;
-        of = record {
+      let size = over.size in (
+        run,
+        record {
           emitted = emitted_there stand (λ t. ap (λ x. shared_ask (ask_of g.code x)) (k.threads t) ∙ (part t).done)
               trace counted limit same_profile all traces;
           printed = printed_there stand outputs
@@ -210,5 +209,5 @@ module _ {g : Guest} {budget : ℕ} {profile : Profile} {before : List (List Ans
               (ap (λ z. length z) given ∙ length-map ws (λ w. w.answers) ∙ size)
               (λ t l. ap (λ z. slice_get z t) given ∙ slice_get-map (λ w. w.answers) ws t
               ∙ ap (option_map (λ w. w.answers)) (slice_get-get_or ws t no_work (omega (arith, l, size))));
-        };
-      }
+        },
+      )

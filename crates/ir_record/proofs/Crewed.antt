@@ -23,7 +23,7 @@ use Rattle.ir_record.specs.Working.{Work, work_of, IsWorking, IsReadyWorker, Ran
 use Rattle.ir_record.specs.declared.by_threads.buffers.Buffers.{Buffers}
 use Rattle.ir_record.specs.declared.by_threads.worker.Worker.{Worker}
 use Rattle.ir_record.proofs.ByThreads.{AllWorkDone, work_at, tracks_of}
-use Rattle.ir_record.proofs.Working.{worked_by_no_replies, answers_ignore_object_labels}
+use Rattle.ir_record.proofs.Working.{worked_by_no_replies, logged_answers_are_alone_answers}
 
 -- ---- before the first step
 
@@ -253,7 +253,7 @@ module _ {W O : Type 0} {answers : W → List Answered} {broken : W → Bool} {o
         asks = λ f. ((asks f).0, ap (ask_of g.code) w.now ∙ (asks f).1);
         answered = e ∙ i.answered ∙ ap (λ z. answers_at (map answers worlds) t ++ z)
             (ap answers_in (sym w.logged)
-            ∙ answers_ignore_object_labels (thread_machine g.code) (thread.start_state g t budget profile) w.replies i.track);
+            ∙ logged_answers_are_alone_answers (thread_machine g.code) (thread.start_state g t budget profile) w.replies i.track);
       }
 
   pub each_there : EachWentOn answers broken g budget profile worlds (map (λ w. w.world) ws)

@@ -24,7 +24,7 @@ use Rattle.ir_record.specs.Gathered.{AreThreadTraces}
 use Rattle.ir_record.specs.Progress.{Progress, TookTurns, IsReady, log_at, no_log}
 use Rattle.ir_record.specs.Refusing.{Turn, plain_turns}
 use Rattle.ir_record.specs.Worlds.{answers_at, Answered, NoneFailed}
-use Rattle.ir_record.specs.Recording.{IsRecordingByTurns}
+use Rattle.ir_record.specs.Recordings.{IsRecordingByTurns}
 use Rattle.ir_record.proofs.Profiles.{profile_after_run, profile_of_start_thread}
 use Rattle.ir_record.proofs.Refusing.{in_turns-run}
 use Rattle.ir_record.proofs.Telling.{StandAtEnd, emitted_there, printed_there, answered_there}
@@ -153,11 +153,10 @@ module _ {guest : Guest} {budget : ℕ} {profile : Profile} {turns : List Turn} 
   recorded_there failed ready trace objects limit same traces outputs printed answers given =
       let n : length b.flat.threads ≡ length guest.entries = threads_there in
       let logs : length b.logs ≡ length guest.entries = ready.has_logs.one_each ∙ n in
-      let size : length answers ≡ length guest.entries = ap (λ z. length z) given ∙ ready.worlds ∙ n in
-      record {
-        run = o.took.run;
-        by_turns = record { count = o.count; in_turns = o.took.in_turns; done = done_there };
-        of = record {
+      let size : length answers ≡ length guest.entries = ap (λ z. length z) given ∙ ready.worlds ∙ n in (
+        o.took.run,
+        record { count = o.count; in_turns = o.took.in_turns; done = done_there },
+        record {
           emitted = emitted_there at_end done_there trace (objects ∙ objects_there) limit same (traces.count ∙ logs) (λ t l. traces.each t (omega (arith, l, logs)));
           printed = printed_there at_end outputs
               (ap (λ z. length z) printed ∙ length-map b.flat.threads (λ x. x.output) ∙ n)
@@ -165,8 +164,8 @@ module _ {guest : Guest} {budget : ℕ} {profile : Profile} {turns : List Turn} 
               ∙ ap (option_map (λ x. x.output)) (slice_get-get_or b.flat.threads t idle (omega (arith, l, n))));
           answered = answered_there at_end answers size
               (λ t l. slice_get-get_or answers t [] (omega (arith, l, size)) ∙ ap (λ z. Some (answers_at z t)) given);
-        };
-      }
+        },
+      )
 
 -- the recording that was made is one before the first step
 pub made_recording_is_start : (guest : Guest) (budget : ℕ) (profile : Profile) (answers : List (List Answered)) {f : Flat} {logs : List Logged}

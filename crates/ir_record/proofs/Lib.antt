@@ -27,5 +27,4 @@ mod WorkerSteps
 mod ByThreads
 mod Manning
 mod Crewed
-mod ByOrder
 pub mod CallerLemmas

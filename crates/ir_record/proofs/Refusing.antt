@@ -1,5 +1,5 @@
 -- Turns in which tries may be refused.
-use Rattle.std.proofs.Common.{◌≡◌, ℕ, Bool, false, List, [], ◌∷◌, ◌++◌, map, refl, sym, ap, ◌∙◌, subst, inl, inr}
+use Rattle.std.proofs.Common.{◌≡◌, ℕ, false, List, [], ◌∷◌, ◌++◌, sym, ap, subst, inl, inr}
 use Rattle.std.proofs.lemmas.List.{map-append}
 use Rattle.ir_runs.specs.Machine.{Machine}
 use Rattle.ir_runs.specs.Run.{State, Step, after, IsRun, end, InTurn, rounds, IsByOrder}
@@ -62,25 +62,3 @@ plain_turns-by_order m s n order run h = record {
       (subst (λ z. InTurns m s z run) (sym (plain_turns-append order (rounds n h.count))) h.in_turns);
   done = h.done;
 }
-
--- the threads of turns
-abbrev pub threads_of : List Turn → List ℕ
-threads_of turns = map (λ t. t.0) turns
-
-threads_of-plain_turns : (order : List ℕ) → threads_of (plain_turns order) ≡ order
-threads_of-plain_turns [] = refl
-threads_of-plain_turns (t ∷ order) = ap (λ z. t ∷ z) (threads_of-plain_turns order)
-
--- a turn among turns in which no try is refused, and those before it
-pub plain_parts : (order : List ℕ) (taken : List Turn) (t : ℕ) (refused : Bool) (left : List Turn) → plain_turns order ≡ taken ++ (t, refused) ∷ left
-    → (order ≡ threads_of taken ++ t ∷ threads_of left) × (taken ≡ plain_turns (threads_of taken))
-plain_parts order [] t refused left e = (sym (threads_of-plain_turns order) ∙ ap threads_of e, refl)
-plain_parts [] (x ∷ taken) t refused left e = absurd (cc e)
-plain_parts (u ∷ order) ((v, f) ∷ taken) t refused left e =
-    let first : ◌≡◌ {A = Turn} (u, false) (v, f) = cc e in
-    let rest : plain_turns order ≡ taken ++ (t, refused) ∷ left = cc e in
-    let below = plain_parts order taken t refused left rest in
-    let same : u ≡ v = ap (λ (z : Turn). z.0) first in (
-      ap (λ z. z ∷ order) same ∙ ap (λ z. v ∷ z) below.0,
-      ap (λ z. z ∷ taken) (sym first) ∙ ap (λ z. (u, false) ∷ z) below.1 ∙ ap (λ z. (z, false) ∷ plain_turns (threads_of taken)) same,
-    )

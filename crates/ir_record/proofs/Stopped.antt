@@ -18,10 +18,10 @@ use Rattle.ir_record.specs.Failures.{IsUnanswered, StoppedAt, StoppedTurns}
 use Rattle.ir_record.specs.Progress.{Progress, Took, TookTurns, IsReady}
 use Rattle.ir_record.specs.Refusing.{Turn, plain_turns, InTurns}
 use Rattle.ir_record.specs.Worlds.{answers_at, Answered, answers_in}
-use Rattle.ir_record.specs.Recording.{StoppedInOrder, StoppedInTurns}
+use Rattle.ir_record.specs.Recording.{StoppedInTurns}
 use Rattle.ir_record.proofs.Ended.{start, made_recording_is_start, new_log}
 use Rattle.ir_record.proofs.Going.{reached, range_from_zero_with_last}
-use Rattle.ir_record.proofs.Refusing.{plain_turns-append, in_turns-append, in_turn-plain_turns, plain_turns-in_turn, threads_of, plain_parts}
+use Rattle.ir_record.proofs.Refusing.{plain_turns-append, in_turns-append, in_turn-plain_turns}
 use Rattle.ir_record.proofs.Steps.{log_same_on_first_machine, answers_in_append}
 
 -- the error that a `?` hands on
@@ -230,23 +230,4 @@ stopped_in_order_from_start {guest} {budget} {profile} {turns} {before} {answers
         threads = h.worlds ∙ size;
         each = λ t l. slice_get-get_or answers t [] (omega (arith, l, h.worlds, size)) ∙ ap Some (h.answered t (omega (arith, l, size)));
       };
-    }
-
--- where no try is refused that may enter, it stopped by the order
-pub stopped_by_order : (guest : Guest) (budget : ℕ) (profile : Profile) (order : List ℕ) (named : ℕ) (before answers : List (List Answered))
-    → StoppedInTurns guest budget profile (plain_turns order) named before answers → StoppedInOrder guest budget profile order named before answers
-stopped_by_order guest budget profile order named before answers h =
-    let rest = rounds (length guest.entries) h.count in
-    let parts = plain_parts (order ++ rest) h.taken named h.refused h.left (plain_turns-append order rest ∙ h.so_far) in
-    record {
-      count = h.count;
-      taken = threads_of h.taken;
-      left = threads_of h.left;
-      so_far = parts.0;
-      run = h.run;
-      turns = plain_turns-in_turn (machine (start_flat guest budget profile)) (tables (start_flat guest budget profile)) (threads_of h.taken) h.run
-          (subst (λ z. InTurns (machine (start_flat guest budget profile)) (tables (start_flat guest budget profile)) z h.run) parts.1 h.in_turns);
-      kind = h.kind;
-      asks = h.asks;
-      answered = h.answered;
     }

@@ -13,7 +13,8 @@ use Rattle.ir_crew.specs.declared.deed.Deed.{Deed}
 use Rattle.ir_crew.specs.declared.deed.Deed.TheVariants.{Enter, Try, Leave, Get, Put}
 use Rattle.ir_crew.specs.declared.deed.ObjectStep.{ObjectStep}
 use Rattle.ir_record.specs.Working.{Worked}
-use Rattle.ir_record.specs.Worlds.{answers_in}
+use Rattle.ir_record.specs.Recording.{answer_if, alone_answers}
+use Rattle.ir_record.specs.Worlds.{Answered, answers_in}
 
 may_run_with_reply_added : {T : Type 0} (m : Machine T) (x : T) (vs : List ℕ) (v : ℕ) → MayRun m x vs → MayReply m (act_of (m.ask (alone_after m x vs)) v) v
     → MayRun m x (vs ++ v ∷ [])
@@ -149,25 +150,25 @@ deed_logs_no_answer o (Get i w) es = refl
 deed_logs_no_answer o (Put i w) es = refl
 
 -- f labels is what is logged of the steps after this one when object steps report these labels
-answers_ignore_object_labels_step : (q : Act) (f : List Label → List Label) (track : List ObjectStep)
-    → ((later : List ObjectStep) → answers_in (f (map label_of later)) ≡ answers_in (f []))
-    → answers_in (logged (alone_label q (map label_of track)) (f (labels_left (is_shared q) (map label_of track))))
-    ≡ answers_in (logged (alone_label q []) (f (labels_left (is_shared q) [])))
-answers_ignore_object_labels_step Silent f track rest = rest track
-answers_ignore_object_labels_step (Result k v) f track rest = ap (λ z. (k, v) ∷ z) (rest track)
-answers_ignore_object_labels_step (Refusal o) f track rest = rest track
-answers_ignore_object_labels_step Never f track rest = rest track
-answers_ignore_object_labels_step (Entry o a v) f [] rest = refl
-answers_ignore_object_labels_step (Entry o a v) f (e ∷ track) rest = deed_logs_no_answer e.object e.deed (f (map label_of track)) ∙ rest track
-answers_ignore_object_labels_step (Exit o a) f [] rest = refl
-answers_ignore_object_labels_step (Exit o a) f (e ∷ track) rest = deed_logs_no_answer e.object e.deed (f (map label_of track)) ∙ rest track
-answers_ignore_object_labels_step (Load o i) f [] rest = refl
-answers_ignore_object_labels_step (Load o i) f (e ∷ track) rest = deed_logs_no_answer e.object e.deed (f (map label_of track)) ∙ rest track
-answers_ignore_object_labels_step (Store o i w) f [] rest = refl
-answers_ignore_object_labels_step (Store o i w) f (e ∷ track) rest = deed_logs_no_answer e.object e.deed (f (map label_of track)) ∙ rest track
+logged_answers_are_alone_answers_step : (q : Act) (f : List Label → List Label) (track : List ObjectStep) (others : List Answered)
+    → ((later : List ObjectStep) → answers_in (f (map label_of later)) ≡ others)
+    → answers_in (logged (alone_label q (map label_of track)) (f (labels_left (is_shared q) (map label_of track)))) ≡ answer_if q others
+logged_answers_are_alone_answers_step Silent f track others rest = rest track
+logged_answers_are_alone_answers_step (Result k v) f track others rest = ap (λ z. (k, v) ∷ z) (rest track)
+logged_answers_are_alone_answers_step (Refusal o) f track others rest = rest track
+logged_answers_are_alone_answers_step Never f track others rest = rest track
+logged_answers_are_alone_answers_step (Entry o a v) f [] others rest = rest []
+logged_answers_are_alone_answers_step (Entry o a v) f (e ∷ track) others rest = deed_logs_no_answer e.object e.deed (f (map label_of track)) ∙ rest track
+logged_answers_are_alone_answers_step (Exit o a) f [] others rest = rest []
+logged_answers_are_alone_answers_step (Exit o a) f (e ∷ track) others rest = deed_logs_no_answer e.object e.deed (f (map label_of track)) ∙ rest track
+logged_answers_are_alone_answers_step (Load o i) f [] others rest = rest []
+logged_answers_are_alone_answers_step (Load o i) f (e ∷ track) others rest = deed_logs_no_answer e.object e.deed (f (map label_of track)) ∙ rest track
+logged_answers_are_alone_answers_step (Store o i w) f [] others rest = rest []
+logged_answers_are_alone_answers_step (Store o i w) f (e ∷ track) others rest = deed_logs_no_answer e.object e.deed (f (map label_of track)) ∙ rest track
 
-pub answers_ignore_object_labels : {T : Type 0} (m : Machine T) (x : T) (vs : List ℕ) (track : List ObjectStep)
-    → answers_in (events (alone_trail m x vs (map label_of track))) ≡ answers_in (events (alone_trail m x vs []))
-answers_ignore_object_labels m x [] track = refl
-answers_ignore_object_labels m x (v ∷ vs) track = answers_ignore_object_labels_step (act_of (m.ask x) v) (λ ks. events (alone_trail m (m.take x v) vs ks)) track
-    (answers_ignore_object_labels m (m.take x v) vs)
+-- the answers that a thread alone logs are those of its replies, whatever its object steps report
+pub logged_answers_are_alone_answers : {T : Type 0} (m : Machine T) (x : T) (vs : List ℕ) (track : List ObjectStep)
+    → answers_in (events (alone_trail m x vs (map label_of track))) ≡ alone_answers m x vs
+logged_answers_are_alone_answers m x [] track = refl
+logged_answers_are_alone_answers m x (v ∷ vs) track = logged_answers_are_alone_answers_step (act_of (m.ask x) v)
+    (λ ks. events (alone_trail m (m.take x v) vs ks)) track (alone_answers m (m.take x v) vs) (logged_answers_are_alone_answers m (m.take x v) vs)

@@ -1,6 +1,7 @@
 pub mod Worlds
 pub mod Refusing
 pub mod Recording
+pub mod Recordings
 pub mod Recorders
 pub mod Progress
 pub mod Gathered

@@ -6,7 +6,7 @@ ghost use Rattle.ir_flat.specs.Flat.{tables, machine};
 ghost use Rattle.ir_runs.specs.Run.{HasNone, rounds};
 ghost use Rattle.ir_record.specs.Progress.{TookTurns, Took};
 ghost use Rattle.ir_record.specs.Recorders.{progress_of, CanContinue, StopsInTurns, StaysReady};
-ghost use Rattle.ir_record.specs.Recording.{IsRecordedInOrder, IsRecordedInTurns, AllWork, AreHandedBack, IsFailureInOrder, IsFailureInTurns, order_of_turns, turns_of_items};
+ghost use Rattle.ir_record.specs.Recording.{IsRecordedInTurns, AllWork, AreHandedBack, IsFailureInTurns, order_of_turns, turns_of_items};
 ghost use Rattle.ir_record.specs.Refusing.{plain_turns};
 ghost use Rattle.ir_record.specs.Worlds.{NoneFailed};
 
@@ -120,11 +120,11 @@ pub fn record_in_turns<W: World + Drop>(
     requires each { vec_len worlds ≡ length image.now.entries }
     requires works { NoneFailed (map W.broken worlds.items) }
     // The run by the order, which is complete: its trace, what its threads printed, and what their worlds answered.
-    ensures recorded { IfOk result (IsRecordedInOrder W.answers image.now budget profile (order_of_turns order.now) worlds.items) }
+    ensures recorded { IfOk result (IsRecordedInTurns W.answers image.now budget profile (plain_turns (order_of_turns order.now)) worlds.items) }
     ensures works { IfOk result (AllWork W.broken) }
     // The worlds are those that were handed in.
     ensures origins { IfOk result (AreHandedBack W.origin worlds.items) }
-    ensures failed { IfErr result (IsFailureInOrder W.answers W.broken W.origin image.now budget profile (order_of_turns order.now) worlds.items) }
+    ensures failed { IfErr result (IsFailureInTurns W.answers W.broken W.origin image.now budget profile (plain_turns (order_of_turns order.now)) worlds.items) }
 {
     let items = items_of(alloc, order)?;
     record_with_refusals(alloc, image, items.as_slice(), worlds, budget, profile)
@@ -151,11 +151,11 @@ pub fn record_in_order<W: World + Drop>(
     requires each { vec_len worlds ≡ length image.now.entries }
     requires works { NoneFailed (map W.broken worlds.items) }
     // The run by the order, which is complete: its trace, what its threads printed, and what their worlds answered.
-    ensures recorded { IfOk result (IsRecordedInOrder W.answers image.now budget profile order.now worlds.items) }
+    ensures recorded { IfOk result (IsRecordedInTurns W.answers image.now budget profile (plain_turns order.now) worlds.items) }
     ensures works { IfOk result (AllWork W.broken) }
     // The worlds are those that were handed in.
     ensures origins { IfOk result (AreHandedBack W.origin worlds.items) }
-    ensures failed { IfErr result (IsFailureInOrder W.answers W.broken W.origin image.now budget profile order.now worlds.items) }
+    ensures failed { IfErr result (IsFailureInTurns W.answers W.broken W.origin image.now budget profile (plain_turns order.now) worlds.items) }
 {
     let turns = turns_of(alloc, order)?;
     record_in_turns(alloc, image, turns.as_slice(), worlds, budget, profile)
