@@ -103,14 +103,11 @@ def side_by_side():
     yield entering(4).named("4 threads, one object, an entry each 15 steps", 4, 1)
 
 
-def private_alone():
-    """One thread of those that do private work only."""
-    return counted("", [], 3050).named("one thread, private work only", 1)
-
-
-def own_object_alone():
-    """One thread of those with an object each."""
-    return entering_its_own(46).named("one thread, an entry each 100 steps", 1, 1)
+def alone_and_together():
+    """Guests of one thread, each with the same guest of four threads: private work, and an object each."""
+    private, own = counted("", [], 6100), replace(entering_its_own(46), name="")
+    yield private.named("private work only"), private.named("4 threads, private work only", 4)
+    yield own.named("an entry each 100 steps", 1, 1), own.named("4 threads, an object each, an entry each 100 steps", 4, 4)
 
 
 def call(number, *arguments):

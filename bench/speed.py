@@ -9,7 +9,7 @@ is taken off. Without PART all are measured:
 speeds      guests of 8 * 10^7 steps and more: by a session, by steps many at a time, and with each step asked and taken by itself
 traces      recording in order from file to file, fitting what was recorded, and replaying it from its start to its end
 by_threads  recording and replay by real threads beside the same in order
-processes   replay by one process and by four that share nothing: what the machine gives
+processes   replay by one process, by four that share nothing, and by four threads, in turn: what the machine gives
 contended   the same of guests whose threads meet at one object, with thread switches; opening; the slowest of 50 moves to the end
 sessions    answers a second
 continuing  moves back, searches both ways and checkpoints, in milliseconds, the best of three; memory
@@ -26,6 +26,7 @@ import tempfile
 import time
 from itertools import count
 from pathlib import Path
+from statistics import median
 
 import guests
 
@@ -62,10 +63,10 @@ class Programs:
         """A guest's image in hexadecimal."""
         return self.file_of(guest).read_bytes().hex().encode() + b"\n"
 
-    def best(self, words, data, is_good):
-        """The seconds of a command over this input, the best of five."""
+    def best(self, words, data, is_good, tries=5):
+        """The seconds of a command over this input, the best of these tries."""
         times = []
-        for _ in range(5):
+        for _ in range(tries):
             start = time.perf_counter()
             run = subprocess.run(words, input=data, stdout=subprocess.PIPE, check=False)
             times.append(time.perf_counter() - start)
@@ -73,18 +74,18 @@ class Programs:
                 sys.exit(f"{words}: status {run.returncode}, {run.stdout!r}")
         return min(times)
 
-    def best_of_bench(self, mode, data, steps):
+    def best_of_bench(self, mode, data, steps, tries=5):
         """The seconds of BENCH in this mode, of a guest that takes these steps."""
-        return self.best([self.bench], mode + b"\n" + data, lambda out: out == b"%d steps\n" % steps)
+        return self.best([self.bench], mode + b"\n" + data, lambda out: out == b"%d steps\n" % steps, tries)
 
     def best_of_guest(self, mode, guest):
         """The seconds of BENCH in this mode, of a guest of one thread."""
         return self.best_of_bench(mode, self.digits_of(guest), guest.steps)
 
-    def best_replay(self, mode, data, steps):
+    def best_replay(self, mode, data, steps, tries=5):
         """The seconds of the replay alone, as BENCH says them."""
         times = []
-        for _ in range(5):
+        for _ in range(tries):
             run = subprocess.run([self.bench], input=mode + b"\n" + data, stdout=subprocess.PIPE, check=False)
             lines = run.stdout.split(b"\n")
             if run.returncode != 0 or lines[1:] != [b"%d steps" % steps, b""] or not lines[0].endswith(b" microseconds"):
@@ -175,6 +176,21 @@ def switches(words, data):
     return used.ru_nvcsw + used.ru_nivcsw
 
 
+# Recording, the same by threads, replay, the same by threads.
+MODES = (b"record", b"record-threads", b"replay", b"replay-threads")
+
+
+def times_of_modes(programs, image, both, steps, base):
+    """The seconds of a guest in each of MODES, the best of five turns in which each is measured once: the machine's speed moves from second to
+    second. `both` has the trace too, and `base` is the time of an empty guest's recording."""
+    def one(mode):
+        if mode.startswith(b"record"):
+            return programs.best_of_bench(mode, image, steps, 1) - base
+        return programs.best_replay(mode, both, steps, 1)
+    turns = [[one(mode) for mode in MODES] for _ in range(5)]
+    return [min(times) for times in zip(*turns)]
+
+
 def by_threads(programs):
     """Recording and replay by real threads beside the same in order, with thread switches. A replay is from the start to the end, without the
     fit before it. A recording is from an image to a trace in memory, without the start of the program."""
@@ -186,19 +202,18 @@ def by_threads(programs):
         steps, image = guest.all_steps(), programs.digits_of(guest)
         trace, _ = programs.record(guest)
         both = image + trace.read_bytes().hex().encode() + b"\n"
-        times = [programs.best_of_bench(mode, image, steps) - base for mode in (b"record", b"record-threads")]
-        times += [programs.best_replay(mode, both, steps) for mode in (b"replay", b"replay-threads")]
+        times = times_of_modes(programs, image, both, steps, base)
         counts = [switches([programs.bench], mode + b"\n" + data) for mode, data in ((b"record-threads", image), (b"replay-threads", both))]
         a, b, c, d = (steps / seconds / 1e6 for seconds in times)
         print(f"{guest.name:52}{steps:>12}{a:>10.0f}{b:>10.0f}{b / a:>10.2f}{counts[0]:>10}{c:>10.0f}{d:>10.0f}{d / c:>10.2f}{counts[1]:>10}",
               flush=True)
 
 
-def replay_of_each(programs, data, many):
-    """The seconds that this many processes take, each of which replays the same guest in order: the slowest of them, by its own clock."""
+def replay_of_each(programs, data, many, mode=b"replay"):
+    """The seconds that this many processes take, each of which replays the same guest: the slowest of them, by its own clock."""
     runs = [subprocess.Popen([programs.bench], stdin=subprocess.PIPE, stdout=subprocess.PIPE) for _ in range(many)]
     for run in runs:
-        run.stdin.write(b"replay\n" + data)
+        run.stdin.write(mode + b"\n" + data)
         run.stdin.close()
     outs = [run.stdout.read() for run in runs]
     if any(run.wait() != 0 for run in runs):
@@ -207,15 +222,20 @@ def replay_of_each(programs, data, many):
 
 
 def processes(programs):
-    """What the machine gives: processes of one thread each, which share nothing, replay at once what one of them replays alone. No replay by
-    threads can do more steps a second than these."""
-    print("replay in order by one process and by four at once, millions of steps of all a second: the most that four threads can reach here")
-    print(f"{'guest':52}{'steps':>12}{'one':>10}{'four':>10}{'ratio':>10}")
-    for guest in (guests.private_alone(), guests.own_object_alone()):
-        data = programs.digits_of(guest) + programs.record(guest)[0].read_bytes().hex().encode() + b"\n"
-        one, four = (min(replay_of_each(programs, data, many) for _ in range(5)) for many in (1, 4))
-        a, b = guest.steps / one / 1e6, 4 * guest.steps / four / 1e6
-        print(f"{guest.name:52}{guest.steps:>12}{a:>10.0f}{b:>10.0f}{b / a:>10.2f}", flush=True)
+    """What the machine gives: processes of one thread each, which share nothing, replay at once what one of them replays alone. Beside them the
+    same by four threads of one process. No replay by threads can do more steps a second than these processes. The machine's speed moves from
+    second to second, so each is measured in turn, nine times, and the medians are compared."""
+    print("replay in order by one process, by four at once, and by four threads of one process: nine times in turn, the medians in milliseconds;")
+    print("millions of steps of all a second, of those of one process; and the threads' of the processes'")
+    heads = ("one", "four", "threads", "four/one", "thr./one", "thr./four")
+    print(f"{'guest':52}{'steps':>12}" + "".join(f"{head:>10}" for head in heads))
+    for alone, together in guests.alone_and_together():
+        one, many = (programs.digits_of(guest) + programs.record(guest)[0].read_bytes().hex().encode() + b"\n" for guest in (alone, together))
+        turns = [(replay_of_each(programs, one, 1), replay_of_each(programs, one, 4), replay_of_each(programs, many, 1, b"replay-threads"))
+                 for _ in range(9)]
+        a, b, c = (median(times) for times in zip(*turns))
+        print(f"{alone.name:52}{alone.steps:>12}{a * 1e3:>10.0f}{b * 1e3:>10.0f}{c * 1e3:>10.0f}{4 * a / b:>10.2f}{4 * a / c:>10.2f}{b / c:>10.2f}",
+              flush=True)
 
 
 def ends_of(programs, files):
@@ -235,13 +255,12 @@ def contended(programs):
         trace, _ = programs.record(guest)
         files = (programs.file_of(guest), trace)
         both = image + trace.read_bytes().hex().encode() + b"\n"
-        recorded = [programs.best_of_bench(mode, image, steps) - base for mode in (b"record", b"record-threads")]
-        replayed = [programs.best_replay(mode, both, steps) for mode in (b"replay", b"replay-threads")]
+        *recorded, in_order, by_threads_too = times_of_modes(programs, image, both, steps, base)
         opened = programs.best_of_bench(b"fit", both, steps) - programs.best_of_bench(b"read", both, steps)
         ends = ends_of(programs, files)
         counts = [switches([programs.bench], mode + b"\n" + data) for mode, data in ((b"record-threads", image), (b"replay-threads", both))]
         median = ends[len(ends) // 2]
-        print(f"{guest.name:36}{steps:>12}{recorded[0] / recorded[1]:>10.2f}{counts[0]:>10}{replayed[0] / replayed[1]:>10.2f}{counts[1]:>10}"
+        print(f"{guest.name:36}{steps:>12}{recorded[0] / recorded[1]:>10.2f}{counts[0]:>10}{in_order / by_threads_too:>10.2f}{counts[1]:>10}"
               f"{recorded[0] / opened:>10.2f}{median * 1000:>10.0f}{ends[-1] / median:>10.2f}", flush=True)
 
 
