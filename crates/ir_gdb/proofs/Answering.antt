@@ -124,12 +124,30 @@ sent_part_to_quitting_line b l line w w' quits grown = record {
   grown = grown;
 }
 
+pub sent_answer_to_quitting_line : (b : Bool) (l : Link) (line : List ℕ) (mid next : Link) (w w' : Option (List ℕ)) → b ≡ true → mid ≡ l
+    → next ≡ sent mid mid.stub → Appends w w' (packet_of (reply_text reply.NotPermitted)) → Sent (AnswersLine b l line) next w w'
+sent_answer_to_quitting_line b l line mid next w w' quits same after grown = record {
+  text = packet_of (reply_text reply.NotPermitted);
+  is = subst (AnswersLine b l line (packet_of (reply_text reply.NotPermitted))) (sym (after ∙ ap (λ (m : Link). sent m m.stub) same))
+      (answers_quitting_line_not_permitted b l line quits);
+  grown = grown;
+}
+
 answers_line_no_memory : (b : Bool) (l : Link) (line : List ℕ) (mid next : Link) → b ≡ false
     → ((mid ≡ l) ⊎ ((s : Stub) × Responds l.stub line s (λ text. ⊤) × (mid ≡ record l { stub = s }))) → next ≡ sent mid mid.stub
     → AnswersLine b l line (packet_of (reply_text reply.NoMemory)) next
 answers_line_no_memory true l line mid next goes r after = absurd cc
 answers_line_no_memory false l line mid next goes (inl same) after = inr (inl (after ∙ ap (λ (m : Link). sent m m.stub) same), refl)
 answers_line_no_memory false l line mid next goes (inr (s, r, is)) after = inr (inr (s, r, after ∙ ap (λ (m : Link). sent m m.stub) is), refl)
+
+pub sent_no_memory_reply : (b : Bool) (l : Link) (line : List ℕ) (mid next : Link) (w w' : Option (List ℕ)) → b ≡ false
+    → ((mid ≡ l) ⊎ ((s : Stub) × Responds l.stub line s (λ text. ⊤) × (mid ≡ record l { stub = s }))) → next ≡ sent mid mid.stub
+    → Appends w w' (packet_of (reply_text reply.NoMemory)) → Sent (AnswersLine b l line) next w w'
+sent_no_memory_reply b l line mid next w w' goes r after grown = record {
+  text = packet_of (reply_text reply.NoMemory);
+  is = answers_line_no_memory b l line mid next goes r after;
+  grown = grown;
+}
 
 pub sent_part_of_no_memory_reply : (b : Bool) (l : Link) (line : List ℕ) (mid : Link) (w w' : Option (List ℕ)) → b ≡ false
     → ((mid ≡ l) ⊎ ((s : Stub) × Responds l.stub line s (λ text. ⊤) × (mid ≡ record l { stub = s })))

@@ -36,22 +36,22 @@ loop-taken-init g c = record {
 pub returns-in-End-clause-ended : goal.returns-in-End-clause-ended
 returns-in-End-clause-ended g c = finish_ended Replies quits long_replies long_quits _ _ _ _ _ _ _ _ _
     (session_at_equal_line_and_count _ _ _ _ _ _ _ _ _ _ _ _ c.loop-taken.invariant.at c.as_slice.ensures.value refl)
-    c.args.limit c.loop-taken-test.true c.in-End.ensures.bytes.0 _ _ c.finish.ensures.ok c.finish.ensures.served c.finish.ensures.fault
+    c.args.limit c.loop-taken-test.true c.in-End.ensures.bytes.0 _ _ c.finish.ensures.writes.ok c.finish.ensures.served c.finish.ensures.fault
 
 pub returns-in-End-clause-known : goal.returns-in-End-clause-known
 returns-in-End-clause-known g c = finish_known Replies quits long_replies long_quits _ _ _ _ _ _ _ _ _
     (session_at_equal_line_and_count _ _ _ _ _ _ _ _ _ _ _ _ c.loop-taken.invariant.at c.as_slice.ensures.value refl)
     c.args.limit c.loop-taken-test.true c.in-End.ensures.bytes.0 _ _ c.in-End.ensures.bytes.1
-    c.finish.ensures.ok c.finish.ensures.served c.finish.ensures.fault
+    c.finish.ensures.writes.ok c.finish.ensures.served c.finish.ensures.fault
 
 pub returns-in-End-clause-write : goal.returns-in-End-clause-write
 returns-in-End-clause-write g c = λ failed. (
   c.in-End.ensures.broken ∙ c.loop-taken.invariant.reads,
-  err_of c.finish.result (g.W.Sink.broken c.finish.new.writer ≡ true) failed c.finish.ensures.err,
+  err_of c.finish.result (g.W.Sink.broken c.finish.new.writer ≡ true) failed c.finish.ensures.writes.err,
   finish_failed Replies quits long_replies long_quits _ _ _ _ _ _ _ _ _
       (session_at_equal_line_and_count _ _ _ _ _ _ _ _ _ _ _ _ c.loop-taken.invariant.at c.as_slice.ensures.value refl)
       c.args.limit c.loop-taken-test.true c.in-End.ensures.bytes.0 _ _ c.in-End.ensures.bytes.1 failed c.finish.ensures.some
-      c.finish.ensures.prefix,
+      c.finish.ensures.writes.prefix,
 )
 
 pub loop-taken-preserved-then-byte-ne10 : goal.loop-taken-preserved-then-byte-ne10
@@ -68,7 +68,7 @@ returns-in-Ok-Quits-clause-ended g c = quit_ended Replies quits long_replies lon
     c.args.limit c.loop-taken-test.true _ _
     (subst (λ (b : ℕ). Consumes (g.R.Source.left c.loop-taken.reader) (g.R.Source.left c.next_byte.new.reader) (b ∷ []))
     c.if-byte-ne10.false c.in-Byte.ensures.bytes)
-    c.in-Ok-Quits.ensures.ok (quit _ _ c.in-Ok-Quits.ensures.flow c.in-Ok-Quits.field-0-is)
+    c.in-Ok-Quits.ensures.writes.ok (quit _ _ c.in-Ok-Quits.ensures.flow c.in-Ok-Quits.field-0-is)
 
 pub returns-in-Ok-Quits-clause-known : goal.returns-in-Ok-Quits-clause-known
 returns-in-Ok-Quits-clause-known g c = quit_known Replies quits long_replies long_quits _ _ _ _ _ _ _ _ _
@@ -76,17 +76,17 @@ returns-in-Ok-Quits-clause-known g c = quit_known Replies quits long_replies lon
     c.args.limit c.loop-taken-test.true _ _
     (subst (λ (b : ℕ). Consumes (g.R.Source.left c.loop-taken.reader) (g.R.Source.left c.next_byte.new.reader) (b ∷ []))
     c.if-byte-ne10.false c.in-Byte.ensures.bytes)
-    c.in-Ok-Quits.ensures.ok (quit _ _ c.in-Ok-Quits.ensures.flow c.in-Ok-Quits.field-0-is)
+    c.in-Ok-Quits.ensures.writes.ok (quit _ _ c.in-Ok-Quits.ensures.flow c.in-Ok-Quits.field-0-is)
 
 pub returns-in-Err-clause-write : goal.returns-in-Err-clause-write
 returns-in-Err-clause-write g c = λ _. (
   c.in-Byte.ensures.broken ∙ c.loop-taken.invariant.reads,
-  c.in-Err.ensures.err,
+  c.in-Err.ensures.writes.err,
   feed_failed Replies quits long_replies long_quits _ _ _ _ _ _ _ _ _
       (session_at_equal_line_and_count _ _ _ _ _ _ _ _ _ _ _ _ c.loop-taken.invariant.at c.as_slice-in-Byte.ensures.value refl)
       c.args.limit c.loop-taken-test.true _
       (subst (λ (b : ℕ). Consumes (g.R.Source.left c.loop-taken.reader) (g.R.Source.left c.next_byte.new.reader) (b ∷ []))
-      c.if-byte-ne10.false c.in-Byte.ensures.bytes) c.in-Err.ensures.prefix,
+      c.if-byte-ne10.false c.in-Byte.ensures.bytes) c.in-Err.ensures.writes.prefix,
 )
 
 pub loop-taken-preserved : goal.loop-taken-preserved
@@ -95,9 +95,9 @@ loop-taken-preserved g c = record {
       (session_at_equal_line_and_count _ _ _ _ _ _ _ _ _ _ _ _ c.loop-taken.invariant.at c.as_slice-in-Byte.ensures.value refl) _ _
       (subst (λ (b : ℕ). Consumes (g.R.Source.left c.loop-taken.reader) (g.R.Source.left c.next_byte.new.reader) (b ∷ []))
       c.if-byte-ne10.false c.in-Byte.ensures.bytes)
-      c.in-Ok-Goes.ensures.ok (goes _ _ c.in-Ok-Goes.ensures.flow c.in-Ok-Goes.field-0-is));
+      c.in-Ok-Goes.ensures.writes.ok (goes _ _ c.in-Ok-Goes.ensures.flow c.in-Ok-Goes.field-0-is));
   reads = c.in-Byte.ensures.broken ∙ c.loop-taken.invariant.reads;
-  writes = c.in-Ok-Goes.ensures.stays ∙ c.loop-taken.invariant.writes;
+  writes = c.in-Ok-Goes.ensures.writes.stays ∙ c.loop-taken.invariant.writes;
 }
 
 pub returns-clause-ended : goal.returns-clause-ended

@@ -1,6 +1,5 @@
-use Rattle.std.proofs.Common.{◌≤◌, ◌∙◌, OnOk, OnErr, length, ap, subst, refl, arith}
-use Rattle.std.specs.Io.KnownBytes.{Appends}
-use Rattle.ir_stream.specs.Answers.{AppendsPrefix}
+use Rattle.std.proofs.Common.{◌≤◌, ◌∙◌, length, ap, subst, refl, arith}
+use Rattle.ir_stream.specs.Answers.{WritesText}
 use Rattle.std.proofs.lemmas.List.{length-take}
 use Rattle.ir_image.specs.Guest.{object_words}
 use Rattle.ir_debug.specs.Debugging.{Debugging}
@@ -44,16 +43,9 @@ slice_bounds-write_log-end g c =
     let some = length-take c.events-so_far.result c.events_of-events.result.now in
     omega (arith, fits, is, long, some)
 
-pub returns-in-Object-clause-ok : goal.returns-in-Object-clause-ok
-returns-in-Object-clause-ok g c = subst
-    (λ text. OnOk c.write_object.result (Appends (g.W.Sink.written c.args.writer.now) (g.W.Sink.written c.write_object.new.writer) text))
+pub returns-in-Object : goal.returns-in-Object
+returns-in-Object g c = subst
+    (λ text. WritesText g.W.Sink.written g.W.Sink.broken c.args.writer.now c.write_object.new.writer text c.write_object.result)
     (text_of_read_object_is_shown _ _ _ _ _ _ _ c.in-Object.is c.requires c.objects.ensures c.threads.ensures
     (c.object_words.ensures.value ∙ ap object_words (c.image-in-Object.ensures.value ∙ ap (λ f. f.guest) c.fitted-in-Object.ensures.value))
-    c.index-objects-number.is) c.write_object.ensures.ok
-
-pub returns-in-Object-clause-prefix : goal.returns-in-Object-clause-prefix
-returns-in-Object-clause-prefix g c = subst
-    (λ text. OnErr c.write_object.result (AppendsPrefix (g.W.Sink.written c.args.writer.now) (g.W.Sink.written c.write_object.new.writer) text))
-    (text_of_read_object_is_shown _ _ _ _ _ _ _ c.in-Object.is c.requires c.objects.ensures c.threads.ensures
-    (c.object_words.ensures.value ∙ ap object_words (c.image-in-Object.ensures.value ∙ ap (λ f. f.guest) c.fitted-in-Object.ensures.value))
-    c.index-objects-number.is) c.write_object.ensures.prefix
+    c.index-objects-number.is) c.write_object.ensures
