@@ -10,9 +10,10 @@ call and each edit that docs/internals/contracts.md names has to be one of some 
 docs/internals/architecture.md.
 
 A contract leads to the definitions that it names, and these to those that they name: names are followed by the `use` lines of their file. A type
-of the code leads to what its ghost fields and its `impl Model` name, and so do the types of a contract's parameters and results. What leads to
-std or to another crate of the kit isn't followed. A name that two files of the headline define is refused, and so is one in a table's row that
-its file doesn't define.
+of the code leads to what its ghost fields and the view of its `impl Model` name, and so do the types of a contract's parameters and results. Its
+invariant isn't followed: each value that there is has it, so a contract promises no less for it (theorem.md). What leads to std or to another
+crate of the kit isn't followed either. A name that two files of the headline define is refused, and so is one in a table's row that its file
+doesn't define.
 """
 import re
 import sys
@@ -95,6 +96,7 @@ has none of them states what holds inside its crate.
 USE = re.compile(r"^\s*(?:ghost )?(?:pub )?use Rattle\.(ir_\w+)\.specs\.([\w.]+?)(?:\.\{([^}]*)\}| as (\w+))?;?\s*$", re.MULTILINE)
 BEGINS = re.compile(r"^(?:abbrev pub|unfoldable pub|pub record|pub data|pub(?! use| mod)) ([^\s:]+)(.*)")
 NAME = re.compile(r"[^\s(){}\[\].,;λ]+(?:\.[^\s(){}\[\].,;λ]+)*")
+INVARIANT = re.compile(r"ghost invariant = \{.*?\};", re.DOTALL)
 EXPORT = re.compile(r"^pub use [\w:]+::(?:\{([^}]*)\}|(\w+));", re.MULTILINE)
 ITEM = re.compile(r"^(?:pub (?:const )?(?:fn|trait|struct|enum) (\w+)|impl(?:<[^{]*?>)? (?:[^{]*? for )?(\w+)).*?^\{?\}", re.MULTILINE | re.DOTALL)
 CODE_USE = re.compile(r"^use (ir_\w+|crate)::(?:[\w:]*?)(?:\{([^}]*)\}|(\w+));", re.MULTILINE)
@@ -183,13 +185,14 @@ def named_in(text, where, here=None):
 
 
 def named_by_type(crate, name):
-    """What the ghost fields and the `impl Model` of a type of the code name, `declared.file.Type`."""
+    """What the ghost fields and the view of a type of the code name, `declared.file.Type`."""
     *path, kind = [part for part in name.split(".")[1:] if part != "TheVariants"]
     file = f"{crate}/src/{'/'.join(path)}.rt"
     if not (TOP / "crates" / file).is_file():
         return set()
     text, where = code(file)
     models = re.findall(rf"^impl(?:<[^>]*>)? Model for {kind}\b[^{{]*\{{(.*?)^\}}", text, re.MULTILINE | re.DOTALL)
+    models = [INVARIANT.sub("", model) for model in models]
     fields = re.findall(rf"^pub struct {kind}\b[^{{;]*\{{(.*?)^\}}", text, re.MULTILINE | re.DOTALL)
     ghosts = [ghost for body in fields for ghost in re.findall(r"ghost \w+: \{(.*)\}", body)]
     return {found for part in [*models, *ghosts] for found in named_in(part, where)}
