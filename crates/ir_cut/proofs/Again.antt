@@ -12,7 +12,8 @@ use Rattle.ir_log.specs.declared.event.Event.{Event}
 use Rattle.ir_log.specs.declared.event.Event.TheVariants.{Answer as Result, Read, Write, Try}
 use Rattle.ir_thread.specs.declared.profile.Profile.{Profile}
 use Rattle.std.specs.List.{AllByRecursion, slice_index_or}
-use Rattle.ir_trace.specs.Recorded.{recorded_thread, IsRecorded, IsEvent}
+use Rattle.ir_trace.specs.Recorded.{recorded_thread}
+use Rattle.ir_trace.specs.Bounds.{IsRecorded, IsEvent}
 use Rattle.ir_fit.specs.Fit.{FittedTrace, HasRun, IsRunOf}
 use Rattle.ir_fit.specs.Growing.{places_of, leaves_of}
 use Rattle.ir_fit.proofs.CallerLemmas.{guest_start_is_start, idle_thread_has_empty_trail, emitting_thread_is_guest_thread, get_or_of_at, at_place_of_get_or, entry_step_is_of_event}

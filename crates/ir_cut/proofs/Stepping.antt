@@ -7,7 +7,8 @@ use Rattle.std.proofs.lemmas.Grind.{get_or_default_zero}
 use Rattle.std.proofs.lemmas.Option.{slice_get_within, slice_get-get_or, get_or_from_slice_get}
 use Rattle.ir_log.specs.Logging.{label_of}
 use Rattle.ir_log.specs.declared.event.Event.{Event}
-use Rattle.ir_trace.specs.Recorded.{Recorded, RecordedThread, recorded_thread, IsRecorded}
+use Rattle.ir_trace.specs.Recorded.{Recorded, RecordedThread, recorded_thread}
+use Rattle.ir_trace.specs.Bounds.{IsRecorded}
 use Rattle.ir_trace.specs.Absent.{absent}
 use Rattle.std.specs.List.Sorted.{IsNonDecreasingBy, IsPartitionPoint}
 use Rattle.std.proofs.lemmas.List.{get_or_default}

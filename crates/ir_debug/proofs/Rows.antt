@@ -15,7 +15,7 @@ use Rattle.ir_command.specs.declared.command.Show.TheVariants.{Registers, Memory
 use Rattle.ir_command.specs.declared.refusal.Refusal.{Refusal}
 use Rattle.ir_command.specs.declared.refusal.Refusal.TheVariants.{UnknownCommand, BadArgument, NoSuchThread, NoSuchObject, BadAddress, LineTooLong}
 use Rattle.ir_fit.specs.Fit.{FittedTrace}
-use Rattle.ir_timeline.specs.Positions.{last_cut}
+use Rattle.ir_cut.specs.Positions.{last_cut}
 use Rattle.ir_debug.specs.Machine.{Desk, desk_of, refusal_of, may_lack}
 use Rattle.ir_debug.specs.Debugging.{moved_text}
 

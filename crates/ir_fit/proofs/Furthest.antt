@@ -16,7 +16,8 @@ use Rattle.ir_log.specs.Logging.{label_of}
 use Rattle.ir_log.specs.declared.event.Event.{Event}
 use Rattle.ir_log.specs.declared.event.Event.TheVariants.{Answer, Read, Write, Try}
 use Rattle.ir_thread.specs.declared.profile.Profile.{Profile}
-use Rattle.ir_trace.specs.Recorded.{Recorded, RecordedThread, trace_of, IsRecorded, IsRecordedThread, IsEvent}
+use Rattle.ir_trace.specs.Recorded.{Recorded, RecordedThread, trace_of}
+use Rattle.ir_trace.specs.Bounds.{IsRecorded, IsRecordedThread, IsEvent}
 use Rattle.ir_trace.specs.Absent.{absent}
 use Rattle.ir_coherence.proofs.CallerLemmas.{coherent_trace_is_unbroken}
 use Rattle.ir_fit.proofs.Guests.{guest_start_is_start, guest_start_is_live}

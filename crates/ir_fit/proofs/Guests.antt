@@ -5,7 +5,8 @@ use Rattle.ir_image.specs.Guest.{Guest}
 use Rattle.ir_thread.specs.State.{IsAllowed, end_number, end_code, thread_machine}
 use Rattle.ir_flat.specs.Flat.{idle, tables, start_threads, start_flat}
 use Rattle.ir_runs.specs.Events.{IsLive}
-use Rattle.ir_trace.specs.Recorded.{Recorded, IsRecorded}
+use Rattle.ir_trace.specs.Recorded.{Recorded}
+use Rattle.ir_trace.specs.Bounds.{IsRecorded}
 use Rattle.ir_fit.specs.Fit.{HasHeader}
 pub use Rattle.ir_fit.specs.Placed.{guest_start_is_start}
 use Rattle.ir_thread.specs.declared.profile.Profile.{Profile}

@@ -26,8 +26,7 @@ abbrev pub IsRunOf : Guest → Recorded → List Step → Type 0
 IsRunOf guest r run = let f = start_flat guest r.budget r.profile in HasHeader guest r
     × IsWhole (machine f) (tables f) (length guest.entries) (trace_of r) run
 
--- a run of the guest that follows the trace, so far that no step more of any thread does; of a coherent trace each such run has the same
--- verdicts (`one_verdict` of ir_fit's laws)
+-- a run of the guest that follows the trace as far as any can; of a coherent trace all such runs have the same verdicts (`one_verdict`)
 abbrev pub GoesFurthest : Guest → Recorded → List Step → Type 0
 GoesFurthest guest r run = let f = start_flat guest r.budget r.profile in
     Follows (closing (machine f) (trace_of r)) (machine f) (tables f) (trace_of r) run

@@ -1,6 +1,7 @@
 -- What holds of a trace that fits.
 use Rattle.std.specs.Prelude.{length, ⊤}
-use Rattle.ir_trace.specs.Recorded.{Recorded, trace_of, IsRecorded}
+use Rattle.ir_trace.specs.Recorded.{Recorded, trace_of}
+use Rattle.ir_trace.specs.Bounds.{IsRecorded}
 use Rattle.ir_coherence.specs.Breaking.{IsFirstBreak}
 use Rattle.ir_fit.specs.declared.fit_err.FitErr.{FitErr}
 use Rattle.ir_fit.specs.declared.fit_err.FitErr.TheVariants.{NoMem, Refused}

@@ -5,7 +5,7 @@ ghost use Rattle.std.specs.List.{AllByRecursion};
 ghost use Rattle.ir_flat.specs.Flat.{thread_of};
 ghost use Rattle.ir_image.specs.Guest.{limits_of};
 ghost use Rattle.ir_thread.specs.State.{largest, most_budget};
-ghost use Rattle.ir_trace.specs.Recorded.{IsEvent, IsRecordedThread};
+ghost use Rattle.ir_trace.specs.Bounds.{IsEvent, IsRecordedThread};
 ghost use Rattle.ir_record.specs.Gathered.{IsThreadTrace, AreThreadTraces};
 ghost use Rattle.ir_record.specs.Progress.{IsTape};
 ghost use Rattle.ir_thread.specs.declared.profile.Profile.{Profile};

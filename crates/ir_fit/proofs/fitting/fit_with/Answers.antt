@@ -1,6 +1,7 @@
 use Rattle.std.proofs.Common.{◌≡◌, ◌∙◌, IfErr, List, length, slice_get, Some, sym, subst}
 use Rattle.std.proofs.lemmas.Result.{err_from_is_err_and}
-use Rattle.ir_trace.specs.Recorded.{Recorded, trace_of, IsRecorded}
+use Rattle.ir_trace.specs.Recorded.{Recorded, trace_of}
+use Rattle.ir_trace.specs.Bounds.{IsRecorded}
 use Rattle.ir_runs.specs.Coherent.{IsCoherent}
 use Rattle.ir_fit.specs.Fit.{IsRefused}
 use Rattle.ir_fit.specs.Follower.{AreStanding}

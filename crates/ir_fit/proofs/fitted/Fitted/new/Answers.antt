@@ -1,5 +1,5 @@
 use Rattle.std.proofs.Common.{◌≡◌, ◌<◌, ◌≤◌, List, length, sym, ap, ◌∙◌, subst, arith}
-use Rattle.ir_image.specs.Guest.{IsGuest}
+use Rattle.ir_image.specs.Bounds.{IsGuest}
 use Rattle.ir_image.proofs.CallerLemmas.{guest_threads_at_most_limit}
 use Rattle.ir_trace.specs.Recorded.{recorded_thread}
 use Rattle.ir_fit.specs.Fit.{FittedTrace}
