@@ -10,7 +10,8 @@ use Rattle.ir_runs.specs.Machine.{Label, In, Trace}
 use Rattle.ir_runs.specs.declared.access.Access.TheVariants.{Writing}
 use Rattle.ir_log.specs.Logging.{label_of}
 use Rattle.ir_log.specs.declared.event.Event.{Event}
-use Rattle.ir_trace.specs.Recorded.{Recorded, RecordedThread, recorded_thread, trace_of, IsRecorded, IsEvent, IsRecordedThread}
+use Rattle.ir_trace.specs.Recorded.{Recorded, RecordedThread, recorded_thread, trace_of}
+use Rattle.ir_trace.specs.Bounds.{IsRecorded, IsEvent, IsRecordedThread}
 use Rattle.ir_trace.specs.Absent.{absent}
 use Rattle.ir_trace.proofs.CallerLemmas.{recorded_threads_at_most_limit}
 use Rattle.ir_runs.specs.Verdicts.{reads}

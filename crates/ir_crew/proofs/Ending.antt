@@ -7,7 +7,8 @@ use lib.ListN.{get_elem?}
 use Rattle.atomic_table.specs.Seated.{TableId}
 use Rattle.atomic_table.specs.Table.{Final, Seen}
 use Rattle.atomic_table.specs.declared.shared.Seat.{Seat}
-use Rattle.ir_image.specs.Guest.{limits_of, Guest, most_object_words, object_count, object_words, IsGuest}
+use Rattle.ir_image.specs.Guest.{limits_of, Guest, most_object_words, object_count, object_words}
+use Rattle.ir_image.specs.Bounds.{IsGuest}
 use Rattle.ir_image.specs.declared.form.ImageForm.{ImageForm}
 use Rattle.ir_image.specs.declared.form.ImageForm.TheVariants.{Small, Large}
 use Rattle.ir_image.proofs.CallerLemmas.{element_of_padded}

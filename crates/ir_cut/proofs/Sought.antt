@@ -6,7 +6,7 @@ use Rattle.std.proofs.lemmas.Option.{slice_get_read, slice_get_within, get_or_fr
 use Rattle.ir_runs.specs.Machine.{Label, In, Out}
 use Rattle.ir_runs.specs.declared.access.Access.{Access}
 use Rattle.ir_runs.specs.Run.{Step, count, Emits, Cut}
-use Rattle.ir_trace.specs.Recorded.{IsRecorded}
+use Rattle.ir_trace.specs.Bounds.{IsRecorded}
 use Rattle.ir_fit.specs.Fit.{FittedTrace, HasRun, IsRunOf}
 use Rattle.ir_fit.specs.Within.{IsFitted}
 use Rattle.ir_coherence.proofs.CallerLemmas.{recorded_thread_at_number_is_recorded}

@@ -7,7 +7,7 @@ use Rattle.std.specs.List.{slice_index_or}
 use Rattle.ir_thread.specs.State as thread
 use Rattle.ir_flat.specs.Flat.{idle}
 use Rattle.ir_runs.specs.Run as run
-use Rattle.ir_cut.specs.Positions.{cut_of, EachRun, machine_of, start_of}
+use Rattle.ir_cut.specs.Positions.{cut_of, EachRun, machine_of, start_of, threads_of}
 use Rattle.ir_weave.specs.Standing.{Standing, StandsAt, flat_in, IsAt}
 use Rattle.ir_command.specs.declared.command.Command.{Command}
 use Rattle.ir_command.specs.declared.command.Command.TheVariants as command
@@ -18,7 +18,6 @@ use Rattle.ir_command.specs.declared.refusal.Refusal.{Refusal}
 use Rattle.ir_command.specs.declared.refusal.Refusal.TheVariants.{NoSuchThread}
 use Rattle.ir_debug.specs.declared.answer.Answer.{Answer}
 use Rattle.ir_debug.specs.declared.answer.Answer.TheVariants as answer
-use Rattle.ir_timeline.specs.Positions.{threads_of}
 use Rattle.ir_debug.specs.Machine.{Desk, moved_to, spoken, if_some, thread_named, refusal_of, is_at_hand, shown, Answers, AnswersBy, current}
 use Rattle.ir_command.specs.declared.command.Point.{Point}
 use Rattle.ir_text.specs.Texts.{number_line, next_text, machine_text, bytes_from, memory_text, output_text, object_text, log_text}

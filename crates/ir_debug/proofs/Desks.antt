@@ -1,9 +1,8 @@
 -- What the small machine always holds, over equal traces.
 use Rattle.std.proofs.Common.{◌≡◌, ◌≤◌, ◌+◌, true, false, length, sym, subst, ◌∙◌}
 use Rattle.ir_fit.specs.Fit.{FittedTrace, HasRun}
-use Rattle.ir_cut.specs.Positions.{IsConsistentCut}
+use Rattle.ir_cut.specs.Positions.{IsConsistentCut, threads_of}
 use Rattle.ir_hits.specs.Watchable.{AreWatchable}
-use Rattle.ir_timeline.specs.Positions.{threads_of}
 use Rattle.ir_timeline.specs.Hand.{IsCutOf}
 use Rattle.ir_debug.specs.Machine.{Desk, most_kept}
 use Rattle.ir_weave.specs.Standing.{Standing}

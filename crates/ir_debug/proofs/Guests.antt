@@ -24,7 +24,6 @@ fitted_by form profile code objects steps = record {
   guest = record { form = form; entries = 0x10000 ∷ []; code = code; bytes = []; words = replicate objects 0 };
   recorded =
       record { objects = objects; budget = 1000; profile = profile; threads = record { steps = steps; end = Exit 0; events = [] } ∷ [] };
-  placed = [];
 }
 
 abbrev steps_of_lone_thread : ℕ → List Step
@@ -104,7 +103,6 @@ trace_of_two_threads = record {
     threads = record { steps = 18; end = Exit 0; events = Write 0 1 0 ∷ [] }
         ∷ record { steps = 18; end = Exit 0; events = Write 0 0 0 ∷ [] } ∷ [];
   };
-  placed = [];
 }
 
 abbrev run_of_two_threads : List Step

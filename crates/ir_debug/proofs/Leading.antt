@@ -4,13 +4,13 @@ use Rattle.std.specs.Prelude.{if◌then◌else◌}
 use Rattle.std.proofs.lemmas.Bool.{le-leb, lt-leb, cases_lt}
 use Rattle.ir_runs.specs.Run.{IsLeast, IsGreatest, Step, trail, end}
 use Rattle.ir_fit.specs.Fit.{FittedTrace, HasRun, IsRunOf}
-use Rattle.ir_cut.specs.Positions.{machine_of, start_of, cut_of, EachRun}
+use Rattle.ir_cut.specs.Positions.{machine_of, start_of, cut_of, EachRun, last_of, threads_of}
 use Rattle.ir_cut.specs.Searching.{IsLeastCut, IsGreatestCut}
 use Rattle.ir_command.specs.declared.command.Direction.{Direction}
 use Rattle.ir_command.specs.declared.command.Direction.TheVariants.{Forwards, Backwards}
 use Rattle.ir_command.specs.declared.command.Move.{Move}
 use Rattle.ir_command.specs.declared.command.Move.TheVariants as move
-use Rattle.ir_timeline.specs.Positions.{last_of, threads_of, Finds}
+use Rattle.ir_hits.specs.Hits.{Finds, Numbered, HitBy, thread_at}
 use Rattle.ir_debug.specs.Machine.{Leads, StopsAt, Desk, stop_of}
 use Rattle.ir_debug.specs.Debugging.{ToPosition, ToLeast, ToGreatest}
 use Rattle.ir_mach.specs.Execution.{memory_word}
@@ -21,7 +21,6 @@ use Rattle.ir_fit.proofs.CallerLemmas.{get_or_of_at}
 use Rattle.ir_weave.proofs.CallerLemmas.{thread_in_past_length_is_last}
 use Rattle.ir_command.specs.declared.command.Point.{Point}
 use Rattle.ir_command.specs.declared.command.Point.TheVariants.{Break, Watch, WatchObject}
-use Rattle.ir_hits.specs.Hits.{Numbered, HitBy, thread_at}
 use Rattle.ir_hits.specs.Seeing.{steps_of}
 use Rattle.ir_command.specs.declared.hit.Hit.{Hit}
 

@@ -14,7 +14,7 @@ use Rattle.ir_command.specs.declared.command.Keeping.TheVariants.{Keep, Load}
 use Rattle.ir_command.specs.declared.command.Point.{Point}
 use Rattle.ir_command.specs.declared.command.Point.TheVariants.{Break, Watch, WatchObject}
 use Rattle.ir_hits.specs.Watchable.{IsWatchable}
-use Rattle.ir_timeline.specs.Positions.{threads_of}
+use Rattle.ir_cut.specs.Positions.{threads_of}
 use Rattle.ir_debug.specs.Machine.{Desk, kept_cut, most_kept, most_points, if_some, thread_named, object_named, lies_in_code, has_number, has_address, has_place, refusal_of}
 use Rattle.ir_debug.specs.Debugging.{most_number}
 

@@ -15,7 +15,7 @@ use Rattle.ir_command.specs.declared.command.Show.TheVariants.{Registers, Memory
 use Rattle.ir_command.specs.declared.refusal.Refusal.{Refusal}
 use Rattle.ir_command.specs.declared.refusal.Refusal.TheVariants.{UnknownCommand, BadArgument, NoSuchThread, NoSuchObject, BadAddress, LineTooLong}
 use Rattle.ir_fit.specs.Fit.{FittedTrace}
-use Rattle.ir_timeline.specs.Positions.{last_cut}
+use Rattle.ir_cut.specs.Positions.{last_cut}
 use Rattle.ir_debug.specs.Machine.{Desk, desk_of, refusal_of, may_lack}
 use Rattle.ir_debug.specs.Debugging.{moved_text}
 
@@ -56,7 +56,7 @@ abbrev guest_of_two_threads : Guest
 guest_of_two_threads = record { form = Small; entries = 0x10000 ∷ 0x10000 ∷ []; code = replicate 18 0x13; bytes = []; words = replicate 8 0 }
 
 abbrev desk_of_two_threads : Desk
-desk_of_two_threads = desk_of (record { guest = guest_of_two_threads; recorded = record { objects = 1; budget = 1000; profile = One; threads = [] }; placed = [] })
+desk_of_two_threads = desk_of (record { guest = guest_of_two_threads; recorded = record { objects = 1; budget = 1000; profile = One; threads = [] } })
 
 refusals : (refusal_of desk_of_two_threads (Move (Step 2 1)) ≡ Some NoSuchThread)
     × (refusal_of desk_of_two_threads (Show (Object 1)) ≡ Some NoSuchObject)
@@ -83,7 +83,6 @@ trace_of_nine_steps = record {
   guest = record guest_of_two_threads { entries = 0x10000 ∷ [] };
   recorded =
       record { objects = 1; budget = 1000; profile = One; threads = record { steps = 9; end = Breakpoint; events = [] } ∷ [] };
-  placed = [];
 }
 
 moves : (moved_text trace_of_nine_steps (Step 0 1) (9 ∷ []) ≡ codes "at 9 end\n")

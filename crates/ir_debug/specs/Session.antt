@@ -64,8 +64,7 @@ pub record Transcript (image trace : List ℕ) (lines : List (List ℕ)) (Took :
   pub took : Took text last
 
 -- the input leads to this result, and the writer took the opening lines and the answers to the lines up to and with the first that quits
-pub record Session (image trace : List ℕ) (limit : ℕ) (result : Result Ended SessionErr) (old new : Option (List ℕ)) (input : List ℕ) : Type
-    0 where
+pub record Session (image trace : List ℕ) (limit : ℕ) (result : Result Ended SessionErr) (old new : Option (List ℕ)) (input : List ℕ) : Type 0 where
   pub transcript : Transcript image trace (through quits (heard limit input)) (λ text last. Appends old new text)
   pub ending : result ≡ ending_of transcript.opening limit input
 

@@ -10,8 +10,7 @@ ghost use Rattle.ir_command.specs.declared.command.Command.TheVariants as comman
 ghost use Rattle.ir_debug.specs.AtHand.{text_here};
 ghost use Rattle.ir_debug.specs.Debugging.{IsLast, IsText, moved_text, continued_text};
 ghost use Rattle.ir_debug.specs.Machine.{kept_line, refusal_of};
-ghost use Rattle.ir_cut.specs.Positions.{cut_of};
-ghost use Rattle.ir_timeline.specs.Positions.{threads_of, last_of};
+ghost use Rattle.ir_cut.specs.Positions.{cut_of, threads_of, last_of};
 ghost use Rattle.ir_text.specs.Texts.{positions_text, stop_text};
 
 use crate::answer::Answer;

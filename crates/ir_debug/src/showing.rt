@@ -4,7 +4,7 @@ ghost use Rattle.std.specs.Prelude.{◌≡◌, ◌<◌};
 ghost use Rattle.ir_stream.specs.Answers.{WritesText};
 ghost use Rattle.ir_debug.specs.AtHand.{thread_here, events_of, shown_here};
 ghost use Rattle.ir_debug.specs.Debugging.{IsThere, IsLast, IsDesk};
-ghost use Rattle.ir_timeline.specs.Positions.{threads_of};
+ghost use Rattle.ir_cut.specs.Positions.{threads_of};
 ghost use Rattle.ir_debug.specs.declared.answer.Answer.TheVariants.{Shown};
 
 use crate::debugger::Debugger;

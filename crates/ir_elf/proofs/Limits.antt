@@ -7,7 +7,8 @@ use Rattle.ir_bytes.specs.Reading.{◌>>=◌, field_at, fields_at}
 use Rattle.ir_bytes.proofs.CallerLemmas.{two_steps_succeed, four_steps_succeed, test_passed_if_ok, ok_is_injective, test_true_if_no_fault, number_within_if_no_fault}
 use Rattle.ir_image.specs.declared.form.ImageForm.{ImageForm}
 use Rattle.ir_image.specs.declared.form.ImageForm.TheVariants.{Small, Large}
-use Rattle.ir_image.specs.Guest.{limits_of, Guest, IsWord, IsByte, code_start, memory_size, most_code_words, object_words, object_count, IsGuest, IsPlace}
+use Rattle.ir_image.specs.Guest.{limits_of, Guest, code_start, memory_size, most_code_words, object_words, object_count}
+use Rattle.ir_image.specs.Bounds.{IsWord, IsByte, IsGuest, IsPlace}
 use Rattle.ir_image.specs.Fields.{is_place}
 use Rattle.ir_elf.specs.declared.part.Part.TheVariants.{Memory}
 use Rattle.ir_elf.specs.declared.refusal.Refusal.{Refusal}

@@ -10,7 +10,8 @@ use Rattle.ir_bytes.specs.Reading.{◌>>=◌, bytes_at, field_at, fields_at}
 use Rattle.ir_bytes.proofs.CallerLemmas.{two_steps_succeed, three_steps_succeed, four_steps_succeed, guard_passed_if_ok, test_passed_if_ok, ok_is_injective, conditional_cases, test_true_if_no_fault, number_within_if_no_fault, IsBytes, drop_of_bytes_is_bytes, prefix_encodes_number, bytes_are_bytes_of_their_number, Takes, field_at_takes_field, bytes_at_takes_bytes, fields_at_takes_fields}
 use Rattle.ir_image.specs.declared.form.ImageForm.{ImageForm}
 use Rattle.ir_image.specs.declared.form.ImageForm.TheVariants.{Small, Large}
-use Rattle.ir_image.specs.Guest.{limits_of, Guest, IsWord, IsByte, most_code_words, IsGuest, IsPlace}
+use Rattle.ir_image.specs.Guest.{limits_of, Guest, most_code_words}
+use Rattle.ir_image.specs.Bounds.{IsWord, IsByte, IsGuest, IsPlace}
 use Rattle.ir_image.specs.Encoding.{words_encoding}
 use Rattle.ir_elf.specs.declared.part.Part.{Part}
 use Rattle.ir_elf.specs.declared.part.Part.TheVariants.{Code, Memory, Table}

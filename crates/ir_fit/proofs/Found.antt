@@ -12,8 +12,10 @@ use Rattle.ir_log.specs.Logging.{label_of}
 use Rattle.ir_log.specs.declared.event.Event.{Event}
 use Rattle.ir_log.specs.declared.event.Event.TheVariants.{Answer, Read, Write, Try}
 use Rattle.ir_trace.specs.Recorded.{recorded_thread}
+use Rattle.ir_fit.proofs.Placements.{placed_of_trace_are_of_run}
 use Rattle.ir_fit.proofs.Listed.{at_place_of_get_or, get_or_of_at, emitting_thread_is_guest_thread, entries_as_many_as_events, step_of_entry_emits_event, entry_step_is_of_event, step_of_leave_emits_leave, leave_step_is_kept}
-use Rattle.ir_fit.specs.Fit.{FittedTrace, placed_at, Visit, entered_by, of_threads, all_left, all_entered, same_access, picked, Listing, listed, IsListing}
+use Rattle.ir_fit.specs.Fit.{FittedTrace}
+use Rattle.ir_fit.specs.Placed.{placed_at, Visit, entered_by, of_threads, all_left, all_entered, same_access, picked, Listing, listed, IsListing, placed_of}
 use Rattle.ir_fit.specs.Listed.{EmitsIn, OnlyLeaves, AllLeaves, OnlyEntries, AllEntries, left_by}
 use Rattle.ir_fit.specs.declared.leave.Leave.{Leave}
 use Rattle.ir_fit.specs.declared.place.Place.{Place}
@@ -176,56 +178,56 @@ visit_place_is_listed vs x h o a p c =
     let v = visit_place_is_picked o a vs at.0 p at.1 in
     Contains-permutation (picked o a vs) (listed x o a) p (h.same o a) (placed_is_contained (picked o a vs) v.0 p v.1)
 
-pub listed_leaves_are_only_leaves : (f : FittedTrace) (x : Listing) → IsListing (all_left f.placed) x → (o : ℕ)
+pub listed_leaves_are_only_leaves : (f : FittedTrace) (x : Listing) → IsListing (all_left (placed_of f)) x → (o : ℕ)
     (a : Access) (v : ℕ) (ps : List Place) → ((p : Place) → Contains ps p → Contains (listed x o a) p × (p.version ≡ v))
     → OnlyLeaves f o a v ps
 listed_leaves_are_only_leaves f x is o a v ps found h p c =
     let q = found p c in
-    let some = visit_of_threads_is_of_thread (length f.placed) (λ t. left_by t (placed_at f.placed t).leaves) (o, a, p)
-    (listed_place_is_of_visit (all_left f.placed) x is o a p q.0) in
+    let some = visit_of_threads_is_of_thread (length (placed_of f)) (λ t. left_by t (placed_at (placed_of f) t).leaves) (o, a, p)
+    (listed_place_is_of_visit (all_left (placed_of f)) x is o a p q.0) in
     let t : ℕ = some.0 in
-    let ls : List Leave = (placed_at f.placed t).leaves in
+    let ls : List Leave = (placed_at (placed_of f) t).leaves in
     let at = contained_has_place (left_by t ls) (o, a, p) some.2 in
     let leave = left_visit_is_of_leave t ls at.0 (o, a, p) at.1 in
     let got = get_or_of_at ls at.0 leave.0 leave.1 in
     let emitted = subst (λ (e : Leave). EmitsIn f h t e.position (Out e.object e.access e.version)) (got.1 leave.0)
-    (step_of_leave_emits_leave f h t (let lt = some.1 in let n = h.each in omega (arith, lt, n)) at.0 leave.0 got.0) in (
+    (step_of_leave_emits_leave f h t (let lt = some.1 in let n = (placed_of_trace_are_of_run f h).each in omega (arith, lt, n)) at.0 leave.0 got.0) in (
       q.1,
       subst (λ w. EmitsIn f h p.thread p.position (Out o a w)) q.1
           (subst (λ (z : Visit). EmitsIn f h z.2.thread z.2.position (Out z.0 z.1 z.2.version)) leave.2 emitted),
     )
 
-pub listed_leaves_are_all_leaves : (f : FittedTrace) (x : Listing) → IsListing (all_left f.placed) x → (o : ℕ)
+pub listed_leaves_are_all_leaves : (f : FittedTrace) (x : Listing) → IsListing (all_left (placed_of f)) x → (o : ℕ)
     (a : Access) (v : ℕ) (ps : List Place) → ((p : Place) → Contains (listed x o a) p → p.version ≡ v → Contains ps p)
     → AllLeaves f o a v ps
 listed_leaves_are_all_leaves f x is o a v ps found h t k emitted =
     let p : Place = record { position = k; version = v; thread = t } in
     let below = emitting_thread_is_guest_thread f h t k (Out o a v) emitted in
-    let ls : List Leave = (placed_at f.placed t).leaves in
+    let ls : List Leave = (placed_at (placed_of f) t).leaves in
     let leave = leave_step_is_kept f h t k o a v emitted in
     let e : Leave = record { position = k; object = o; access = a; version = v } in
     let at : At (left_by t ls) leave.0 (o, a, p) =
     leave_is_left_visit t ls leave.0 e (subst (At ls leave.0) (leave.2 e) (at_place_of_get_or ls leave.0 e leave.1)) in
-    found p (visit_place_is_listed (all_left f.placed) x is o a p
-    (visit_of_thread_is_of_threads (length f.placed) (λ u. left_by u (placed_at f.placed u).leaves) (o, a, p) t (let n = h.each in omega (arith, below, n))
+    found p (visit_place_is_listed (all_left (placed_of f)) x is o a p
+    (visit_of_thread_is_of_threads (length (placed_of f)) (λ u. left_by u (placed_at (placed_of f) u).leaves) (o, a, p) t (let n = (placed_of_trace_are_of_run f h).each in omega (arith, below, n))
     (placed_is_contained (left_by t ls) leave.0 (o, a, p) at))) refl
 
-pub listed_entries_are_only_entries : (f : FittedTrace) (x : Listing) → IsListing (all_entered f.recorded f.placed) x → (o : ℕ)
+pub listed_entries_are_only_entries : (f : FittedTrace) (x : Listing) → IsListing (all_entered f.recorded (placed_of f)) x → (o : ℕ)
     (a : Access) (v : ℕ) (ps : List Place) → ((p : Place) → Contains ps p → Contains (listed x o a) p × (p.version ≡ v))
     → OnlyEntries f o a v ps
 listed_entries_are_only_entries f x is o a v ps found h p c =
     let q = found p c in
-    let some = visit_of_threads_is_of_thread (length f.placed) (λ t. entered_by t (recorded_thread f.recorded t).events (placed_at f.placed t).entries) (o, a, p)
-    (listed_place_is_of_visit (all_entered f.recorded f.placed) x is o a p q.0) in
+    let some = visit_of_threads_is_of_thread (length (placed_of f)) (λ t. entered_by t (recorded_thread f.recorded t).events (placed_at (placed_of f) t).entries) (o, a, p)
+    (listed_place_is_of_visit (all_entered f.recorded (placed_of f)) x is o a p q.0) in
     let t : ℕ = some.0 in
     let es : List Event = (recorded_thread f.recorded t).events in
-    let ks : List ℕ = (placed_at f.placed t).entries in
+    let ks : List ℕ = (placed_at (placed_of f) t).entries in
     let at = contained_has_place (entered_by t es ks) (o, a, p) some.2 in
     let (i, e, event, place, thread, (n, label)) = entered_visit_is_of_event t es ks at.0 (o, a, p) at.1 in
     let got = get_or_of_at es i e event in
     let stands = get_or_of_at ks i p.position place in
     let emitted : EmitsIn f h t (get_or ks i 0) (label_of (get_or es i e)) =
-    step_of_entry_emits_event f h t (let lt = some.1 in let m = h.each in omega (arith, lt, m)) i e got.0 in
+    step_of_entry_emits_event f h t (let lt = some.1 in let m = (placed_of_trace_are_of_run f h).each in omega (arith, lt, m)) i e got.0 in
     let here : EmitsIn f h t p.position (In o a p.version n) =
     subst (λ k. EmitsIn f h t k (In o a p.version n)) (stands.1 0)
     (subst (EmitsIn f h t (get_or ks i 0)) (ap label_of (got.1 e) ∙ label) emitted) in (
@@ -237,18 +239,18 @@ listed_entries_are_only_entries f x is o a v ps found h p c =
       ),
     )
 
-pub listed_entries_are_all_entries : (f : FittedTrace) (x : Listing) → IsListing (all_entered f.recorded f.placed) x → (o : ℕ)
+pub listed_entries_are_all_entries : (f : FittedTrace) (x : Listing) → IsListing (all_entered f.recorded (placed_of f)) x → (o : ℕ)
     (a : Access) (v : ℕ) (ps : List Place) → ((p : Place) → Contains (listed x o a) p → p.version ≡ v → Contains ps p)
     → AllEntries f o a v ps
 listed_entries_are_all_entries f x is o a v ps found h t k n emitted =
     let p : Place = record { position = k; version = v; thread = t } in
     let below = emitting_thread_is_guest_thread f h t k (In o a v n) emitted in
     let es : List Event = (recorded_thread f.recorded t).events in
-    let ks : List ℕ = (placed_at f.placed t).entries in
+    let ks : List ℕ = (placed_at (placed_of f) t).entries in
     let (i, li, place, label) = entry_step_is_of_event f h t k o a v n emitted in
     let d : Event = Read 0 0 in
     let at : At ks i k = subst (At ks i) place (at_place_of_get_or ks i 0 (let m = entries_as_many_as_events f h t below in omega (arith, li, m))) in
-    found p (visit_place_is_listed (all_entered f.recorded f.placed) x is o a p
-    (visit_of_thread_is_of_threads (length f.placed) (λ u. entered_by u (recorded_thread f.recorded u).events (placed_at f.placed u).entries) (o, a, p) t
-    (let m = h.each in omega (arith, below, m))
+    found p (visit_place_is_listed (all_entered f.recorded (placed_of f)) x is o a p
+    (visit_of_thread_is_of_threads (length (placed_of f)) (λ u. entered_by u (recorded_thread f.recorded u).events (placed_at (placed_of f) u).entries) (o, a, p) t
+    (let m = (placed_of_trace_are_of_run f h).each in omega (arith, below, m))
     (entry_event_is_entered_visit t es ks i (get_or es i d) k o a v n (at_place_of_get_or es i d li) at (label d)))) refl

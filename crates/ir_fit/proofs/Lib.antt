@@ -1,5 +1,6 @@
 mod Guests
 mod Furthest
+mod Placements
 mod Seen
 mod Placed
 mod Moves

@@ -23,7 +23,7 @@ use Rattle.ir_trace.specs.Recorded.{Recorded, RecordedThread, recorded_thread, t
 use Rattle.ir_trace.specs.Absent.{absent}
 use Rattle.ir_fit.specs.Ahead.{steps_ahead, log_ahead, StepFollows, CanFollow, IsStopped, AgreesAhead, IsMove}
 use Rattle.ir_fit.specs.Follower.{IsFollower, IsFollowed, IsPlaced, GoesOn, all_ahead}
-use Rattle.ir_fit.specs.Fit.{place_if, leave_if}
+use Rattle.ir_fit.specs.Placed.{place_if, leave_if}
 use Rattle.ir_fit.specs.Growing.{Growing, growing_at, placed_by, placed_more, none_growing, places_of, leaves_of}
 use Rattle.ir_runs.specs.Standing.{StandsAs}
 use Rattle.ir_runs.specs.Verdicts.{Agrees, sum_below, Check, unlogged, left_log, left_steps, Fits, Follows, Meets, closing}

@@ -15,7 +15,7 @@ use Rattle.ir_thread.proofs.CallerLemmas.{held_count_after_leave, held_after_oth
 use Rattle.ir_flat.specs.Flat.{Flat, thread_of, tables, machine}
 use Rattle.ir_fit.proofs.Seen.{emits}
 use Rattle.ir_runs.specs.Run.{join_if}
-use Rattle.ir_fit.specs.Fit.{place_if, places_from, leave_if, leaves_from}
+use Rattle.ir_fit.specs.Placed.{place_if, places_from, leave_if, leaves_from}
 use Rattle.ir_fit.specs.Growing.{Growing, placed_by}
 use Rattle.ir_fit.specs.declared.leave.Leave.{Leave}
 

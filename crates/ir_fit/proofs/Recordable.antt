@@ -4,7 +4,8 @@ use Rattle.std.specs.List.{AllByRecursion, range_with_len}
 use Rattle.std.proofs.lemmas.Bool.{cases_eq}
 use Rattle.std.proofs.lemmas.List.{length-map}
 use Rattle.std.proofs.lemmas.List.FromFn.{get_or-map-range_with_len, length-map-range_with_len}
-use Rattle.ir_image.specs.Guest.{Guest, object_count, IsGuest}
+use Rattle.ir_image.specs.Guest.{Guest, object_count}
+use Rattle.ir_image.specs.Bounds.{IsGuest}
 use Rattle.ir_image.proofs.CallerLemmas.{guest_threads_at_most_limit, guest_objects_at_most_limit}
 use Rattle.ir_thread.specs.State.{IsAllowed, end_number, end_code, ask_of, most_budget, shared_ask, thread_machine}
 use Rattle.ir_thread.specs.Permitted.{Permits}
@@ -25,7 +26,8 @@ use Rattle.ir_flat.proofs.CallerLemmas.{counts_all_fit, start_thread_has_no_step
 use Rattle.ir_log.specs.Logging.{label_of}
 use Rattle.ir_log.specs.declared.event.Event.{Event}
 use Rattle.ir_log.specs.declared.event.Event.TheVariants.{Answer, Read, Write, Try}
-use Rattle.ir_trace.specs.Recorded.{IsWord, RecordedThread, Recorded, recorded_thread, IsEvent, IsRecordedThread, IsRecorded}
+use Rattle.ir_trace.specs.Recorded.{RecordedThread, Recorded, recorded_thread}
+use Rattle.ir_trace.specs.Bounds.{IsWord, IsEvent, IsRecordedThread, IsRecorded}
 use Rattle.ir_trace.specs.Absent.{absent}
 use Rattle.ir_fit.specs.Fit.{IsRunOf}
 use Rattle.ir_fit.specs.Laws.{EachRunIsRecorded}

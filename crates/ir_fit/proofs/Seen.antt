@@ -25,7 +25,8 @@ use Rattle.ir_log.specs.Asked.{ask_of as event_ask, Suits}
 use Rattle.ir_log.proofs.CallerLemmas.{ask_of_suiting_call_event as call_asked, ask_of_suiting_entry_event as entry_asked}
 use Rattle.ir_log.specs.declared.event.Event.{Event}
 use Rattle.ir_log.specs.declared.event.Event.TheVariants.{Answer, Read, Write, Try as Refused}
-use Rattle.ir_trace.specs.Recorded.{Recorded, recorded_thread, trace_of, IsEvent, IsRecordedThread}
+use Rattle.ir_trace.specs.Recorded.{Recorded, recorded_thread, trace_of}
+use Rattle.ir_trace.specs.Bounds.{IsEvent, IsRecordedThread}
 use Rattle.ir_fit.specs.Ahead.{steps_ahead, log_ahead, CanFollow, IsStopped, AgreesAhead, IsOpen, IsOwn, EndsSo, IsSeen}
 use Rattle.ir_fit.specs.declared.follower.look.Look.{Look}
 use Rattle.ir_fit.specs.declared.follower.look.Look.TheVariants as look

@@ -1,5 +1,6 @@
 pub mod Laws
 pub mod Fit
+pub mod Placed
 pub mod Ahead
 pub mod Growing
 pub mod Follower

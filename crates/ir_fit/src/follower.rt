@@ -2,7 +2,8 @@
 
 ghost use Rattle.std.specs.Prelude.{◌≡◌, ◌<◌, length};
 ghost use Rattle.ir_flat.specs.Flat.{thread_of, cell_of, IsFlat};
-ghost use Rattle.ir_trace.specs.Recorded.{recorded_thread, IsRecordedThread};
+ghost use Rattle.ir_trace.specs.Recorded.{recorded_thread};
+ghost use Rattle.ir_trace.specs.Bounds.{IsRecordedThread};
 ghost use Rattle.ir_fit.specs.Ahead.{steps_ahead};
 
 use crate::follower::growing::GrowingPlaces;

@@ -3,7 +3,7 @@
 ghost use Rattle.std.specs.Prelude.{◌≤◌, ◌<◌, ℕ, [], length, IfOk, OnOk};
 ghost use Rattle.ir_image.specs.Guest.{most_threads};
 ghost use Rattle.ir_trace.specs.Recorded.{recorded_thread};
-ghost use Rattle.ir_fit.specs.Fit.{placed_at, IsListing, enter_if, entered_by, all_left, all_entered};
+ghost use Rattle.ir_fit.specs.Placed.{placed_at, IsListing, enter_if, entered_by, all_left, all_entered};
 ghost use Rattle.ir_fit.specs.Listed.{AddsAll, left_by};
 
 use crate::leave::Leave;

@@ -13,7 +13,8 @@ use Rattle.ir_log.specs.declared.event.Event.{Event}
 use Rattle.ir_log.specs.declared.event.Event.TheVariants.{Answer, Read, Write, Try}
 use Rattle.ir_trace.specs.Recorded.{Recorded, recorded_thread}
 use Rattle.ir_coherence.proofs.CallerLemmas.{recorded_thread_at_number_is_recorded}
-use Rattle.ir_fit.specs.Fit.{FittedTrace, HasRun, placed_at}
+use Rattle.ir_fit.specs.Fit.{FittedTrace, HasRun}
+use Rattle.ir_fit.specs.Placed.{placed_at, placed_of}
 use Rattle.ir_fit.specs.Within.{IsFitted}
 use Rattle.ir_fit.specs.declared.leave.Leave.{Leave}
 use Rattle.ir_fit.proofs.CallerLemmas.{entries_as_many_as_events, entry_position_below_steps, get_or_of_at, step_of_leave_emits_leave, leave_step_is_kept, leave_positions_rise}
@@ -34,12 +35,12 @@ step_emits_in_each_run f h t k a emitted run of = (
 
 -- its leaves are in the order of their positions
 pub leaves_are_in_order : (f : FittedTrace) → HasRun f → (t : ℕ) → t < length f.guest.entries
-    → IsNonDecreasingBy (λ (l : Leave). l.position) (placed_at f.placed t).leaves
+    → IsNonDecreasingBy (λ (l : Leave). l.position) (placed_at (placed_of f) t).leaves
 leaves_are_in_order f h t l i j d le lj = elim (cases_lt i j) [
   | inl less ↦ let up = leave_positions_rise f h t l i j d less lj in omega (arith, up)
   | inr past ↦
       let same : i ≡ j = omega (arith, le, past) in
-      let equal = ap (λ k. (get_or (placed_at f.placed t).leaves k d).position) same in omega (arith, equal)
+      let equal = ap (λ k. (get_or (placed_at (placed_of f) t).leaves k d).position) same in omega (arith, equal)
 ]
 
 -- where a search found that those at `from` or past it begin
@@ -50,7 +51,7 @@ partition_point_of_positions xs from i h = (λ k d low lt. ltb-true _ from (h.0 
 
 -- the leaves of thread t, and where those at `from` or past it begin
 pub record AreLeavesFrom (f : FittedTrace) (t from : ℕ) (ls : List Leave) (start : ℕ) : Type 0 where
-  pub leaves : ls ≡ (placed_at f.placed t).leaves
+  pub leaves : ls ≡ (placed_at (placed_of f) t).leaves
   pub point : IsPartitionPoint (λ (l : Leave). l.position < from) (λ l. from ≤ l.position) ls start
 
 leave_equal_by_fields : (k o : ℕ) (a : Access) (v : ℕ) (l : Leave) → IsLeaveAs l o a v → l.position ≡ k
@@ -107,8 +108,8 @@ first_listed_leave_leaves_first f h t from ls start o a v k l x first = (
 
     emitted : Emits (machine_of f) (start_of f) h.run t k (Out o a v)
     emitted =
-        let at : get_or (placed_at f.placed t).leaves first.number p ≡ p = subst (λ (z : List Leave). get_or z first.number p ≡ p) x.leaves is in
-        let within : first.number < length (placed_at f.placed t).leaves = subst (λ (z : List Leave). first.number < length z) x.leaves first.within in
+        let at : get_or (placed_at (placed_of f) t).leaves first.number p ≡ p = subst (λ (z : List Leave). get_or z first.number p ≡ p) x.leaves is in
+        let within : first.number < length (placed_at (placed_of f) t).leaves = subst (λ (z : List Leave). first.number < length z) x.leaves first.within in
         subst (λ (z : Leave). Emits (machine_of f) (start_of f) h.run t z.position (Out z.object z.access z.version)) at
         (step_of_leave_emits_leave f h t l first.number p within)
 

@@ -2,12 +2,14 @@
 use Rattle.std.proofs.Common.{◌≡◌, ◌≢◌, ℕ, suc, zero, ◌<◌, ◌≤◌, Bool, true, false, cond, eqb, ltb, List, [], ◌∷◌, ◌++◌, map, refl, sym, ap, ◌∙◌, subst, arith, inl, inr, eq-eqb, ne_eqb, append-nil}
 use Rattle.std.proofs.Math.Path.{fun_ext}
 use Rattle.std.proofs.lemmas.Bool.{cases_eq, cases_lt, lt-ltb, le-ltb, eqb-true}
-use Rattle.ir_runs.specs.Machine.{Ask, Private, Env, Enter, Try, Leave, Get, Put, Done, Act, act_of, Silent, Result, Entry, Refusal, Exit, Load, Store, Never, Machine, upd, Object, target, Admits, acted, reply, emitted, is_shared, Label}
+use Rattle.ir_runs.specs.Machine.{Ask, Private, Env, Enter, Try, Leave, Get, Put, Done, Act, act_of, Silent, Result, Entry, Refusal, Exit, Load, Store, Never, Machine, upd, Object, target, Admits, acted, reply, emitted, Label}
+use Rattle.ir_runs.specs.Shared.{is_shared}
 use Rattle.ir_object.specs.Order.{Shared, keep_if, of_thread, IsAllowed, objects_after, order_labels}
 use Rattle.ir_runs.proofs.CallerLemmas.{upd_at_own_place, upd_at_other_place, upd_with_old_value, append_of_runs_is_run, trail_append, end_append}
 use Rattle.ir_runs.specs.Run.{State, Step, after_act, Can, after, IsRun, end, trail, join_if, label}
 use Rattle.ir_flat.specs.Splice.{shared_steps, lead, led, remain, tail_of, last_steps, splice}
-use Rattle.ir_flat.specs.Lone.{MayReply, MayRun, alone_after, alone_label, labels_left, alone_trail}
+use Rattle.ir_flat.specs.Flat.{MayReply, MayRun, alone_after}
+use Rattle.ir_flat.specs.Trails.{alone_label, labels_left, alone_trail}
 
 upd_twice_is_last_upd : {A : Type 0} (f : ℕ → A) (i : ℕ) (v w : A) → upd (upd f i v) i w ≡ upd f i w
 upd_twice_is_last_upd f i v w = fun_ext (λ j. elim (cases_eq j i) [

@@ -2,7 +2,7 @@
 use Rattle.std.proofs.Common.{◌≡◌, ◌↔◌, ◌<◌, ◌^◌, ℕ, Bool, true, false, List, ◌∷◌, ◌++◌, length, drop, ◌==◌, map, flat_map, refl, sym, ap, ◌∙◌, subst, arith, cond, Option, Some, None, eq-eqb, inl, inr, ◌&&◌}
 use Rattle.std.specs.Prelude.{is_some, is_none, MatchOption, ⊤, find}
 use Rattle.std.proofs.lemmas.List.{append_assoc, length-append}
-use Rattle.ir_image.specs.Guest.{IsWord}
+use Rattle.ir_image.specs.Bounds.{IsWord}
 use Rattle.ir_mach.specs.Core.{memory_size}
 use Rattle.ir_runs.specs.Machine as machine
 use Rattle.ir_runs.specs.declared.access.Access.{Access}

@@ -2,11 +2,10 @@
 use Rattle.std.proofs.Common.{◌≤◌, ◌<◌, ◌-◌, ℕ, Bool, true, false, List, length, Option, Some, None, arith}
 use Rattle.std.specs.Prelude.{nat_lt, if◌then◌else◌}
 use Rattle.ir_fit.specs.Fit.{FittedTrace, HasRun}
-use Rattle.ir_cut.specs.Positions.{EachRun}
+use Rattle.ir_cut.specs.Positions.{EachRun, threads_of, last_of}
 use Rattle.ir_command.specs.declared.command.Direction.TheVariants.{Forwards, Backwards}
 use Rattle.ir_command.specs.declared.hit.Hit.{Hit}
-use Rattle.ir_hits.specs.Hits.{Numbered}
-use Rattle.ir_timeline.specs.Positions.{threads_of, last_of, Finds}
+use Rattle.ir_hits.specs.Hits.{Numbered, Finds}
 use Rattle.ir_debug.proofs.CallerLemmas.{found_hit_at_most_last_position}
 use Rattle.ir_packet.specs.declared.reply.Reason.{Reason}
 use Rattle.ir_gdb.specs.declared.point.Breakpoint.{Breakpoint}

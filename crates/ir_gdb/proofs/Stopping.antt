@@ -4,13 +4,12 @@ use Rattle.std.proofs.lemmas.Bool.Decides.{nat_tests}
 use Rattle.std.specs.Prelude.{nat_lt, ◌==◌, ⊤, option_map}
 use Rattle.ir_fit.specs.Fit.{FittedTrace, HasRun}
 use Rattle.ir_runs.specs.Run.{Step}
-use Rattle.ir_cut.specs.Positions.{EachRun}
+use Rattle.ir_cut.specs.Positions.{EachRun, threads_of, last_of}
 use Rattle.ir_command.specs.declared.command.Direction.TheVariants.{Forwards}
 use Rattle.ir_command.specs.declared.hit.Hit.{Hit}
-use Rattle.ir_hits.specs.Hits.{Numbered, IsFirstHit, IsLastHit}
+use Rattle.ir_hits.specs.Hits.{Numbered, IsFirstHit, IsLastHit, Finds}
 use Rattle.ir_hits.specs.Searching.{IsNextHit}
 use Rattle.ir_debug.specs.Machine.{Desk}
-use Rattle.ir_timeline.specs.Positions.{threads_of, last_of, Finds}
 use Rattle.ir_packet.specs.declared.reply.Reason.{Reason}
 use Rattle.ir_gdb.specs.declared.point.Breakpoint.{Breakpoint}
 use Rattle.ir_gdb.specs.declared.point.Watched.{Watched}

@@ -3,7 +3,7 @@ use Rattle.std.proofs.Common.{◌≡◌, ◌∙◌, ◌+◌, ℕ, suc, Bool, tru
 use Rattle.std.proofs.lemmas.Bool.{eqb-true, eqb-false}
 use Rattle.ir_gdb.specs.Stub.{Stub}
 use Rattle.ir_packet.specs.Replies.{number_text}
-use Rattle.ir_timeline.specs.Positions.{last_of}
+use Rattle.ir_cut.specs.Positions.{last_of}
 use Rattle.ir_gdb.specs.Stops.{position_of}
 use Rattle.ir_gdb.specs.Texts.{place_text, thread_text, first_threads_text}
 

@@ -4,7 +4,8 @@ use Rattle.std.proofs.lemmas.Bool.{cases_lt}
 use Rattle.std.proofs.lemmas.List.{get_or_append_left, get_or-append_right, get_or-replicate, get_or_past, length-replicate}
 use Rattle.ir_image.specs.declared.form.ImageForm.{ImageForm}
 use Rattle.ir_image.specs.declared.form.ImageForm.TheVariants.{Small, Large}
-use Rattle.ir_image.specs.Guest.{limits_of, most_threads, most_objects, most_object_words, Guest, object_count, IsGuest}
+use Rattle.ir_image.specs.Guest.{limits_of, most_threads, most_objects, most_object_words, Guest, object_count}
+use Rattle.ir_image.specs.Bounds.{IsGuest}
 use Rattle.ir_image.specs.Padded.{padded}
 
 pub form_has_words : (form : ImageForm) → 0 < (limits_of form).words

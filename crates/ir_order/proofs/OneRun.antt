@@ -3,7 +3,8 @@ use Rattle.std.proofs.Common.{◌≡◌, ℕ, zero, suc, ◌+◌, ◌-◌, ◌<�
 use Rattle.std.specs.List.{range_with_len}
 use Rattle.std.proofs.lemmas.Bool.{cases_lt}
 use Rattle.ir_runs.specs.Machine.{Act, act_of, Machine, upd, target, Admits}
-use Rattle.ir_runs.specs.Run.{State, Step, asked, act, after, end, log, IsDone, InTurn, rounds, IsByOrder}
+use Rattle.ir_runs.specs.Run.{State, Step, asked, act, after, end, log, IsDone, rounds}
+use Rattle.ir_runs.specs.Orders.{InTurn, IsByOrder}
 use Rattle.ir_runs.specs.Bounds.{IsIdle}
 use Rattle.ir_image.specs.Guest.{Guest}
 use Rattle.ir_runs.proofs.CallerLemmas.{step_below_idle_keeps_idle}

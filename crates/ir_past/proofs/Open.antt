@@ -7,7 +7,7 @@ use Rattle.ir_log.specs.declared.event.Event.{Event}
 use Rattle.ir_log.specs.declared.event.Event.TheVariants.{Answer, Read, Write, Try}
 use Rattle.std.specs.List.{AllByRecursion}
 use Rattle.ir_thread.specs.declared.profile.Profile.{Profile}
-use Rattle.ir_trace.specs.Recorded.{IsEvent}
+use Rattle.ir_trace.specs.Bounds.{IsEvent}
 use Rattle.ir_past.specs.Past.{IsStaleIn, entered}
 use Rattle.ir_past.specs.Tables.{last_read}
 use Rattle.ir_past.specs.Progress.{IsOpen, HoldsOpen, Fits, IsPairAt}

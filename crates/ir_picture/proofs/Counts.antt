@@ -9,7 +9,8 @@ use Rattle.ir_log.specs.Logging.{label_of}
 use Rattle.ir_log.specs.declared.event.Event.{Event}
 use Rattle.ir_log.specs.declared.event.Event.TheVariants.{Answer, Read, Write, Try}
 use Rattle.ir_thread.specs.State.{most_events}
-use Rattle.ir_trace.specs.Recorded.{Recorded, recorded_thread, trace_of, IsRecorded}
+use Rattle.ir_trace.specs.Recorded.{Recorded, recorded_thread, trace_of}
+use Rattle.ir_trace.specs.Bounds.{IsRecorded}
 use Rattle.ir_coherence.proofs.CallerLemmas.{recorded_thread_at_number_is_recorded}
 use Rattle.ir_past.specs.Past.{event_at, IsReadAt}
 use Rattle.ir_past.proofs.CallerLemmas.{event_is_of_existing_thread}

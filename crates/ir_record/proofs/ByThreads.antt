@@ -7,7 +7,8 @@ use Rattle.std.proofs.lemmas.List.{length-map, get_or_past}
 use Rattle.std.proofs.lemmas.Option.{slice_get-get_or, slice_get-map}
 use Rattle.std.specs.List.{slice_get}
 use Rattle.std.specs.Prelude.{option_map}
-use Rattle.ir_image.specs.Guest.{limits_of, Guest, object_count, object_words, first_words, IsGuest}
+use Rattle.ir_image.specs.Guest.{limits_of, Guest, object_count, object_words, first_words}
+use Rattle.ir_image.specs.Bounds.{IsGuest}
 use Rattle.ir_image.specs.declared.form.ImageForm.{ImageForm}
 use Rattle.ir_image.specs.declared.form.ImageForm.TheVariants.{Small, Large}
 use Rattle.ir_thread.specs.State.{ask_of, shared_ask, thread_machine}
@@ -22,11 +23,11 @@ use Rattle.ir_image.proofs.CallerLemmas.{element_of_padded}
 use Rattle.ir_crew.specs.Ends.{AreTracks, IsEnd}
 use Rattle.ir_crew.specs.Plays.{M}
 use Rattle.ir_crew.specs.Rule.{View, IsTrack, start_objects}
-use Rattle.ir_flat.specs.Flat.{Flat, thread_of, cell_of, tables, idle, start_flat, start_threads, start_cells}
+use Rattle.ir_flat.specs.Flat.{Flat, thread_of, cell_of, tables, idle, start_flat, start_threads, start_cells, MayRun, alone_after}
 use Rattle.ir_flat.specs.Room.{empty}
 use Rattle.ir_runs.specs.Run.{State, Step, events, log}
 use Rattle.ir_flat.specs.Splice.{shared_steps, splice}
-use Rattle.ir_flat.specs.Lone.{MayRun, alone_after, alone_trail}
+use Rattle.ir_flat.specs.Trails.{alone_trail}
 use Rattle.ir_flat.proofs.CallerLemmas.{length_of_start_cells, start_cell_has_zero_fields, start_cell_has_first_words, no_thread_inside_at_start, guest_start_is_idle, splice_is_run_with_trails}
 use Rattle.ir_log.specs.Logged.{Logged}
 use Rattle.ir_log.specs.Logging as logging

@@ -4,7 +4,8 @@ use Rattle.std.proofs.Common.{◌≡◌, ℕ, zero, suc, ◌+◌, ◌<◌, Bool,
 use Rattle.std.proofs.lemmas.List.{length-replicate, length-map}
 use Rattle.std.specs.List.{AllByRecursion}
 use Rattle.atomic_table.specs.Seated.{TableId}
-use Rattle.ir_image.specs.Guest.{Guest, object_count, IsGuest}
+use Rattle.ir_image.specs.Guest.{Guest, object_count}
+use Rattle.ir_image.specs.Bounds.{IsGuest}
 use Rattle.ir_runs.specs.declared.env_kind.EnvKind.{EnvKind}
 use Rattle.ir_thread.specs.Permitted.{Permits}
 use Rattle.ir_thread.specs.State.{held_at, ask_of, thread_machine}
@@ -41,7 +42,7 @@ new_worker_is_working answers g budget profile t id w new = record {
   few = let e = ap (λ x. x.events) new.thread in omega arith;
   room = ap (λ l. l.room) new.log;
   count = ap (λ l. length l.events) new.log ∙ sym (ap (λ x. x.events) new.thread);
-  events_fit = subst (λ l. AllByRecursion (Rattle.ir_trace.specs.Recorded.IsEvent profile (object_count g)) l.events) (sym new.log) tt;
+  events_fit = subst (λ l. AllByRecursion (Rattle.ir_trace.specs.Bounds.IsEvent profile (object_count g)) l.events) (sym new.log) tt;
   answered = sym (ap (λ l. answers w.world ++ answers_in (map Rattle.ir_log.specs.Logging.label_of l.events))
       new.log ∙ append-nil (answers w.world));
 }
@@ -131,7 +132,7 @@ module _ {W O : Type 0} (answers : W → List Answered) (broken : W → Bool) (o
       let i = (p.0.stays (works 0)).still budget profile t (answers v.world) (new_worker_is_working answers g budget profile t id v new.0) in (
         record {
           ended = (subst (Permits w.thread) (p.0.done (works 0)) (ask_of_permitted g.code w.thread)).0;
-          events_fit = subst (λ z. AllByRecursion (Rattle.ir_trace.specs.Recorded.IsEvent profile z) w.log.events) (sym n) i.events_fit;
+          events_fit = subst (λ z. AllByRecursion (Rattle.ir_trace.specs.Bounds.IsEvent profile z) w.log.events) (sym n) i.events_fit;
         },
         over_end objects (suc t) vs ws n new.1 p.1 (λ u. works (suc u)),
       )

@@ -19,7 +19,8 @@ use Rattle.ir_flat.proofs.CallerLemmas.{start_thread_is_fresh, length_of_start_t
 use Rattle.ir_runs.proofs.CallerLemmas.{idle_after_run}
 use Rattle.ir_log.specs.Logged.{Logged}
 use Rattle.ir_log.specs.Logging.{label_of}
-use Rattle.ir_trace.specs.Recorded.{Recorded, IsEvent}
+use Rattle.ir_trace.specs.Recorded.{Recorded}
+use Rattle.ir_trace.specs.Bounds.{IsEvent}
 use Rattle.ir_record.specs.Gathered.{AreThreadTraces}
 use Rattle.ir_record.specs.Progress.{Progress, TookTurns, IsReady, log_at, no_log}
 use Rattle.ir_record.specs.Refusing.{Turn, plain_turns}

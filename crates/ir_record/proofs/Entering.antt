@@ -15,7 +15,7 @@ use Rattle.ir_flat.proofs.CallerLemmas.{events_added_by}
 use Rattle.ir_log.specs.Logged.{Logged}
 use Rattle.ir_log.specs.Logging.{label_of}
 use Rattle.ir_log.specs.declared.event.Event.{Event}
-use Rattle.ir_trace.specs.Recorded.{IsEvent}
+use Rattle.ir_trace.specs.Bounds.{IsEvent}
 use Rattle.ir_record.specs.Progress.{TookIf, HasLogs, IsQuiet, log_at, labels_at}
 use Rattle.ir_record.specs.Worlds.{answers_at, Answered, answers_in}
 use Rattle.ir_record.proofs.Steps.{OneStep, turn_taken_by_step, turn_without_step_changes_nothing, ask_not_try_enters_if_free}

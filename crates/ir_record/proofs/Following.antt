@@ -5,7 +5,8 @@ use Rattle.std.proofs.lemmas.List.Concat.{flat_map-append}
 use Rattle.ir_thread.specs.State.{ask_of, shared_ask}
 use Rattle.ir_runs.specs.Machine.{act_of, target, Admits}
 use Rattle.ir_flat.specs.Flat.{Flat, tables, machine, idle}
-use Rattle.ir_runs.specs.Run.{end, InTurn, HasNone}
+use Rattle.ir_runs.specs.Run.{end, HasNone}
+use Rattle.ir_runs.specs.Orders.{InTurn}
 use Rattle.ir_record.specs.Failures.{StoppedAt, StoppedTurns}
 use Rattle.ir_record.specs.Progress.{Progress, Took, TookIf, TookTurns}
 use Rattle.ir_record.specs.Refusing.{Turn, plain_turns}

@@ -8,7 +8,8 @@ use Rattle.ir_runs.specs.Machine.{Machine, Private, Quiet}
 use Rattle.ir_thread.specs.State as thread
 use Rattle.ir_flat.specs.Alone.{WentAlone}
 use Rattle.ir_flat.specs.Flat.{Flat, tables, machine, IsFlat}
-use Rattle.ir_runs.specs.Run.{State, Step, Can, after, label, end, join_if, events, log, EntersIfFree, InTurn, rounds, HasNone}
+use Rattle.ir_runs.specs.Run.{State, Step, Can, after, label, end, join_if, events, log, EntersIfFree, rounds, HasNone}
+use Rattle.ir_runs.specs.Orders.{InTurn}
 use Rattle.ir_runs.proofs.CallerLemmas.{log_append, end_append, turns_append}
 use Rattle.ir_record.specs.Ahead.{lead, IsAhead, all_ahead, NoneAhead, Went, WentIf}
 use Rattle.ir_record.specs.Progress.{Progress, Took, TookIf, all_left, labels_at}

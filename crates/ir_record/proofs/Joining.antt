@@ -3,7 +3,8 @@ use Rattle.std.proofs.Common.{◌≡◌, ℕ, zero, suc, ◌+◌, ◌<◌, ◌�
 use Rattle.std.proofs.lemmas.Bool.{cases_eq}
 use Rattle.std.specs.List.{range_with_len}
 use Rattle.ir_runs.specs.Machine.{Machine}
-use Rattle.ir_runs.specs.Run.{State, InTurn, rounds, HasNone}
+use Rattle.ir_runs.specs.Run.{State, rounds, HasNone}
+use Rattle.ir_runs.specs.Orders.{InTurn}
 use Rattle.ir_record.specs.Progress.{Progress, Took, TookTurns, IsReady, HasLogs}
 use Rattle.ir_record.specs.Refusing.{Turn}
 

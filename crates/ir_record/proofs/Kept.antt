@@ -7,7 +7,8 @@ use Rattle.ir_thread.specs.declared.ask.Ask.TheVariants.{Done}
 use Rattle.ir_flat.specs.Alone.{WentAlone}
 use Rattle.ir_flat.specs.Flat.{Flat, IsFlat, thread_of, tables, machine}
 use Rattle.ir_runs.specs.Machine.{Machine}
-use Rattle.ir_runs.specs.Run.{State, Step, end, InTurn}
+use Rattle.ir_runs.specs.Run.{State, Step, end}
+use Rattle.ir_runs.specs.Orders.{InTurn}
 use Rattle.ir_record.specs.Ahead.{AreAsks}
 use Rattle.ir_record.specs.Progress.{Progress, TookIf}
 use Rattle.ir_record.proofs.Leading.{thread_after_step_of_other, other_thread_after_repeated_steps}

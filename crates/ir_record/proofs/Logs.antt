@@ -11,7 +11,7 @@ use Rattle.ir_flat.proofs.CallerLemmas.{events_added_by, events_after_ask, moved
 use Rattle.ir_log.specs.Logged.{Logged}
 use Rattle.ir_log.specs.Logging.{label_of}
 use Rattle.ir_log.specs.declared.event.Event.{Event}
-use Rattle.ir_trace.specs.Recorded.{IsEvent}
+use Rattle.ir_trace.specs.Bounds.{IsEvent}
 use Rattle.ir_record.specs.Progress.{HasLogs, no_log, log_at, labels_at}
 use Rattle.ir_record.proofs.Profiles.{events_fit_if_limits_same, thread_profile_after_step}
 

@@ -2,7 +2,8 @@
 use Rattle.std.proofs.Common.{◌≡◌, ℕ, false, List, [], ◌∷◌, ◌++◌, sym, ap, subst, inl, inr}
 use Rattle.std.proofs.lemmas.List.{map-append}
 use Rattle.ir_runs.specs.Machine.{Machine}
-use Rattle.ir_runs.specs.Run.{State, Step, after, IsRun, end, InTurn, rounds, IsByOrder}
+use Rattle.ir_runs.specs.Run.{State, Step, after, IsRun, end, rounds}
+use Rattle.ir_runs.specs.Orders.{InTurn, IsByOrder}
 use Rattle.ir_record.specs.Refusing.{Turn, plain_turns, InTurns, IsByTurns}
 
 pub plain_turns-append : (xs ys : List ℕ) → plain_turns (xs ++ ys) ≡ plain_turns xs ++ plain_turns ys

@@ -6,7 +6,8 @@ use Rattle.ir_thread.specs.State.{shared_ask}
 use Rattle.ir_runs.specs.Machine.{Machine, Private}
 use Rattle.ir_flat.specs.Alone.{WentAlone}
 use Rattle.ir_flat.specs.Flat.{Flat, thread_of, tables, machine, idle, IsFlat}
-use Rattle.ir_runs.specs.Run.{State, Step, after, IsRun, end, InTurn}
+use Rattle.ir_runs.specs.Run.{State, Step, after, IsRun, end}
+use Rattle.ir_runs.specs.Orders.{InTurn}
 use Rattle.ir_log.specs.Logged.{Logged}
 use Rattle.ir_record.specs.Progress.{Took, HasLogs, log_at, labels_at, all_left}
 use Rattle.ir_record.specs.Worlds.{answers_at, Answered, answers_in}

@@ -10,7 +10,8 @@ use Rattle.ir_thread.specs.State as thread
 use Rattle.ir_runs.specs.Machine as machine
 use Rattle.ir_flat.specs.Flat.{Flat, thread_of, tables, machine, start_flat}
 use Rattle.ir_flat.proofs.CallerLemmas.{length_of_start_threads}
-use Rattle.ir_runs.specs.Run.{State, Step, asked, end, log, InTurn, rounds}
+use Rattle.ir_runs.specs.Run.{State, Step, asked, end, log, rounds}
+use Rattle.ir_runs.specs.Orders.{InTurn}
 use Rattle.ir_runs.proofs.CallerLemmas.{log_append, end_append, turns_append}
 use Rattle.ir_log.specs.Logged.{Logged}
 use Rattle.ir_record.specs.Ahead.{Went}

@@ -15,7 +15,7 @@ use Rattle.ir_log.specs.Logged.{Logged}
 use Rattle.ir_log.specs.Logging.{label_of}
 use Rattle.ir_log.specs.declared.event.Event.{Event}
 use Rattle.ir_log.specs.declared.event.Event.TheVariants as event
-use Rattle.ir_trace.specs.Recorded.{IsEvent}
+use Rattle.ir_trace.specs.Bounds.{IsEvent}
 use Rattle.ir_record.specs.Progress.{HasLogs, log_at}
 use Rattle.ir_record.proofs.Entering.{OneEventLogged, label_is_of_ask, entry_logs_itself, entry_logs_no_answer}
 

@@ -9,7 +9,8 @@ use Rattle.ir_thread.specs.Permitted.{run_of, step_of, Permits}
 use Rattle.ir_thread.specs.State.{held_at, ask_of, after_ask, after_reply, most_events, shared_ask, reply_of, thread_machine}
 use Rattle.ir_runs.specs.Machine as machine
 use Rattle.ir_runs.specs.Lawful as lawful
-use Rattle.ir_runs.specs.Machine.{Act, act_of, Machine, is_shared, Label, Quiet, Answer, In, Out, logged}
+use Rattle.ir_runs.specs.Machine.{Act, act_of, Machine, Label, Quiet, Answer, In, Out, logged}
+use Rattle.ir_runs.specs.Shared.{is_shared}
 use Rattle.ir_runs.specs.Lawful.{held_after}
 use Rattle.ir_thread.specs.Private.{PrivateSteps}
 use Rattle.ir_thread.specs.State as thread
@@ -23,13 +24,14 @@ use Rattle.ir_thread.specs.declared.profile.Profile.TheVariants.{Two}
 use Rattle.ir_thread.proofs.CallerLemmas.{ask_of_permitted, thread_machine_is_lawful}
 use Rattle.ir_object.specs.Order.{Shared, keep_if, inside_if, inside_after}
 use Rattle.ir_object.proofs.CallerLemmas.{inside_after_step}
-use Rattle.ir_flat.specs.Lone.{MayReply, alone_label}
+use Rattle.ir_flat.specs.Flat.{MayReply}
+use Rattle.ir_flat.specs.Trails.{alone_label}
 use Rattle.ir_flat.proofs.CallerLemmas.{events_added_by, events_after_ask, length_of_held_after_ask}
 use Rattle.ir_log.specs.Logged.{Logged}
 use Rattle.ir_log.specs.Logging as logging
 use Rattle.ir_log.specs.declared.event.Event.{Event}
 use Rattle.ir_log.specs.declared.event.Event.TheVariants as event
-use Rattle.ir_trace.specs.Recorded.{IsEvent}
+use Rattle.ir_trace.specs.Bounds.{IsEvent}
 use Rattle.ir_crew.specs.Plays.{M, IsAlone, history, did, inside_by}
 use Rattle.ir_crew.specs.Rule.{shared_by, shared_of, label_of, one_if_entry, entries}
 use Rattle.ir_crew.specs.declared.deed.Deed.{Deed}
@@ -134,7 +136,7 @@ working_after_step g budget profile t before w w' q v es evs i s view =
         now = more.now ∙ next;
         steps_are = more.steps_are ∙ ap (λ z. map shared_of i.track ++ keep_if (is_shared z) (z, v) []) is ∙ sym steps;
         logged = ap (λ z. Rattle.ir_runs.specs.Run.events
-            (Rattle.ir_flat.specs.Lone.alone_trail m (thread.start_state g t budget profile) more.replies z))
+            (Rattle.ir_flat.specs.Trails.alone_trail m (thread.start_state g t budget profile) more.replies z))
             (map_of_append label_of i.track es) ∙ more.logged ∙ ap (λ z. map logging.label_of w.log.events ++ logged (alone_label z (map label_of es)) []) is
             ∙ ap (λ (z : List Shared × List Label × ℕ). map logging.label_of w.log.events ++ z.1) (sym s.of) ∙ sym labels;
       };

@@ -1,12 +1,14 @@
 -- A thread alone, with one step more.
 use Rattle.std.proofs.Common.{◌≡◌, ℕ, Bool, true, false, cond, eqb, List, [], ◌∷◌, ◌++◌, map, length, Option, Some, None, refl, sym, ap, ◌∙◌, subst, arith}
-use Rattle.ir_runs.specs.Machine.{Act, act_of, Silent, Result, Entry, Refusal, Exit, Load, Store, Never, Machine, upd, target, is_shared, Label, logged}
+use Rattle.ir_runs.specs.Machine.{Act, act_of, Silent, Result, Entry, Refusal, Exit, Load, Store, Never, Machine, upd, target, Label, logged}
+use Rattle.ir_runs.specs.Shared.{is_shared}
 use Rattle.ir_runs.specs.Lawful.{held_after}
 use Rattle.ir_runs.specs.declared.access.Access.{Access}
 use Rattle.ir_object.specs.Order.{Shared, keep_if, inside_then, inside_if}
 use Rattle.ir_runs.specs.Run.{events}
 use Rattle.ir_flat.specs.Splice.{shared_steps}
-use Rattle.ir_flat.specs.Lone.{MayReply, MayRun, alone_after, alone_label, labels_left, alone_trail}
+use Rattle.ir_flat.specs.Flat.{MayReply, MayRun, alone_after}
+use Rattle.ir_flat.specs.Trails.{alone_label, labels_left, alone_trail}
 use Rattle.ir_runs.proofs.CallerLemmas.{events_append}
 use Rattle.ir_crew.specs.Rule.{label_by, label_of}
 use Rattle.ir_crew.specs.declared.deed.Deed.{Deed}

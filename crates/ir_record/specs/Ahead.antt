@@ -7,7 +7,8 @@ use Rattle.ir_thread.specs.State.{ask_of}
 use Rattle.ir_thread.specs.declared.ask.Ask as ask
 use Rattle.ir_thread.specs.declared.ask.Ask.TheVariants.{Done}
 use Rattle.ir_flat.specs.Flat.{Flat, IsFlat, thread_of, tables, machine}
-use Rattle.ir_runs.specs.Run.{State, Step, end, log, InTurn, HasNone}
+use Rattle.ir_runs.specs.Run.{State, Step, end, log, HasNone}
+use Rattle.ir_runs.specs.Orders.{InTurn}
 use Rattle.ir_record.specs.Progress.{Progress, all_left, labels_at}
 use Rattle.ir_record.specs.Worlds.{answers_at, answers_in}
 

@@ -9,10 +9,11 @@ use Rattle.ir_thread.specs.declared.end.End.{End}
 use Rattle.ir_thread.specs.declared.ask.Ask as ask
 use Rattle.ir_thread.specs.declared.ask.Ask.TheVariants as asks
 use Rattle.ir_flat.specs.Flat.{Flat, thread_of, tables, machine}
-use Rattle.ir_runs.specs.Run.{Step, end, log, InTurn}
+use Rattle.ir_runs.specs.Run.{Step, end, log}
+use Rattle.ir_runs.specs.Orders.{InTurn}
 use Rattle.ir_log.specs.Logged.{Logged}
 use Rattle.ir_log.specs.Logging.{label_of}
-use Rattle.ir_trace.specs.Recorded.{IsEvent}
+use Rattle.ir_trace.specs.Bounds.{IsEvent}
 use Rattle.ir_record.specs.Refusing.{Turn, InTurns}
 use Rattle.ir_record.specs.Worlds.{Answered, answers_in, NoneFailed, answers_at}
 use Rattle.ir_record.specs.declared.in_order.logged_guest.LoggedGuest.{LoggedGuest}

@@ -4,8 +4,7 @@ use Rattle.std.specs.Prelude.{◌≡◌, ℕ, ◌<◌, ◌++◌, List, [], ◌�
 use Rattle.ir_image.specs.Guest.{Guest, object_count}
 use Rattle.ir_thread.specs.State.{start_state, ask_of, thread_machine}
 use Rattle.ir_thread.specs.declared.ask.Ask.TheVariants as ask
-use Rattle.ir_flat.specs.Flat.{start_flat, tables, machine}
-use Rattle.ir_flat.specs.Lone.{MayRun, alone_after}
+use Rattle.ir_flat.specs.Flat.{start_flat, tables, machine, MayRun, alone_after}
 use Rattle.ir_runs.specs.Machine.{Act, act_of, Result, Env, Machine}
 use Rattle.ir_runs.specs.Run.{Step, asked, log, end, rounds}
 use Rattle.ir_runs.specs.declared.env_kind.EnvKind.{EnvKind}
@@ -57,8 +56,7 @@ each_world f outputs = map (λ o. f o.world) outputs.each.items
 abbrev pub printed_by : {W : Type 0} → Outputs W → List (List ℕ)
 printed_by outputs = map (λ o. o.bytes.items) outputs.each.items
 
--- the recording of the complete run of the guest by turns, in which tries may be refused: its trace, what its threads printed, and what their
--- worlds answered
+-- the complete run by turns, in which tries may be refused, is recorded: its trace, what its threads printed, and what their worlds answered
 abbrev pub IsRecordedInTurns : {W : Type 0} → (W → List Answered) → Guest → ℕ → Profile → List Turn → List W → Recorded × Outputs W → Type 0
 IsRecordedInTurns answers guest budget profile turns before r = (run : List Step)
     × IsByTurns (machine (start_flat guest budget profile)) (tables (start_flat guest budget profile)) (length guest.entries) turns run
@@ -93,8 +91,7 @@ pub record StoppedInTurns (guest : Guest) (budget : ℕ) (profile : Profile) (tu
       (end (machine (start_flat guest budget profile)) (tables (start_flat guest budget profile)) run) failed ≡ Env kind
   pub answered : AreAnswers guest budget profile run before after
 
--- out of memory; or a world has failed, those of lower threads have not, the worlds that were handed in are handed back, and they answered
--- what the run by the turns asked until then
+-- out of memory; or a world has failed, none of a lower thread has, the worlds are handed back, and they answered what the turns asked until then
 abbrev pub IsFailureInTurns : {W O : Type 0} → (W → List Answered) → (W → Bool) → (W → O) → Guest → ℕ → Profile → List Turn → List W → RecordErr W
     → Type 0
 IsFailureInTurns answers broken origin guest budget profile turns before NoMem = ⊤

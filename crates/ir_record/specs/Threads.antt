@@ -9,7 +9,8 @@ use Rattle.ir_image.specs.Guest.{Guest}
 use Rattle.ir_thread.specs.State.{most_events, most_output}
 use Rattle.ir_thread.specs.State as thread
 use Rattle.ir_crew.specs.Rule.{View}
-use Rattle.ir_trace.specs.Recorded.{RecordedThread, IsEvent}
+use Rattle.ir_trace.specs.Recorded.{RecordedThread}
+use Rattle.ir_trace.specs.Bounds.{IsEvent}
 use Rattle.ir_record.specs.Gathered.{IsThreadTrace}
 use Rattle.ir_record.specs.declared.by_threads.buffers.Buffers.{Buffers}
 use Rattle.ir_record.specs.declared.by_threads.worker.Worker.{Worker}

@@ -19,10 +19,11 @@ use Rattle.ir_crew.specs.declared.deed.ObjectStep.{ObjectStep}
 use Rattle.ir_crew.specs.declared.table.Crew.{Crew}
 use Rattle.ir_runs.specs.Run.{events}
 use Rattle.ir_flat.specs.Splice.{shared_steps}
-use Rattle.ir_flat.specs.Lone.{MayRun, alone_after, alone_trail}
+use Rattle.ir_flat.specs.Flat.{MayRun, alone_after}
+use Rattle.ir_flat.specs.Trails.{alone_trail}
 use Rattle.ir_log.specs.Logged.{Logged}
 use Rattle.ir_log.specs.Logging.{label_of}
-use Rattle.ir_trace.specs.Recorded.{IsEvent}
+use Rattle.ir_trace.specs.Bounds.{IsEvent}
 use Rattle.ir_record.specs.Worlds.{Answered, answers_in}
 use Rattle.ir_record.specs.declared.by_threads.worker.Worker.{Worker}
 

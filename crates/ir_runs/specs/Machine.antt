@@ -1,5 +1,5 @@
 -- A thread as a machine that asks and is answered, whatever it computes.
-use Rattle.std.specs.Prelude.{ℕ, suc, zero, Bool, cond, eqb, Option, ◌≡◌, ◌≢◌, true, Some, None, false, List, ◌∷◌}
+use Rattle.std.specs.Prelude.{ℕ, suc, zero, Bool, cond, eqb, Option, ◌≡◌, ◌≢◌, true, Some, None, List, ◌∷◌}
 use Rattle.ir_runs.specs.declared.access.Access.{Access}
 use Rattle.ir_runs.specs.declared.access.Access.TheVariants.{Writing, Reading}
 use Rattle.ir_runs.specs.declared.env_kind.EnvKind.{EnvKind}
@@ -114,14 +114,6 @@ emitted (Entry o Writing v) b = In o Writing b.version b.left
 emitted (Refusal o) b = Refused o
 emitted (Exit o a) b = Out o a b.version
 emitted q b = Quiet
-
--- whether the act enters, leaves, reads or writes an object
-abbrev pub is_shared : Act → Bool
-is_shared (Entry o a v) = true
-is_shared (Exit o a) = true
-is_shared (Load o i) = true
-is_shared (Store o i w) = true
-is_shared q = false
 
 -- es, with what is logged of the label before it: results, entries and refused tries
 abbrev pub logged : Label → List Label → List Label

@@ -1,5 +1,5 @@
--- Threads and objects, one step at a time: runs, cuts of a run, and runs by an order of the threads.
-use Rattle.std.specs.Prelude.{◌≡◌, ℕ, zero, suc, Bool, true, false, eqb, List, [], ◌∷◌, length, pred, ◌<◌, ◌≤◌, cond, ltb, ◌++◌, ◌⊎◌}
+-- Threads and objects, one step at a time: runs, cuts of a run, and rounds over the threads.
+use Rattle.std.specs.Prelude.{◌≡◌, ℕ, zero, suc, Bool, true, false, eqb, List, [], ◌∷◌, length, pred, ◌<◌, ◌≤◌, cond, ltb, ◌++◌}
 use Rattle.ir_runs.specs.Machine.{Ask, Done, Act, act_of, Machine, upd, Object, target, Admits, acted, reply, emitted, Label, logged, In, Out, Try}
 use Rattle.ir_runs.specs.declared.access.Access.TheVariants.{Reading, Writing}
 use Rattle.std.specs.List.{range_with_len}
@@ -150,21 +150,7 @@ HasNone m s t = (r : ℕ) → Can m s (t, r) → ⊥
 abbrev pub EntersIfFree : {T : Type 0} → Machine T → State T → Step → Type 0
 EntersIfFree m s e = (o : ℕ) → asked m s e.0 ≡ Try o → Can m s (e.0, 1) → e.1 ≡ 1
 
--- each entry of the order takes one step of its thread, or none where that thread is done or must wait; a try enters where it can
-abbrev pub InTurn : {T : Type 0} → Machine T → State T → List ℕ → List Step → Type 0
-InTurn m s [] run = run ≡ []
-InTurn m s (t ∷ order) run =
-    (HasNone m s t × InTurn m s order run)
-    ⊎ ((r : ℕ) × (rest : List Step) × (run ≡ (t, r) ∷ rest) × Can m s (t, r) × EntersIfFree m s (t, r)
-    × InTurn m (after m s (t, r)) order rest)
-
 -- `count` rounds over the first n threads, from 0 upwards
 abbrev pub rounds : ℕ → ℕ → List ℕ
 rounds n zero = []
 rounds n (suc count) = range_with_len 0 n ++ rounds n count
-
--- the run by an order: its entries in turn, and then rounds over the n threads until all are done
-pub record IsByOrder {T : Type 0} (m : Machine T) (s : State T) (n : ℕ) (order : List ℕ) (run : List Step) : Type 0 where
-  pub count : ℕ
-  pub turns : InTurn m s (order ++ rounds n count) run
-  pub done : IsDone m (end m s run)

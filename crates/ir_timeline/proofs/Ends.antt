@@ -9,9 +9,8 @@ use Rattle.ir_flat.proofs.CallerLemmas.{guest_start_is_idle}
 use Rattle.ir_runs.specs.Run.{Step, trail, count, Cut}
 use Rattle.ir_fit.specs.Fit.{FittedTrace, IsRunOf}
 use Rattle.ir_fit.proofs.CallerLemmas.{idle_thread_has_empty_trail, get_or_of_at}
-use Rattle.ir_cut.specs.Positions.{machine_of, start_of, cut_of, IsConsistentCut}
+use Rattle.ir_cut.specs.Positions.{machine_of, start_of, cut_of, IsConsistentCut, threads_of, last_of, first_cut, last_cut}
 use Rattle.ir_weave.specs.Standing.{Standing, StandsAt}
-use Rattle.ir_timeline.specs.Positions.{threads_of, last_of, first_cut, last_cut}
 
 -- ---- the first
 

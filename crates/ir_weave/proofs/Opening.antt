@@ -9,7 +9,8 @@ use Rattle.atomic_table.specs.Seated.{TableId}
 use Rattle.atomic_table.specs.Table.{Final, Seen, opening, Splits, Joins}
 use Rattle.atomic_table.specs.declared.shared.Seat.{Seat}
 use Rattle.atomic_table.proofs.Lists.{at_set}
-use Rattle.ir_image.specs.Guest.{Guest, object_count, most_object_words, IsGuest}
+use Rattle.ir_image.specs.Guest.{Guest, object_count, most_object_words}
+use Rattle.ir_image.specs.Bounds.{IsGuest}
 use Rattle.ir_thread.specs.State.{IsAllowed}
 use Rattle.ir_thread.specs.State as thread
 use Rattle.ir_thread.specs.declared.profile.Profile.{Profile}

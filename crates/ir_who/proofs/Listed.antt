@@ -10,7 +10,8 @@ use Rattle.ir_log.specs.Logging.{label_of}
 use Rattle.ir_log.specs.declared.event.Event.{Event}
 use Rattle.ir_log.specs.declared.event.Event.TheVariants as variant
 use Rattle.ir_thread.specs.declared.profile.Profile.{Profile}
-use Rattle.ir_trace.specs.Recorded.{Recorded, recorded_thread, trace_of, IsRecorded, IsEvent}
+use Rattle.ir_trace.specs.Recorded.{Recorded, recorded_thread, trace_of}
+use Rattle.ir_trace.specs.Bounds.{IsRecorded, IsEvent}
 use Rattle.ir_coherence.proofs.CallerLemmas.{recorded_thread_at_number_is_recorded}
 use Rattle.ir_past.specs.Past.{event_at, IsReadAt, IsWriteAt, IsMadeBy, IsOverwriter}
 use Rattle.ir_past.specs.Answers.{AreCoherent}

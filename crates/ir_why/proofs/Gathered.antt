@@ -6,7 +6,8 @@ use Rattle.std.proofs.lemmas.List.{get_or_past}
 use Rattle.std.proofs.lemmas.Option.{same_Some, slice_get_within}
 use Rattle.ir_runs.proofs.CallerLemmas.{sum_below_less_if_one_less}
 use Rattle.ir_coherence.proofs.CallerLemmas.{recorded_thread_at_number_is_recorded}
-use Rattle.ir_trace.specs.Recorded.{Recorded, recorded_thread, IsRecorded}
+use Rattle.ir_trace.specs.Recorded.{Recorded, recorded_thread}
+use Rattle.ir_trace.specs.Bounds.{IsRecorded}
 use Rattle.ir_past.specs.declared.place.Place.{Place}
 use Rattle.ir_past.proofs.CallerLemmas.{event_is_of_existing_thread}
 use Rattle.ir_why.specs.Needed.{NeedsOther, AreNeeds}

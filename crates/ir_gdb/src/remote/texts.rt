@@ -1,7 +1,7 @@
 //! The list of threads.
 
 ghost use Rattle.std.specs.Prelude.{◌≡◌, ◌≤◌, ◌<◌, ◌+◌, ◌++◌, OnOk, OnErr, IfOk, vec_len, vec_capacity};
-ghost use Rattle.ir_timeline.specs.Positions.{threads_of};
+ghost use Rattle.ir_cut.specs.Positions.{threads_of};
 ghost use Rattle.ir_packet.specs.Replies.{piece_text};
 ghost use Rattle.ir_gdb.specs.Texts.{place_text, thread_text, threads_text};
 

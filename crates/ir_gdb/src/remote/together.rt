@@ -1,8 +1,7 @@
 //! Which thread stops where a move of one brings others along that have hits on their way.
 
 ghost use Rattle.std.specs.Prelude.{◌≡◌, ◌≤◌, ◌<◌, ◌&&◌, ◌||◌, ◌==◌, not, length, IfOk, IfSome};
-ghost use Rattle.ir_cut.specs.Positions.{EachRun};
-ghost use Rattle.ir_timeline.specs.Positions.{threads_of};
+ghost use Rattle.ir_cut.specs.Positions.{EachRun, threads_of};
 ghost use Rattle.ir_timeline.specs.Hand.{IsCutOf};
 ghost use Rattle.ir_gdb.specs.Stub.{spoken};
 ghost use Rattle.ir_gdb.specs.Stops.{position_of};

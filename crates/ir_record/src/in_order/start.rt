@@ -1,7 +1,7 @@
 //! A guest before its first step.
 
 ghost use Rattle.std.specs.Prelude.{◌≡◌, ◌≤◌, [], length, replicate, IfOk, OnOk};
-ghost use Rattle.ir_image.specs.Guest.{IsGuest};
+ghost use Rattle.ir_image.specs.Bounds.{IsGuest};
 ghost use Rattle.ir_flat.specs.Flat.{start_flat};
 ghost use Rattle.ir_thread.specs.State.{IsAllowed, most_budget, most_events};
 

@@ -10,7 +10,7 @@ ghost use Rattle.ir_thread.specs.declared.profile.Profile.{Profile};
 ghost use Rattle.ir_log.specs.Logging.{label_of};
 ghost use Rattle.ir_runs.specs.Machine.{emitted};
 ghost use Rattle.ir_runs.specs.Machine as act;
-ghost use Rattle.ir_trace.specs.Recorded.{IsEvent};
+ghost use Rattle.ir_trace.specs.Bounds.{IsEvent};
 ghost use Rattle.ir_record.specs.Progress.{progress, Took, TookIf, TookTurns, HasLogs, IsQuiet};
 ghost use Rattle.ir_record.specs.Worlds.{answers_at, Answered};
 

@@ -1,5 +1,5 @@
 use Rattle.std.proofs.Common.{rules}
-use Rattle.ir_image.specs.Guest.{IsWord}
+use Rattle.ir_image.specs.Bounds.{IsWord}
 use Rattle.ir_elf.proofs.Limits.{all_hold_if_each_holds}
 use Rattle.ir_elf.proofs.reading.are_words.Goals as goal
 

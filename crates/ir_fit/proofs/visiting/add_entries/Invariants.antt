@@ -1,5 +1,5 @@
 use Rattle.std.proofs.Common.{take}
-use Rattle.ir_fit.specs.Fit.{entered_by}
+use Rattle.ir_fit.specs.Placed.{entered_by}
 use Rattle.ir_fit.specs.Listed.{AddsAll}
 use Rattle.ir_fit.proofs.visiting.add_entries.Given as goal
 

@@ -2,7 +2,7 @@ use Rattle.std.proofs.Common.{◌≡◌, ◌∙◌, ◌<◌, ℕ, List, length, 
 use Rattle.std.proofs.lemmas.List.{get_or_read}
 use Rattle.ir_trace.specs.Recorded.{Recorded, RecordedThread, recorded_thread}
 use Rattle.ir_trace.specs.Absent.{absent}
-use Rattle.ir_fit.specs.Fit.{Placed, placed_at, Visit, of_threads, entered_by, all_entered}
+use Rattle.ir_fit.specs.Placed.{Placed, placed_at, Visit, of_threads, entered_by, all_entered}
 use Rattle.ir_fit.specs.Growing.{none_placed}
 use Rattle.ir_fit.specs.Listed.{AddsAll, none_listed}
 use Rattle.ir_fit.proofs.ByVersion.{adds_all_with_thread, listing_if_added_and_ordered}

@@ -1,5 +1,5 @@
 use Rattle.ir_trace.specs.Recorded.{recorded_thread}
-use Rattle.ir_fit.specs.Fit.{placed_at, of_threads, entered_by}
+use Rattle.ir_fit.specs.Placed.{placed_at, of_threads, entered_by}
 use Rattle.ir_fit.specs.Listed.{AddsAll, none_listed}
 use Rattle.ir_fit.proofs.visiting.entered.Given as goal
 

@@ -1,6 +1,6 @@
 use Rattle.std.proofs.Common.{◌≡◌, ◌∙◌, ℕ, List, length, ap, subst, arith}
 use Rattle.std.proofs.lemmas.List.{get_or_read}
-use Rattle.ir_fit.specs.Fit.{Placed, placed_at, Visit, of_threads, all_left}
+use Rattle.ir_fit.specs.Placed.{Placed, placed_at, Visit, of_threads, all_left}
 use Rattle.ir_fit.specs.Growing.{none_placed}
 use Rattle.ir_fit.specs.Listed.{AddsAll, none_listed, left_by}
 use Rattle.ir_fit.proofs.ByVersion.{adds_all_with_thread, listing_if_added_and_ordered}

@@ -1,4 +1,4 @@
-use Rattle.ir_fit.specs.Fit.{placed_at, of_threads}
+use Rattle.ir_fit.specs.Placed.{placed_at, of_threads}
 use Rattle.ir_fit.specs.Listed.{AddsAll, none_listed, left_by}
 use Rattle.ir_fit.proofs.visiting.left.Given as goal
 

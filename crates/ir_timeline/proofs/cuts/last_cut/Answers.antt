@@ -1,6 +1,5 @@
 use Rattle.std.proofs.Common.{◌≡◌, length, sym, ap, ◌∙◌, subst, arith}
-use Rattle.ir_cut.specs.Positions.{IsConsistentCut}
-use Rattle.ir_timeline.specs.Positions.{threads_of, last_cut}
+use Rattle.ir_cut.specs.Positions.{IsConsistentCut, threads_of, last_cut}
 use Rattle.ir_timeline.proofs.Ends.{last_positions, no_last_positions, last_positions_after_push, length_of_last_positions, last_cut_is_consistent}
 use Rattle.ir_timeline.proofs.cuts.last_cut.Goals as goal
 

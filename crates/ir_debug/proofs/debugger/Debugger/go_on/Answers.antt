@@ -1,8 +1,8 @@
 use Rattle.std.proofs.Common.{◌<◌, refl, sym, ap, subst, ◌∙◌}
-use Rattle.ir_cut.specs.Positions.{IsConsistentCut, EachRun, cut_of}
+use Rattle.ir_cut.specs.Positions.{IsConsistentCut, EachRun, cut_of, threads_of}
 use Rattle.ir_fit.specs.Fit.{FittedTrace, HasRun}
 use Rattle.ir_command.specs.declared.command.Command.TheVariants as command
-use Rattle.ir_timeline.specs.Positions.{threads_of, Finds}
+use Rattle.ir_hits.specs.Hits.{Finds}
 use Rattle.ir_timeline.specs.Hand.{IsCutOf}
 use Rattle.ir_debug.specs.Debugging.{Debugging}
 use Rattle.ir_debug.proofs.Desks.{spoke}

@@ -1,5 +1,5 @@
 use Rattle.std.proofs.Common.{◌<◌, ◌≤◌, ◌∙◌, sym, ap, subst, arith}
-use Rattle.ir_timeline.specs.Positions.{threads_of}
+use Rattle.ir_cut.specs.Positions.{threads_of}
 use Rattle.ir_timeline.specs.Hand.{IsCutOf}
 use Rattle.ir_gdb.specs.Stub.{Stub, spoken}
 use Rattle.ir_gdb.proofs.Over.{none_has_hit_step_for_mover, none_has_hit_step, pc_at_read_position, other_has_hit_if_found, no_other_hit_if_none_found}

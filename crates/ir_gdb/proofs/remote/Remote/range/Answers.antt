@@ -1,9 +1,8 @@
 use Rattle.std.proofs.Common.{◌≡◌, ◌≤◌, ◌∙◌, ℕ, List, Option, sym, ap, subst, arith}
 use Rattle.ir_fit.specs.Fit.{HasRun}
-use Rattle.ir_cut.specs.Positions.{EachRun, cut_of}
+use Rattle.ir_cut.specs.Positions.{EachRun, cut_of, last_of}
 use Rattle.ir_command.specs.declared.hit.Hit.{Hit}
 use Rattle.ir_hits.specs.Searching.{IsNextHit}
-use Rattle.ir_timeline.specs.Positions.{last_of}
 use Rattle.ir_timeline.specs.Hand.{IsCutOf}
 use Rattle.ir_gdb.specs.declared.point.Breakpoint.{Breakpoint}
 use Rattle.ir_gdb.specs.declared.point.Watched.{Watched}

@@ -1,7 +1,6 @@
 use Rattle.std.proofs.Common.{◌-◌, ◌∙◌, ℕ, ap, subst}
 use Rattle.std.proofs.lemmas.Result.{IfOk-weaker}
-use Rattle.ir_cut.specs.Positions.{EachRun, cut_of}
-use Rattle.ir_timeline.specs.Positions.{last_of}
+use Rattle.ir_cut.specs.Positions.{EachRun, cut_of, last_of}
 use Rattle.ir_gdb.specs.Stub.{Stub}
 use Rattle.ir_gdb.specs.Stops.{position_of, WatchNext}
 use Rattle.ir_gdb.proofs.Stopping.{watches_are_empty_by_test, watch_next_without_watches, position_before_is_below_last, watch_next_before_spoken}

@@ -3,7 +3,7 @@ use Rattle.std.specs.List.{AllByRecursion}
 use Rattle.std.specs.Prelude.{option_to_list}
 use Rattle.std.specs.Vec.Iter.{into_iter_items, into_iter_len}
 use Rattle.ir_thread.specs.State.{most_output}
-use Rattle.ir_trace.specs.Recorded.{IsRecordedThread}
+use Rattle.ir_trace.specs.Bounds.{IsRecordedThread}
 use Rattle.ir_record.specs.Threads.{IsEmptyFor, IsOver, AreTraces}
 use Rattle.ir_record.proofs.Gathering.{split_moves_past_item, length_of_rest_is_one_less, map_with_item_added}
 use Rattle.ir_record.proofs.Logs.{all_by_recursion_after_push}

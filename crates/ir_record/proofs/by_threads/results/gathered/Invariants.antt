@@ -2,7 +2,7 @@ use Rattle.std.proofs.Common.{◌≡◌, ◌+◌, ◌≤◌, ◌++◌, map, leng
 use Rattle.std.specs.List.{AllByRecursion}
 use Rattle.std.specs.Prelude.{vec_capacity}
 use Rattle.std.specs.Vec.Iter.{into_iter_items, into_iter_len}
-use Rattle.ir_trace.specs.Recorded.{IsRecordedThread}
+use Rattle.ir_trace.specs.Bounds.{IsRecordedThread}
 use Rattle.ir_record.specs.Threads.{AreTraces, AreOutputBuffers}
 use Rattle.ir_record.proofs.by_threads.results.gathered.Given as goal
 

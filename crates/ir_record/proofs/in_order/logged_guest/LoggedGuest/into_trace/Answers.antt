@@ -2,7 +2,7 @@ use Rattle.std.proofs.Common.{rules, ◌≡◌, ◌<◌, [], ◌∷◌, ◌++◌
 use Rattle.std.specs.List.{AllByRecursion}
 use Rattle.std.specs.Vec.Iter.{into_iter_items, into_iter_len}
 use Rattle.ir_flat.specs.Flat.{thread_of}
-use Rattle.ir_trace.specs.Recorded.{IsEvent, IsRecordedThread}
+use Rattle.ir_trace.specs.Bounds.{IsEvent, IsRecordedThread}
 use Rattle.ir_record.specs.Gathered.{IsThreadTrace, AreThreadTraces}
 use Rattle.ir_record.specs.Progress.{no_log, log_at}
 use Rattle.ir_record.proofs.Logs.{all_by_recursion_after_push}

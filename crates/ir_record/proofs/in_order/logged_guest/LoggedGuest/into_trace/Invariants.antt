@@ -1,7 +1,7 @@
 use Rattle.std.proofs.Common.{◌≡◌, ◌++◌, length}
 use Rattle.std.specs.List.{AllByRecursion}
 use Rattle.std.specs.Vec.Iter.{into_iter_items, into_iter_len}
-use Rattle.ir_trace.specs.Recorded.{IsRecordedThread}
+use Rattle.ir_trace.specs.Bounds.{IsRecordedThread}
 use Rattle.ir_record.specs.Gathered.{AreThreadTraces}
 use Rattle.ir_record.proofs.in_order.logged_guest.LoggedGuest.into_trace.Given as goal
 
