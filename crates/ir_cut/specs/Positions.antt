@@ -26,8 +26,7 @@ cut_of ps t = slice_index_or ps t 0
 
 -- these positions are a consistent cut
 abbrev pub IsConsistentCut : FittedTrace → List ℕ → Type 0
-IsConsistentCut f ps = EachRun f (λ run. IsCut (machine_of f) (start_of f) run (cut_of ps)
-    × Consistent (machine_of f) (start_of f) run (cut_of ps))
+IsConsistentCut f ps = EachRun f (λ run. IsCut (machine_of f) (start_of f) run (cut_of ps) × Consistent (machine_of f) (start_of f) run (cut_of ps))
 
 -- how many threads the guest has
 abbrev pub threads_of : FittedTrace → ℕ

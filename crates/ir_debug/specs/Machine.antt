@@ -145,8 +145,7 @@ refusal_of d c =
     if not (if_some (object_named c) (λ o. nat_lt o (object_count d.fitted.guest))) then Some NoSuchObject else
     if not (has_number d c) then Some NoSuchNumber else
     if not (has_address d.fitted.guest c) then Some BadAddress else
-    if not (has_place d c) then Some Full else
-    None
+    if not (has_place d c) then Some Full else None
 
 -- ---- out of memory
 

@@ -1,7 +1,7 @@
 //! The lines that a session begins with.
 
 ghost use Rattle.std.specs.Prelude.{◌≤◌, length, unwrap_or};
-ghost use Rattle.ir_stream.specs.Answers.{WritesText};
+ghost use Rattle.ir_stream.specs.Writing.{WritesText};
 ghost use Rattle.ir_debug.specs.Machine.{opening_text};
 ghost use Rattle.ir_text.specs.Texts.{number_line};
 ghost use Rattle.ir_debug.specs.Openings.{opening_of};

@@ -2,7 +2,8 @@
 
 ghost use Rattle.std.specs.Prelude.{◌≡◌, ◌≢◌, true, false, [], IfOk, IfErr, IfSome, IfNone, OnErr, Ok, Err, None};
 ghost use Rattle.std.specs.Io.KnownBytes.{IsAtEnd};
-ghost use Rattle.ir_stream.specs.Answers.{split_lines, lines_of, last_line, RepliedPrefix, WritesOrFails, through, some_quits, ReadsUpTo};
+ghost use Rattle.ir_stream.specs.Answers.{split_lines, lines_of, last_line, RepliedPrefix, through, some_quits, ReadsUpTo};
+ghost use Rattle.ir_stream.specs.Writing.{WritesOrFails};
 ghost use Rattle.ir_stream.specs.Written.{Wrote, WroteInPart, Replied};
 ghost use Rattle.ir_stream.specs.Endings.{flow_after, served_after, IfEnded, LeadsTo};
 ghost use Rattle.ir_debug.specs.Machine.{Replies, quits, quits_by};

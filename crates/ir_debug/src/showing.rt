@@ -1,7 +1,7 @@
 //! What is shown of the guest at the cut.
 
 ghost use Rattle.std.specs.Prelude.{◌≡◌, ◌<◌};
-ghost use Rattle.ir_stream.specs.Answers.{WritesText};
+ghost use Rattle.ir_stream.specs.Writing.{WritesText};
 ghost use Rattle.ir_debug.specs.AtHand.{thread_here, events_of, shown_here};
 ghost use Rattle.ir_debug.specs.Debugging.{IsThere, IsLast, IsDesk};
 ghost use Rattle.ir_cut.specs.Positions.{threads_of};

@@ -3,7 +3,7 @@
 ghost use Rattle.std.specs.Prelude.{◌≡◌, ◌<◌, [], ◌∷◌, length, false, MatchOption};
 ghost use Rattle.std.specs.List.{list_all};
 ghost use Rattle.ir_files.specs.Shown.{shown, shown_byte, is_plain};
-ghost use Rattle.ir_stream.specs.Answers.{WritesText};
+ghost use Rattle.ir_stream.specs.Writing.{WritesText};
 ghost use Rattle.ir_files.specs.Writers.{writer_of, Reports, fault_text, named_fault};
 
 use ir_stream::{DeviceErr, Sink, write_all};

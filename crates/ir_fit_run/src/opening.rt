@@ -2,7 +2,7 @@
 
 ghost use Rattle.std.specs.Prelude.{◌≡◌, ℕ, List, Ok, IfOk, OnOk, IfErr, false};
 ghost use Rattle.std.specs.Io.KnownBytes.{Appends};
-ghost use Rattle.ir_stream.specs.Answers.{WritesText};
+ghost use Rattle.ir_stream.specs.Writing.{WritesText};
 ghost use Rattle.ir_image.specs.Guest.{guest_at};
 ghost use Rattle.ir_trace.specs.Recorded.{recorded_at};
 ghost use Rattle.ir_files.specs.Writers.{writer_of};

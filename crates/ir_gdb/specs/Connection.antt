@@ -1,7 +1,8 @@
 -- A connection of gdb: what is written for what a stream holds.
 use Rattle.std.specs.Prelude.{◌≡◌, ◌⊎◌, ◌&&◌, ◌/◌, ◌+◌, ℕ, zero, suc, Bool, true, false, List, [], ◌∷◌, ◌++◌, codes, take, drop, length, not, nat_lt, ⊤, if◌then◌else◌, Option, Some, None, Result, Ok, Err}
 use Rattle.std.specs.Io.KnownBytes.{Appends}
-use Rattle.ir_stream.specs.Answers.{AppendsPrefix, WritesOrFails}
+use Rattle.ir_stream.specs.Answers.{AppendsPrefix}
+use Rattle.ir_stream.specs.Writing.{WritesOrFails}
 use Rattle.ir_stream.specs.declared.serving.Served.{Served}
 use Rattle.ir_stream.specs.declared.serving.Served.TheVariants.{Quit, InputEnd}
 use Rattle.ir_stream.specs.declared.serving.Fault.{Fault}

@@ -8,7 +8,7 @@ use Rattle.std.proofs.Math.Nat.{pow-le-pow_right, pow-suc, mul-le-mul_left}
 use Rattle.std.proofs.lemmas.Bool.{lt-ltb}
 use Rattle.std.proofs.lemmas.Int.Digits.{digits_value_more}
 use Rattle.std.proofs.lemmas.List.Folds.{list_all_more}
-use Rattle.ir_numerals.specs.Numerals.{is_digit}
+use Rattle.ir_numerals.specs.Digits.{is_digit}
 
 and_true_from_both : (a b : Bool) → a ≡ true → b ≡ true → (a && b) ≡ true
 and_true_from_both a b p q = rw (p, q) refl

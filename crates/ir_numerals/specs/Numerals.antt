@@ -4,14 +4,10 @@ use Rattle.std.specs.List.{list_all}
 use Rattle.std.specs.Char.{digit_value}
 use Rattle.std.specs.Str.Parse.{digits_value}
 
--- whether the byte is a digit of the radix
-abbrev pub is_digit : ℕ → ℕ → Bool
-is_digit radix c = nat_lt (digit_value c) radix
-
 -- the number of one digit of the radix to the most; none of other bytes
 abbrev pub numeral : ℕ → ℕ → List ℕ → Option ℕ
 numeral radix most digits =
-    if (nat_le 1 (length digits) && nat_le (length digits) most) && list_all (is_digit radix) digits then Some (digits_value radix digits) else None
+    if (nat_le 1 (length digits) && nat_le (length digits) most) && list_all (λ c. nat_lt (digit_value c) radix) digits then Some (digits_value radix digits) else None
 
 -- the bytes begin with `0x`
 abbrev pub starts_hexadecimal : List ℕ → Bool

@@ -3,7 +3,8 @@
 ghost use Rattle.std.specs.Prelude.{◌≡◌, ◌≤◌, ◌<◌, ◌^◌, length, MatchOption, IfSome, true, false};
 ghost use Rattle.std.specs.List.{list_all};
 ghost use Rattle.std.specs.Str.Parse.{digits_value};
-ghost use Rattle.ir_numerals.specs.Numerals.{is_digit, numeral, number_in};
+ghost use Rattle.ir_numerals.specs.Numerals.{numeral, number_in};
+ghost use Rattle.ir_numerals.specs.Digits.{is_digit};
 
 const DECIMAL: u32 = 10;
 

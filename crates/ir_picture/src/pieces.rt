@@ -2,7 +2,8 @@
 
 ghost use Rattle.std.specs.Prelude.{◌≡◌, ◌++◌, [], OnOk, IfOk, IfErr, false};
 ghost use Rattle.std.specs.Io.KnownBytes.{Appends};
-ghost use Rattle.ir_stream.specs.Answers.{AppendsPrefix, WritesOrFails};
+ghost use Rattle.ir_stream.specs.Answers.{AppendsPrefix};
+ghost use Rattle.ir_stream.specs.Writing.{WritesOrFails};
 ghost use Rattle.ir_files.specs.Writers.{writer_of};
 ghost use Rattle.ir_text.specs.Buffered.{Buffered};
 ghost use Rattle.ir_past.specs.Answers.{Stops};

@@ -35,8 +35,7 @@ pub record AreOutputs (guest : Guest) (budget : ℕ) (profile : Profile) (run : 
 -- what the world of each thread had answered, and then the answers that the run logged of it
 pub record AreAnswers (guest : Guest) (budget : ℕ) (profile : Profile) (run : List Step) (before answers : List (List Answered)) : Type 0 where
   pub threads : length answers ≡ length guest.entries
-  pub each : (t : ℕ) → t < length guest.entries
-      → slice_get answers t ≡ Some (answers_at before t ++ answers_in
+  pub each : (t : ℕ) → t < length guest.entries → slice_get answers t ≡ Some (answers_at before t ++ answers_in
       (log (machine (start_flat guest budget profile)) (tables (start_flat guest budget profile)) run t))
 
 -- the trace, the outputs and the worlds' answers of this run of the guest, which is complete
@@ -113,8 +112,7 @@ alone_answers m x (v ∷ vs) = answer_if (act_of (m.ask x) v) (alone_answers m (
 pub record WentOn (guest : Guest) (budget : ℕ) (profile : Profile) (t : ℕ) (failed : Bool) (before after : List Answered) : Type 0 where
   pub replies : List ℕ
   pub may : MayRun (thread_machine guest.code) (start_state guest t budget profile) replies
-  pub done : failed ≡ false
-      → ask_of guest.code (alone_after (thread_machine guest.code) (start_state guest t budget profile) replies) ≡ ask.Done
+  pub done : failed ≡ false → ask_of guest.code (alone_after (thread_machine guest.code) (start_state guest t budget profile) replies) ≡ ask.Done
   pub asks : failed ≡ true → (kind : EnvKind)
       × (ask_of guest.code (alone_after (thread_machine guest.code) (start_state guest t budget profile) replies) ≡ ask.Env kind)
   pub answered : after ≡ before ++ alone_answers (thread_machine guest.code) (start_state guest t budget profile) replies

@@ -3,7 +3,7 @@
 ghost use Rattle.std.specs.Prelude.{◌≢◌, ℕ, None};
 ghost use Rattle.std.specs.List.{AllByRecursion};
 ghost use Rattle.ir_thread.specs.declared.profile.Profile.{Profile};
-ghost use Rattle.ir_trace.specs.Recorded.{IsEvent, IsRecordedThread};
+ghost use Rattle.ir_trace.specs.Bounds.{IsEvent, IsRecordedThread};
 ghost use Rattle.ir_record.specs.Gathered.{IsThreadTrace};
 
 use ir_log::Log;

@@ -2,7 +2,8 @@
 use Rattle.std.proofs.Common.{◌≡◌, ℕ, Bool, true, List, ◌++◌, Option, Result, Ok, Err, IsErrAnd, refl, ◌∙◌}
 use Rattle.std.proofs.KnownBytes.{Appends-trans}
 use Rattle.std.specs.Io.KnownBytes.{Appends}
-use Rattle.ir_stream.specs.Answers.{AppendsPrefix, WritesOrFails, WritesText}
+use Rattle.ir_stream.specs.Answers.{AppendsPrefix}
+use Rattle.ir_stream.specs.Writing.{WritesOrFails, WritesText}
 use Rattle.ir_stream.proofs.Replies.{prefix_after_whole_text}
 
 -- a call that wrote all, and one that failed

@@ -1,5 +1,5 @@
 -- A machine that answers lines, one after the other.
-use Rattle.std.specs.Prelude.{◌≡◌, ℕ, Bool, true, false, List, [], ◌∷◌, ◌++◌, if◌then◌else◌, length, nat_lt, Ok, Err, OnOk, OnErr, ◌≤◌, ◌==◌, take}
+use Rattle.std.specs.Prelude.{◌≡◌, ℕ, Bool, true, false, List, [], ◌∷◌, ◌++◌, if◌then◌else◌, length, nat_lt, Ok, Err, ◌≤◌, ◌==◌, take}
 use Rattle.std.specs.declared.option.Option.{Option}
 use Rattle.std.specs.Io.KnownBytes.{Appends, Consumes}
 use Rattle.std.specs.declared.result.Result.{Result}
@@ -24,18 +24,6 @@ pub record AppendsPrefix (old new : Option (List ℕ)) (text : List ℕ) : Type 
   pub more : List ℕ
   pub splits : text ≡ part ++ more
   pub grown : Appends old new part
-
--- a call that writes: after an Ok all holds, and the device works if it did; after an Err a part holds, and the device has failed
-pub record WritesOrFails {D A E : Type 0} (broken : D → Bool) (old new : D) (all part : Type 0) (result : Result A E) : Type 0 where
-  pub ok : OnOk result all
-  pub stays : OnOk result (broken new ≡ broken old)
-  pub prefix : OnErr result part
-  pub err : OnErr result (broken new ≡ true)
-
--- a call that writes a text: the device took all of it, or took a prefix of it and has failed
-abbrev pub WritesText : {D A E : Type 0} → (D → Option (List ℕ)) → (D → Bool) → D → D → List ℕ → Result A E → Type 0
-WritesText written broken old new text result =
-    WritesOrFails broken old new (Appends (written old) (written new) text) (AppendsPrefix (written old) (written new) text) result
 
 -- the machine may answer a line so that the writer took a prefix of the answer
 pub record RepliedPrefix {S : Type 0} (R : Replying S) (s : S) (line : List ℕ) (old new : Option (List ℕ)) : Type 0 where
@@ -85,8 +73,7 @@ heard limit input = if nat_lt (length input) limit then lines_of input else (spl
 
 -- how reading the lines of the input ends where no device fails
 abbrev pub ends : (List ℕ → Bool) → ℕ → List ℕ → Result Served Fault
-ends quits limit input = if some_quits quits (heard limit input) then Ok Quit else if nat_lt (length input) limit then Ok InputEnd else Err
-    TooLong
+ends quits limit input = if some_quits quits (heard limit input) then Ok Quit else if nat_lt (length input) limit then Ok InputEnd else Err TooLong
 
 -- the bytes that were read, at most limit, and what holds of them
 pub record ReadsUpTo (limit : ℕ) (old new : Option (List ℕ)) (P : List ℕ → Type 0) : Type 0 where

@@ -3,7 +3,7 @@
 ghost use Rattle.std.specs.Prelude.{◌≡◌, ℕ, Bool, true, ◌≤◌, ◌<◌, List, length, take, IfOk, OnOk, OnErr, [], Ok};
 ghost use Rattle.std.specs.declared.option.Option.{Option};
 ghost use Rattle.std.specs.Io.KnownBytes.{Keeps, Appends, Consumes, IsAtEnd};
-ghost use Rattle.ir_stream.specs.Answers.{WritesText};
+ghost use Rattle.ir_stream.specs.Writing.{WritesText};
 
 /// A device failed, and stays so.
 #[derive(Clone, Copy, Debug, PartialEq, Eq)]

@@ -3,7 +3,8 @@ use Rattle.std.proofs.Common.{◌≡◌, ℕ, List, [], ◌++◌, Option, Bool, 
 use Rattle.std.specs.Io.KnownBytes.{Appends}
 use Rattle.std.proofs.KnownBytes.{Appends-nil, Appends-trans}
 use Rattle.ir_stream.proofs.CallerLemmas.{prefix_after_whole_text, prefix_of_longer_text, all_written, part_written}
-use Rattle.ir_stream.specs.Answers.{AppendsPrefix, WritesText}
+use Rattle.ir_stream.specs.Answers.{AppendsPrefix}
+use Rattle.ir_stream.specs.Writing.{WritesText}
 use Rattle.ir_text.specs.Buffered.{Buffered}
 
 -- nothing was written yet

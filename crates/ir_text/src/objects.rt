@@ -6,7 +6,7 @@ ghost use Rattle.ir_image.specs.Guest.{most_threads, most_object_words};
 ghost use Rattle.ir_thread.specs.State.{held_at};
 ghost use Rattle.ir_flat.specs.Flat.{idle};
 ghost use Rattle.ir_flat.specs.Room.{object_with};
-ghost use Rattle.ir_stream.specs.Answers.{WritesText};
+ghost use Rattle.ir_stream.specs.Writing.{WritesText};
 ghost use Rattle.ir_text.specs.Texts.{joined, inside_for, words_text, object_text};
 ghost use Rattle.ir_text.specs.Held.{held_by, state_line};
 

@@ -2,7 +2,8 @@
 
 ghost use Rattle.std.specs.Prelude.{◌≤◌, OnOk};
 ghost use Rattle.arrayvec.specs.ArrayVec.{array_vec_len};
-ghost use Rattle.ir_stream.specs.Answers.{AppendsPrefix, WritesOrFails};
+ghost use Rattle.ir_stream.specs.Answers.{AppendsPrefix};
+ghost use Rattle.ir_stream.specs.Writing.{WritesOrFails};
 ghost use Rattle.ir_text.specs.Buffered.{Buffered};
 
 use crate::text::Text;

@@ -5,7 +5,7 @@ ghost use Rattle.arrayvec.specs.ArrayVec.{array_vec_len};
 ghost use Rattle.ir_isa.specs.Fields.{register_name};
 ghost use Rattle.ir_text.specs.Texts.{hex_word, reason_text, refusal_text, registers_text, machine_text, number_line};
 ghost use Rattle.ir_text.specs.Parts.{register_text};
-ghost use Rattle.ir_stream.specs.Answers.{WritesText};
+ghost use Rattle.ir_stream.specs.Writing.{WritesText};
 
 use arrayvec::ArrayVec;
 use ir_command::Refusal;

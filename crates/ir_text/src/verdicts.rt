@@ -4,7 +4,7 @@ ghost use Rattle.std.specs.Prelude.{◌≡◌, ◌≤◌, ◌+◌, ◌++◌, len
 ghost use Rattle.arrayvec.specs.ArrayVec.{array_vec_len};
 ghost use Rattle.ir_text.specs.Texts.{thread_verdict_text, threads_text, verdict_text};
 ghost use Rattle.ir_text.specs.Parts.{thread_line, header_text, incoherent_text};
-ghost use Rattle.ir_stream.specs.Answers.{WritesText};
+ghost use Rattle.ir_stream.specs.Writing.{WritesText};
 
 use crate::text::{Text, put_number};
 use ir_fit::{Cause, HeaderCause, Verdict};

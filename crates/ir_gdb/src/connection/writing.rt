@@ -1,7 +1,7 @@
 //! Acknowledgements and packets as they are written.
 
 ghost use Rattle.std.specs.Prelude.{◌≡◌, ◌≤◌, length, IfErr};
-ghost use Rattle.ir_stream.specs.Answers.{WritesText};
+ghost use Rattle.ir_stream.specs.Writing.{WritesText};
 ghost use Rattle.ir_packet.specs.Packets.{packet_of};
 ghost use Rattle.ir_packet.specs.Replies.{reply_text, output_text};
 ghost use Rattle.ir_gdb.specs.Connection.{sent, sign, answer_text};

@@ -2,7 +2,8 @@
 
 ghost use Rattle.std.specs.Prelude.{◌≡◌, Ok, None, IfNone, IfSome};
 ghost use Rattle.std.specs.Io.KnownBytes.{Appends};
-ghost use Rattle.ir_stream.specs.Answers.{AppendsPrefix, WritesOrFails};
+ghost use Rattle.ir_stream.specs.Answers.{AppendsPrefix};
+ghost use Rattle.ir_stream.specs.Writing.{WritesOrFails};
 ghost use Rattle.ir_debug.specs.Debugging.{IsAnswer};
 ghost use Rattle.ir_gdb.specs.Serving.{debugging_of};
 ghost use Rattle.ir_gdb.specs.Connection.{Responds, with_desk};

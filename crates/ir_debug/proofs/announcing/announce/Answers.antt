@@ -1,6 +1,6 @@
 use Rattle.std.proofs.Common.{ℕ, ap, subst, sym, ◌∙◌}
 use Rattle.std.specs.Prelude.{Option, codes, unwrap_or}
-use Rattle.ir_stream.specs.Answers.{WritesText}
+use Rattle.ir_stream.specs.Writing.{WritesText}
 use Rattle.ir_text.specs.Texts.{number_line}
 use Rattle.ir_debug.specs.Machine.{opening_text}
 use Rattle.ir_debug.specs.Openings.{opening_of}

@@ -1,5 +1,5 @@
 use Rattle.std.proofs.Common.{◌≤◌, ◌∙◌, length, ap, subst, refl, arith}
-use Rattle.ir_stream.specs.Answers.{WritesText}
+use Rattle.ir_stream.specs.Writing.{WritesText}
 use Rattle.std.proofs.lemmas.List.{length-take}
 use Rattle.ir_image.specs.Guest.{object_words}
 use Rattle.ir_debug.specs.Debugging.{Debugging}

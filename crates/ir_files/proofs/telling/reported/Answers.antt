@@ -2,7 +2,7 @@ use Rattle.std.proofs.Common.{◌≡◌, ◌++◌, List, ℕ, [], ◌∷◌, sym
 use Rattle.std.specs.Prelude.{Option, codes}
 use Rattle.std.specs.Io.KnownBytes.{Appends}
 use Rattle.std.proofs.KnownBytes.{Appends-trans}
-use Rattle.ir_stream.specs.Answers.{WritesText}
+use Rattle.ir_stream.specs.Writing.{WritesText}
 use Rattle.ir_stream.proofs.CallerLemmas.{prefix_of_longer_text, fails_with_handed_on_error, writes_text_after_first_part}
 use Rattle.ir_files.specs.Writers.{named_fault}
 use Rattle.ir_files.specs.Shown.{shown}

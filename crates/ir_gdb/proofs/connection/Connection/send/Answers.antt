@@ -1,5 +1,5 @@
 use Rattle.std.proofs.Common.{◌≡◌, ◌∙◌, ◌++◌, ℕ, List, ap, subst}
-use Rattle.ir_stream.specs.Answers.{WritesText}
+use Rattle.ir_stream.specs.Writing.{WritesText}
 use Rattle.ir_packet.specs.Packets.{packet_of}
 use Rattle.ir_gdb.specs.Connection.{Connecting}
 use Rattle.ir_gdb.proofs.connection.Connection.send.Goals as goal
