@@ -104,3 +104,12 @@ drop_begins_with_element (x ∷ xs) (suc i) d lt = drop_begins_with_element xs i
 pub on_err_if_holds : {A E P : Type 0} (result : Result A E) → P → OnErr result P
 on_err_if_holds (Ok x) h = tt
 on_err_if_holds (Err e) h = h
+
+-- what follows from what holds at an error, or on success
+pub on_err_weaker : {A E P Q : Type 0} (result : Result A E) → (P → Q) → OnErr result P → OnErr result Q
+on_err_weaker (Ok x) f h = tt
+on_err_weaker (Err e) f h = f h
+
+pub on_ok_weaker : {A E P Q : Type 0} (result : Result A E) → (P → Q) → OnOk result P → OnOk result Q
+on_ok_weaker (Ok x) f h = f h
+on_ok_weaker (Err e) f h = tt
