@@ -1,10 +1,9 @@
 -- States whose numbers are in two lists, while these grow.
-use Rattle.std.proofs.Common.{◌≡◌, ◌⊎◌, ◌+◌, ◌≤◌, ℕ, List, [], ◌∷◌, ◌++◌, length, length-append, take, drop, map, refl, sym, ap, ◌∙◌, subst, arith}
+use Rattle.std.proofs.Common.{◌≡◌, ◌⊎◌, ◌+◌, ◌≤◌, ℕ, List, [], ◌∷◌, ◌++◌, length, length-append, take, drop, map, refl, ap, ◌∙◌, arith}
 use Rattle.std.specs.List.{AllByRecursion}
 use Rattle.std.proofs.lemmas.List.{take-append-le, drop-append-le, length-drop, map_push}
 use Rattle.std.proofs.Math.Seq.{drop-append_seam, take-length}
 use Rattle.ir_store.specs.declared.spot.Spot.{Spot}
-use Rattle.ir_store.specs.Nodes.{Node}
 use Rattle.ir_store.specs.Places.{Place, part, node_at, IsPlaced}
 use Rattle.ir_store.proofs.Lists.{all_by_recursion_after_put, all_by_recursion_weaker}
 

@@ -1,5 +1,5 @@
 -- States whose numbers are in two lists.
-use Rattle.std.specs.Prelude.{ℕ, List, [], ◌+◌, ◌≤◌, length, take, drop}
+use Rattle.std.specs.Prelude.{ℕ, List, [], ◌+◌, ◌≤◌, take, drop}
 use Rattle.ir_store.specs.declared.spot.Spot.{Spot}
 use Rattle.ir_store.specs.Nodes.{Node}
 

@@ -67,6 +67,16 @@ impl<'a> Kept<'a> {
         &self.threads[first..first + place.threads as usize]
     }
 
+    /// The number of a state's thread.
+    pub fn thread(&self, v: usize, t: usize) -> u32
+        requires node { v < length self.now }
+        requires thread { t < length (slice_index_or self.now v no_node).threads }
+        ensures { result ≡ slice_index_or (slice_index_or self.now v no_node).threads t 0 }
+    {
+        let numbers = self.threads(v);
+        numbers[t]
+    }
+
     /// A state's objects.
     pub fn objects(&self, v: usize) -> &[Spot]
         requires { v < length self.now }

@@ -101,8 +101,7 @@ impl<'a> Store<'a> {
         ensures thread { (s : SourcedFlat) → slice_get self.now.items v ≡ Some s → slice_index_or self.now.shared.threads result idle_beside ≡ sourced_thread s t }
         ensures sourced { (s : SourcedFlat) → slice_get self.now.items v ≡ Some s → IsSourced s }
     {
-        let numbers = self.nodes.threads(v);
-        numbers[t] as usize
+        self.nodes.thread(v, t) as usize
     }
 
     /// An object of a state, by numbers.

@@ -1,4 +1,4 @@
-use Rattle.std.proofs.Common.{◌≡◌, ◌++◌, [], ◌∷◌, ap, sym, ◌∙◌, append-nil, map}
+use Rattle.std.proofs.Common.{◌++◌, [], ◌∷◌, ap, sym, ◌∙◌, append-nil, map}
 use Rattle.ir_store.specs.Places.{Place, node_at}
 use Rattle.ir_store.proofs.Lists.{on_err_if_holds, on_err_weaker, on_ok_weaker}
 use Rattle.ir_store.proofs.Placed.{nodes_after_growth, nodes_after_push, placed_after_push}

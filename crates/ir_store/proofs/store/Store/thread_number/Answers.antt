@@ -7,8 +7,8 @@ use Rattle.ir_store.proofs.Lists.{element_of_all_by_recursion, length_map}
 use Rattle.ir_store.proofs.Stored.{state_at_place, node_is, state_is, thread_is}
 use Rattle.ir_store.proofs.store.Store.thread_number.Goals as goal
 
-pub index-requires : goal.index-requires
-index-requires c =
+pub thread-requires-clause-thread : goal.thread-requires-clause-thread
+thread-requires-clause-thread c =
     let shared : Shared = record { threads = c.self.inside.table.items; words = c.self.inside.words } in
     let nodes = c.self.inside.nodes in
     let node : Node = get_or nodes c.args.v no_node in
@@ -17,8 +17,7 @@ index-requires c =
     (state_at_place shared nodes c.args.v less) in
     let few = c.requires.thread (sourced_in shared node) there in
     let many = length_map (λ n. (get_or shared.threads n idle_beside).0) node.threads in
-    let e = ap length c.threads-numbers.ensures in
-    omega (arith, few, many, e)
+    omega (arith, few, many)
 
 pub returns-clause-within : goal.returns-clause-within
 returns-clause-within c =
@@ -31,11 +30,11 @@ returns-clause-within c =
     let few = c.requires.thread (sourced_in shared node) there in
     let many = length_map (λ n. (get_or shared.threads n idle_beside).0) node.threads in
     let is = node_is shared nodes c.self.invariant c.args.v node less refl (sourced_in shared node) here in
-    let one = c.index.ensures ∙ ap (λ xs. get_or xs c.args.t c.index.result.now) c.threads-numbers.ensures in
-    let in_here : c.index.result.now < length shared.threads =
+    let one = c.thread.ensures in
+    let in_here : c.thread.result < length shared.threads =
     subst (λ n. n < length shared.threads) (sym one)
-    (element_of_all_by_recursion (λ n. n < length shared.threads) node.threads c.args.t c.index.result.now is.within.threads (omega (arith, few, many))) in
-    subst (λ (z : Stored). c.index.result.now < length z.shared.threads) c.self.view_is in_here
+    (element_of_all_by_recursion (λ n. n < length shared.threads) node.threads c.args.t 0 is.within.threads (omega (arith, few, many))) in
+    subst (λ (z : Stored). c.thread.result < length z.shared.threads) c.self.view_is in_here
 
 pub returns-clause-thread : goal.returns-clause-thread
 returns-clause-thread c = λ f at.
@@ -47,9 +46,9 @@ returns-clause-thread c = λ f at.
     let few = c.requires.thread f at in
     let state = state_is shared nodes c.self.invariant c.args.v node less refl f there in
     let many = sym (length_map (λ n. (get_or shared.threads n idle_beside).0) node.threads) ∙ ap (λ (z : SourcedFlat). length z.flat.threads) state in
-    let one = c.index.ensures ∙ ap (λ xs. get_or xs c.args.t c.index.result.now) c.threads-numbers.ensures in
-    subst (λ (z : Stored). get_or z.shared.threads c.index.result.now idle_beside ≡ sourced_thread f c.args.t) c.self.view_is
-    (thread_is shared nodes c.self.invariant c.args.v node less refl f there c.args.t c.index.result.now c.index.result.now
+    let one = c.thread.ensures in
+    subst (λ (z : Stored). get_or z.shared.threads c.thread.result idle_beside ≡ sourced_thread f c.args.t) c.self.view_is
+    (thread_is shared nodes c.self.invariant c.args.v node less refl f there c.args.t c.thread.result 0
     (omega (arith, few, many)) one)
 
 pub returns-clause-sourced : goal.returns-clause-sourced
