@@ -10,7 +10,7 @@ use std::alloc::{AllocError, AllocFailed};
 pub enum Stop {
     /// There are as many nodes as there may be.
     Nodes,
-    /// This thread took as many steps between two entries as it may.
+    /// This thread took as many steps without an entry or a try as it may.
     Private(usize),
     /// This thread's log is full, or its budget spent.
     Log(usize),

@@ -13,7 +13,7 @@ use std::marker::Model;
 /// How far a guest is explored, and what answers its threads.
 #[derive(Drop)]
 pub struct ExplorePlan<'a> {
-    /// How many states there may be, and how many steps of a thread up to its next entry.
+    /// How many states there may be, and how many steps of a thread up to its next entry or try.
     pub bounds: Bounds,
     /// The most switches of the thread that enters.
     pub switches: usize,

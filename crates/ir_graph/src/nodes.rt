@@ -25,7 +25,7 @@ use ir_thread::Ask;
 pub struct Bounds {
     /// How many nodes there may be.
     pub nodes: usize,
-    /// How many steps a thread may take from one entry to the next.
+    /// How many steps a thread may take from one entry or try to the next.
     pub private: u64,
 }
 

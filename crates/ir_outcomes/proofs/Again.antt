@@ -1,6 +1,6 @@
 -- Runs of a guest by turns.
 use Rattle.std.proofs.lemmas.Bool.{cases_eq}
-use Rattle.std.proofs.Common.{◌≡◌, ◌≢◌, ◌⊎◌, inl, inr, ℕ, zero, suc, List, [], ◌∷◌, ◌++◌, Bool, true, false, length, map, replicate, append_assoc, ◌+◌, ◌≤◌, arith, refl, sym, ap, ◌∙◌, subst}
+use Rattle.std.proofs.Common.{◌≡◌, ◌≢◌, ◌⊎◌, inl, inr, ℕ, zero, suc, List, [], ◌∷◌, ◌++◌, Bool, length, map, replicate, append_assoc, ◌+◌, ◌≤◌, arith, refl, sym, ap, ◌∙◌, subst}
 use Rattle.ir_runs.specs.Machine.{Machine}
 use Rattle.ir_runs.specs.Run.{State, Step, after, end}
 use Rattle.ir_runs.proofs.CallerLemmas.{end_append}
@@ -12,7 +12,7 @@ use Rattle.ir_graph.specs.Plain.{full_by, full_of, IsAnsweredRun}
 use Rattle.ir_graph.specs.Reached.{beginning}
 use Rattle.ir_graph.specs.Setup.{Setup, start_of}
 use Rattle.ir_graph.specs.Turn.{GoesAlone}
-use Rattle.ir_graph.proofs.CallerLemmas.{like_reflexive, like_transitive, like_after_going_alone, answered_run_append, goes_alone_in_turns}
+use Rattle.ir_graph.proofs.CallerLemmas.{like_reflexive, like_transitive, like_after_going_alone, answered_run_append, goes_alone_in_turns, replicate_of_sum}
 use Rattle.ir_explore.proofs.CallerLemmas.{switches_after_repeated_turn, switches_of_replicated_thread}
 use Rattle.ir_record.specs.Recording.{turns_of_items}
 use Rattle.ir_record.specs.Refusing.{Turn, InTurns}
@@ -23,12 +23,6 @@ use Rattle.ir_thread.specs.State.{most_budget}
 use Rattle.std.proofs.lemmas.List.{flat_map_more, append-nil}
 use Rattle.std.proofs.lemmas.List.FromFn.{length-map-range_with_len}
 use Rattle.ir_outcomes.specs.Again.{IsAgain, IsAgainWithin}
-
-replicate_of_sum : (t n k : ℕ) → replicate (n + k) t ≡ replicate n t ++ replicate k t
-replicate_of_sum t zero k = let e : zero + k ≡ k = omega arith in ap (λ z. replicate z t) e
-replicate_of_sum t (suc n) k =
-    let e : suc n + k ≡ suc (n + k) = omega arith in
-    ap (λ z. replicate z t) e ∙ (λ i. t ∷ replicate_of_sum t n k i)
 
 -- ---- runs by turns
 

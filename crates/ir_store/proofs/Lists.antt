@@ -1,6 +1,6 @@
 -- Lists that are compared, and numbers in a table.
 use Rattle.std.proofs.Common.{◌≡◌, ◌⊎◌, inl, inr, ◌<◌, ◌≤◌, ◌+◌, ℕ, zero, suc, List, [], ◌∷◌, ◌++◌, length, take, get_or, map, refl, sym, ap, ◌∙◌, subst, arith, Some}
-use Rattle.std.specs.Prelude.{slice_get, Result, Ok, Err, OnErr, IfOk, drop}
+use Rattle.std.specs.Prelude.{slice_get, Result, Ok, Err, OnErr, OnOk, IfOk, drop}
 use Rattle.std.specs.List.{AllByRecursion}
 use Rattle.std.proofs.lemmas.List.{take_more, take_all, map_push}
 use Rattle.std.proofs.lemmas.Option.{slice_get-get_or, get_or_from_slice_get, slice_get_within}
@@ -104,3 +104,12 @@ drop_begins_with_element (x ∷ xs) (suc i) d lt = drop_begins_with_element xs i
 pub on_err_if_holds : {A E P : Type 0} (result : Result A E) → P → OnErr result P
 on_err_if_holds (Ok x) h = tt
 on_err_if_holds (Err e) h = h
+
+-- what follows from what holds at an error, or on success
+pub on_err_weaker : {A E P Q : Type 0} (result : Result A E) → (P → Q) → OnErr result P → OnErr result Q
+on_err_weaker (Ok x) f h = tt
+on_err_weaker (Err e) f h = f h
+
+pub on_ok_weaker : {A E P Q : Type 0} (result : Result A E) → (P → Q) → OnOk result P → OnOk result Q
+on_ok_weaker (Ok x) f h = f h
+on_ok_weaker (Err e) f h = tt

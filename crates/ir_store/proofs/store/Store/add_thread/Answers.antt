@@ -13,13 +13,13 @@ pub invariant_of-self : goal.invariant_of-self
 invariant_of-self c =
     let old : Shared = record { threads = c.self.inside.table.items; words = c.self.inside.words } in
     let new : Shared = record { threads = c.add.new.self.items; words = c.self.inside.words } in
-    nodes_grown old new (record { threads = c.add.ensures.keeps; words = λ n s e. e }) c.self.inside.nodes.items c.self.invariant
+    nodes_grown old new (record { threads = c.add.ensures.keeps; words = λ n s e. e }) c.self.inside.nodes c.self.invariant
 
 pub returns-clause-items : goal.returns-clause-items
 returns-clause-items c =
     let old : Shared = record { threads = c.self.inside.table.items; words = c.self.inside.words } in
     let new : Shared = record { threads = c.add.new.self.items; words = c.self.inside.words } in
-    states_grown old new (record { threads = c.add.ensures.keeps; words = λ n s e. e }) c.self.inside.nodes.items c.self.invariant
+    states_grown old new (record { threads = c.add.ensures.keeps; words = λ n s e. e }) c.self.inside.nodes c.self.invariant
     ∙ ap (λ (z : Stored). z.items) c.self.view_is
 
 pub returns-clause-within : goal.returns-clause-within
