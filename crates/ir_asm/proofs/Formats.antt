@@ -5,6 +5,7 @@ use Rattle.std.specs.List.{list_all}
 use Rattle.std.specs.Fmt.{signed_decimal}
 use Rattle.std.proofs.lemmas.Bool.{and_parts}
 use Rattle.std.proofs.lemmas.Grind.{common_steps}
+use Rattle.ir_lemmas.proofs.CallerLemmas.{conjunction_with_false}
 use Rattle.ir_isa.specs.Fields.{register_name}
 use Rattle.ir_isa.specs.Words.{word_of}
 use Rattle.ir_isa.specs.declared.inst.Inst.TheVariants.{OpImm, Op}
@@ -37,10 +38,6 @@ use Rattle.ir_asm.proofs.FieldLaws.{immediate_of_own_value}
 use Rattle.ir_asm.proofs.Statements.{Says, line_that_says_word_assembles}
 
 -- ---- tails
-
-conjunction_with_false : (b : Bool) → (b && false) ≡ false
-conjunction_with_false true = refl
-conjunction_with_false false = refl
 
 pub trim_end_under_prefix : (x y z : List ℕ) → trim_end y ≡ z → is_nil z ≡ false → trim_end (x ++ y) ≡ x ++ z
 trim_end_under_prefix [] y z e n = e

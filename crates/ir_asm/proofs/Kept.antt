@@ -5,6 +5,7 @@ use Rattle.std.specs.List.{AllByRecursion}
 use Rattle.std.proofs.lemmas.Bool.{ltb-true}
 use Rattle.std.proofs.lemmas.Option.{same_Some}
 use Rattle.std.proofs.lemmas.List.{length-replicate, length-append, length-take-le, length-drop}
+use Rattle.ir_lemmas.proofs.CallerLemmas.{all_by_recursion_after_push, ok_is_injective}
 use Rattle.ir_image.specs.declared.form.ImageForm.{ImageForm}
 use Rattle.ir_image.specs.declared.form.ImageForm.TheVariants.{Small, Large}
 use Rattle.ir_image.specs.Guest.{limits_of, Guest, code_start, object_words, padded_to}
@@ -26,7 +27,7 @@ use Rattle.ir_asm.specs.Answered.{Answers, refused}
 use Rattle.ir_asm.specs.Source.{Seen, Fault, same_section, at_line}
 use Rattle.ir_asm.specs.Passes.{put, distance_to, value_of, text_address, with_code, with_object, second_pass}
 use Rattle.ir_asm.specs.Bounds.{HasFewWords}
-use Rattle.ir_asm.proofs.Steps.{ok_is_injective, parts_of_ok_bind, test_and_value_of_ok_unless, some_if_or_cause_is_ok}
+use Rattle.ir_asm.proofs.Steps.{parts_of_ok_bind, test_and_value_of_ok_unless, some_if_or_cause_is_ok}
 
 -- how many bytes of code an item is
 abbrev pub code_size : Item → ℕ
@@ -54,10 +55,6 @@ IsTextPlace Data address = Unit {0}
 -- all labels in text are places there
 abbrev pub LabelsFit : List (List ℕ × Place) → Type 0
 LabelsFit labels = AllByRecursion (λ l. IsTextPlace l.1.section l.1.address) labels
-
-pub all_by_recursion_after_push : {X : Type 0} (P : X → Type 0) (xs : List X) (x : X) → AllByRecursion P xs → P x → AllByRecursion P (xs ++ x ∷ [])
-all_by_recursion_after_push P [] x h p = (p, tt)
-all_by_recursion_after_push P (y ∷ ys) x h p = (h.0, all_by_recursion_after_push P ys x h.1 p)
 
 -- what holds beside all names holds beside one
 pub holds_beside_found_name : {A : Type 0} (P : A → Type 0) (rows : List (List ℕ × A)) (name : List ℕ) (x : A) → AllByRecursion (λ r. P r.1) rows

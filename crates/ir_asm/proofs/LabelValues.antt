@@ -3,6 +3,7 @@ use Rattle.std.proofs.Common.{◌≡◌, ◌+◌, ◌*◌, ◌++◌, ℕ, Bool, 
 use Rattle.std.specs.Prelude.{nat_lt, nat_le, bytes_eq, if◌then◌else◌}
 use Rattle.std.specs.List.{list_any, list_all}
 use Rattle.std.proofs.lemmas.Slice.Eq.{bytes_eq-Decides}
+use Rattle.ir_lemmas.proofs.CallerLemmas.{ok_is_injective}
 use Rattle.ir_image.specs.declared.form.ImageForm.{ImageForm}
 use Rattle.ir_image.specs.declared.form.ImageForm.TheVariants.{Small}
 use Rattle.ir_image.specs.Guest.{limits_of, memory_size, most_code_words}
@@ -25,7 +26,7 @@ use Rattle.ir_asm.specs.Names.{named}
 use Rattle.ir_asm.specs.Text.{is_name, is_nil}
 use Rattle.ir_asm.specs.Source.{Seen, nothing_seen, start_of, size_in, same_section, size_of, here, is_source_byte, at_line, name_of, operand_texts, may_stand, item_with, item_in, begun, grown, laid, entered, with_labels, with_statement, with_line, line_of, first_pass}
 use Rattle.ir_asm.specs.Standing.{item_or_nothing, placed_by, section_after, section_at_end, bytes_placed, place_after}
-use Rattle.ir_asm.proofs.Steps.{ok_if_at_line_is_ok, ok_is_injective, parts_of_ok_bind, parts_of_ok_unless, test_and_value_of_ok_unless}
+use Rattle.ir_asm.proofs.Steps.{ok_if_at_line_is_ok, parts_of_ok_bind, parts_of_ok_unless, test_and_value_of_ok_unless}
 
 -- ---- an item
 

@@ -2,6 +2,7 @@
 use Rattle.std.proofs.Common.{◌≡◌, ◌+◌, ◌*◌, ◌≤◌, ◌<◌, ℕ, List, [], ◌∷◌, ◌++◌, Ok, not, is_some, refl, ap, subst, arith}
 use Rattle.std.specs.Prelude.{nat_le, nat_lt}
 use Rattle.std.specs.List.{AllByRecursion, list_all}
+use Rattle.ir_lemmas.proofs.CallerLemmas.{all_by_recursion_after_push, ok_is_injective}
 use Rattle.ir_image.specs.Guest.{limits_of, memory_size, most_code_words}
 use Rattle.ir_asm.specs.Forms.{stated}
 use Rattle.ir_asm.specs.declared.cause.Cause.TheVariants.{LabelTwice, BadByte, BadLabel, BadSize, BadCount}
@@ -14,8 +15,7 @@ use Rattle.ir_asm.specs.Names.{named}
 use Rattle.ir_asm.specs.Text.{is_name}
 use Rattle.ir_asm.specs.Source.{Seen, nothing_seen, size_of, here, is_source_byte, at_line, grown, laid, placed_at, entered, begun, with_labels, with_statement, with_line, line_of, first_pass, item_in}
 use Rattle.ir_asm.specs.Placing.{AreInOrder}
-use Rattle.ir_asm.proofs.Steps.{ok_if_at_line_is_ok, ok_is_injective, parts_of_ok_bind, parts_of_ok_unless, test_and_value_of_ok_unless}
-use Rattle.ir_asm.proofs.Kept.{all_by_recursion_after_push}
+use Rattle.ir_asm.proofs.Steps.{ok_if_at_line_is_ok, parts_of_ok_bind, parts_of_ok_unless, test_and_value_of_ok_unless}
 
 -- in order, and all before a line
 abbrev pub AreInOrderBefore : ℕ → List Placed → Type 0

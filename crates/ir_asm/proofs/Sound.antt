@@ -5,6 +5,7 @@ use Rattle.std.specs.List.{AllByRecursion, sum_by, list_all}
 use Rattle.std.proofs.lemmas.Bool.{ltb-true, leb-true, eqb-false}
 use Rattle.std.proofs.lemmas.List.{length-append, length-replicate}
 use Rattle.std.proofs.lemmas.List.Sums.{sum_by-append}
+use Rattle.ir_lemmas.proofs.CallerLemmas.{all_by_recursion_after_push, left_of_true_and, right_of_true_and, ok_is_injective}
 use Rattle.byteorder.specs.Endian.{little_bytes}
 use Rattle.ir_image.specs.declared.form.ImageForm.{ImageForm}
 use Rattle.ir_image.specs.declared.form.ImageForm.TheVariants.{Large}
@@ -32,13 +33,8 @@ use Rattle.ir_asm.specs.Items.{values, item_of}
 use Rattle.ir_asm.specs.Source.{Seen, nothing_seen, size_of, here, start_of, size_in, is_source_byte, at_line, grown, laid, placed_at, entered, with_labels, with_statement, with_line, line_of, first_pass, may_stand, item_in, begun, name_of, operand_texts}
 use Rattle.ir_asm.specs.Passes.{put, second_pass, started, with_entry, guest_of}
 use Rattle.ir_asm.specs.Bounds.{HasFewWords, HaveFewWords, HasLimits}
-use Rattle.ir_asm.proofs.Steps.{ok_if_at_line_is_ok, ok_is_injective, parts_of_ok_bind, parts_of_ok_unless, test_and_value_of_ok_unless}
-use Rattle.ir_asm.proofs.Kept.{code_size, data_size, entry_count, LabelsFit, IsTextPlace, all_by_recursion_after_push, put_adds_item}
-
--- what holds of each element holds of all
-pub all_hold_if_each_holds : (P : ℕ → Type 0) (xs : List ℕ) → ((i : ℕ) → P (slice_index xs i)) → AllByRecursion P xs
-all_hold_if_each_holds P [] each = tt
-all_hold_if_each_holds P (x ∷ xs) each = (each 0, all_hold_if_each_holds P xs (λ i. each (suc i)))
+use Rattle.ir_asm.proofs.Steps.{ok_if_at_line_is_ok, parts_of_ok_bind, parts_of_ok_unless, test_and_value_of_ok_unless}
+use Rattle.ir_asm.proofs.Kept.{code_size, data_size, entry_count, LabelsFit, IsTextPlace, put_adds_item}
 
 -- ---- what a statement of a section may be
 
@@ -67,14 +63,6 @@ length_of_values bits (Integer z ∷ xs) = omega (arith, length_of_values bits x
 length_of_values bits (Index r ∷ xs) = omega (arith, length_of_values bits xs)
 length_of_values bits (Offset z r ∷ xs) = omega (arith, length_of_values bits xs)
 length_of_values bits (Symbol label ∷ xs) = omega (arith, length_of_values bits xs)
-
-left_of_true_and : (a b : Bool) → (a && b) ≡ true → a ≡ true
-left_of_true_and true b e = refl
-left_of_true_and false b e = e
-
-right_of_true_and : (a b : Bool) → (a && b) ≡ true → b ≡ true
-right_of_true_and true b e = e
-right_of_true_and false b e = absurd (true≢false (sym e))
 
 -- an object has no more first words than words
 object_words_within_limit : (image : ImageForm) (texts : List (List ℕ)) (z : ℤ) (xs : List Operand) → operands_of (Object image) texts ≡ Ok (Integer z ∷ xs)

@@ -338,11 +338,6 @@ can_step_unless_at_rest tries f t e = unrest_ask_is_admitted tries (machine f) (
 
 -- ---- steps that are taken
 
--- there was the step, so it was taken
-pub on_ok_holds_if_can : {X E : Type 0} (result : Result X E) (P Q : Type 0) → P → OnErr result (P → ⊥) → OnOk result Q → Q
-on_ok_holds_if_can (Ok x) P Q p err ok = ok
-on_ok_holds_if_can (Err e) P Q p err ok = absurd (err p)
-
 -- what is no try enters nothing
 pub no_try_enters_if_free : (f : Flat) (t r : ℕ) (q : Ask) → q ≡ ask_of f.code (thread_of f t) → IsNoTry q
     → EntersIfFree (machine f) (tables f) (t, r)

@@ -24,11 +24,6 @@ found_none p xs i same l = sym same ∙ at_drop_all (λ z. find p z) xs i l
 
 -- ---- what holds of all
 
--- so with one more
-pub all_more : {A : Type 0} (P : A → Type 0) (xs : List A) (x : A) → AllByRecursion P xs → P x → AllByRecursion P (xs ++ x ∷ [])
-all_more P [] x all one = (one, tt)
-all_more P (y ∷ ys) x all one = (all.0, all_more P ys x all.1 one)
-
 by_kept : {A : Type 0} (P : A → Type 0) (x : A) (xs : List A) (b : Bool) → P x → AllByRecursion P xs → AllByRecursion P (cond b (x ∷ xs) xs)
 by_kept P x xs true one others = (one, others)
 by_kept P x xs false one others = others

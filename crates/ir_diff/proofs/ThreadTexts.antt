@@ -3,6 +3,7 @@ use Rattle.std.proofs.Common.{◌≡◌, ℕ, zero, suc, ◌+◌, ◌⊎◌, inl
 use Rattle.std.specs.Prelude.{slice_get, flat_map}
 use Rattle.std.proofs.lemmas.List.{length_push, flat_map_more}
 use Rattle.std.proofs.lemmas.Option.{same_Some, none-some}
+use Rattle.ir_lemmas.proofs.CallerLemmas.{slice_get_after_push_cases}
 use Rattle.ir_runs.specs.Machine.{In}
 use Rattle.ir_runs.specs.Run.{At}
 use Rattle.ir_runs.specs.declared.access.Access.{Access}
@@ -53,16 +54,6 @@ pub record AreTexts (a b : Recorded) (c : List ℕ) (n : ℕ) (text : List ℕ) 
   pub each : length texts ≡ n
   pub threads : (t : ℕ) (own : List ℕ) → slice_get texts t ≡ Some own → IsThreadText a b (counts_of c) t own
   pub lines : text ≡ common_line c ++ (budget_line a.budget b.budget ++ flat_map (λ own. own) texts)
-
-slice_get_after_push_cases : {X : Type 0} (rows : List X) (x : X) (k : ℕ) (y : X) → slice_get (rows ++ x ∷ []) k ≡ Some y
-    → (slice_get rows k ≡ Some y) ⊎ ((k ≡ length rows) × (x ≡ y))
-slice_get_after_push_cases [] x zero y is = inr (refl, same_Some x y is)
-slice_get_after_push_cases [] x (suc k) y is = absurd (none-some y is)
-slice_get_after_push_cases (z ∷ rows) x zero y is = inl is
-slice_get_after_push_cases (z ∷ rows) x (suc k) y is = elim (slice_get_after_push_cases rows x k y is) [
-  | inl old ↦ inl old
-  | inr new ↦ inr (ap suc new.0, new.1)
-]
 
 pub thread_texts_step : (a b : Recorded) (c : List ℕ) (n : ℕ) (text own new : List ℕ) → AreTexts a b c n text
     → IsThreadText a b (counts_of c) n own → new ≡ text ++ own → AreTexts a b c (n + 1) new

@@ -163,7 +163,3 @@ guest_within_limits_is_guest g h code bytes words = record {
 }
 
 -- ---- numbers of a type
-
-pub all_hold_if_each_holds : (P : ℕ → Type 0) (xs : List ℕ) → ((i : ℕ) → P (slice_index xs i)) → AllByRecursion P xs
-all_hold_if_each_holds P [] each = tt
-all_hold_if_each_holds P (x ∷ xs) each = (each 0, all_hold_if_each_holds P xs (λ i. each (suc i)))

@@ -2,6 +2,7 @@
 use Rattle.std.proofs.Common.{◌≡◌, ℕ, suc, zero, ◌<◌, ◌≤◌, Bool, Option, false, true, Some, List, [], ◌∷◌, ◌++◌, ◌⊎◌, inl, inr, length, length-set, length-append, get_or, slice_set, refl, sym, ap, ◌∙◌, subst, arith}
 use Rattle.std.specs.Prelude.{slice_get, replicate}
 use Rattle.std.proofs.lemmas.Option.{same_Some}
+use Rattle.ir_lemmas.proofs.CallerLemmas.{slice_get_after_push_cases, slice_get_kept_by_append, added_element_is_last}
 use Rattle.ir_explore.specs.declared.found.Pending.{Pending}
 use Rattle.ir_explore.specs.declared.origin.Origin.{Origin}
 use Rattle.ir_explore.specs.declared.origin.Refusal.{Refusal}
@@ -9,7 +10,7 @@ use Rattle.ir_explore.specs.Following.{BothWays, Stay, IsOpen, GoesTo, IsFollowe
 use Rattle.ir_explore.specs.Going.{HasNode, IsGoing, IsAfter}
 use Rattle.ir_explore.specs.Origins.{BeginsAt, Spells, Whole, IsReachedBy, AreReached, Adds}
 use Rattle.ir_explore.proofs.Opens.{goes_to_if_notes_kept, Opening, shut_place_opened, open_place_added}
-use Rattle.ir_explore.proofs.Reached.{AllKept, added_element_is_last, slice_get_after_push_cases, slice_get_kept_by_append, place_of_element_is_below_length, reached_by_if_grown, reached_by_after_step, reached_if_notes_kept, reached_after_node_added, table_stays_after_step, after_step_is_in_turn, adds_reflexive, adds_after_node_pushed}
+use Rattle.ir_explore.proofs.Reached.{AllKept, place_of_element_is_below_length, reached_by_if_grown, reached_by_after_step, reached_if_notes_kept, reached_after_node_added, table_stays_after_step, after_step_is_in_turn, adds_reflexive, adds_after_node_pushed}
 
 -- what is so of either way
 pub both_ways : (Q : Bool → Type 0) → Q false → Q true → (refused : Bool) → Q refused

@@ -3,24 +3,12 @@ use Rattle.std.proofs.Common.{◌≡◌, ℕ, suc, zero, ◌<◌, ◌≤◌, Boo
 use Rattle.std.specs.Prelude.{slice_get, replicate}
 use Rattle.std.proofs.lemmas.Bool.{cases_lt}
 use Rattle.std.proofs.lemmas.Option.{same_Some}
+use Rattle.ir_lemmas.proofs.CallerLemmas.{slice_get_after_push_cases, slice_get_kept_by_append, added_element_is_last}
 use Rattle.ir_explore.specs.declared.origin.Origin.{Origin}
 use Rattle.ir_explore.specs.declared.origin.Refusal.{Refusal}
 use Rattle.ir_explore.specs.Following.{BothWays, Keeps, Stay}
 use Rattle.ir_explore.specs.Going.{IsAfter}
 use Rattle.ir_explore.specs.Origins.{Goes, Spells, Whole, Refused, AreWaysOf, BeginsAt, IsReachedBy, AreReached, AreRising, Adds}
-
--- what is at a place of a list with one more
-pub slice_get_after_push_cases : {A : Type 0} (xs : List A) (y : A) (v : ℕ) (n : A) → slice_get (xs ++ y ∷ []) v ≡ Some n
-    → (slice_get xs v ≡ Some n) ⊎ ((v ≡ length xs) × (y ≡ n))
-slice_get_after_push_cases [] y zero n e = inr (refl, same_Some y n e)
-slice_get_after_push_cases [] y (suc v) n e = absurd (cc e)
-slice_get_after_push_cases (x ∷ xs) y zero n e = inl e
-slice_get_after_push_cases (x ∷ xs) y (suc v) n e = elim (slice_get_after_push_cases xs y v n e) [ inl old ↦ inl old | inr p ↦ inr (ap suc p.0, p.1) ]
-
-pub slice_get_kept_by_append : {A : Type 0} (xs ys : List A) (v : ℕ) (n : A) → slice_get xs v ≡ Some n → slice_get (xs ++ ys) v ≡ Some n
-slice_get_kept_by_append [] ys v n e = absurd (cc e)
-slice_get_kept_by_append (x ∷ xs) ys zero n e = e
-slice_get_kept_by_append (x ∷ xs) ys (suc v) n e = slice_get_kept_by_append xs ys v n e
 
 pub place_of_element_is_below_length : {A : Type 0} (xs : List A) (v : ℕ) (n : A) → slice_get xs v ≡ Some n → v < length xs
 place_of_element_is_below_length [] v n e = absurd (cc e)
@@ -80,10 +68,6 @@ reached_after_node_added noted more refusals table nodes new kept stay r by v n 
   | inr p ↦ subst (λ z. IsReachedBy more table (nodes ++ new ∷ []) v z) p.1
       (subst (λ z. IsReachedBy more table (nodes ++ new ∷ []) z new) (sym p.0) by)
 ]
-
-pub added_element_is_last : {A : Type 0} (xs : List A) (y : A) → slice_get (xs ++ y ∷ []) (length xs) ≡ Some y
-added_element_is_last [] y = refl
-added_element_is_last (x ∷ xs) y = added_element_is_last xs y
 
 replicate_and_one_more : (n : ℕ) → replicate n false ++ false ∷ [] ≡ replicate (suc n) false
 replicate_and_one_more zero = refl

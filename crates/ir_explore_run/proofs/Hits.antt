@@ -3,6 +3,7 @@ use Rattle.std.proofs.Common.{◌≡◌, ℕ, ◌<◌, ◌≤◌, true, Some, Li
 use Rattle.std.specs.Prelude.{◌≢◌, Ok}
 use Rattle.std.specs.List.{AllByRecursion}
 use Rattle.std.proofs.lemmas.Bool.{cases_lt}
+use Rattle.ir_lemmas.proofs.CallerLemmas.{same_head, same_tail}
 use Rattle.ir_chaos.specs.Conditions.{Condition}
 use Rattle.ir_flat.proofs.CallerLemmas.{guest_start_is_idle}
 use Rattle.ir_flat.specs.Flat.{start_flat, tables}
@@ -31,12 +32,6 @@ use Rattle.ir_explore_run.specs.Plan.{ExplorePlan, setup_of}
 use Rattle.ir_explore_run.specs.Until.{recording, IsHit, IsHitText, IsFinding}
 use Rattle.ir_explore_run.proofs.Answered.{log_is_answered_by_world}
 use Rattle.ir_explore_run.proofs.Fulfilled.{never_within_level_of_first}
-
-same_head : (x y : ℕ) (xs ys : List ℕ) → x ∷ xs ≡ y ∷ ys → x ≡ y
-same_head x y xs ys e = cc e
-
-same_tail : (x y : ℕ) (xs ys : List ℕ) → x ∷ xs ≡ y ∷ ys → xs ≡ ys
-same_tail x y xs ys e = cc e
 
 -- who steps is one of the guest's threads
 turns_are_of_threads : (code : List ℕ) (n : ℕ) (s : State thread.ThreadState) (turns : List Turn) (steps : List Step) → IsIdle (thread_machine code) s n

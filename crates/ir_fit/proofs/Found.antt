@@ -4,6 +4,7 @@ use Rattle.std.specs.List.{Contains}
 use Rattle.std.proofs.lemmas.Bool.{cases_eq}
 use Rattle.std.proofs.lemmas.List.Elements.{Contains-append_left, Contains-append_right, Contains-append_cases}
 use Rattle.std.proofs.lemmas.List.Sorted.{Contains-permutation, IsPermutation-sym}
+use Rattle.ir_lemmas.proofs.CallerLemmas.{conjuncts_are_true}
 use Rattle.ir_runs.specs.Machine.{Label, In, Out}
 use Rattle.ir_runs.specs.declared.access.Access.{Access}
 use Rattle.ir_runs.specs.declared.access.Access.TheVariants.{Reading, Writing}
@@ -39,11 +40,6 @@ same_access_means_equal Reading Reading h = refl
 same_access_means_equal Reading Writing h = absurd (cc h)
 same_access_means_equal Writing Reading h = absurd (cc h)
 same_access_means_equal Writing Writing h = refl
-
-conjuncts_are_true : (b c : Bool) → (b && c) ≡ true → (b ≡ true) × (c ≡ true)
-conjuncts_are_true true true h = (refl, refl)
-conjuncts_are_true true false h = absurd (cc h)
-conjuncts_are_true false c h = absurd (cc h)
 
 -- at the prefix, or after it
 at_of_join_if : {A : Type 0} (b : Bool) (x y : A) (xs : List A) (i : ℕ) → At (join_if b x xs) i y → ((b ≡ true) × (x ≡ y))

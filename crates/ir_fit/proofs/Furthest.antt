@@ -152,14 +152,6 @@ trace_with_run_is_coherent g r run is =
 
 -- ---- what the code answers
 
--- a list, and one more at its end
-pub slice_get_after_push_cases : {A : Type 0} (xs : List A) (y : A) (t : ℕ) (v : A) → slice_get (xs ++ y ∷ []) t ≡ Some v → (slice_get xs t ≡ Some v)
-    ⊎ ((t ≡ length xs) × (y ≡ v))
-slice_get_after_push_cases [] y zero v h = inr (refl, cc h)
-slice_get_after_push_cases [] y (suc t) v h = absurd (cc h)
-slice_get_after_push_cases (x ∷ xs) y zero v h = inl h
-slice_get_after_push_cases (x ∷ xs) y (suc t) v h = elim (slice_get_after_push_cases xs y t v h) [ inl g ↦ inl g | inr e ↦ inr (ap suc e.0, e.1) ]
-
 -- why the trace of one of the events is no run's
 pub broken_coherence_refuses_trace : (g : Guest) (r : Recorded) → HasHeader g r → (e : FitErr) → BreaksBy r e → IsRefused g r e
 broken_coherence_refuses_trace g r header NoMem b = tt

@@ -1,6 +1,7 @@
 -- Positions of events and leaves along the steps of a thread.
 use Rattle.std.proofs.Common.{◌≡◌, ℕ, zero, suc, ◌+◌, ◌<◌, ◌≤◌, Bool, true, false, List, [], ◌∷◌, ◌++◌, length, length-append, set, Option, Some, None, refl, sym, ap, ◌∙◌, arith, append-nil}
 use Rattle.std.proofs.lemmas.List.Sums.{sum_by-set}
+use Rattle.ir_lemmas.proofs.CallerLemmas.{length_of_append_item}
 use Rattle.ir_thread.specs.Permitted.{Permits, held_count}
 use Rattle.ir_thread.specs.State.{held_at, one_if_held, after_ask, shared_ask}
 use Rattle.ir_thread.specs.State as thread
@@ -114,9 +115,6 @@ room_after_placed_by f t p (End e) = refl
 room_after_placed_by f t p Done = refl
 
 -- ---- how many there are
-
-length_of_append_item : {X : Type 0} (xs : List X) (x : X) → length (xs ++ x ∷ []) ≡ length xs + 1
-length_of_append_item xs x = length-append xs (x ∷ [])
 
 pub entries_count_events_after_placed : (code : List ℕ) (f : Flat) (t : ℕ) (p : Growing) (x : thread.ThreadState) (q : Ask) (r : Reply) → length p.entries ≡ x.events
     → length (placed_by f t p q).entries ≡ (after_ask code x q r).events

@@ -20,6 +20,7 @@ use Rattle.ir_object.specs.Standing.{Admitted}
 use Rattle.ir_flat.specs.Flat.{Flat, thread_of, cell_of, tables, machine, IsFlat}
 use Rattle.ir_flat.proofs.CallerLemmas.{may_step_is_admits, events_added_by}
 use Rattle.std.proofs.lemmas.Option.{slice_get_within}
+use Rattle.ir_lemmas.proofs.CallerLemmas.{found_element_of_all_by_recursion, false_test_refutes}
 use Rattle.ir_log.specs.Logging.{label_of}
 use Rattle.ir_log.specs.Asked.{ask_of as event_ask, Suits}
 use Rattle.ir_log.proofs.CallerLemmas.{ask_of_suiting_call_event as call_asked, ask_of_suiting_entry_event as entry_asked}
@@ -131,11 +132,6 @@ pub labels_ahead_start_with_event : (xs : List Event) (i : ℕ) (e : Event) → 
 labels_ahead_start_with_event [] i e h = absurd (cc h)
 labels_ahead_start_with_event (x ∷ xs) zero e h = let same : x ≡ e = cc h in ap (λ z. label_of z ∷ map label_of xs) same
 labels_ahead_start_with_event (x ∷ xs) (suc i) e h = labels_ahead_start_with_event xs i e h
-
-pub found_element_of_all_by_recursion : {X : Type 0} (P : X → Type 0) (xs : List X) (i : ℕ) (e : X) → AllByRecursion P xs → slice_get xs i ≡ Some e → P e
-found_element_of_all_by_recursion P [] i e all h = absurd (cc h)
-found_element_of_all_by_recursion P (x ∷ xs) zero e all h = let same : x ≡ e = cc h in subst P same all.0
-found_element_of_all_by_recursion P (x ∷ xs) (suc i) e all h = found_element_of_all_by_recursion P xs i e all.1 h
 
 -- a log whose next event suits what is asked
 event_suits_call_if_label_does : (x : Event) (es : List Label) (kind : EnvKind) → verdicts.Suits (machine.Env kind) (label_of x ∷ es) → Suits (Env kind) x
@@ -269,10 +265,6 @@ admitted_entry_that_logs_is_open f t v o a (Write p w l) es rest is suits can h 
       (let e : ◌≡◌ {A = ℕ} (cell_of f o).fields.left l = cc both in e),
       subst (λ z. Admitted z (cell_of f o).fields) access can,
     )
-
--- what isn't so where its test says no
-pub false_test_refutes : (b : Bool) (P : Type 0) → IsTrue b ↔ P → b ≡ false → P → ⊥
-false_test_refutes b P test is h = let so : IsTrue b = test.1 h in cc (is, so)
 
 -- what the test of an object says
 pub found_cell_open_if_test_true : (b : Bool) (found c : Cell) (e : Event) → found ≡ c → IsTrue b ↔ IsOpen found e → b ≡ true → IsOpen c e

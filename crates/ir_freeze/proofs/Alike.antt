@@ -2,6 +2,7 @@
 use Rattle.std.proofs.Common.{◌≡◌, ◌↔◌, ◌<◌, ◌^◌, ℕ, Bool, true, false, List, ◌∷◌, ◌++◌, length, drop, ◌==◌, map, flat_map, refl, sym, ap, ◌∙◌, subst, arith, cond, Option, Some, None, eq-eqb, inl, inr, ◌&&◌}
 use Rattle.std.specs.Prelude.{is_some, is_none, MatchOption, ⊤, find}
 use Rattle.std.proofs.lemmas.List.{append_assoc, length-append}
+use Rattle.ir_lemmas.proofs.CallerLemmas.{same_head, same_tail}
 use Rattle.ir_image.specs.Bounds.{IsWord}
 use Rattle.ir_mach.specs.Core.{memory_size}
 use Rattle.ir_runs.specs.Machine as machine
@@ -16,7 +17,7 @@ use Rattle.ir_thread.specs.declared.end.End.TheVariants as end
 use Rattle.ir_seen.specs.Seen.{Same, view}
 use Rattle.ir_freeze.specs.Frozen.{word, held_byte, end_bytes, changes, is_over, fixed_bytes, going_bytes, frozen}
 use Rattle.ir_freeze.specs.Twins.{AreTwins, IsBounded}
-use Rattle.ir_freeze.proofs.Apart.{cons_heads_equal, cons_tails_equal, append_parts_equal, word_bytes_injective, flat_words_injective, flat_words_length_equal, held_bytes_injective, changes_injective}
+use Rattle.ir_freeze.proofs.Apart.{append_parts_equal, word_bytes_injective, flat_words_injective, flat_words_length_equal, held_bytes_injective, changes_injective}
 use Rattle.ir_freeze.proofs.Back.{length_of_end_bytes, length_of_held_bytes, length_of_fixed_bytes}
 
 -- the ends that aren't exits
@@ -64,9 +65,9 @@ end_bytes_injective : (a b : Option End) → MatchOption a ⊤ (λ e. IsWord (en
     → end_bytes a ≡ end_bytes b → a ≡ b
 end_bytes_injective a b fa fb e =
     let both : optional_end_number a ∷ word (optional_end_code a) ≡ optional_end_number b ∷ word (optional_end_code b) = sym (end_bytes_are_number_and_code a) ∙ e ∙ end_bytes_are_number_and_code b in
-    let n : optional_end_number a ≡ optional_end_number b = cons_heads_equal (optional_end_number a) (optional_end_number b) (word (optional_end_code a)) (word (optional_end_code b)) both in
+    let n : optional_end_number a ≡ optional_end_number b = same_head (optional_end_number a) (optional_end_number b) (word (optional_end_code a)) (word (optional_end_code b)) both in
     let c : optional_end_code a ≡ optional_end_code b = word_bytes_injective (optional_end_code a) (optional_end_code b) (optional_end_code_fits_word a fa) (optional_end_code_fits_word b fb)
-    (cons_tails_equal (optional_end_number a) (optional_end_number b) (word (optional_end_code a)) (word (optional_end_code b)) both) in
+    (same_tail (optional_end_number a) (optional_end_number b) (word (optional_end_code a)) (word (optional_end_code b)) both) in
     sym (optional_end_of_number_and_code a) ∙ (λ i. end_of (n i) (c i)) ∙ optional_end_of_number_and_code b
 
 -- ---- who is over asks nothing
@@ -187,13 +188,13 @@ same_looks_if_flagged_bytes_equal : (code start : List ℕ) → length start ≡
     → cond a (1 ∷ x.output) (0 ∷ going_bytes start x m) ≡ cond b (1 ∷ y.output) (0 ∷ going_bytes start y n)
     → Same code (view x, m) (view y, n)
 same_looks_if_flagged_bytes_equal code start size x y twins bx by m n lm ends true true ox oy e =
-    inr (shared_ask_done_if_over code (view x) ox, shared_ask_done_if_over code (view y) oy, ends, cons_tails_equal 1 1 x.output y.output e)
+    inr (shared_ask_done_if_over code (view x) ox, shared_ask_done_if_over code (view y) oy, ends, same_tail 1 1 x.output y.output e)
 same_looks_if_flagged_bytes_equal code start size x y twins bx by m n lm ends true false ox oy e =
-    absurd (let h = cons_heads_equal 1 0 x.output (going_bytes start y n) e in omega (arith, h))
+    absurd (let h = same_head 1 0 x.output (going_bytes start y n) e in omega (arith, h))
 same_looks_if_flagged_bytes_equal code start size x y twins bx by m n lm ends false true ox oy e =
-    absurd (let h = cons_heads_equal 0 1 (going_bytes start x m) y.output e in omega (arith, h))
+    absurd (let h = same_head 0 1 (going_bytes start x m) y.output e in omega (arith, h))
 same_looks_if_flagged_bytes_equal code start size x y twins bx by m n lm ends false false ox oy e =
-    inl (view_equal_if_going_bytes_equal start size x y twins bx by m n lm ends (cons_tails_equal 0 0 (going_bytes start x m) (going_bytes start y n) e))
+    inl (view_equal_if_going_bytes_equal start size x y twins bx by m n lm ends (same_tail 0 0 (going_bytes start x m) (going_bytes start y n) e))
 
 frozen_bytes_of_over_thread : (start : List ℕ) (s : ThreadState) (m : List ℕ) → is_over s ≡ true → frozen start s m ≡ end_bytes s.ended ++ 1 ∷ s.output
 frozen_bytes_of_over_thread start s m over = ap (λ b. end_bytes s.ended ++ cond b (1 ∷ s.output) (0 ∷ going_bytes start s m)) over

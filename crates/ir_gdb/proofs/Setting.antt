@@ -2,6 +2,7 @@
 use Rattle.std.proofs.Common.{◌≡◌, ◌≤◌, ◌<◌, ◌+◌, ℕ, suc, Bool, true, false, cond, not, ltb, leb, List, [], ◌∷◌, ◌++◌, length, refl, arith, length-append, ltb-true, leb-true}
 use Rattle.std.specs.Prelude.{◌&&◌}
 use Rattle.std.specs.List.{filter, AllByRecursion}
+use Rattle.ir_lemmas.proofs.CallerLemmas.{length_of_append_item}
 use Rattle.ir_mach.specs.Core.{memory_start, memory_size}
 use Rattle.ir_debug.proofs.CallerLemmas.{all_more, all_without, fewer}
 use Rattle.ir_gdb.specs.declared.point.Breakpoint.{Breakpoint}
@@ -10,9 +11,6 @@ use Rattle.ir_gdb.specs.Stub.{Stub, IsStub, IsWatched, most_points, most_watched
 use Rattle.ir_gdb.specs.Setting.{can_watch, is_same_break, is_same_watch, breaks_without, watches_without}
 
 -- ---- a point more
-
-length_of_append_item : {A : Type 0} (xs : List A) (x : A) → length (xs ++ x ∷ []) ≡ length xs + 1
-length_of_append_item xs x = length-append xs (x ∷ [])
 
 pub stub_with_break_is_stub : (s : Stub) (b : Breakpoint) → IsStub s → length s.breaks + length s.watches < most_points
     → IsStub (record s { breaks = s.breaks ++ b ∷ [] })

@@ -1,6 +1,7 @@
 -- Threads that a move meets on its way, one by one.
 use Rattle.std.proofs.Common.{◌≡◌, ◌≢◌, ◌<◌, ◌+◌, ◌-◌, ◌∙◌, ◌⊎◌, ℕ, zero, suc, Bool, true, false, List, inl, inr, refl, sym, ap, subst, arith}
 use Rattle.std.specs.Prelude.{◌&&◌, ◌||◌}
+use Rattle.ir_lemmas.proofs.CallerLemmas.{conjunction_with_false}
 use Rattle.ir_command.specs.declared.command.Direction.{Direction}
 use Rattle.ir_gdb.specs.declared.stopped.Stopped.{Stopped}
 use Rattle.ir_gdb.specs.Stub.{Stub}
@@ -21,10 +22,6 @@ pub is_free_if_next_passes : (s : Stub) (d : Direction) (each : List Stopped) (c
     → passes s d each cut t u ≡ true → is_free s d each cut t (u + 1) ≡ true
 is_free_if_next_passes s d each cut t u so next =
     is_free_step s d each cut t u ∙ ap (λ (b : Bool). b && passes s d each cut t u) so ∙ next
-
-conjunction_with_false : (b : Bool) → (b && false) ≡ false
-conjunction_with_false true = refl
-conjunction_with_false false = refl
 
 not_free_some_threads_later : (s : Stub) (d : Direction) (each : List Stopped) (cut : List ℕ) (t u more : ℕ) → passes s d each cut t u ≡ false
     → is_free s d each cut t (more + (u + 1)) ≡ false

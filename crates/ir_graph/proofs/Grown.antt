@@ -5,6 +5,7 @@ use Rattle.std.specs.List.{slice_index_or}
 use Rattle.std.specs.Global.{Vec}
 use Rattle.std.proofs.lemmas.Bool.{cases_lt}
 use Rattle.std.proofs.lemmas.Option.{same_Some}
+use Rattle.ir_lemmas.proofs.CallerLemmas.{element_below_length_exists}
 use Rattle.ir_image.specs.Guest.{Guest}
 use Rattle.ir_explore.specs.Following.{BothWays}
 use Rattle.ir_states.specs.Outcomes.{Begins}
@@ -30,11 +31,6 @@ use Rattle.ir_graph.proofs.Found.{refused_leads_nowhere_unless_try}
 use Rattle.ir_graph.proofs.Leads.{begins_by_plain_steps, every_number_rests_if_all_rest}
 use Rattle.ir_graph.proofs.Plain.{like_reflexive}
 use Rattle.ir_graph.proofs.Reached.{plain_start_is_reached}
-
-pub element_below_length_exists : {A : Type 0} (xs : List A) (v : ℕ) → v < length xs → (x : A) × (slice_get xs v ≡ Some x)
-element_below_length_exists [] v l = absurd (omega (arith, l))
-element_below_length_exists (x ∷ xs) zero l = (x, refl)
-element_below_length_exists (x ∷ xs) (suc v) l = element_below_length_exists xs v (omega (arith, l))
 
 -- a node that was there before is what it was
 old_node_is_unchanged : (flats new : List SourcedFlat) (v : ℕ) (f : SourcedFlat) → Stay flats new → v < length flats → slice_get new v ≡ Some f → slice_get flats v ≡ Some f

@@ -62,10 +62,6 @@ pub if_some_both : {A : Type 0} (P Q : A → Type 0) (result : Option A) → IfS
 if_some_both P Q None h k = tt
 if_some_both P Q (Some x) h k = (h, k)
 
-pub if_ok_weaker : {A E : Type 0} (P Q : A → Type 0) (result : Result A E) → ((x : A) → P x → Q x) → IfOk result P → IfOk result Q
-if_ok_weaker P Q (Ok x) each h = each x h
-if_ok_weaker P Q (Err e) each h = tt
-
 pub if_err_weaker : {A E : Type 0} (P Q : E → Type 0) (result : Result A E) → ((e : E) → P e → Q e) → IfErr result P → IfErr result Q
 if_err_weaker P Q (Ok x) each h = tt
 if_err_weaker P Q (Err e) each h = each e h

@@ -48,11 +48,6 @@ module _ (x : Setup) (flats : List SourcedFlat) (rows tries : List (Vec (Option 
     marked_by marks ways =
         are_marked x flats (noted_by rows tries) (length rows) graph origins refusals has.reached all asked_each marks ways
 
--- what follows from what is so on success
-pub on_ok : {A E P Q : Type 0} (r : Result A E) → (P → Q) → OnOk r P → OnOk r Q
-on_ok (Ok x) f p = f p
-on_ok (Err e) f p = tt
-
 -- what follows from what is so of an error
 pub if_err : {A E : Type 0} {P Q : E → Type 0} (r : Result A E) → ((e : E) → P e → Q e) → IfErr r P → IfErr r Q
 if_err (Ok x) f p = tt

@@ -4,6 +4,7 @@ use Rattle.std.proofs.lemmas.List.{length-map}
 use Rattle.std.proofs.lemmas.Bool.Decides.{nat_tests}
 use Rattle.std.proofs.lemmas.List.Sums.{sum_by-cons}
 use Rattle.std.specs.List.{All}
+use Rattle.ir_lemmas.proofs.CallerLemmas.{conjunction_with_false}
 use Rattle.ir_image.specs.Guest.{most_threads}
 use Rattle.ir_keep.specs.Pages.{Origin, is_origin, has_origin, different, origins}
 use Rattle.ir_keep.specs.Keeping.{Kept}
@@ -28,10 +29,6 @@ disjunction_associative false b c = refl
 has_origin_in_append : (a : Origin) (xs ys : List Origin) → has_origin a (xs ++ ys) ≡ (has_origin a xs || has_origin a ys)
 has_origin_in_append a [] ys = refl
 has_origin_in_append a (x ∷ xs) ys = ap (λ (b : Bool). is_origin a x || b) (has_origin_in_append a xs ys) ∙ disjunction_associative (is_origin a x) (has_origin a xs) (has_origin a ys)
-
-conjunction_with_false : (b : Bool) → (b && false) ≡ false
-conjunction_with_false true = refl
-conjunction_with_false false = refl
 
 -- a page at an earlier place
 earlier_origin_missing : (source place from : ℕ) (sources : List ℕ) → place < from → has_origin (origin_at source place) (origins from sources) ≡ false

@@ -2,6 +2,7 @@
 use Rattle.std.proofs.Common.{◌≡◌, ◌==◌, ◌&&◌, ◌+◌, ◌*◌, ◌<◌, ℕ, zero, suc, Bool, true, false, if◌then◌else◌, List, [], ◌∷◌, ◌++◌, length, map, take, drop, Option, Some, None, refl, sym, ap, ◌∙◌, arith, get_or, set}
 use Rattle.std.proofs.lemmas.List.{drop_more}
 use Rattle.std.proofs.lemmas.Bool.Decides.{nat_tests}
+use Rattle.ir_lemmas.proofs.CallerLemmas.{conjuncts_are_true}
 use Rattle.ir_keep.specs.Pages.{next_sources, same_bytes}
 use Rattle.ir_keep.specs.Store.{Page, Entry, blank, newer, laid, in_force, changed_page, changed, first_of, handed, AreEntries, IsEntry}
 
@@ -29,10 +30,6 @@ length_of_handed (x ∷ own) [] = refl
 length_of_handed (x ∷ own) (y ∷ given) = ap suc (length_of_handed own given)
 
 -- ---- an entry is made of what changed
-
-conjuncts_are_true : (a b : Bool) → (a && b) ≡ true → (a ≡ true) × (b ≡ true)
-conjuncts_are_true true b e = (refl, e)
-conjuncts_are_true false b e = cc e
 
 pub same_bytes_are_equal : (a b : List ℕ) → same_bytes a b ≡ true → a ≡ b
 same_bytes_are_equal [] [] e = refl

@@ -8,10 +8,8 @@ use Rattle.std.proofs.Math.Nat.{pow-le-pow_right, pow-suc, mul-le-mul_left}
 use Rattle.std.proofs.lemmas.Bool.{lt-ltb}
 use Rattle.std.proofs.lemmas.Int.Digits.{digits_value_more}
 use Rattle.std.proofs.lemmas.List.Folds.{list_all_more}
+use Rattle.ir_lemmas.proofs.CallerLemmas.{and_true_from_both}
 use Rattle.ir_numerals.specs.Digits.{is_digit}
-
-and_true_from_both : (a b : Bool) → a ≡ true → b ≡ true → (a && b) ≡ true
-and_true_from_both a b p q = rw (p, q) refl
 
 pub digit_below_radix : (digit value radix : ℕ) → (value < radix) × (digit ≡ value) → digit < radix
 digit_below_radix digit value radix h = omega arith

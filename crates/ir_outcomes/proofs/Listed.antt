@@ -3,6 +3,7 @@ use Rattle.std.proofs.Common.{◌≡◌, ℕ, zero, suc, ◌+◌, ◌<◌, ◌�
 use Rattle.std.specs.Prelude.{slice_get}
 use Rattle.std.proofs.lemmas.Bool.{cases_lt}
 use Rattle.std.proofs.lemmas.Option.{same_Some}
+use Rattle.ir_lemmas.proofs.CallerLemmas.{element_below_length_exists}
 use Rattle.ir_explore.specs.declared.origin.Origin.{Origin}
 use Rattle.ir_explore.proofs.CallerLemmas.{slice_get_after_push_cases, slice_get_kept_by_append, place_of_element_is_below_length}
 use Rattle.ir_runs.specs.Run.{Step}
@@ -45,12 +46,6 @@ are_shown_step setup flats origins listed many outcomes x s node level shown = r
         (shown f (subst (λ z. slice_get flats z.node ≡ Some f) (sym p.1) at.1))
   ];
 }
-
--- an element at each place
-element_below_length_exists : {A : Type 0} (xs : List A) (i : ℕ) → i < length xs → (x : A) × (slice_get xs i ≡ Some x)
-element_below_length_exists [] i l = absurd (omega (arith, l))
-element_below_length_exists (x ∷ xs) zero l = (x, refl)
-element_below_length_exists (x ∷ xs) (suc i) l = element_below_length_exists xs i (omega (arith, l))
 
 module _ (setup : Setup) (flats : List SourcedFlat) (origins : List Origin) (levels seen : ℕ) (listed : List ℕ) (outcomes : List Shown)
     (searched : AreSearched setup flats origins levels) (within : seen ≤ length origins)

@@ -3,6 +3,7 @@ use Rattle.std.proofs.Common.{◌≡◌, ℕ, zero, suc, ◌<◌, ◌≤◌, Boo
 use Rattle.std.specs.Prelude.{slice_get}
 use Rattle.std.proofs.lemmas.Bool.{cases_lt}
 use Rattle.std.proofs.lemmas.Option.{same_Some, slice_get_within}
+use Rattle.ir_lemmas.proofs.CallerLemmas.{element_below_length_exists}
 use Rattle.ir_explore.specs.declared.origin.Origin.{Origin}
 use Rattle.ir_explore.specs.Following.{IsOpen}
 use Rattle.ir_explore.specs.Origins.{AreRising}
@@ -49,11 +50,6 @@ hang_shown_if_cannot_end setup s level turns shown lost =
       taken = shown.taken;
       few = shown.few;
     }
-
-element_below_length_exists : {A : Type 0} (xs : List A) (i : ℕ) → i < length xs → (x : A) × (slice_get xs i ≡ Some x)
-element_below_length_exists [] i l = absurd (omega (arith, l))
-element_below_length_exists (x ∷ xs) zero l = (x, refl)
-element_below_length_exists (x ∷ xs) (suc i) l = element_below_length_exists xs i (omega (arith, l))
 
 -- one more is counted
 pub shut_is_zero_if_all_open : (marks : List Bool) → ((v : ℕ) → v < length marks → IsOpen marks v) → shut marks ≡ 0

@@ -18,11 +18,6 @@ pub either_way : {A E L : Type 0} (P : L → Type 0) (r : Result A E) (new old :
 either_way P (Ok x) new old ok same p = ok
 either_way P (Err e) new old ok same p = subst P (sym same) p
 
--- what follows from what is so on success
-pub on_ok : {A E P Q : Type 0} (r : Result A E) → (P → Q) → OnOk r P → OnOk r Q
-on_ok (Ok x) f p = f p
-on_ok (Err e) f p = tt
-
 -- fewer levels are left once one is gone over
 pub left_less : (stop : Option Stop) (old new most : ℕ) → old ≤ most → (stop ≡ None → new ≡ suc old)
     → levels_left stop (suc most - new) < levels_left None (suc most - old)

@@ -6,6 +6,7 @@ use Rattle.std.proofs.lemmas.Option.{same_Some, none-some, slice_get-get_or}
 use Rattle.ir_log.specs.declared.event.Event.{Event}
 use Rattle.ir_log.specs.declared.event.Event.TheVariants.{Answer, Read, Write, Try}
 use Rattle.std.specs.List.{AllByRecursion}
+use Rattle.ir_lemmas.proofs.CallerLemmas.{get_or_after_set, get_or_after_set_elsewhere}
 use Rattle.ir_thread.specs.declared.profile.Profile.{Profile}
 use Rattle.ir_trace.specs.Bounds.{IsEvent}
 use Rattle.ir_past.specs.Past.{IsStaleIn, entered}
@@ -13,7 +14,7 @@ use Rattle.ir_past.specs.Tables.{last_read}
 use Rattle.ir_past.specs.Progress.{IsOpen, HoldsOpen, Fits, IsPairAt}
 use Rattle.ir_past.specs.declared.last_reads.ReadEntry.{ReadEntry}
 use Rattle.ir_past.specs.declared.last_reads.StalePair.{StalePair}
-use Rattle.ir_past.proofs.Tables.{get_or_after_set, get_or_after_set_elsewhere, get_or_of_empty_table}
+use Rattle.ir_past.proofs.Tables.{get_or_of_empty_table}
 
 -- what both events say of one place is the same
 slice_get_is_unique : (es : List Event) (k : ℕ) (a b : Event) → slice_get es k ≡ Some a → slice_get es k ≡ Some b → a ≡ b

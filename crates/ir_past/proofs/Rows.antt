@@ -4,6 +4,7 @@ use Rattle.std.specs.Prelude.{slice_get}
 use Rattle.std.proofs.lemmas.Bool.{cases_eq, cases_lt}
 use Rattle.std.proofs.lemmas.List.{get_or_past}
 use Rattle.std.proofs.lemmas.Option.{none-some, slice_get_within}
+use Rattle.ir_lemmas.proofs.CallerLemmas.{added_element_is_last, slice_get_after_push_cases, slice_get_after_push_earlier}
 use Rattle.ir_log.specs.declared.event.Event.{Event}
 use Rattle.ir_trace.specs.Recorded.{Recorded, RecordedThread, recorded_thread}
 use Rattle.ir_trace.specs.Absent.{absent}
@@ -11,7 +12,6 @@ use Rattle.ir_coherence.specs.Before.{IsBefore}
 use Rattle.ir_past.specs.Past.{event_at, IsStale, IsRow, HasRow, AreStaleWrites}
 use Rattle.ir_past.specs.Progress.{HasRows}
 use Rattle.ir_past.specs.declared.stale_write.StaleWrite.{StaleWrite}
-use Rattle.ir_past.proofs.Tables.{slice_get_after_push_cases, slice_get_after_push_earlier, slice_get_of_pushed}
 use Rattle.ir_past.proofs.Open.{read_of_stale_write_is_unique}
 
 pub before_next_event : (u j t n : ℕ) → IsBefore u j t n → IsBefore u j t (n + 1)
@@ -103,7 +103,7 @@ has_rows_step_with_stale_write r x rows h row = record {
     new_row u i j o v w s thread event = record {
       place = length rows;
       row = x;
-      there = slice_get_of_pushed rows x;
+      there = added_element_is_last rows x;
       thread = sym thread;
       read = sym (read_of_stale_write_is_unique (recorded_thread r x.thread).events i x.read x.event o x.object v w x.version x.written
           (subst (λ z. IsStale r z i x.event o v w) thread (subst (λ z. IsStale r u i z o v w) event s)) row.stale);

@@ -4,6 +4,7 @@ use Rattle.std.specs.Prelude.{slice_get}
 use Rattle.std.proofs.lemmas.Bool.{cases_eq, cases_lt}
 use Rattle.std.proofs.lemmas.List.{get_or_past}
 use Rattle.std.proofs.lemmas.Option.{same_Some, none-some, slice_get_within, slice_get_read}
+use Rattle.ir_lemmas.proofs.CallerLemmas.{added_element_is_last, slice_get_after_push_cases, slice_get_after_push_earlier}
 use Rattle.ir_thread.specs.State.{most_events}
 use Rattle.ir_trace.specs.Recorded.{Recorded, RecordedThread, recorded_thread}
 use Rattle.ir_trace.specs.Absent.{absent}
@@ -11,7 +12,7 @@ use Rattle.ir_coherence.specs.Before.{IsBefore}
 use Rattle.ir_picture.specs.Boxes.{AreFolded, IsInBox, HasBox, IsBox, AreBoxes}
 use Rattle.ir_picture.specs.Boxing.{IsFold, EndsBy, HasLast, BoxedBefore}
 use Rattle.ir_picture.specs.declared.event_box.EventBox.{EventBox}
-use Rattle.ir_picture.proofs.Lists.{slice_get_after_set, slice_get_after_set_elsewhere, slice_get_after_set_cases, length_of_slice_set, slice_get_after_push_cases, slice_get_after_push_earlier, slice_get_of_pushed}
+use Rattle.ir_picture.proofs.Lists.{slice_get_after_set, slice_get_after_set_elsewhere, slice_get_after_set_cases, length_of_slice_set}
 
 suc_is_plus_one : (n : ℕ) → suc n ≡ n + 1
 suc_is_plus_one n = omega arith
@@ -65,7 +66,7 @@ boxed_before_step_for_new_box r t n boxes new thread event count there within fo
     | inr here ↦ record {
       number = length boxes;
       box = new;
-      there = slice_get_of_pushed boxes new;
+      there = added_element_is_last boxes new;
       has = record {
         thread = omega (arith, thread, here.0);
         from = omega (arith, event, here.1);
@@ -107,7 +108,7 @@ boxed_before_step_for_new_box r t n boxes new thread event count there within fo
       length boxes,
       new,
       omega (arith, length-append boxes (new ∷ [])),
-      slice_get_of_pushed boxes new,
+      added_element_is_last boxes new,
       record { thread = thread; from = omega (arith, event); below = omega (arith, event, count) },
     )
 

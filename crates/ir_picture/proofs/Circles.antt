@@ -5,6 +5,7 @@ use Rattle.std.proofs.lemmas.Bool.{cases_eq, cases_lt}
 use Rattle.std.proofs.lemmas.List.{get_or_past}
 use Rattle.std.proofs.lemmas.Nat.{mul-le}
 use Rattle.std.proofs.lemmas.Option.{same_Some, none-some, slice_get_within}
+use Rattle.ir_lemmas.proofs.CallerLemmas.{element_below_length_exists}
 use Rattle.ir_log.specs.declared.event.Event.{Event}
 use Rattle.ir_thread.specs.State.{most_events}
 use Rattle.ir_trace.specs.Recorded.{Recorded, RecordedThread, recorded_thread}
@@ -28,7 +29,6 @@ use Rattle.ir_picture.proofs.Cuts.{first_event_is_in_box, cut_box_begins_with_ne
 use Rattle.ir_picture.proofs.Known.{knows_at_start}
 use Rattle.ir_picture.proofs.Placed.{first_event_of_box_exists}
 use Rattle.ir_picture.proofs.Room.{left_of_at_most_product, near_first_point}
-use Rattle.ir_picture.proofs.Next.{element_below_length_exists}
 
 -- ---- the start
 

@@ -3,6 +3,7 @@ use Rattle.std.proofs.Common.{◌≡◌, ℕ, suc, zero, ◌+◌, ◌<◌, ◌�
 use Rattle.std.specs.Prelude.{slice_get}
 use Rattle.std.proofs.lemmas.Bool.{cases_eq, cases_lt}
 use Rattle.std.proofs.lemmas.Option.{none-some, slice_get_within}
+use Rattle.ir_lemmas.proofs.CallerLemmas.{element_below_length_exists}
 use Rattle.ir_log.specs.declared.event.Event.{Event}
 use Rattle.ir_trace.specs.Recorded.{Recorded, recorded_thread}
 use Rattle.ir_past.specs.Past.{event_at}
@@ -62,11 +63,6 @@ pub length_of_events_in : (r : Recorded) (b : EventBox) → IsBox r b → length
 length_of_events_in r b is = length_of_take_of_drop b.event b.count (recorded_thread r b.thread).events is.within
 
 -- ---- boxes whose first event is placed
-
-pub element_below_length_exists : {X : Type 0} (xs : List X) (i : ℕ) → i < length xs → (x : X) × (slice_get xs i ≡ Some x)
-element_below_length_exists [] i less = absurd (omega (arith, less))
-element_below_length_exists (x ∷ xs) zero less = (x, refl)
-element_below_length_exists (x ∷ xs) (suc i) less = element_below_length_exists xs i (omega (arith, less))
 
 -- such a box is placed whole
 box_placed_whole_if_begun : (r : Recorded) (boxes : List PlacedBox) (lanes : List Lane) (f : ℕ → ℕ → Version) (h : AreBeingPlaced r boxes lanes f) (m : ℕ) (a : PlacedBox)

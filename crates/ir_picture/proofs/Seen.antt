@@ -3,6 +3,7 @@ use Rattle.std.proofs.Common.{◌≡◌, ℕ, suc, zero, ◌+◌, ◌-◌, ◌<�
 use Rattle.std.specs.Prelude.{slice_get, IfSome, IfNone}
 use Rattle.std.proofs.lemmas.Bool.{cases_eq, cases_lt}
 use Rattle.std.proofs.lemmas.Option.{same_Some, none-some, slice_get_within}
+use Rattle.ir_lemmas.proofs.CallerLemmas.{added_element_is_last, get_or_after_set, get_or_after_set_elsewhere, slice_get_after_push_cases, slice_get_after_push_earlier}
 use Rattle.ir_log.specs.declared.event.Event.{Event}
 use Rattle.ir_log.specs.declared.event.Event.TheVariants.{Answer, Read, Write, Try}
 use Rattle.ir_trace.specs.Recorded.{Recorded, recorded_thread}
@@ -23,7 +24,7 @@ use Rattle.ir_picture.specs.Seeing.{Enters, IsLastEntry, entry_noted, HoldsEntri
 use Rattle.ir_picture.specs.declared.event_box.EventBox.{EventBox}
 use Rattle.ir_picture.specs.declared.placed_box.PlacedBox.{PlacedBox}
 use Rattle.ir_picture.specs.declared.sights.Sight.{Sight}
-use Rattle.ir_picture.proofs.Lists.{get_or_after_set, get_or_after_set_elsewhere, slice_get_of_map, slice_get_after_push_cases, slice_get_after_push_earlier, slice_get_of_pushed}
+use Rattle.ir_picture.proofs.Lists.{slice_get_of_map}
 use Rattle.ir_picture.proofs.Follows.{event_at_is_unique, writer_of_version_is_unique}
 
 -- ---- entries
@@ -450,7 +451,7 @@ sights_before_step_with_sight r boxes t n sights new coherent some sees h = reco
     | inl less ↦ let old = h.all s is less in (old.0, slice_get_after_push_earlier sights new s old.0 old.1)
     | inr here ↦ (
       length sights,
-      slice_get_of_pushed sights new
+      added_element_is_last sights new
           ∙ ap Some (sight_of_event_is_unique r boxes t n new s coherent some sees (record { sight = is; thread = here.0; event = here.1 })),
     )
   ];

@@ -4,6 +4,7 @@ use Rattle.std.specs.Prelude.{slice_get}
 use Rattle.std.specs.List.{slice_index_or}
 use Rattle.std.proofs.lemmas.List.{map-append}
 use Rattle.std.proofs.lemmas.Option.{none-some, slice_get_within}
+use Rattle.ir_lemmas.proofs.CallerLemmas.{slice_get_after_push_cases}
 use Rattle.ir_past.specs.Past.{IsRising}
 use Rattle.ir_past.specs.declared.stale_write.StaleWrite.{StaleWrite}
 use Rattle.ir_rests.specs.declared.rest.Rest.{Rest}
@@ -11,7 +12,6 @@ use Rattle.ir_picture.specs.Shown.{is_shown}
 use Rattle.ir_picture.specs.declared.placed_box.PlacedBox.{PlacedBox}
 use Rattle.ir_picture_run.specs.Resting.{kept_if, first_kept, writes_of}
 use Rattle.ir_picture_run.specs.declared.resting.Resting.{Resting}
-use Rattle.ir_picture_run.proofs.Pushed.{slice_get_after_push_cases}
 
 -- none is kept before the first row
 pub first_kept_of_no_row : (shown : List PlacedBox) (rows : List StaleWrite) (rests : List (Option Rest)) (none : List Resting) → none ≡ []

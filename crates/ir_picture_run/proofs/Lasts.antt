@@ -3,6 +3,7 @@ use Rattle.std.proofs.Common.{◌≡◌, ℕ, ◌+◌, ◌<◌, inl, inr, List, 
 use Rattle.std.specs.List.{slice_get}
 use Rattle.std.proofs.lemmas.List.{length_push}
 use Rattle.std.proofs.lemmas.Option.{none-some, same_Some, slice_get-get_or, slice_get_within}
+use Rattle.ir_lemmas.proofs.CallerLemmas.{slice_get_after_push_cases}
 use Rattle.ir_log.specs.declared.event.Event.{Event}
 use Rattle.ir_log.specs.declared.event.Event.TheVariants.{Try}
 use Rattle.ir_fit.specs.Fit.{FittedTrace, HasRun}
@@ -15,7 +16,6 @@ use Rattle.ir_picture.specs.declared.event_box.EventBox.{EventBox}
 use Rattle.ir_picture.specs.declared.placed_box.PlacedBox.{PlacedBox}
 use Rattle.ir_picture_run.specs.Steps.{IsDrawn, AreDrawn}
 use Rattle.ir_picture_run.specs.declared.drawn.Drawn.{Drawn}
-use Rattle.ir_picture_run.proofs.Pushed.{slice_get_after_push_cases}
 
 -- the first event of a box is one of the guest's thread
 pub box_first_event_is_inside : (f : FittedTrace) → HasRun f → (b : EventBox) → IsBox f.recorded b → IsInside f b.thread b.event

@@ -3,6 +3,7 @@ use Rattle.std.proofs.Common.{◌≡◌, ◌≢◌, ℕ, ◌+◌, ◌<◌, List,
 use Rattle.std.proofs.lemmas.Bool.{cases_eq}
 use Rattle.std.proofs.lemmas.List.{get_or_default}
 use Rattle.std.specs.List.{AllByRecursion}
+use Rattle.ir_lemmas.proofs.CallerLemmas.{all_by_recursion_after_push, map_of_append_item}
 use Rattle.ir_thread.specs.State.{ask_of, most_events}
 use Rattle.ir_runs.proofs.CallerLemmas.{upd_at_own_place, upd_at_other_place}
 use Rattle.ir_flat.specs.Flat.{Flat, thread_of, tables, machine}
@@ -14,11 +15,6 @@ use Rattle.ir_log.specs.declared.event.Event.{Event}
 use Rattle.ir_trace.specs.Bounds.{IsEvent}
 use Rattle.ir_record.specs.Progress.{HasLogs, no_log, log_at, labels_at}
 use Rattle.ir_record.proofs.Profiles.{events_fit_if_limits_same, thread_profile_after_step}
-
--- a step that there is, is taken
-pub on_ok_holds_if_can : {X E : Type 0} (result : Result X E) (P Q : Type 0) → P → OnErr result (P → ⊥) → OnOk result Q → Q
-on_ok_holds_if_can (Ok x) P Q p err ok = ok
-on_ok_holds_if_can (Err e) P Q p err ok = absurd (err p)
 
 -- what a thread counts of its events after a step
 pub event_count_after_own_step : (f g : Flat) (t r : ℕ) → tables g ≡ after (machine f) (tables f) (t, r)
@@ -49,10 +45,6 @@ has_logs_after_unlogged_step f g logs t r has_logs taken threads objects none = 
   events_fit = λ u l. events_fit_if_limits_same (thread_of f u).profile (thread_of g u).profile (length f.objects) (length g.objects) (log_at logs u).events
       (thread_profile_after_step f g t r u taken) objects (has_logs.events_fit u (omega (arith, l, threads)));
 }
-
-pub all_by_recursion_after_push : {X : Type 0} (P : X → Type 0) (xs : List X) (x : X) → AllByRecursion P xs → P x → AllByRecursion P (xs ++ x ∷ [])
-all_by_recursion_after_push P [] x h p = (p, tt)
-all_by_recursion_after_push P (y ∷ xs) x h p = (h.0, all_by_recursion_after_push P xs x h.1 p)
 
 -- a step that logs an event
 pub has_logs_after_event_pushed : (f g : Flat) (logs : List Logged) (t r : ℕ) (e : Event) (new : Logged) → HasLogs f logs → t < length f.threads
@@ -87,10 +79,6 @@ has_logs_after_event_pushed f g logs t r e new has_logs below taken threads obje
                 (has_logs.events_fit u (omega (arith, l, threads)))
           ]);
     }
-
-pub map_of_append_item : {A B : Type 0} (f : A → B) (xs : List A) (x : A) → map f (xs ++ x ∷ []) ≡ map f xs ++ f x ∷ []
-map_of_append_item f [] x = refl
-map_of_append_item f (y ∷ xs) x = ap (λ z. f y ∷ z) (map_of_append_item f xs x)
 
 -- the labels in a log with an event more
 pub labels_after_event_pushed : (logs : List Logged) (t : ℕ) (e : Event) (new : Logged) → t < length logs

@@ -4,6 +4,7 @@ use Rattle.std.proofs.Common.{◌≡◌, ℕ, suc, ◌+◌, ◌<◌, ◌≤◌, 
 use Rattle.std.proofs.lemmas.Bool.{cases_lt}
 use Rattle.std.proofs.lemmas.List.{length-map, get_or_past, get_or-map}
 use Rattle.std.specs.List.{AllByRecursion}
+use Rattle.ir_lemmas.proofs.CallerLemmas.{take_length_of_append}
 use Rattle.atomic_table.specs.Seated.{TableId}
 use Rattle.atomic_table.specs.declared.shared.Seat.{Seat}
 use Rattle.ir_image.specs.Guest.{Guest}
@@ -47,10 +48,6 @@ traces_count_workers (x ∷ ws) (q ∷ rs) h = ap suc (traces_count_workers ws r
 pub all_holds_of_middle_item : {X : Type 0} (P : X → Type 0) (xs ys : List X) (x : X) → AllByRecursion P (xs ++ x ∷ ys) → P x
 all_holds_of_middle_item P [] ys x h = h.0
 all_holds_of_middle_item P (y ∷ xs) ys x h = all_holds_of_middle_item P xs ys x h.1
-
-pub all_splits_off_last : {X : Type 0} (P : X → Type 0) (xs : List X) (x : X) → AllByRecursion P (xs ++ x ∷ []) → AllByRecursion P xs × P x
-all_splits_off_last P [] x h = (tt, h.0)
-all_splits_off_last P (y ∷ xs) x h = let r = all_splits_off_last P xs x h.1 in ((h.0, r.0), r.1)
 
 pub views_with_seat_added : (ss : List (Seat (Unit {0}) View)) (s : Seat (Unit {0}) View) → views_of (ss ++ s ∷ []) ≡ views_of ss ++ s.me.0
 views_with_seat_added [] s = append-nil s.me.0
@@ -99,10 +96,6 @@ pairs_if_each_place_pairs P [] [] e h = tt
 pairs_if_each_place_pairs P [] (y ∷ ys) e h = absurd (omega (arith, e))
 pairs_if_each_place_pairs P (x ∷ xs) [] e h = absurd (omega (arith, e))
 pairs_if_each_place_pairs P (x ∷ xs) (y ∷ ys) e h = (h 0 x (omega arith), pairs_if_each_place_pairs P xs ys (omega (arith, e)) (λ i d l. h (suc i) d (omega (arith, l))))
-
-take_length_of_append : {A : Type 0} (xs ys : List A) → take (length xs) (xs ++ ys) ≡ xs
-take_length_of_append [] ys = refl
-take_length_of_append (x ∷ xs) ys = ap (λ z. x ∷ z) (take_length_of_append xs ys)
 
 -- what is left in a list of which a part was changed in place
 pub take_of_overwritten_list : {A : Type 0} (new old : List A) (n : ℕ) → n ≡ length old → length new ≡ length old

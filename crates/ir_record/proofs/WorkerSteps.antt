@@ -3,6 +3,7 @@ use Rattle.ir_thread.specs.declared.profile.Profile.{Profile}
 use Rattle.std.proofs.Common.{◌≡◌, ◌≢◌, ℕ, zero, suc, ◌+◌, ◌<◌, ◌≤◌, Bool, true, false, eqb, List, [], ◌∷◌, ◌++◌, map, length, Option, Some, None, refl, sym, ap, ◌∙◌, subst, arith, append-nil, append_assoc, length-append, eq-eqb, ne_eqb}
 use Rattle.std.proofs.lemmas.List.{length-map}
 use Rattle.std.specs.List.{AllByRecursion}
+use Rattle.ir_lemmas.proofs.CallerLemmas.{all_of_append}
 use Rattle.atomic_table.specs.Seated.{TableId}
 use Rattle.ir_image.specs.Guest.{Guest, object_count, most_object_words}
 use Rattle.ir_thread.specs.Permitted.{run_of, step_of, Permits}
@@ -55,10 +56,6 @@ answers_in_append (Answer k v ∷ xs) ys = ap (λ z. (k, v) ∷ z) (answers_in_a
 answers_in_append (In o a v l ∷ xs) ys = answers_in_append xs ys
 answers_in_append (Rattle.ir_runs.specs.Machine.Refused o ∷ xs) ys = answers_in_append xs ys
 answers_in_append (Out o a v ∷ xs) ys = answers_in_append xs ys
-
-all_of_append : {X : Type 0} (P : X → Type 0) (xs ys : List X) → AllByRecursion P xs → AllByRecursion P ys → AllByRecursion P (xs ++ ys)
-all_of_append P [] ys p q = q
-all_of_append P (x ∷ xs) ys p q = (p.0, all_of_append P xs ys p.1 q)
 
 -- how a thread is inside an object after a step, which is an object step if b
 inside_after_kept_step : (q : Act) (v o : ℕ) (h : ℕ → Option Access) (xs : List Shared) (b : Bool) → is_shared q ≡ b → inside_after o None xs ≡ h o

@@ -23,6 +23,7 @@ use Rattle.ir_weave.proofs.Numbers.{state_thread_is_ahead_at_position}
 use Rattle.ir_weave.specs.Ahead.{IsAhead}
 use Rattle.std.specs.Prelude.{slice_get, Some}
 use Rattle.std.proofs.lemmas.Option.{slice_get_within, get_or_from_slice_get}
+use Rattle.ir_lemmas.proofs.CallerLemmas.{get_of_append_item_cases}
 use Rattle.ir_runs.specs.Run.{Cut}
 use Rattle.ir_fit.specs.Fit.{FittedTrace, HasRun}
 use Rattle.ir_fit.specs.Within.{IsFitted}
@@ -140,13 +141,6 @@ other_tracks_stay_if_reseated k s seat t new j (q ∷ qs) ne h = (
   },
   other_tracks_stay_if_reseated k s seat t new j qs ne h.1,
 )
-
-get_of_append_item_cases : {A : Type 0} (l : List A) (a b : A) (j : ℕ) → get_elem? (l ++ a ∷ []) j ≡ some b → (get_elem? l j ≡ some b)
-    ⊎ ((j ≡ length l) × (a ≡ b))
-get_of_append_item_cases [] a b zero e = inr (refl, some-injective a b e)
-get_of_append_item_cases [] a b (suc j) e = absurd (some-ne-none b (sym e))
-get_of_append_item_cases (x ∷ xs) a b zero e = inl e
-get_of_append_item_cases (x ∷ xs) a b (suc j) e = elim (get_of_append_item_cases xs a b j e) [ inl q ↦ inl q | inr q ↦ inr (ap suc q.0, q.1) ]
 
 pub tracks_split_off_first : (k : Plan) (id t m : ℕ) (v : View) → v ≡ tracks_from k t (suc m) → Splits (Woven k) id v (all_but_first v) (first_alone v)
 tracks_split_off_first k id t m v is x h at =
@@ -377,12 +371,6 @@ laid_with_word_added cells ws ws' k w h is small same = subst (λ z. IsLaid cell
 pub no_words_are_laid : (cells : List Cell) (ws : List ℕ) → ws ≡ [] → IsLaid cells ws 0
 no_words_are_laid cells ws is = subst (λ z. IsLaid cells z 0) (sym is)
     (record { count = refl; each = λ j l. absurd (omega (arith, l)); small = λ o i l few. absurd (omega (arith, l)) })
-
--- a word that was found
-pub get_or_of_found_word : (ws : List ℕ) (i n : ℕ) → get_elem? ws i ≡ some n → get_or ws i 0 ≡ n
-get_or_of_found_word [] i n e = absurd (some-ne-none n (sym e))
-get_or_of_found_word (w ∷ ws) zero n e = some-injective w n e
-get_or_of_found_word (w ∷ ws) (suc i) n e = get_or_of_found_word ws i n e
 
 -- a guest has a thread
 pub guest_has_thread : (f : FittedTrace) (s : Standing) (ts : List thread.ThreadState) (g : Guest) → IsGuest g → g ≡ f.guest → ts ≡ s.threads

@@ -372,9 +372,6 @@ granted_if_look_was_open k x e me w n seated shown on =
 pub true_test_proves : (b : Bool) (P : Type 0) → IsTrue b ↔ P → b ≡ true → P
 true_test_proves b P h e = h.0 e
 
-pub false_test_refutes : (b : Bool) (P : Type 0) → IsTrue b ↔ P → b ≡ false → P → ⊥
-false_test_refutes b P h e p = true≢false (sym (h.1 p) ∙ e)
-
 -- after the second
 pub view_after_entry : (k : Plan) (x : thread.ThreadState) (e : Event) (me w u : M) (n m : ℕ) → LookReport k x e me w n → Opens n e → ObjectStepReport k x w u m
     → ◌≡◌ {A = M} u (view_at k x (suc x.steps) false (met_of w.0), me.1)

@@ -11,20 +11,6 @@ IsIn xs x = (k : ℕ) × (slice_get xs k ≡ Some x)
 abbrev pub InOrder : {X : Type 0} → List X → X → X → Type 0
 InOrder xs x y = (a b : ℕ) × (a < b) × (slice_get xs a ≡ Some x) × (slice_get xs b ≡ Some y)
 
-pub slice_get_of_append_cases : {X : Type 0} (xs ys : List X) (k : ℕ) (x : X) → slice_get (xs ++ ys) k ≡ Some x
-    → (slice_get xs k ≡ Some x) ⊎ ((m : ℕ) × (k ≡ length xs + m) × (slice_get ys m ≡ Some x))
-slice_get_of_append_cases [] ys k x e = inr (k, (let same : k ≡ 0 + k = omega arith in same), e)
-slice_get_of_append_cases (z ∷ zs) ys zero x e = inl e
-slice_get_of_append_cases (z ∷ zs) ys (suc k) x e = elim (slice_get_of_append_cases zs ys k x e) [
-  | inl h ↦ inl h
-  | inr h ↦ inr (h.0, (let same : suc k ≡ suc (length zs) + h.0 = omega (arith, h.1) in same), h.2)
-]
-
-pub slice_get_kept_by_append : {X : Type 0} (xs ys : List X) (k : ℕ) (x : X) → slice_get xs k ≡ Some x → slice_get (xs ++ ys) k ≡ Some x
-slice_get_kept_by_append [] ys k x e = absurd (none-some x e)
-slice_get_kept_by_append (z ∷ zs) ys zero x e = e
-slice_get_kept_by_append (z ∷ zs) ys (suc k) x e = slice_get_kept_by_append zs ys k x e
-
 pub slice_get_of_right_in_append : {X : Type 0} (xs ys : List X) (k : ℕ) (x : X) → slice_get ys k ≡ Some x → slice_get (xs ++ ys) (length xs + k) ≡ Some x
 slice_get_of_right_in_append [] ys k x e = let same : 0 + k ≡ k = omega arith in ap (λ m. slice_get ys m) same ∙ e
 slice_get_of_right_in_append (z ∷ zs) ys k x e =

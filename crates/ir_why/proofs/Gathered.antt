@@ -4,6 +4,7 @@ use Rattle.std.specs.Prelude.{slice_get}
 use Rattle.std.proofs.lemmas.Bool.{cases_eq, cases_lt}
 use Rattle.std.proofs.lemmas.List.{get_or_past}
 use Rattle.std.proofs.lemmas.Option.{same_Some, slice_get_within}
+use Rattle.ir_lemmas.proofs.CallerLemmas.{element_of_zeros_is_zero}
 use Rattle.ir_runs.proofs.CallerLemmas.{sum_below_less_if_one_less}
 use Rattle.ir_coherence.proofs.CallerLemmas.{recorded_thread_at_number_is_recorded}
 use Rattle.ir_trace.specs.Recorded.{Recorded, recorded_thread}
@@ -32,11 +33,6 @@ pub length_of_set : (xs : List ℕ) (i v : ℕ) → length (slice_set xs i v) �
 length_of_set [] i v = refl
 length_of_set (x ∷ xs) zero v = refl
 length_of_set (x ∷ xs) (suc i) v = ap suc (length_of_set xs i v)
-
-element_of_zeros_is_zero : (n u : ℕ) → get_or {A = ℕ} (replicate n 0) u 0 ≡ 0
-element_of_zeros_is_zero zero u = refl
-element_of_zeros_is_zero (suc n) zero = refl
-element_of_zeros_is_zero (suc n) (suc u) = element_of_zeros_is_zero n u
 
 -- what is at a place of a list
 pub element_below_length_is_listed : (places : List Place) (n : ℕ) (d : Place) → n < length places → slice_get places n ≡ Some (get_or places n d)

@@ -3,6 +3,7 @@ use Rattle.std.proofs.Common.{◌≡◌, ◌≢◌, ℕ, suc, zero, ◌+◌, ◌
 use Rattle.std.specs.Prelude.{slice_get}
 use Rattle.std.proofs.lemmas.Bool.{true≢false}
 use Rattle.std.proofs.lemmas.Option.{same_Some, none-some}
+use Rattle.ir_lemmas.proofs.CallerLemmas.{slice_get_kept_by_append, slice_get_of_append_cases}
 use Rattle.ir_log.specs.declared.event.Event.{Event}
 use Rattle.ir_log.specs.declared.event.Event.TheVariants as variant
 use Rattle.ir_trace.specs.Recorded.{Recorded}
@@ -16,7 +17,7 @@ use Rattle.ir_picture.specs.Needs.{IsEntryAt, IsMakerOf, IsReaderFor}
 use Rattle.ir_why.specs.Needed.{NeedsOther, AreNeeds}
 use Rattle.ir_why.specs.declared.tables.Tables.{Tables}
 use Rattle.ir_why.specs.Tables.{HasTables, is_other, others, listed, maker_at, needs_in}
-use Rattle.ir_why.proofs.Filtered.{slice_get_of_append_cases, slice_get_kept_by_append, slice_get_of_right_in_append, filter_sound, filter_complete, filter_order}
+use Rattle.ir_why.proofs.Filtered.{slice_get_of_right_in_append, filter_sound, filter_complete, filter_order}
 
 -- ---- events of other threads
 

@@ -4,6 +4,7 @@ use Rattle.std.specs.Prelude.{slice_get, replicate}
 use Rattle.std.proofs.lemmas.Bool.{cases_lt}
 use Rattle.std.proofs.lemmas.Option.{same_Some, none-some}
 use Rattle.std.proofs.lemmas.List.{get_or_past}
+use Rattle.ir_lemmas.proofs.CallerLemmas.{slice_get_of_append_cases}
 use Rattle.ir_runs.specs.Run.{events}
 use Rattle.ir_log.specs.Logging.{label_of}
 use Rattle.ir_trace.specs.Recorded.{Recorded, RecordedThread, recorded_thread}
@@ -21,7 +22,6 @@ use Rattle.ir_why.specs.Chain.{AreLinks}
 use Rattle.ir_why.specs.FitAnswers.{AreInside, IsLinkInside, AreLinksInside, first_cut}
 use Rattle.ir_why.specs.Tables.{AreThere}
 use Rattle.ir_why.specs.declared.link.Link.{Link}
-use Rattle.ir_why.proofs.Filtered.{slice_get_of_append_cases}
 use Rattle.ir_why.proofs.Linked.{linked_event_exists}
 
 -- ---- what is inside
@@ -112,9 +112,3 @@ flat_map_text_step f xs n d old new all l is h =
     let same : n + 1 ≡ suc n = omega arith in
     ap (λ k. new ++ flat_map f (drop k xs)) same ∙ ap (λ t. t ++ flat_map f (drop (suc n) xs)) is
     ∙ append_assoc old (f (get_or xs n d)) (flat_map f (drop (suc n) xs)) ∙ ap (λ t. old ++ t) (sym (flat_map_of_drop_step f xs n d l)) ∙ h
-
--- a text that four others are added to
-pub append_of_four_texts : (a b c d e x y z all : List ℕ) → x ≡ a ++ b → y ≡ x ++ c → z ≡ y ++ d → all ≡ z ++ e → all ≡ a ++ (b ++ (c ++ (d ++ e)))
-append_of_four_texts a b c d e x y z all first second third last =
-    last ∙ ap (λ t. t ++ e) (third ∙ ap (λ t. t ++ d) (second ∙ ap (λ t. t ++ c) first))
-    ∙ append_assoc ((a ++ b) ++ c) d e ∙ append_assoc (a ++ b) c (d ++ e) ∙ append_assoc a b (c ++ (d ++ e))

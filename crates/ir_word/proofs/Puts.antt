@@ -2,6 +2,7 @@
 use Rattle.std.proofs.Common.{◌≡◌, ◌+◌, ◌<◌, ◌≤◌, ℕ, Bool, true, false, refl, sym, ap, ◌∙◌, subst, arith, inl, inr, eq-eqb}
 use Rattle.std.specs.Prelude.{◌==◌, ◌&&◌, Option, Some, None, option_to_list}
 use Rattle.std.proofs.lemmas.Bool.{cases_lt, eqb-true}
+use Rattle.ir_lemmas.proofs.CallerLemmas.{conjuncts_are_true, true_is_not_false}
 use Rattle.ir_thread.specs.declared.ask.Ask.{Ask}
 use Rattle.ir_thread.specs.declared.ask.Ask.TheVariants as ask
 use Rattle.ir_fit.specs.Fit.{FittedTrace, HasRun}
@@ -14,11 +15,6 @@ use Rattle.ir_word.specs.Words.{puts, PutsAt, IsLastPut, IsPutIn}
 use Rattle.ir_word.specs.declared.object_word.ObjectWord.{ObjectWord}
 
 -- ---- whether a call puts the word
-
-conjuncts_are_true : (b c : Bool) → (b && c) ≡ true → (b ≡ true) × (c ≡ true)
-conjuncts_are_true true true e = (refl, refl)
-conjuncts_are_true true false e = absurd (cc e)
-conjuncts_are_true false c e = absurd (cc e)
 
 -- one that does
 putting_ask_is_put_of_word : (w : ObjectWord) (q : Ask) → puts w q ≡ true → (value : ℕ) × (q ≡ ask.Put w.object w.index value)
@@ -69,9 +65,6 @@ pub put_in_no_steps : (f : FittedTrace) (w : ObjectWord) (t from k to : ℕ) (pu
     → IsPutIn f w t from to put
 put_in_no_steps f w t from k to None before within is = λ j past l. absurd (omega (arith, past, l, within))
 put_in_no_steps f w t from k to (Some s) before within is = absurd (let p = is.past in let l = is.before in omega (arith, before, p, l))
-
-true_is_not_false : (b : Bool) → b ≡ true → b ≡ false → ⊥
-true_is_not_false b e n = cc (e, n)
 
 -- n steps more, with a call or with none
 pub put_in_steps_with_call : (f : FittedTrace) (w : ObjectWord) (t from k n : ℕ) (put new : Option ℕ) (call : Option Exchange) → HasRun f

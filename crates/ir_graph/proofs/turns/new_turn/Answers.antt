@@ -1,10 +1,10 @@
 use Rattle.std.proofs.Common.{◌≡◌, Some, refl, sym, ap, ◌∙◌, subst}
 use Rattle.std.specs.Prelude.{slice_get}
+use Rattle.ir_lemmas.proofs.CallerLemmas.{element_below_length_exists}
 use Rattle.ir_sources.specs.Sources.{Source}
 use Rattle.ir_thread.specs.State.{ThreadState, ask_of}
 use Rattle.ir_graph.specs.Plain.{IsNoTry}
 use Rattle.ir_graph.proofs.KnownTurns.{found_turn_is_turn_of_thread}
-use Rattle.ir_graph.proofs.Grown.{element_below_length_exists}
 use Rattle.ir_graph.proofs.LoneSteps.{form_kept_by_turn}
 use Rattle.ir_graph.proofs.turns.new_turn.Goals as goal
 

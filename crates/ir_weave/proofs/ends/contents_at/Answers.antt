@@ -1,8 +1,9 @@
 use Rattle.std.proofs.Common.{◌+◌, ◌<◌, ◌≤◌, ◌^◌, ℕ, List, Fits, w32, refl, sym, subst, arith}
 use Rattle.std.specs.Slots.{slots_items}
+use Rattle.ir_lemmas.proofs.CallerLemmas.{get_or_of_found_word}
 use Rattle.ir_image.specs.Guest.{most_object_words}
 use Rattle.ir_weave.specs.Woven.{AreRead}
-use Rattle.ir_weave.proofs.Opening.{words_read_with_word_set, get_or_of_found_word}
+use Rattle.ir_weave.proofs.Opening.{words_read_with_word_set}
 use Rattle.ir_weave.proofs.ends.contents_at.Goals as goal
 
 pub loop-i-init : goal.loop-i-init

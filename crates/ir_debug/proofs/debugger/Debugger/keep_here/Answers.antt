@@ -1,10 +1,10 @@
 use Rattle.std.proofs.Common.{◌≡◌, ◌<◌, ◌≤◌, ◌+◌, ◌++◌, [], ◌∷◌, List, length, length-append, refl, sym, ap, ◌∙◌, subst, arith}
+use Rattle.ir_lemmas.proofs.CallerLemmas.{all_by_recursion_after_push}
 use Rattle.ir_timeline.specs.Hand.{IsCutOf}
 use Rattle.ir_timeline.specs.Replaying.{Replaying}
 use Rattle.ir_debug.specs.Debugging.{Debugging, AllKept, most_number}
 use Rattle.ir_debug.specs.Machine.{Kept, most_kept}
 use Rattle.ir_debug.proofs.Desks.{desk_of_equal_trace, spoke}
-use Rattle.ir_debug.proofs.Chosen.{all_more}
 use Rattle.ir_debug.proofs.Passed.{kept_room}
 use Rattle.ir_debug.proofs.debugger.Debugger.keep_here.Goals as goal
 
@@ -32,7 +32,7 @@ invariant_of-self-2 c =
     let few : length c.push.new.self.items ≤ most_kept + 1 = (let l = ap (λ (z : List Kept). length z) more in omega (arith, left, long, l)) in
     record {
       desk = desk_of_equal_trace f _ (ap (λ (r : Replaying). r.fitted) c.keep.ensures) held.run (held.size, held.at) held.points
-          (subst (AllKept f) (sym more) (all_more _ old c.new.result held.kept
+          (subst (AllKept f) (sym more) (all_by_recursion_after_push _ old c.new.result held.kept
           (subst (IsCutOf f) (sym (ap (λ (k : Kept). k.cut) c.new.ensures ∙ c.in_ok-cut.ensures)) (held.size, held.at)))) few;
       fresh = λ e. absurd (cc e);
     }

@@ -1,5 +1,6 @@
 use Rattle.std.proofs.Common.{refl, sym}
-use Rattle.ir_fit.proofs.Seen.{end_as_recorded_can_follow, end_not_as_recorded_disagrees, end_is_not_done, false_test_refutes}
+use Rattle.ir_lemmas.proofs.CallerLemmas.{false_test_refutes}
+use Rattle.ir_fit.proofs.Seen.{end_as_recorded_can_follow, end_not_as_recorded_disagrees, end_is_not_done}
 use Rattle.ir_fit.proofs.follower.Follower.look_end.Goals as goal
 
 pub returns-then-ends_so : goal.returns-then-ends_so

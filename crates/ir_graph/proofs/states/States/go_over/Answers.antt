@@ -1,6 +1,7 @@
 use Rattle.std.proofs.Common.{◌≡◌, inl, inr, length, sym, ap, ◌∙◌}
+use Rattle.ir_lemmas.proofs.CallerLemmas.{on_ok}
 use Rattle.ir_explore.specs.Levels.{rows}
-use Rattle.ir_graph.proofs.Searched.{searched_by, on_ok, if_err}
+use Rattle.ir_graph.proofs.Searched.{searched_by, if_err}
 use Rattle.ir_graph.proofs.Stops.{may_stop_by_memory}
 use Rattle.ir_graph.proofs.states.States.go_over.Goals as goal
 

@@ -1,4 +1,5 @@
 use Rattle.std.proofs.Common.{◌≡◌, ◌≤◌, ◌⊎◌, suc, inl, inr, sym, subst, arith}
+use Rattle.ir_lemmas.proofs.CallerLemmas.{on_ok}
 use Rattle.ir_explore.specs.declared.origin.Level.{Level}
 use Rattle.ir_explore.specs.declared.stop.Stop.TheVariants.{Memory}
 use Rattle.ir_graph.specs.Searched.{AreSearched}
@@ -8,7 +9,7 @@ use Rattle.ir_thread.specs.State.{IsAllowed}
 use Rattle.ir_outcomes.specs.Exploring.{HasShown}
 use Rattle.ir_outcomes.specs.Hang.{IsOrder}
 use Rattle.ir_outcomes.proofs.Listed.{shown_among}
-use Rattle.ir_outcomes.proofs.Steps.{really_ok, really_err, either_way, on_ok}
+use Rattle.ir_outcomes.proofs.Steps.{really_ok, really_err, either_way}
 use Rattle.ir_outcomes.proofs.exploring.Exploring.go_over.Goals as goal
 
 pub show_new-shown-requires-clause-allowed : goal.show_new-shown-requires-clause-allowed

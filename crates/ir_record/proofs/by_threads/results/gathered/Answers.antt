@@ -2,12 +2,12 @@ use Rattle.std.proofs.Common.{◌≡◌, suc, [], ◌∷◌, ◌++◌, length, m
 use Rattle.std.specs.List.{AllByRecursion}
 use Rattle.std.specs.Prelude.{option_to_list}
 use Rattle.std.specs.Vec.Iter.{into_iter_items, into_iter_len}
+use Rattle.ir_lemmas.proofs.CallerLemmas.{all_by_recursion_after_push, all_splits_off_last}
 use Rattle.ir_thread.specs.State.{most_output}
 use Rattle.ir_trace.specs.Bounds.{IsRecordedThread}
 use Rattle.ir_record.specs.Threads.{IsEmptyFor, IsOver, AreTraces}
 use Rattle.ir_record.proofs.Gathering.{split_moves_past_item, length_of_rest_is_one_less, map_with_item_added}
-use Rattle.ir_record.proofs.Logs.{all_by_recursion_after_push}
-use Rattle.ir_record.proofs.Manning.{worker_traces_with_one_added, traces_count_workers, all_holds_of_middle_item, all_splits_off_last, map_with_last_added, empty_if_length_zero, length_with_item_added}
+use Rattle.ir_record.proofs.Manning.{worker_traces_with_one_added, traces_count_workers, all_holds_of_middle_item, map_with_last_added, empty_if_length_zero, length_with_item_added}
 use Rattle.ir_record.proofs.by_threads.results.gathered.Goals as goal
 
 pub filled-bytes-requires : goal.filled-bytes-requires

@@ -1,8 +1,9 @@
 use Rattle.std.proofs.Common.{◌≡◌, [], ◌∷◌, ◌++◌, sym, ap, ◌∙◌, subst}
 use Rattle.std.specs.List.{AllByRecursion}
 use Rattle.std.specs.Prelude.{option_to_list}
+use Rattle.ir_lemmas.proofs.CallerLemmas.{all_splits_off_last}
 use Rattle.ir_record.specs.Threads.{IsSeatOf, views_of}
-use Rattle.ir_record.proofs.Manning.{all_splits_off_last, views_with_seat_added, views_after_seat_joined}
+use Rattle.ir_record.proofs.Manning.{views_with_seat_added, views_after_seat_joined}
 use Rattle.ir_record.proofs.by_threads.results.joined.Goals as goal
 
 pub loop-seat-init : goal.loop-seat-init

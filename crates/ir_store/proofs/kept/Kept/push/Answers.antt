@@ -1,6 +1,7 @@
 use Rattle.std.proofs.Common.{◌++◌, [], ◌∷◌, ap, sym, ◌∙◌, append-nil, map}
+use Rattle.ir_lemmas.proofs.CallerLemmas.{on_ok, on_err_if_holds}
 use Rattle.ir_store.specs.Places.{Place, node_at}
-use Rattle.ir_store.proofs.Lists.{on_err_if_holds, on_err_weaker, on_ok_weaker}
+use Rattle.ir_store.proofs.Lists.{on_err_weaker}
 use Rattle.ir_store.proofs.Placed.{nodes_after_growth, nodes_after_push, placed_after_push}
 use Rattle.ir_store.proofs.kept.Kept.push.Goals as goal
 
@@ -38,7 +39,7 @@ returns-clause-ok c =
       object = c.in_ok-short-3.field-0;
       objects = c.in_ok-short-4.field-0;
     } in
-    on_ok_weaker c.put.result
+    on_ok c.put.result
     (λ is. nodes_after_push c.self.inside.threads.items c.node.inside.threads.items c.extend_from_slice.new.self.items c.self.inside.objects.items
     c.node.inside.objects.items c.extend_from_slice-2.new.self.items
     (c.in_ok-extend_from_slice.ensures.items ∙ ap (λ xs. c.self.inside.threads.items ++ xs) c.as_slice.ensures.value)

@@ -1,10 +1,10 @@
 use Rattle.std.proofs.Common.{◌≡◌, ap, ◌∙◌, sym, subst, get_or, length, ◌<◌}
+use Rattle.ir_lemmas.proofs.CallerLemmas.{found_element_of_all_by_recursion}
 use Rattle.ir_sources.specs.Sources.{Source}
 use Rattle.ir_thread.specs.State.{ThreadState}
 use Rattle.ir_store.specs.Rows.{thread_in, beside_in}
 use Rattle.ir_store.specs.Table.{idle_beside}
 use Rattle.ir_store.specs.Table as table
-use Rattle.ir_store.proofs.Lists.{found_element_of_all_by_recursion}
 use Rattle.ir_store.proofs.Rowed.{read_row_is_element_or, read_row_is_mapped_element}
 use Rattle.ir_store.proofs.rows.Rows.thread.Goals as goal
 

@@ -1,9 +1,9 @@
 use Rattle.std.proofs.Common.{◌≡◌, ◌<◌, length, get_or, refl, sym, ap, ◌∙◌, subst, arith, Some}
 use Rattle.std.specs.Prelude.{slice_get}
+use Rattle.ir_lemmas.proofs.CallerLemmas.{element_of_all_by_recursion, length_of_map}
 use Rattle.ir_store.specs.Nodes.{SourcedFlat, sourced_thread, IsSourced, Shared, Node, Stored, sourced_in}
 use Rattle.ir_store.specs.Places.{no_node}
 use Rattle.ir_store.specs.Table.{idle_beside}
-use Rattle.ir_store.proofs.Lists.{element_of_all_by_recursion, length_map}
 use Rattle.ir_store.proofs.Stored.{state_at_place, node_is, state_is, thread_is}
 use Rattle.ir_store.proofs.store.Store.thread_number.Goals as goal
 
@@ -16,7 +16,7 @@ thread-requires-clause-thread c =
     let there = subst (λ (z : Stored). slice_get z.items c.args.v ≡ Some (sourced_in shared node)) c.self.view_is
     (state_at_place shared nodes c.args.v less) in
     let few = c.requires.thread (sourced_in shared node) there in
-    let many = length_map (λ n. (get_or shared.threads n idle_beside).0) node.threads in
+    let many = length_of_map (λ n. (get_or shared.threads n idle_beside).0) node.threads in
     omega (arith, few, many)
 
 pub returns-clause-within : goal.returns-clause-within
@@ -28,7 +28,7 @@ returns-clause-within c =
     let here = state_at_place shared nodes c.args.v less in
     let there = subst (λ (z : Stored). slice_get z.items c.args.v ≡ Some (sourced_in shared node)) c.self.view_is here in
     let few = c.requires.thread (sourced_in shared node) there in
-    let many = length_map (λ n. (get_or shared.threads n idle_beside).0) node.threads in
+    let many = length_of_map (λ n. (get_or shared.threads n idle_beside).0) node.threads in
     let is = node_is shared nodes c.self.invariant c.args.v node less refl (sourced_in shared node) here in
     let one = c.thread.ensures in
     let in_here : c.thread.result < length shared.threads =
@@ -45,7 +45,7 @@ returns-clause-thread c = λ f at.
     let there = subst (λ (z : Stored). slice_get z.items c.args.v ≡ Some f) (sym c.self.view_is) at in
     let few = c.requires.thread f at in
     let state = state_is shared nodes c.self.invariant c.args.v node less refl f there in
-    let many = sym (length_map (λ n. (get_or shared.threads n idle_beside).0) node.threads) ∙ ap (λ (z : SourcedFlat). length z.flat.threads) state in
+    let many = sym (length_of_map (λ n. (get_or shared.threads n idle_beside).0) node.threads) ∙ ap (λ (z : SourcedFlat). length z.flat.threads) state in
     let one = c.thread.ensures in
     subst (λ (z : Stored). get_or z.shared.threads c.thread.result idle_beside ≡ sourced_thread f c.args.t) c.self.view_is
     (thread_is shared nodes c.self.invariant c.args.v node less refl f there c.args.t c.thread.result 0

@@ -1,9 +1,9 @@
 use Rattle.std.proofs.Common.{◌≡◌, ◌<◌, length, get_or, set, refl, sym, ap, ◌∙◌, subst, arith, Some}
 use Rattle.std.specs.Prelude.{slice_get}
+use Rattle.ir_lemmas.proofs.CallerLemmas.{length_of_map}
 use Rattle.ir_store.specs.Nodes.{with_turn, Shared, Node, Stored, cell_in, sourced_in}
 use Rattle.ir_store.specs.Places.{no_node}
 use Rattle.ir_store.specs.Table.{idle_beside}
-use Rattle.ir_store.proofs.Lists.{length_map}
 use Rattle.ir_store.proofs.Stored.{state_at_place, both_is}
 use Rattle.ir_store.proofs.store.Store.with_both.Goals as goal
 
@@ -15,7 +15,7 @@ index_mut-requires c =
     let there = subst (λ (z : Stored). slice_get z.items c.args.v ≡ Some (sourced_in shared node)) c.self.view_is
     (state_at_place shared c.self.inside.nodes c.args.v less) in
     let few = (c.requires.own (sourced_in shared node) there).0 in
-    let many = length_map (λ n. (get_or shared.threads n idle_beside).0) node.threads in
+    let many = length_of_map (λ n. (get_or shared.threads n idle_beside).0) node.threads in
     let e = ap length (c.in_ok-threads.ensures.items ∙ c.threads.ensures) in
     let k = c.in_ok-threads.threads.ok.0 in
     omega (arith, few, many, e, k)
@@ -28,7 +28,7 @@ index_mut-requires-2 c =
     let there = subst (λ (z : Stored). slice_get z.items c.args.v ≡ Some (sourced_in shared node)) c.self.view_is
     (state_at_place shared c.self.inside.nodes c.args.v less) in
     let few = (c.requires.own (sourced_in shared node) there).1 in
-    let many = length_map (cell_in shared.words) node.objects in
+    let many = length_of_map (cell_in shared.words) node.objects in
     let e = ap length (c.in_ok-objects.ensures.items ∙ c.objects.ensures) in
     let k = c.in_ok-objects.objects.ok.0 in
     omega (arith, few, many, e, k)

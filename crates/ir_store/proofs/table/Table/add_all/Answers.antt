@@ -1,10 +1,11 @@
 use Rattle.std.proofs.Common.{◌≡◌, ◌<◌, ◌∙◌, sym, ap, subst, length, get_or, arith}
 use Rattle.std.specs.Prelude.{slice_get, Some}
 use Rattle.std.proofs.lemmas.Option.{slice_get_within, get_or_from_slice_get}
+use Rattle.ir_lemmas.proofs.CallerLemmas.{all_by_recursion_after_push}
 use Rattle.ir_sources.specs.Sources.{Source}
 use Rattle.ir_thread.specs.State.{ThreadState}
 use Rattle.ir_store.specs.Table.{idle_beside, AreIn, threads_at, sources_at}
-use Rattle.ir_store.proofs.Lists.{all_by_recursion_after_push, all_by_recursion_weaker, kept_element_is_equal, place_below_length_kept, map_equal_if_functions_equal, mapped_elements_found_step}
+use Rattle.ir_store.proofs.Lists.{all_by_recursion_weaker, kept_element_is_equal, place_below_length_kept, map_equal_if_functions_equal, mapped_elements_found_step}
 use Rattle.ir_store.proofs.table.Table.add_all.Goals as goal
 
 pub loop-t-preserved : goal.loop-t-preserved

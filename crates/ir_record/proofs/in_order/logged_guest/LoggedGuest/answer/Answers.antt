@@ -1,9 +1,10 @@
 use Rattle.std.proofs.Common.{ap, ◌∙◌, refl, [], ◌∷◌, ◌++◌, set}
+use Rattle.ir_lemmas.proofs.CallerLemmas.{on_ok_holds_if_can}
 use Rattle.ir_flat.specs.Flat.{tables, machine}
 use Rattle.ir_runs.specs.Run.{Can}
 use Rattle.ir_log.specs.Logged.{Logged}
 use Rattle.ir_log.specs.declared.event.Event.TheVariants as event
-use Rattle.ir_record.proofs.Logs.{on_ok_holds_if_can, log_has_room_for_event, found_log_is_log_at}
+use Rattle.ir_record.proofs.Logs.{log_has_room_for_event, found_log_is_log_at}
 use Rattle.ir_record.proofs.Answering.{AnswerLogged, environment_call_can_step, room_to_log_answer, has_logs_after_answer, turn_taken_by_answer}
 use Rattle.ir_record.proofs.in_order.logged_guest.LoggedGuest.answer.Goals as goal
 

@@ -1,11 +1,11 @@
 use Rattle.std.proofs.Common.{rules, ◌≡◌, ◌<◌, [], ◌∷◌, ◌++◌, length, sym, ap, ◌∙◌, subst, arith, ℕ}
 use Rattle.std.specs.List.{AllByRecursion}
 use Rattle.std.specs.Vec.Iter.{into_iter_items, into_iter_len}
+use Rattle.ir_lemmas.proofs.CallerLemmas.{all_by_recursion_after_push}
 use Rattle.ir_flat.specs.Flat.{thread_of}
 use Rattle.ir_trace.specs.Bounds.{IsEvent, IsRecordedThread}
 use Rattle.ir_record.specs.Gathered.{IsThreadTrace, AreThreadTraces}
 use Rattle.ir_record.specs.Progress.{no_log, log_at}
-use Rattle.ir_record.proofs.Logs.{all_by_recursion_after_push}
 use Rattle.ir_record.proofs.Gathering.{get_or_at_split, split_place_below_length, thread_traces_with_one_added, found_thread_is_thread_of, split_moves_past_item, length_of_rest_is_one_less}
 use Rattle.ir_record.proofs.in_order.logged_guest.LoggedGuest.into_trace.Goals as goal
 

@@ -1,11 +1,12 @@
 use Rattle.std.proofs.Common.{[], ◌∷◌, ◌++◌, set, refl, ap, ◌∙◌}
+use Rattle.ir_lemmas.proofs.CallerLemmas.{on_ok_holds_if_can}
 use Rattle.ir_runs.specs.Machine.{Refused}
 use Rattle.ir_runs.specs.Run.{Can}
 use Rattle.ir_flat.specs.Flat.{tables, machine}
 use Rattle.ir_log.specs.Logged.{Logged}
 use Rattle.ir_log.specs.declared.event.Event.TheVariants as event
 use Rattle.ir_record.specs.Progress.{progress}
-use Rattle.ir_record.proofs.Logs.{on_ok_holds_if_can, log_has_room_for_event, found_log_is_log_at}
+use Rattle.ir_record.proofs.Logs.{log_has_room_for_event, found_log_is_log_at}
 use Rattle.ir_record.proofs.Entering.{OneEventLogged, event_step, has_logs_after_logged_event}
 use Rattle.ir_record.proofs.Steps.{took_refused}
 use Rattle.ir_record.proofs.Trying.{room_to_log_try, refused_try_can_be_taken, refused_try_logs_one_event}

@@ -1,4 +1,5 @@
 use Rattle.std.proofs.Common.{◌≡◌, ap, ◌∙◌, refl, sym, subst, [], ◌∷◌, ◌++◌, set}
+use Rattle.ir_lemmas.proofs.CallerLemmas.{on_ok_holds_if_can}
 use Rattle.ir_thread.specs.State.{ask_of}
 use Rattle.ir_thread.specs.declared.ask.Ask.TheVariants.{Try}
 use Rattle.ir_runs.specs.Machine.{Refused}
@@ -7,7 +8,7 @@ use Rattle.ir_flat.specs.Flat.{thread_of, tables, machine}
 use Rattle.ir_flat.proofs.CallerLemmas.{tried_object_is_of_state}
 use Rattle.ir_log.specs.Logged.{Logged}
 use Rattle.ir_log.specs.declared.event.Event.TheVariants as event
-use Rattle.ir_record.proofs.Logs.{on_ok_holds_if_can, log_has_room_for_event, found_log_is_log_at}
+use Rattle.ir_record.proofs.Logs.{log_has_room_for_event, found_log_is_log_at}
 use Rattle.ir_record.proofs.Entering.{turn_taken_by_logged_event, has_logs_after_logged_event}
 use Rattle.ir_record.proofs.Trying.{TryLogged, room_to_log_try, refused_try_can_be_taken, entry_label, entering_try_logs_one_event, refused_try_logs_one_event}
 use Rattle.ir_record.proofs.in_order.logged_guest.LoggedGuest.try_to_enter.Goals as goal
