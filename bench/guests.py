@@ -74,10 +74,10 @@ def entering(turns, units=32):
     return counted("entering", inner + ENTER_AND_LEAVE, units, 1 + 2 * turns + 4)
 
 
-def entering_its_own(turns):
+def entering_its_own(turns, units=32):
     """The same of the object that has the thread's number."""
     inner = [f"addi t1, zero, {turns}", "addi t1, t1, -1", "bne t1, zero, .-4", "addi a0, s0, 0"]
-    guest = counted("entering its own", inner + ENTER_AND_LEAVE, 32, 1 + 2 * turns + 5)
+    guest = counted("entering its own", inner + ENTER_AND_LEAVE, units, 1 + 2 * turns + 5)
     head = ["addi a7, zero, 12", "ecall", "addi s0, a0, 0"]
     return replace(guest, statements=head + guest.statements, steps=len(head) + guest.steps)
 
@@ -94,18 +94,19 @@ def of_threads():
 
 
 def side_by_side():
-    """Guests whose threads run on several processors."""
-    private = counted("", [], 3050)
+    """Guests whose threads run on several processors. To start threads on processors that do nothing takes some hundredths of a second, so each
+    takes some tenths."""
+    private = counted("", [], 12200)
     yield private.named("4 threads, private work only", 4)
-    yield private.named("16 threads, private work only", 16)
-    yield entering_its_own(46).named("4 threads, an object each, an entry each 100 steps", 4, 4)
-    yield entering(496, 4).named("8 threads, one object, an entry each 999 steps", 8, 1)
-    yield entering(4).named("4 threads, one object, an entry each 15 steps", 4, 1)
+    yield counted("", [], 3050).named("16 threads, private work only", 16)
+    yield entering_its_own(46, 128).named("4 threads, an object each, an entry each 100 steps", 4, 4)
+    yield entering(496, 16).named("8 threads, one object, an entry each 999 steps", 8, 1)
+    yield entering(4, 255).named("4 threads, one object, an entry each 15 steps", 4, 1)
 
 
 def alone_and_together():
     """Guests of one thread, each with the same guest of four threads: private work, and an object each."""
-    private, own = counted("", [], 6100), replace(entering_its_own(46), name="")
+    private, own = counted("", [], 12200), entering_its_own(46, 128)
     yield private.named("private work only"), private.named("4 threads, private work only", 4)
     yield own.named("an entry each 100 steps", 1, 1), own.named("4 threads, an object each, an entry each 100 steps", 4, 4)
 
