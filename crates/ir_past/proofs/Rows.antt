@@ -75,11 +75,11 @@ has_row_after_push rows x t i j h = record {
 pub has_rows_step_with_stale_write : (r : Recorded) (x : StaleWrite) (rows : List StaleWrite) → HasRows r x.thread x.event rows → IsRow r x
     → HasRows r x.thread (x.event + 1) (rows ++ x ∷ [])
 has_rows_step_with_stale_write r x rows h row = record {
-  sound = λ k y is. elim (slice_get_after_push_cases rows x y k is) [
+  sound = λ k y is. elim (slice_get_after_push_cases rows x k y is) [
     | inl old ↦ h.sound k y old
     | inr new ↦ subst (IsRow r) new.1 row
   ];
-  before = λ k y is. elim (slice_get_after_push_cases rows x y k is) [
+  before = λ k y is. elim (slice_get_after_push_cases rows x k y is) [
     | inl old ↦ before_next_event y.thread y.event x.thread x.event (h.before k y old)
     | inr new ↦ subst (λ (z : StaleWrite). IsBefore z.thread z.event x.thread (x.event + 1)) new.1 (inr (refl, omega arith))
   ];
@@ -87,12 +87,12 @@ has_rows_step_with_stale_write r x rows h row = record {
     | inl less ↦ has_row_after_push rows x u i j (h.complete u i j o v w s less)
     | inr here ↦ new_row u i j o v w s here.0 here.1
   ];
-  rising = λ a b y z less first second. elim (slice_get_after_push_cases rows x z b second) [
-    | inl old ↦ elim (slice_get_after_push_cases rows x y a first) [
+  rising = λ a b y z less first second. elim (slice_get_after_push_cases rows x b z second) [
+    | inl old ↦ elim (slice_get_after_push_cases rows x a y first) [
       | inl both ↦ h.rising a b y z less both old
       | inr new ↦ absurd (omega (arith, less, new.0, slice_get_within rows b z old))
     ]
-    | inr new ↦ elim (slice_get_after_push_cases rows x y a first) [
+    | inr new ↦ elim (slice_get_after_push_cases rows x a y first) [
       | inl old ↦ subst (λ (k : StaleWrite). IsBefore y.thread y.event k.thread k.event) new.1 (h.before a y old)
       | inr same ↦ absurd (omega (arith, less, same.0, new.0))
     ]

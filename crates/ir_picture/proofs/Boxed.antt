@@ -48,7 +48,7 @@ pub boxed_before_step_for_new_box : (r : Recorded) (t n : ℕ) (boxes : List Eve
     → n < length (recorded_thread r t).events → IsFold (recorded_thread r t).events n false → BoxedBefore r t n boxes
     → BoxedBefore r t (n + 1) (boxes ++ new ∷ [])
 boxed_before_step_for_new_box r t n boxes new thread event count there within fold h = record {
-  each = λ k b is. elim (slice_get_after_push_cases boxes new b k is) [
+  each = λ k b is. elim (slice_get_after_push_cases boxes new k b is) [
     | inl old ↦ h.each k b old
     | inr now ↦ subst (IsBox r) now.1 (record {
       thread = omega (arith, thread, there);
@@ -57,7 +57,7 @@ boxed_before_step_for_new_box r t n boxes new thread event count there within fo
       folds = λ i from below. absurd (omega (arith, from, below, event, count));
     })
   ];
-  before = λ k b is. elim (slice_get_after_push_cases boxes new b k is) [
+  before = λ k b is. elim (slice_get_after_push_cases boxes new k b is) [
     | inl old ↦ ends_by_next_event b t n (h.before k b old)
     | inr now ↦ subst (λ (x : EventBox). EndsBy x t (n + 1)) now.1 (inr (thread, omega (arith, event, count)))
   ];
@@ -74,18 +74,18 @@ boxed_before_step_for_new_box r t n boxes new thread event count there within fo
       };
     }
   ];
-  apart = λ k m a b less first second. elim (slice_get_after_push_cases boxes new b m second) [
-    | inl old ↦ elim (slice_get_after_push_cases boxes new a k first) [
+  apart = λ k m a b less first second. elim (slice_get_after_push_cases boxes new m b second) [
+    | inl old ↦ elim (slice_get_after_push_cases boxes new k a first) [
       | inl both ↦ h.apart k m a b less both old
       | inr now ↦ absurd (omega (arith, less, now.0, slice_get_within boxes m b old))
     ]
-    | inr now ↦ elim (slice_get_after_push_cases boxes new a k first) [
+    | inr now ↦ elim (slice_get_after_push_cases boxes new k a first) [
       | inl old ↦ subst (λ (x : EventBox). EndsBy a x.thread x.event) now.1
           (subst (λ z. EndsBy a z new.event) (sym thread) (subst (EndsBy a t) (sym event) (h.before k a old)))
       | inr same ↦ absurd (omega (arith, less, same.0, now.0))
     ]
   ];
-  joined = λ k u i b is has folded b4. elim (slice_get_after_push_cases boxes new b k is) [
+  joined = λ k u i b is has folded b4. elim (slice_get_after_push_cases boxes new k b is) [
     | inl old ↦ elim (before_next_event_cases u (suc i) t n b4) [
       | inl less ↦ h.joined k u i b old has folded less
       | inr here ↦ absurd (fold i (sym here.1)

@@ -439,11 +439,11 @@ pub sights_before_step_with_sight : (r : Recorded) (boxes : List PlacedBox) (t n
     → AreSomeBoxes r (events_of_all boxes) → SeesAt r boxes t n new → SightsBefore r boxes t n sights
     → SightsBefore r boxes t (n + 1) (sights ++ new ∷ [])
 sights_before_step_with_sight r boxes t n sights new coherent some sees h = record {
-  each = λ k s is. elim (slice_get_after_push_cases sights new s k is) [
+  each = λ k s is. elim (slice_get_after_push_cases sights new k s is) [
     | inl old ↦ h.each k s old
     | inr now ↦ subst (IsSight r boxes) now.1 sees.sight
   ];
-  before = λ k s is. elim (slice_get_after_push_cases sights new s k is) [
+  before = λ k s is. elim (slice_get_after_push_cases sights new k s is) [
     | inl old ↦ before_next_event s.seer.events.thread s.seer.events.event t n (h.before k s old)
     | inr now ↦ subst (λ (x : Sight). IsBefore x.seer.events.thread x.seer.events.event t (n + 1)) now.1 (inr (sees.thread, omega (arith, sees.event)))
   ];
@@ -455,12 +455,12 @@ sights_before_step_with_sight r boxes t n sights new coherent some sees h = reco
           ∙ ap Some (sight_of_event_is_unique r boxes t n new s coherent some sees (record { sight = is; thread = here.0; event = here.1 })),
     )
   ];
-  rising = λ k m s z less first second. elim (slice_get_after_push_cases sights new z m second) [
-    | inl old ↦ elim (slice_get_after_push_cases sights new s k first) [
+  rising = λ k m s z less first second. elim (slice_get_after_push_cases sights new m z second) [
+    | inl old ↦ elim (slice_get_after_push_cases sights new k s first) [
       | inl both ↦ h.rising k m s z less both old
       | inr now ↦ absurd (omega (arith, less, now.0, slice_get_within sights m z old))
     ]
-    | inr now ↦ elim (slice_get_after_push_cases sights new s k first) [
+    | inr now ↦ elim (slice_get_after_push_cases sights new k s first) [
       | inl old ↦ subst (λ (x : Sight). IsBefore s.seer.events.thread s.seer.events.event x.seer.events.thread x.seer.events.event) now.1
           (subst (λ u. IsBefore s.seer.events.thread s.seer.events.event u new.seer.events.event) (sym sees.thread)
           (subst (IsBefore s.seer.events.thread s.seer.events.event t) (sym sees.event) (h.before k s old)))

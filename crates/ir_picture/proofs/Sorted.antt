@@ -165,7 +165,7 @@ in_box_if_has_box_true (x ∷ xs) t i e = elim (or_true_cases (is_in t i x) (has
 pub lanes_at_start_after_push : (boxes : List EventBox) (lanes : List Lane) (new : Lane) (t : ℕ) → length lanes ≡ t → new.free ≡ first_point → IsCut boxes t 0 new.next
     → ((u : ℕ) (l : Lane) → slice_get lanes u ≡ Some l → (l.free ≡ first_point) × IsCut boxes u 0 l.next)
     → (u : ℕ) (l : Lane) → slice_get (lanes ++ new ∷ []) u ≡ Some l → (l.free ≡ first_point) × IsCut boxes u 0 l.next
-lanes_at_start_after_push boxes lanes new t long free cut all u l is = elim (slice_get_after_push_cases lanes new l u is) [
+lanes_at_start_after_push boxes lanes new t long free cut all u l is = elim (slice_get_after_push_cases lanes new u l is) [
   | inl old ↦ all u l old
   | inr now ↦ subst (λ (x : Lane). (x.free ≡ first_point) × IsCut boxes u 0 x.next) now.1
       (free, subst (λ z. IsCut boxes z 0 new.next) (sym (now.0 ∙ long)) cut)

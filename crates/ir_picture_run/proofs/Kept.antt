@@ -46,16 +46,16 @@ are_some_of_one_more_row rows n ws h = record {
 are_some_after_row_pushed : (rows : List StaleWrite) (n : ℕ) (ws : List StaleWrite) (y : StaleWrite) → IsRising rows → slice_get rows n ≡ Some y → AreSomeRows rows n ws
     → AreSomeRows rows (suc n) (ws ++ y ∷ [])
 are_some_after_row_pushed rows n ws y rises there h = record {
-  among = λ a x e. elim (slice_get_after_push_cases ws y x a e) [
+  among = λ a x e. elim (slice_get_after_push_cases ws y a x e) [
     | inl old ↦ (let at = h.among a x old in (at.0, (let l = at.1 in omega (arith, l)), at.2))
     | inr new ↦ (n, omega arith, there ∙ ap Some new.1)
   ];
-  rising = λ a b x z less at_a at_b. elim (slice_get_after_push_cases ws y z b at_b) [
-    | inl old ↦ elim (slice_get_after_push_cases ws y x a at_a) [
+  rising = λ a b x z less at_a at_b. elim (slice_get_after_push_cases ws y b z at_b) [
+    | inl old ↦ elim (slice_get_after_push_cases ws y a x at_a) [
       | inl both ↦ h.rising a b x z less both old
       | inr new ↦ absurd (let l = slice_get_within ws b z old in let same = new.0 in omega (arith, l, same, less))
     ]
-    | inr new ↦ elim (slice_get_after_push_cases ws y x a at_a) [
+    | inr new ↦ elim (slice_get_after_push_cases ws y a x at_a) [
       | inl before ↦ (let at = h.among a x before in rises at.0 n x z at.1 at.2 (there ∙ ap Some new.1))
       | inr also ↦ absurd (let p = new.0 in let q = also.0 in omega (arith, p, q, less))
     ]

@@ -41,7 +41,7 @@ pub drawn_to_next_box : (f : FittedTrace) (boxes : List PlacedBox) (n : ℕ) (ol
     → slice_get boxes n ≡ Some b → IsDrawn f b d → new ≡ old ++ d ∷ [] → AreDrawnTo f boxes (n + 1) new
 drawn_to_next_box f boxes n old new b d h at is made = subst (AreDrawnTo f boxes (n + 1)) (sym made) (record {
   size = length_push old d ∙ (let s = h.size in omega (arith, s));
-  each = λ k c e there new_there. elim (slice_get_after_push_cases old d e k new_there) [
+  each = λ k c e there new_there. elim (slice_get_after_push_cases old d k e new_there) [
     | inl before ↦ h.each k c e there before
     | inr last ↦
         let here : slice_get boxes n ≡ Some c = ap (slice_get boxes) (sym (last.0 ∙ h.size)) ∙ there in
