@@ -181,14 +181,14 @@ MODES = (b"record", b"record-threads", b"replay", b"replay-threads")
 
 
 def times_of_modes(programs, image, both, steps, base):
-    """The seconds of a guest in each of MODES, the best of five turns in which each is measured once: the machine's speed moves from second to
+    """The seconds of a guest in each of MODES, the medians of five turns in which each is measured once: the machine's speed moves from second to
     second. `both` has the trace too, and `base` is the time of an empty guest's recording."""
     def one(mode):
         if mode.startswith(b"record"):
             return programs.best_of_bench(mode, image, steps, 1) - base
         return programs.best_replay(mode, both, steps, 1)
     turns = [[one(mode) for mode in MODES] for _ in range(5)]
-    return [min(times) for times in zip(*turns)]
+    return [median(times) for times in zip(*turns)]
 
 
 def by_threads(programs):
