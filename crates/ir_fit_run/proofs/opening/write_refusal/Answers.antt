@@ -1,5 +1,5 @@
 use Rattle.std.proofs.Common.{ap, subst, sym, ◌∙◌}
-use Rattle.ir_stream.specs.Answers.{WritesText}
+use Rattle.ir_stream.specs.Writing.{WritesText}
 use Rattle.ir_fit_run.specs.Opened.{refusal_text}
 use Rattle.ir_fit_run.proofs.opening.write_refusal.Goals as goal
 
