@@ -2,9 +2,9 @@
 use Rattle.std.proofs.Common.{◌≡◌, ◌≤◌, ◌<◌, ◌+◌, ℕ, suc, Bool, true, false, cond, not, ltb, leb, List, [], ◌∷◌, ◌++◌, length, refl, arith, length-append, ltb-true, leb-true}
 use Rattle.std.specs.Prelude.{◌&&◌}
 use Rattle.std.specs.List.{filter, AllByRecursion}
-use Rattle.ir_lemmas.proofs.CallerLemmas.{length_of_append_item}
+use Rattle.ir_lemmas.proofs.CallerLemmas.{all_by_recursion_after_push, length_of_append_item}
 use Rattle.ir_mach.specs.Core.{memory_start, memory_size}
-use Rattle.ir_debug.proofs.CallerLemmas.{all_more, all_without, fewer}
+use Rattle.ir_debug.proofs.CallerLemmas.{all_without, fewer}
 use Rattle.ir_gdb.specs.declared.point.Breakpoint.{Breakpoint}
 use Rattle.ir_gdb.specs.declared.point.Watched.{Watched}
 use Rattle.ir_gdb.specs.Stub.{Stub, IsStub, IsWatched, most_points, most_watched}
@@ -47,7 +47,7 @@ stub_with_watch_is_stub s w is can room = record {
   chosen = is.chosen;
   current = is.current;
   told = is.told;
-  watches = all_more IsWatched s.watches w is.watches (watched_if_can_watch w can);
+  watches = all_by_recursion_after_push IsWatched s.watches w is.watches (watched_if_can_watch w can);
   few = let more = length_of_append_item s.watches w in omega (arith, more, room);
 }
 
