@@ -8,7 +8,7 @@ is taken off. Without PART all are measured:
 
 speeds      guests of 8 * 10^7 steps and more: by a session, by steps many at a time, and with each step asked and taken by itself
 traces      recording in order from file to file, fitting what was recorded, and replaying it from its start to its end
-by_threads  recording and replay by real threads beside the same in order
+by_threads  recording and replay by real threads beside the same in order, medians of five turns
 processes   replay by one process, by four that share nothing, and by four threads, in turn: what the machine gives
 contended   the same of guests whose threads meet at one object, with thread switches; opening; the slowest of 50 moves to the end
 sessions    answers a second
@@ -192,8 +192,8 @@ def times_of_modes(programs, image, both, steps, base):
 
 
 def by_threads(programs):
-    """Recording and replay by real threads beside the same in order, with thread switches. A replay is from the start to the end, without the
-    fit before it. A recording is from an image to a trace in memory, without the start of the program."""
+    """Recording and replay by real threads beside the same in order, the medians of five turns, with thread switches. A replay is from the start
+    to the end, without the fit before it. A recording is from an image to a trace in memory, without the start of the program."""
     print("by real threads beside in order, millions of steps of all threads a second; switches of threads")
     heads = ("record", "threads", "ratio", "switches", "replay", "threads", "ratio", "switches")
     print(f"{'guest':52}{'steps':>12}" + "".join(f"{head:>10}" for head in heads))
@@ -255,13 +255,13 @@ def contended(programs):
         trace, _ = programs.record(guest)
         files = (programs.file_of(guest), trace)
         both = image + trace.read_bytes().hex().encode() + b"\n"
-        *recorded, in_order, by_threads_too = times_of_modes(programs, image, both, steps, base)
+        recorded, recorded_by_threads, replayed, replayed_by_threads = times_of_modes(programs, image, both, steps, base)
         opened = programs.best_of_bench(b"fit", both, steps) - programs.best_of_bench(b"read", both, steps)
         ends = ends_of(programs, files)
         counts = [switches([programs.bench], mode + b"\n" + data) for mode, data in ((b"record-threads", image), (b"replay-threads", both))]
-        median = ends[len(ends) // 2]
-        print(f"{guest.name:36}{steps:>12}{recorded[0] / recorded[1]:>10.2f}{counts[0]:>10}{in_order / by_threads_too:>10.2f}{counts[1]:>10}"
-              f"{recorded[0] / opened:>10.2f}{median * 1000:>10.0f}{ends[-1] / median:>10.2f}", flush=True)
+        middle = median(ends)
+        print(f"{guest.name:36}{steps:>12}{recorded / recorded_by_threads:>10.2f}{counts[0]:>10}{replayed / replayed_by_threads:>10.2f}{counts[1]:>10}"
+              f"{recorded / opened:>10.2f}{middle * 1000:>10.0f}{ends[-1] / middle:>10.2f}", flush=True)
 
 
 def files_of(programs, guest):

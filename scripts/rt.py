@@ -3,10 +3,9 @@
 
 python3 scripts/rt.py WORD..
 
-`rt` sums the sources of a crate and of all below it, to see whether a library is still made of them, by a function that goes down each way from crate
-to crate. There are 150,000 ways down from ir_cli, so that sums took more of `make` than proofs. Here a call of that function sums each crate once.
-What it returns is the same. All else is the kit's own, and `rt` by itself says the same of each crate. If the kit has no such function, nothing
-differs.
+`rt` sums the sources of a crate and of all below it, to see whether a library is still made of them. Its function goes down each way from crate to
+crate, of which there are 150,000 from ir_cli. Here a call of that function sums each crate once, and returns the same. All else is the kit's own. If
+the kit has no such function, nothing differs.
 """
 import runpy
 import shutil
