@@ -1,6 +1,6 @@
 //! How a search came to a node, and the level it is in.
 
-ghost use Rattle.std.specs.Prelude.{◌≡◌, IfOk};
+ghost use Rattle.std.specs.Prelude.{◌≡◌, ◌≤◌, ◌^◌, IfOk, IfErr};
 
 use std::alloc::AllocError;
 
@@ -41,7 +41,8 @@ pub struct Level {
 
 // A number in 32 bits. The error is for one that is too large.
 pub(crate) fn narrow(number: usize) -> Result<u32, AllocError>
-    ensures { IfOk result (λ n. n ≡ number) }
+    ensures same { IfOk result (λ n. n ≡ number) }
+    ensures large { IfErr result (λ _. 2 ^ 32 ≤ number) }
 {
     if number <= u32::MAX as usize {
         Ok(number as u32)

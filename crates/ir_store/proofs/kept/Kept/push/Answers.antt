@@ -26,8 +26,10 @@ invariant_of-self-2 c =
     c.node.inside.objects.items c.extend_from_slice-2.new.self.items
     (c.in_ok-extend_from_slice.ensures.items ∙ ap (λ xs. c.self.inside.threads.items ++ xs) c.as_slice.ensures.value)
     (c.in_ok-extend_from_slice-2.ensures.items ∙ ap (λ xs. c.self.inside.objects.items ++ xs) c.as_slice-2.ensures.value) place
-    (c.in_ok-short.ensures ∙ c.len.ensures ∙ c.self.inside.threads.ok.0) (c.in_ok-short-2.ensures ∙ c.len-2.ensures ∙ c.node.inside.threads.ok.0)
-    (c.in_ok-short-3.ensures ∙ c.len-3.ensures ∙ c.self.inside.objects.ok.0) (c.in_ok-short-4.ensures ∙ c.len-4.ensures ∙ c.node.inside.objects.ok.0)
+    (c.in_ok-short.ensures.same ∙ c.len.ensures ∙ c.self.inside.threads.ok.0)
+    (c.in_ok-short-2.ensures.same ∙ c.len-2.ensures ∙ c.node.inside.threads.ok.0)
+    (c.in_ok-short-3.ensures.same ∙ c.len-3.ensures ∙ c.self.inside.objects.ok.0)
+    (c.in_ok-short-4.ensures.same ∙ c.len-4.ensures ∙ c.node.inside.objects.ok.0)
     c.self.inside.places.items c.put.new.items.items c.self.invariant c.put.ensures.either
 
 pub returns-clause-ok : goal.returns-clause-ok
@@ -44,8 +46,10 @@ returns-clause-ok c =
     c.node.inside.objects.items c.extend_from_slice-2.new.self.items
     (c.in_ok-extend_from_slice.ensures.items ∙ ap (λ xs. c.self.inside.threads.items ++ xs) c.as_slice.ensures.value)
     (c.in_ok-extend_from_slice-2.ensures.items ∙ ap (λ xs. c.self.inside.objects.items ++ xs) c.as_slice-2.ensures.value) place
-    (c.in_ok-short.ensures ∙ c.len.ensures ∙ c.self.inside.threads.ok.0) (c.in_ok-short-2.ensures ∙ c.len-2.ensures ∙ c.node.inside.threads.ok.0)
-    (c.in_ok-short-3.ensures ∙ c.len-3.ensures ∙ c.self.inside.objects.ok.0) (c.in_ok-short-4.ensures ∙ c.len-4.ensures ∙ c.node.inside.objects.ok.0)
+    (c.in_ok-short.ensures.same ∙ c.len.ensures ∙ c.self.inside.threads.ok.0)
+    (c.in_ok-short-2.ensures.same ∙ c.len-2.ensures ∙ c.node.inside.threads.ok.0)
+    (c.in_ok-short-3.ensures.same ∙ c.len-3.ensures ∙ c.self.inside.objects.ok.0)
+    (c.in_ok-short-4.ensures.same ∙ c.len-4.ensures ∙ c.node.inside.objects.ok.0)
     c.self.inside.places.items c.put.new.items.items c.self.invariant is
     ∙ (λ i. c.self.view_is i ++ c.node.view_is i ∷ [])) c.put.ensures.ok
 

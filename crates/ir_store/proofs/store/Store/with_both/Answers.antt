@@ -51,6 +51,6 @@ returns-clause-state c = λ f at.
     c.self.view_is
     ((λ i. sourced_in shared (record {
       code = c.code.ensures i;
-      threads = set (threads i) c.args.t (c.in_ok-number.ensures i);
+      threads = set (threads i) c.args.t (c.in_ok-number.ensures.same i);
       objects = set (objects i) c.args.o c.args.spot;
     })) ∙ both)

@@ -18,7 +18,7 @@ loop-t-preserved c =
     let numbers = c.loop-t.numbers.items in
     let n = c.in_ok-number.number in
     let x : ThreadState × Source = (c.index-threads-t.result, c.index-sources-t.result) in
-    let at : slice_get new n ≡ Some x = subst (λ k. slice_get new k ≡ Some x) (sym c.in_ok-number.ensures) c.in_ok-n.ensures.found in
+    let at : slice_get new n ≡ Some x = subst (λ k. slice_get new k ≡ Some x) (sym c.in_ok-number.ensures.same) c.in_ok-n.ensures.found in
     let is : get_or new n idle_beside ≡ x = get_or_from_slice_get new n x idle_beside at in
     let lt : i < length c.args.threads.now = (let a = c.loop-t-test.true in let b = c.loop-t.auto.t-end in omega (arith, a, b)) in
     let lt' : i < length c.args.sources.now = (let a = c.requires.each in omega (arith, lt, a)) in
