@@ -4,7 +4,7 @@ ghost use Rattle.std.specs.Prelude.{◌≡◌, ◌⊎◌, ℕ, suc, ◌<◌, ◌
 ghost use Rattle.ir_explore.specs.declared.stop.Stop.TheVariants.{Memory, Order};
 ghost use Rattle.ir_explore.specs.declared.origin.Origin.{Origin};
 ghost use Rattle.ir_explore.specs.Origins.{Spells};
-ghost use Rattle.ir_outcomes.specs.Path.{IsPathTo, ways_of};
+ghost use Rattle.ir_outcomes.specs.Path.{FallInLevel, GoBack, IsPathTo, ways_of};
 
 use ir_explore::{Origin, Refusal, Stop};
 use std::alloc::Global;
@@ -12,12 +12,12 @@ use std::alloc::Global;
 /// The turns that led to a node, the last first: one more at most than its level says.
 ///
 /// # Errors
-/// Out of memory. `Order` where they lead to no first node.
+/// Out of memory. `Order` where some turn doesn't begin at a node of a lower level.
 pub fn path_to(alloc: Global, origins: &[Origin], node: usize) -> Result<Vec<Origin>, Stop>
     requires { node < length origins.now }
     ensures path { IfOk result (λ path. IsPathTo origins.now node path.items) }
     ensures few { IfOk result (λ path. (n : Origin) → slice_get origins.now node ≡ Some n → length path.items ≤ suc n.level) }
-    ensures refused { IfErr result (λ stop. (stop ≡ Memory) ⊎ (stop ≡ Order node)) }
+    ensures refused { IfErr result (λ stop. (stop ≡ Memory) ⊎ ((stop ≡ Order node) × (FallInLevel origins.now → ⊥))) }
 {
     let mut path = Vec::new(alloc);
     let mut at = node;
@@ -38,10 +38,10 @@ pub fn path_to(alloc: Global, origins: &[Origin], node: usize) -> Result<Vec<Ori
 /// The refused tries that the table has under a number, the last first.
 ///
 /// # Errors
-/// Out of memory. `Order` where the table has no such number.
+/// Out of memory. `Order` where the table has no such number, or some refused try in it has one before it that comes later.
 pub fn refusals_to(alloc: Global, table: &[Refusal], number: usize) -> Result<Vec<Refusal>, Stop>
     ensures ways { IfOk result (λ refusals. Spells table.now number (ways_of refusals.items)) }
-    ensures refused { IfErr result (λ stop. (stop ≡ Memory) ⊎ (stop ≡ Order 0)) }
+    ensures refused { IfErr result (λ stop. (stop ≡ Memory) ⊎ ((stop ≡ Order 0) × (GoBack table.now → number ≤ length table.now → ⊥))) }
 {
     let mut refusals = Vec::new(alloc);
     let mut left = number;
