@@ -48,7 +48,7 @@ IfRefused result P = ⊤
 
 -- ---- what it writes
 
--- the machine may answer the lines in turn so that this is the session's text, the opening lines and all answers; it has then come to the last
+-- the machine may answer the lines in turn so that this is the session's text, opening lines and answers; last has the machine as it then is
 abbrev pub SessionText : Opening → List (List ℕ) → List ℕ → Opening → Type 0
 SessionText (opening.Ready d) lines text last = (answers : List ℕ) × (desk : Desk) × LinesAnswered Replies d lines answers desk
     × (text ≡ opening_text (opening.Ready d) ++ answers) × (last ≡ opening.Ready desk)
@@ -73,7 +73,7 @@ pub record AnsweredWhole (image trace : List ℕ) (old new : Option (List ℕ)) 
   pub goes : some_quits quits (split_lines consumed).whole ≡ false
   pub transcript : Transcript image trace (split_lines consumed).whole (λ text last. Appends old new text)
 
--- the writer took a text and a prefix of what the machine at the last may answer to a line
+-- the writer took a text, and a prefix of what the machine of last may answer to a line
 pub record Breaks (line : List ℕ) (old new : Option (List ℕ)) (text : List ℕ) (last : Opening) : Type 0 where
   pub desk : Desk
   pub ready : last ≡ opening.Ready desk

@@ -32,8 +32,8 @@ fn ended(served: Result<Served, Fault>) -> Result<Ended, SessionErr>
 ///
 /// The bytes that are written are the opening lines, and then the answers of the small machine that holds a run of the
 /// guest with the trace and a position of each thread, and nothing else. Which order the threads that replay the run
-/// took makes no difference. Each entry and leave of theirs is reported to the gate. At most `limit` bytes are read; if
-/// they hold no line of `quit`, the lines that are whole in them are answered, and then `TooLong`. An image or a trace
+/// took makes no difference. Each entry and leave of theirs is reported to the gate. At most `limit` bytes are read; if so many
+/// hold no line of `quit`, the lines that are whole in them are answered, and then `TooLong`. An image or a trace
 /// that is refused, and a trace that no run of the guest has, is named in the opening lines; then no line is read.
 ///
 /// # Errors

@@ -2,11 +2,11 @@
 use Rattle.std.specs.Prelude.{◌≡◌, ◌≢◌, ℕ, List, length, slice_get, Some, ⊤}
 use Rattle.ir_image.specs.Guest.{Guest, object_count}
 use Rattle.ir_flat.specs.Flat.{start_flat, tables, machine}
-use Rattle.ir_runs.specs.Run.{Step}
+use Rattle.ir_runs.specs.Run.{Step, IsWhole}
 use Rattle.ir_trace.specs.Recorded.{Recorded, trace_of}
 use Rattle.ir_coherence.specs.Breaking.{HasCause, IsFirstBreak}
 use Rattle.ir_coherence.specs.declared.cause.Cause.{Cause}
-use Rattle.ir_runs.specs.Verdicts.{IsVerdict, IsWhole, Follows, IsMaximal, closing}
+use Rattle.ir_runs.specs.Verdicts.{IsVerdict, Follows, IsMaximal, closing}
 use Rattle.ir_runs.specs.declared.thread_verdict.ThreadVerdict.{ThreadVerdict}
 use Rattle.ir_fit.specs.declared.header_cause.HeaderCause.{HeaderCause}
 use Rattle.ir_fit.specs.declared.header_cause.HeaderCause.TheVariants.{Threads, Objects}
@@ -61,7 +61,7 @@ IsRefusal guest r (Incoherent t i c) = HasHeader guest r × IsFirstBreak (length
 IsRefusal guest r (verdict.Threads vs) = HasHeader guest r × ((t i : ℕ) (c : Cause) → HasCause (length guest.entries) (trace_of r) t i c → ⊥)
     × AreVerdicts guest r vs.items
 
--- out of memory; or a refusal, and no run of the guest has the trace
+-- out of memory; or a refusal with its reason, and no run of the guest has the trace. A session uses the second row alone
 abbrev pub IsRefused : Guest → Recorded → FitErr → Type 0
 IsRefused guest r NoMem = ⊤
 IsRefused guest r (Refused v) = IsRefusal guest r v × ((run : List Step) → IsRunOf guest r run → ⊥)

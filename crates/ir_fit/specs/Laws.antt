@@ -4,13 +4,13 @@ use Rattle.ir_image.specs.Guest.{Guest}
 use Rattle.ir_image.specs.Bounds.{IsGuest}
 use Rattle.ir_runs.specs.Machine.{Trace}
 use Rattle.ir_flat.specs.Flat.{start_flat, tables, machine}
-use Rattle.ir_runs.specs.Run.{Step, IsRun, asked, end, trail, Cut, IsCut, Consistent}
+use Rattle.ir_runs.specs.Run.{Step, IsRun, asked, end, trail, Cut, IsCut, Consistent, IsWhole}
 use Rattle.ir_runs.specs.Bounds.{IsComplete, trace}
 use Rattle.ir_runs.specs.Alike.{SameTrace, SameRun, Reaches}
 use Rattle.ir_runs.specs.Admitted.{AtCut}
 use Rattle.ir_runs.specs.declared.thread_verdict.ThreadVerdict.{ThreadVerdict}
 use Rattle.ir_runs.specs.declared.thread_verdict.ThreadVerdict.TheVariants.{Same}
-use Rattle.ir_runs.specs.Verdicts.{IsVerdict, IsWhole, Follows, IsMaximal, closing, left_log}
+use Rattle.ir_runs.specs.Verdicts.{IsVerdict, Follows, IsMaximal, closing, left_log}
 use Rattle.ir_runs.specs.Coherent.{IsCoherent}
 use Rattle.ir_runs.specs.Events.{HoldsEvents, result_of}
 use Rattle.ir_thread.specs.State.{IsAllowed, most_budget}

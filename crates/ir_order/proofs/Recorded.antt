@@ -5,8 +5,7 @@ use Rattle.std.proofs.lemmas.List.{get_or-replicate}
 use Rattle.std.proofs.lemmas.Option.{get_or_from_slice_get}
 use Rattle.ir_image.specs.Guest.{Guest, guest_at}
 use Rattle.ir_runs.specs.Machine.{Machine, Trace}
-use Rattle.ir_runs.specs.Run.{State, Step, IsRun, IsDone, end, events, log}
-use Rattle.ir_runs.specs.Verdicts.{IsWhole}
+use Rattle.ir_runs.specs.Run.{State, Step, IsRun, IsDone, end, events, log, IsWhole}
 use Rattle.ir_thread.specs.declared.profile.Profile.{Profile}
 use Rattle.ir_flat.specs.Flat.{start_flat, tables, machine}
 use Rattle.ir_trace.specs.Recorded.{Recorded, trace_of}

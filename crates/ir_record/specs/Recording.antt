@@ -6,9 +6,8 @@ use Rattle.ir_thread.specs.State.{start_state, ask_of, thread_machine}
 use Rattle.ir_thread.specs.declared.ask.Ask.TheVariants as ask
 use Rattle.ir_flat.specs.Flat.{start_flat, tables, machine, MayRun, alone_after}
 use Rattle.ir_runs.specs.Machine.{Act, act_of, Result, Env, Machine}
-use Rattle.ir_runs.specs.Run.{Step, asked, log, end, rounds}
+use Rattle.ir_runs.specs.Run.{Step, asked, log, end, rounds, IsWhole}
 use Rattle.ir_runs.specs.declared.env_kind.EnvKind.{EnvKind}
-use Rattle.ir_runs.specs.Verdicts.{IsWhole}
 use Rattle.ir_trace.specs.Recorded.{Recorded, trace_of}
 use Rattle.ir_record.specs.Worlds.{answers_at, Answered, answers_in, NoneFailed, IsFirstFailed, AreSameWorlds}
 use Rattle.ir_record.specs.declared.outputs.Outputs.{Outputs}
@@ -123,7 +122,8 @@ EachWentOn answers broken guest budget profile before after = (t : ℕ) → t < 
     → WentOn guest budget profile t (slice_index_or (map broken after) t false) (answers_at (map answers before) t)
     (answers_at (map answers after) t)
 
--- the same of a recording by threads, in which the others go on where a world has failed
+-- out of memory; or a world has failed and none of a lower thread has, the worlds are handed back, and each thread went on by itself, to its
+-- end or until its world failed. That what they did together is a run isn't said
 abbrev pub IsFailure : {W O : Type 0} → (W → List Answered) → (W → Bool) → (W → O) → Guest → ℕ → Profile → List W → RecordErr W → Type 0
 IsFailure answers broken origin guest budget profile before NoMem = ⊤
 IsFailure answers broken origin guest budget profile before (World thread worlds) = IsFirstFailed (map broken worlds.items) thread

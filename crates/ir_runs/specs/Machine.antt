@@ -44,7 +44,7 @@ pub record Machine (T : Type 0) : Type 0 where
   pub ask : T → Ask
   -- the thread after its next step, with this reply
   pub take : T → ℕ → T
-  -- which objects it holds
+  -- which objects it holds; only proofs look at it
   pub held : T → ℕ → Option Access
   -- which results suit a call of the environment
   pub fits : EnvKind → ℕ → Bool
@@ -67,7 +67,7 @@ pub record Object : Type 0 where
   pub inside : ℕ → Option Access
   pub words : ℕ → ℕ
 
--- the object that an act enters, leaves, reads or writes; any other act leaves object 0 as it is
+-- the object that an act enters, leaves, reads or writes; any other act has object 0, which it doesn't change
 abbrev pub target : Act → ℕ
 target (Entry o a v) = o
 target (Exit o a) = o

@@ -1,6 +1,6 @@
 -- Threads and objects, one step at a time: runs, cuts of a run, and rounds over the threads.
 use Rattle.std.specs.Prelude.{◌≡◌, ℕ, zero, suc, Bool, true, false, eqb, List, [], ◌∷◌, length, pred, ◌<◌, ◌≤◌, cond, ltb, ◌++◌}
-use Rattle.ir_runs.specs.Machine.{Ask, Done, Act, act_of, Machine, upd, Object, target, Admits, acted, reply, emitted, Label, logged, In, Out, Try}
+use Rattle.ir_runs.specs.Machine.{Ask, Done, Act, act_of, Machine, upd, Object, target, Admits, acted, reply, emitted, Label, logged, In, Out, Try, Trace}
 use Rattle.ir_runs.specs.declared.access.Access.TheVariants.{Reading, Writing}
 use Rattle.std.specs.List.{range_with_len}
 
@@ -87,6 +87,14 @@ th m s run t k = thread_in (trail m s run t) k ((end m s run).now t)
 abbrev pub IsDone : {T : Type 0} → Machine T → State T → Type 0
 IsDone m s = (t : ℕ) → asked m s t ≡ Done
 
+-- a complete run of n threads with this trace
+pub record IsWhole {T : Type 0} (m : Machine T) (s : State T) (n : ℕ) (tr : Trace) (run : List Step) : Type 0 where
+  pub runs : IsRun m s run
+  pub done : IsDone m (end m s run)
+  pub steps : (t : ℕ) → t < n → count m s run t ≡ tr.steps t
+  pub logs : (t : ℕ) → t < n → log m s run t ≡ tr.logs t
+  pub ends : (t : ℕ) → t < n → m.ended ((end m s run).now t) ≡ tr.ends t
+
 -- x is at place k of the list
 abbrev pub At : {A : Type 0} → List A → ℕ → A → Type 0
 At [] k x = ⊥
@@ -95,7 +103,7 @@ At (y ∷ ys) (suc k) x = At ys k x
 
 -- step k of thread t emits this
 abbrev pub Emits : {T : Type 0} → Machine T → State T → List Step → ℕ → ℕ → Label → Type 0
-Emits {T} m s run t k emitted = (x : T) × At (trail m s run t) k (x, emitted)
+Emits {T} m s run t k l = (x : T) × At (trail m s run t) k (x, l)
 
 -- what emits the second needs what emits the first: an entry needs the writer's leave that made its version, an entry for writing each
 -- reader's leave of its version
@@ -126,7 +134,7 @@ part (e ∷ run) p = join_if (ltb 0 (p e.0)) e (part run (λ u. cond (eqb u e.0)
 abbrev pub object_at : {T : Type 0} → Machine T → State T → List Step → Cut → ℕ → Object
 object_at m s run p o = (end m s (part run p)).objects o
 
--- the consistent cut at or above p with t at k or more that lies below every other such
+-- the consistent cut at or above p with t at k or more that lies below every other such (t is then exactly there: `least_exact` of ir_cut)
 pub record IsLeast {T : Type 0} (m : Machine T) (s : State T) (run : List Step) (p : Cut) (t k : ℕ) (q : Cut) : Type 0 where
   pub cut : IsCut m s run q
   pub consistent : Consistent m s run q
