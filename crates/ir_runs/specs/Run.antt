@@ -105,8 +105,7 @@ At (y ∷ ys) (suc k) x = At ys k x
 abbrev pub Emits : {T : Type 0} → Machine T → State T → List Step → ℕ → ℕ → Label → Type 0
 Emits {T} m s run t k l = (x : T) × At (trail m s run t) k (x, l)
 
--- what emits the second needs what emits the first: an entry needs the writer's leave that made its version, an entry for writing each
--- reader's leave of its version
+-- what emits the second needs what emits the first: an entry the writer's leave that made its version, one for writing each reader's leave too
 abbrev pub IsNeededBy : Label → Label → Type 0
 IsNeededBy (Out o Writing w) (In p a v l) = (o ≡ p) × (v ≡ suc w)
 IsNeededBy (Out o Reading w) (In p Writing v l) = (o ≡ p) × (v ≡ w)

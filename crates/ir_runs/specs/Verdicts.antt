@@ -95,8 +95,7 @@ Awaits (Enter o a) es = Unit {0}
 Awaits (Try o) (In p c v l ∷ es) = Unit {0}
 Awaits _ _ = ⊥
 
--- the verdict on a thread whose state is x, with n steps and the log es left, after i events and k steps; stuck says that no run takes it
--- further
+-- the verdict on a thread whose state is x, with n steps and the log es left, after i events and k steps; stuck says that no run takes it further
 abbrev pub Judged : {T : Type 0} → Machine T → Option (ℕ × ℕ) → Type 0 → T → ℕ → List Label → ℕ → ℕ → ThreadVerdict → Type 0
 Judged m fin stuck x n es i k Same = m.ask x ≡ Done
 Judged m fin stuck x n es i k (Disagrees j h) = (m.ask x ≢ Done) × (Agrees m fin x n es → ⊥) × (j ≡ i) × (h ≡ k)
