@@ -46,6 +46,12 @@ IfRefused (Ok TraceRefused) P = P
 IfRefused (Ok NotFit) P = P
 IfRefused result P = ⊤
 
+-- what was read ends with the line that quits, or with the input; only where the input ends is a line unfinished
+abbrev pub ReadsThrough : Ended → Option (List ℕ) → List ℕ → Type 0
+ReadsThrough Quit left consumed = (through quits (lines_of consumed) ≡ lines_of consumed) × ((split_lines consumed).rest ≢ [] → IsAtEnd left)
+ReadsThrough InputEnd left consumed = IsAtEnd left
+ReadsThrough refused left consumed = ⊤
+
 -- ---- what it writes
 
 -- the machine may answer the lines in turn so that this is the session's text, opening lines and answers; last has the machine as it then is

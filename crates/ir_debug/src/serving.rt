@@ -8,6 +8,7 @@ ghost use Rattle.ir_stream.specs.Written.{Wrote, WroteInPart, Replied};
 ghost use Rattle.ir_stream.specs.Endings.{flow_after, served_after, IfEnded, LeadsTo};
 ghost use Rattle.ir_debug.specs.Machine.{Replies, quits, quits_by};
 ghost use Rattle.ir_debug.specs.Debugging.{IsAnswer};
+ghost use Rattle.ir_debug.specs.Session.{ReadsThrough, ended_by};
 
 use crate::answer::Answer;
 use crate::answering::write_answer;
@@ -110,6 +111,8 @@ pub fn serve<H: Hands, R: Source, W: Sink>(
     // If the reader makes its bytes known, all of them together lead to it.
     ensures known { IfEnded result (IfSome (R.left reader.old)
         (LeadsTo Replies quits debugger.old.desk limit result (W.written writer.old) (W.written writer.new))) }
+    // No byte was read after the line that quits, and if the input ended the reader is at its end.
+    ensures last { IfOk (ended_by result) (λ e. ReadsUpTo limit (R.left reader.old) (R.left reader.new) (ReadsThrough e (R.left reader.new))) }
     // After a failed read, the answers to the lines that were read whole, none of which quits.
     ensures read { result ≡ Err Fault.Read → (R.broken reader.new ≡ true) × (W.broken writer.new ≡ false)
         × ReadsUpTo limit (R.left reader.old) (R.left reader.new) (λ consumed. (some_quits quits (split_lines consumed).whole ≡ false)

@@ -11,6 +11,7 @@ use Rattle.ir_stream.specs.Endings.{flow_after}
 use Rattle.ir_stream.proofs.CallerLemmas.{session_at_equal_line_and_count, at_start, at_byte, at_feed, quit_ended, quit_known, feed_failed, finish_ended, finish_known, finish_failed, long_ended, long_known}
 use Rattle.ir_debug.specs.Machine.{Replies, quits}
 use Rattle.ir_debug.proofs.LongLines.{long_replies, long_quits}
+use Rattle.ir_debug.proofs.ReadThrough.{read_through_line_that_quits, read_through_end}
 use Rattle.ir_debug.proofs.serving.serve.Goals as goal
 
 goes : (f : Flow) (b : Bool) → f ≡ flow_after b → f ≡ Goes → b ≡ false
@@ -43,6 +44,11 @@ returns-in-End-clause-known g c = finish_known Replies quits long_replies long_q
     (session_at_equal_line_and_count _ _ _ _ _ _ _ _ _ _ _ _ c.loop-taken.invariant.at c.as_slice.ensures.value refl)
     c.args.limit c.loop-taken-test.true c.in-End.ensures.bytes.0 _ _ c.in-End.ensures.bytes.1
     c.finish.ensures.writes.ok c.finish.ensures.served c.finish.ensures.fault
+
+pub returns-in-End-clause-last : goal.returns-in-End-clause-last
+returns-in-End-clause-last g c = read_through_end _ _ _ _ _ _ _ _ _
+    (session_at_equal_line_and_count _ _ _ _ _ _ _ _ _ _ _ _ c.loop-taken.invariant.at c.as_slice.ensures.value refl)
+    c.args.limit c.loop-taken-test.true c.in-End.ensures.bytes.0 c.in-End.ensures.bytes.1 _ _ c.finish.ensures.writes.ok c.finish.ensures.served
 
 pub returns-in-End-clause-write : goal.returns-in-End-clause-write
 returns-in-End-clause-write g c = λ failed. (
@@ -77,6 +83,14 @@ returns-in-Ok-Quits-clause-known g c = quit_known Replies quits long_replies lon
     (subst (λ (b : ℕ). Consumes (g.R.Source.left c.loop-taken.reader) (g.R.Source.left c.next_byte.new.reader) (b ∷ []))
     c.if-byte-ne10.false c.in-Byte.ensures.bytes)
     c.in-Ok-Quits.ensures.writes.ok (quit _ _ c.in-Ok-Quits.ensures.flow c.in-Ok-Quits.field-0-is)
+
+pub returns-in-Ok-Quits-clause-last : goal.returns-in-Ok-Quits-clause-last
+returns-in-Ok-Quits-clause-last g c = read_through_line_that_quits _ _ _ _ _ _ _ _ _
+    (session_at_equal_line_and_count _ _ _ _ _ _ _ _ _ _ _ _ c.loop-taken.invariant.at c.as_slice-in-Byte.ensures.value refl)
+    c.args.limit c.loop-taken-test.true _ _
+    (subst (λ (b : ℕ). Consumes (g.R.Source.left c.loop-taken.reader) (g.R.Source.left c.next_byte.new.reader) (b ∷ []))
+    c.if-byte-ne10.false c.in-Byte.ensures.bytes)
+    c.in-Ok-Quits.ensures.writes.ok
 
 pub returns-in-Err-clause-write : goal.returns-in-Err-clause-write
 returns-in-Err-clause-write g c = λ _. (

@@ -1,7 +1,11 @@
-use Rattle.std.proofs.Common.{[], refl, sym, ap, ◌∙◌}
-use Rattle.std.specs.Prelude.{IfSome}
+use Rattle.std.proofs.Common.{[], refl, sym, ap, ◌∙◌, subst}
+use Rattle.std.specs.Prelude.{IfOk, IfSome, Result}
 use Rattle.ir_stream.specs.Answers.{ReadsUpTo}
+use Rattle.ir_debug.specs.declared.ended.Ended.{Ended}
+use Rattle.ir_debug.specs.declared.ended.Ended.TheVariants.{ImageRefused, TraceRefused, NotFit}
+use Rattle.ir_debug.specs.declared.ended.SessionErr.{SessionErr}
 use Rattle.ir_debug.specs.Openings.{opening_of}
+use Rattle.ir_debug.specs.Session.{ReadsThrough}
 use Rattle.ir_debug.specs.Machine as opening
 use Rattle.ir_debug.proofs.Openings.{answered_in_part_of_opening_prefix, reads_empty_input, whatever, session_of_refused_opening, reads_of_implied, if_some_of_implied, ready_debugger_opens, opening_text_of_ready_debugger, read_fault_if_ended_by_read, write_fault_if_ended_by_write, session_says, answered, answered_in_part}
 use Rattle.ir_debug.proofs.sessions.session_up_to.Goals as goal
@@ -76,3 +80,20 @@ returns-in-Ready-clause-write g c = λ e.
             (opening_text_of_ready_debugger _ _ _ _ c.in-Ready.is c.in-Ok-announce.ensures.ok) p.2;
       }) r.2,
     )
+
+pub returns-in-ImageRefused-clause-last : goal.returns-in-ImageRefused-clause-last
+returns-in-ImageRefused-clause-last g c = reads_empty_input c.args.limit (g.R.Source.left c.args.reader.now)
+    (ReadsThrough ImageRefused (g.R.Source.left c.args.reader.now)) tt
+
+pub returns-in-TraceRefused-clause-last : goal.returns-in-TraceRefused-clause-last
+returns-in-TraceRefused-clause-last g c = reads_empty_input c.args.limit (g.R.Source.left c.args.reader.now)
+    (ReadsThrough TraceRefused (g.R.Source.left c.args.reader.now)) tt
+
+pub returns-in-Unfit-clause-last : goal.returns-in-Unfit-clause-last
+returns-in-Unfit-clause-last g c = reads_empty_input c.args.limit (g.R.Source.left c.args.reader.now)
+    (ReadsThrough NotFit (g.R.Source.left c.args.reader.now)) tt
+
+pub returns-in-Ready-clause-last : goal.returns-in-Ready-clause-last
+returns-in-Ready-clause-last g c = subst
+    (λ (x : Result Ended SessionErr). IfOk x (λ e. ReadsUpTo c.args.limit (g.R.Source.left c.args.reader.now) (g.R.Source.left c.serve.new.reader)
+    (ReadsThrough e (g.R.Source.left c.serve.new.reader)))) (sym c.ended.ensures) c.serve.ensures.last
