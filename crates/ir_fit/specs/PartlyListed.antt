@@ -19,6 +19,11 @@ by_kind Leaves x y = y
 abbrev pub count_of : RunVisits → ℕ → ℕ
 count_of run t = by_kind run.kind (length (recorded_thread run.trace.now t).events) (length (placed_at run.places.now t).leaves)
 
+-- the visits of the first k events of thread t, or of its first k leaves
+abbrev pub first_visits : RunVisits → ℕ → ℕ → List Visit
+first_visits run t k = by_kind run.kind (entered_by t (take k (recorded_thread run.trace.now t).events) (placed_at run.places.now t).entries)
+    (left_by t (take k (placed_at run.places.now t).leaves))
+
 -- the visits of thread t's events, or leaves, from number i on and before number j
 abbrev pub visits_between : RunVisits → ℕ → ℕ → ℕ → List Visit
 visits_between run t i j = by_kind run.kind
@@ -33,4 +38,4 @@ all_visits run = by_kind run.kind (all_entered run.trace.now run.places.now) (al
 pub record AreListed (run : RunVisits) (counts : List ℕ) (x : Listing) : Type 0 where
   pub each : length counts ≡ length run.places.now
   pub same : (o : ℕ) (a : Access)
-      → IsPermutation (picked o a (of_threads (length run.places.now) (λ t. visits_between run t 0 (slice_index_or counts t 0)))) (listed x o a)
+      → IsPermutation (picked o a (of_threads (length run.places.now) (λ t. first_visits run t (slice_index_or counts t 0)))) (listed x o a)
