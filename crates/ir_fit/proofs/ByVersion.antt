@@ -11,7 +11,7 @@ use Rattle.ir_runs.specs.Run.{join_if}
 use Rattle.ir_runs.proofs.CallerLemmas.{join_if_of_append}
 use Rattle.ir_log.specs.declared.event.Event.{Event}
 use Rattle.ir_log.specs.declared.event.Event.TheVariants.{Answer, Read, Write, Try}
-use Rattle.ir_fit.specs.Placed.{Visit, of_threads, enter_if, entered_by, same_access, picked, Listing, listed, IsListing}
+use Rattle.ir_fit.specs.Placed.{Visit, enter_if, entered_by, same_access, picked, Listing, listed}
 use Rattle.ir_fit.specs.Listed.{AddsAll, AreSorted, IsInOrder, none_listed, left_by}
 use Rattle.ir_fit.specs.declared.leave.Leave.{Leave}
 use Rattle.ir_fit.specs.declared.place.Place.{Place}

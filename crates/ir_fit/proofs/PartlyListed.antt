@@ -1,5 +1,5 @@
 -- Visits of a run of which some are listed.
-use Rattle.std.proofs.Common.{◌≡◌, ◌≢◌, ℕ, suc, zero, ◌+◌, ◌-◌, ◌<◌, ◌≤◌, inl, inr, List, [], ◌∷◌, ◌++◌, length, take, drop, get_or, slice_set, replicate, map, refl, sym, ap, ◌∙◌, subst, arith, append_assoc}
+use Rattle.std.proofs.Common.{◌≡◌, ◌≢◌, ℕ, suc, zero, ◌+◌, ◌-◌, ◌<◌, ◌≤◌, inl, inr, List, [], ◌∷◌, ◌++◌, length, take, drop, get_or, slice_set, replicate, refl, sym, ap, ◌∙◌, subst, arith, append_assoc}
 use Rattle.std.specs.List.Sorted.{IsPermutation}
 use Rattle.std.proofs.Math.Seq.{take-add}
 use Rattle.std.proofs.lemmas.Bool.{cases_eq}
@@ -8,7 +8,7 @@ use Rattle.std.proofs.lemmas.List.Sorted.{IsPermutation-refl, IsPermutation-sym,
 use Rattle.ir_runs.specs.declared.access.Access.{Access}
 use Rattle.ir_log.specs.declared.event.Event.{Event}
 use Rattle.ir_trace.specs.Recorded.{recorded_thread}
-use Rattle.ir_fit.specs.Placed.{Visit, of_threads, enter_if, entered_by, all_entered, all_left, picked, Listing, listed, placed_at, IsListing}
+use Rattle.ir_fit.specs.Placed.{Visit, of_threads, enter_if, entered_by, picked, Listing, listed, placed_at, IsListing}
 use Rattle.ir_fit.specs.Listed.{AddsAll, IsInOrder, none_listed, left_by}
 use Rattle.ir_fit.specs.PartlyListed.{by_kind, count_of, first_visits, visits_between, all_visits, AreListed}
 use Rattle.ir_fit.specs.declared.leave.Leave.{Leave}

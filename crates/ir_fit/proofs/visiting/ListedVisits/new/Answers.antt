@@ -1,4 +1,4 @@
-use Rattle.std.proofs.Common.{◌≡◌, ◌∙◌, length, replicate, sym, ap, subst}
+use Rattle.std.proofs.Common.{◌≡◌, length, replicate, sym, subst}
 use Rattle.ir_fit.specs.Listed.{none_listed}
 use Rattle.ir_fit.specs.PartlyListed.{AreListed}
 use Rattle.ir_fit.proofs.PartlyListed.{none_are_listed}
