@@ -11,7 +11,7 @@ use Rattle.ir_runs.specs.Run.{join_if}
 use Rattle.ir_runs.proofs.CallerLemmas.{join_if_of_append}
 use Rattle.ir_log.specs.declared.event.Event.{Event}
 use Rattle.ir_log.specs.declared.event.Event.TheVariants.{Answer, Read, Write, Try}
-use Rattle.ir_fit.specs.Placed.{Visit, of_threads, enter_if, entered_by, same_access, picked, Listing, listed, IsListing}
+use Rattle.ir_fit.specs.Placed.{Visit, enter_if, entered_by, same_access, picked, Listing, listed}
 use Rattle.ir_fit.specs.Listed.{AddsAll, AreSorted, IsInOrder, none_listed, left_by}
 use Rattle.ir_fit.specs.declared.leave.Leave.{Leave}
 use Rattle.ir_fit.specs.declared.place.Place.{Place}
@@ -175,7 +175,7 @@ adds_all_of_append x y z vs ws h k o a =
     k o a ∙ ap (λ xs. xs ++ picked o a ws) (h o a) ∙ append_assoc (listed x o a) (picked o a vs) (picked o a ws)
     ∙ ap (λ xs. listed x o a ++ xs) (sym (picked_append o a vs ws))
 
-enter_if_of_append : (t : ℕ) (e : Event) (k : ℕ) (vs ws : List Visit) → enter_if t e k (vs ++ ws) ≡ enter_if t e k vs ++ ws
+pub enter_if_of_append : (t : ℕ) (e : Event) (k : ℕ) (vs ws : List Visit) → enter_if t e k (vs ++ ws) ≡ enter_if t e k vs ++ ws
 enter_if_of_append t (Answer kind value) k vs ws = refl
 enter_if_of_append t (Try o) k vs ws = refl
 enter_if_of_append t (Read o v) k vs ws = refl
@@ -206,25 +206,13 @@ adds_all_with_leave x y z t ls i d l old new =
     let next : left_by t (take (i + 1) ls) ≡ left_by t (take i ls) ++ f (get_or ls i d) ∷ [] = map_more f ls i d l in
     subst (AddsAll x z) (sym next) (adds_all_of_append x y z (left_by t (take i ls)) (f (get_or ls i d) ∷ []) old new)
 
--- one more thread
-pub adds_all_with_thread : (x y z : Listing) (n : ℕ) (f : ℕ → List Visit) → AddsAll x y (of_threads n f) → AddsAll y z (f n)
-    → AddsAll x z (of_threads (n + 1) f)
-adds_all_with_thread x y z n f old new = subst (λ k. AddsAll x z (of_threads k f)) (sym (add-one n)) (adds_all_of_append x y z (of_threads n f) (f n) old new)
-
 -- ---- the whole
 
-none_listed_is_empty : (o : ℕ) (a : Access) → listed none_listed o a ≡ []
+pub none_listed_is_empty : (o : ℕ) (a : Access) → listed none_listed o a ≡ []
 none_listed_is_empty o Reading = get_or_past [] o [] (omega arith)
 none_listed_is_empty o Writing = get_or_past [] o [] (omega arith)
 
-listed_is_in_order : (x y : Listing) → IsInOrder x y → (o : ℕ) (a : Access) → IsPermutation (listed x o a) (listed y o a)
+pub listed_is_in_order : (x y : Listing) → IsInOrder x y → (o : ℕ) (a : Access) → IsPermutation (listed x o a) (listed y o a)
     × IsNonDecreasingBy (λ (p : Place). p.version) (listed y o a)
 listed_is_in_order x y h o Reading = h.0 o
 listed_is_in_order x y h o Writing = h.1 o
-
-pub listing_if_added_and_ordered : (x y : Listing) (vs : List Visit) → AddsAll none_listed x vs → IsInOrder x y → IsListing vs y
-listing_if_added_and_ordered x y vs h sorted = record {
-  same = λ o a. subst (λ z. IsPermutation z (listed y o a)) (h o a ∙ ap (λ z. z ++ picked o a vs) (none_listed_is_empty o a))
-      (listed_is_in_order x y sorted o a).0;
-  sorted = λ o a. (listed_is_in_order x y sorted o a).1;
-}

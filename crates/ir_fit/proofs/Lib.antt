@@ -5,6 +5,7 @@ mod Seen
 mod Placed
 mod Moves
 mod ByVersion
+mod PartlyListed
 mod Listed
 mod Found
 mod Recordable

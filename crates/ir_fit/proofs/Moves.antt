@@ -559,6 +559,9 @@ goes_on_through_look r q p f g g' h i ps bs bs' cs ds goes same kept trace step 
     (subst (λ z. GoesOn r z bs h cs) same (subst (λ z. GoesOn r g' z h cs) kept (subst (λ z. GoesOn z g' bs' h cs) trace step))))
     (subst (λ z. GoesOn z h cs i ds) (after_it ∙ trace) then)
 
+pub goes_on_if_end_same : (r : Recorded) (f g h : Flat) (ps bs cs : List Growing) → h ≡ g → cs ≡ bs → GoesOn r f ps g bs → GoesOn r f ps h cs
+goes_on_if_end_same r f g h ps bs cs same kept goes = subst (λ z. GoesOn r f ps z cs) (sym same) (subst (λ z. GoesOn r f ps g z) (sym kept) goes)
+
 pub fewer_ahead_through_look : (r q p o : Recorded) (g g' h i : Flat) (cs ds : List Growing) → g' ≡ g → q ≡ r → all_ahead p h < all_ahead q g'
     → GoesOn p h cs i ds → o ≡ p → all_ahead o i < all_ahead r g
 fewer_ahead_through_look r q p o g g' h i cs ds same trace less then last =

@@ -7,3 +7,4 @@ pub mod Follower
 pub mod Passed
 pub mod Within
 pub mod Listed
+pub mod PartlyListed

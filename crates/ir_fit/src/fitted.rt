@@ -9,6 +9,7 @@ ghost use Rattle.ir_fit.specs.Listed.{OnlyEntries, AllEntries, OnlyLeaves, AllLe
 use crate::leave::Leave;
 use crate::place::Place;
 use crate::places::Places;
+use crate::stretch::Stretch;
 use crate::visiting::{entered, left, rooms};
 use crate::visits::Visits;
 use ir_image::Image;
@@ -36,20 +37,22 @@ impl Model for Fitted {
 }
 
 impl Fitted {
-    // The guest, the trace that one of its runs has, and the positions in this run.
+    // The guest, the trace that one of its runs has, the positions in this run, and stretches of it, in whose order its visits
+    // are listed.
     pub(crate) fn new(
         alloc: Global,
         image: Image,
         trace: Trace,
         places: Vec<Places>,
+        stretches: &[Stretch],
     ) -> Result<Fitted, AllocError>
         requires run { HasRun (record { guest = image; recorded = trace }) }
         requires places { places.items ≡ placed_of (record { guest = image; recorded = trace }) }
         ensures { IfOk result (λ f. f ≡ record { guest = image; recorded = trace }) }
     {
         let rooms = rooms(&trace);
-        let entered = entered(alloc, &rooms, &trace, &places)?;
-        let left = left(alloc, &rooms, &places)?;
+        let entered = entered(alloc, &rooms, &trace, &places, stretches)?;
+        let left = left(alloc, &rooms, &trace, &places, stretches)?;
         Ok(Fitted {
             image,
             trace,

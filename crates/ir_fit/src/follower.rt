@@ -8,6 +8,7 @@ ghost use Rattle.ir_fit.specs.Ahead.{steps_ahead};
 
 use crate::follower::growing::GrowingPlaces;
 use crate::follower::readiness::Readiness;
+use crate::stretch::Stretch;
 use ir_flat::Flat;
 use ir_object::Object;
 use ir_thread::Thread;
@@ -31,6 +32,8 @@ pub struct Follower<'a> {
     // As many threads wait at most. While it is 0 no thread is looked for that waits.
     pub waiting: usize,
     pub places: Vec<GrowingPlaces>,
+    // In which order the threads took their steps, for as much of the run as there is memory. It's a hint, on which no clause rests.
+    pub stretches: Vec<Stretch>,
 }
 
 impl Follower<'_> {

@@ -1,5 +1,5 @@
 use Rattle.ir_fit.proofs.ByVersion.{adds_all_with_leave}
-use Rattle.ir_fit.proofs.visiting.add_leaves.Goals as goal
+use Rattle.ir_fit.proofs.run_visits.add_leaves.Goals as goal
 
 pub loop-leave-preserved : goal.loop-leave-preserved
 loop-leave-preserved c = adds_all_with_leave c.args.visits.now c.loop-leave.visits c.add.new.self c.args.thread c.args.leaves.now
