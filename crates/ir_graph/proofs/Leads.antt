@@ -40,7 +40,7 @@ act_at_rest_by_way (ask.End e) r refused h by may = absurd h
 act_at_rest_by_way ask.Done r refused h by may = refl
 
 -- the step by this way of a thread that has one
-act_by_way : (q : Ask) (refused : Bool) → Rests q → MayGo refused q → is_refusal (act_of (shared_ask q) (result_by refused)) ≡ refused
+pub act_by_way : (q : Ask) (refused : Bool) → Rests q → MayGo refused q → is_refusal (act_of (shared_ask q) (result_by refused)) ≡ refused
 act_by_way ask.Private refused h may = absurd h
 act_by_way (ask.Env k) refused h may = absurd h
 act_by_way (ask.Enter o a) true h may = absurd may

@@ -1,19 +1,19 @@
 //! A guest that is run once more, turn by turn.
 
-ghost use Rattle.std.specs.Prelude.{◌≡◌, ◌⊎◌, ℕ, Bool, ◌<◌, ◌+◌, ◌++◌, List, [], length, replicate, IfOk, IfErr, OnOk};
+ghost use Rattle.std.specs.Prelude.{◌≡◌, ◌⊎◌, ℕ, Bool, true, false, ◌<◌, ◌+◌, ◌++◌, List, [], ◌∷◌, length, replicate, IfOk, IfErr, OnOk};
 ghost use Rattle.ir_explore.specs.declared.stop.Stop.TheVariants.{Memory, Order};
 ghost use Rattle.ir_explore.specs.Origins.{AreWaysOf};
 ghost use Rattle.ir_flat.specs.Flat.{thread_of};
-ghost use Rattle.ir_graph.specs.Plain.{Rests, result_by};
+ghost use Rattle.ir_graph.specs.Plain.{Rests};
 ghost use Rattle.ir_graph.specs.Setup.{Setup};
 ghost use Rattle.ir_graph.specs.Turn.{GoesAlone};
 ghost use Rattle.ir_record.specs.Recording.{turns_of_items};
 ghost use Rattle.ir_thread.specs.State.{IsAllowed, ask_of};
-ghost use Rattle.ir_outcomes.specs.Again.{IsAgain, IsAgainWithin};
+ghost use Rattle.ir_outcomes.specs.Again.{IsAgain, IsAgainBy, ways_by};
 
 use crate::path::refusals_to;
 use ir_explore::{Origin, Refusal, Stop};
-use ir_graph::{States, run_to_rest};
+use ir_graph::{States, run_to_rest, way_result};
 use ir_record::Item;
 use ir_store::SourcedFlat;
 use std::alloc::Global;
@@ -36,15 +36,7 @@ fn add_steps(steps: u64, more: u64, thread: usize) -> Result<u64, Stop>
     }
 }
 
-// The result of a try that is refused, or that enters. In a step that is no try it is looked at by nothing.
-fn try_result(refused: bool) -> u32
-    ensures { result ≡ result_by refused }
-{
-    if refused { 0 } else { 1 }
-}
-
-// A thread that rests takes one step, an entry or a try that is refused or enters, and runs on alone to where it rests again; how many steps
-// that takes.
+// A thread that rests takes one step, a refused try or one that enters, and runs on alone to where it rests again; how many steps that takes.
 fn enter(state: &mut SourcedFlat<'_>, thread: usize, refused: bool, limit: u64) -> Result<u64, Stop>
     requires thread { thread < length state.old.flat.threads }
     requires source { thread < length state.old.sources }
@@ -52,8 +44,11 @@ fn enter(state: &mut SourcedFlat<'_>, thread: usize, refused: bool, limit: u64) 
     ensures alone { IfOk result (λ steps. GoesAlone state.old state.new thread refused steps 1) }
     ensures rests { OnOk result (Rests (ask_of state.new.flat.code (thread_of state.new.flat thread))) }
 {
-    let tried = try_result(refused);
-    if let Err(_) = state.flat.step(thread, tried) {
+    let asked = state.flat.ask(thread);
+    let Some(answer) = way_result(refused, asked) else {
+        return Err(Stop::Order(0));
+    };
+    if let Err(_) = state.flat.take(thread, asked, answer) {
         return Err(Stop::Order(0));
     }
     let steps = run_to_rest(state, thread, limit)?;
@@ -82,7 +77,7 @@ fn add_leg(
     leg: Leg,
     limit: u64,
 ) -> Result<(), Stop>
-    ensures { OnOk result ((setup : Setup) (before : List ℕ) → IsAgain setup (turns_of_items items.old.items) before state.old → IsAgain setup (turns_of_items items.new.items) (before ++ replicate leg.steps leg.thread) state.new) }
+    ensures { OnOk result ((setup : Setup) (before : List (ℕ × Bool)) → IsAgain setup (turns_of_items items.old.items) before state.old → IsAgain setup (turns_of_items items.new.items) (before ++ replicate leg.steps (leg.thread, leg.refused)) state.new) }
 {
     if leg.thread >= state.flat.threads().len() || leg.thread >= state.sources.len() {
         return Err(Stop::Order(0));
@@ -104,7 +99,7 @@ fn add_refusal(
     refusal: Refusal,
     limit: u64,
 ) -> Result<(), Stop>
-    ensures { OnOk result ((setup : Setup) (before : List ℕ) → IsAgain setup (turns_of_items items.old.items) before state.old → IsAgain setup (turns_of_items items.new.items) (before ++ replicate (refusal.entries + 1) thread) state.new) }
+    ensures { OnOk result ((setup : Setup) (before : List (ℕ × Bool)) → IsAgain setup (turns_of_items items.old.items) before state.old → IsAgain setup (turns_of_items items.new.items) (before ++ ways_by thread (replicate refusal.entries false ++ true ∷ [])) state.new) }
 {
     let entries = Leg {
         thread,
@@ -130,7 +125,7 @@ fn add_turn(
     origin: Origin,
     limit: u64,
 ) -> Result<(), Stop>
-    ensures { OnOk result ((setup : Setup) (before : List ℕ) → IsAgain setup (turns_of_items items.old.items) before state.old → (ways : List Bool) × AreWaysOf table.now origin ways × IsAgain setup (turns_of_items items.new.items) (before ++ replicate (length ways) origin.thread) state.new) }
+    ensures { OnOk result ((setup : Setup) (before : List (ℕ × Bool)) → IsAgain setup (turns_of_items items.old.items) before state.old → (ways : List Bool) × AreWaysOf table.now origin ways × IsAgain setup (turns_of_items items.new.items) (before ++ ways_by origin.thread ways) state.new) }
 {
     let thread = origin.thread as usize;
     let refusals = refusals_to(alloc, table, origin.refusals as usize)?;
@@ -156,7 +151,7 @@ fn add_path(
     path: &[Origin],
     limit: u64,
 ) -> Result<(), Stop>
-    ensures { OnOk result ((setup : Setup) → IsAgain setup (turns_of_items items.old.items) [] state.old → IsAgainWithin setup (turns_of_items items.new.items) (length path.now) state.new) }
+    ensures { OnOk result ((setup : Setup) → IsAgain setup (turns_of_items items.old.items) [] state.old → IsAgainBy setup (turns_of_items items.new.items) table.now path.now state.new) }
 {
     for k in 0..path.len() {
         let origin = path[path.len() - 1 - k];
@@ -167,7 +162,7 @@ fn add_path(
 
 // Each thread runs on alone to its next entry or try.
 fn add_rests(state: &mut SourcedFlat<'_>, items: &mut Vec<Item>, limit: u64) -> Result<(), Stop>
-    ensures { OnOk result ((setup : Setup) (most : ℕ) → IsAgainWithin setup (turns_of_items items.old.items) most state.old → IsAgainWithin setup (turns_of_items items.new.items) most state.new) }
+    ensures { OnOk result ((setup : Setup) (ways : List (ℕ × Bool)) → IsAgain setup (turns_of_items items.old.items) ways state.old → IsAgain setup (turns_of_items items.new.items) ways state.new) }
 {
     for thread in 0..state.flat.threads().len() {
         let none = Leg {
@@ -187,7 +182,7 @@ fn run_again<'a>(
     path: &[Origin],
 ) -> Result<(SourcedFlat<'a>, Vec<Item>), Stop>
     requires { IsAllowed states.now.graph.setup.profile states.now.graph.setup.guest }
-    ensures { IfOk result (λ run. IsAgainWithin states.now.graph.setup (turns_of_items run.1.items) (length path.now) run.0) }
+    ensures { IfOk result (λ run. IsAgainBy states.now.graph.setup (turns_of_items run.1.items) states.now.search.found.refusals.items path.now run.0) }
 {
     let limit = states.graph.bounds.private;
     let mut state = states.graph.setup.start(alloc)?;
@@ -209,7 +204,7 @@ pub fn run_to_node<'a>(
     node: usize,
 ) -> Result<(SourcedFlat<'a>, Vec<Item>), Stop>
     requires { IsAllowed states.now.graph.setup.profile states.now.graph.setup.guest }
-    ensures again { IfOk result (λ run. IsAgainWithin states.now.graph.setup (turns_of_items run.1.items) (length path.now) run.0) }
+    ensures again { IfOk result (λ run. IsAgainBy states.now.graph.setup (turns_of_items run.1.items) states.now.search.found.refusals.items path.now run.0) }
     ensures refused { IfErr result (λ stop. (stop ≡ Memory) ⊎ (stop ≡ Order node)) }
 {
     match run_again(alloc, states, path) {

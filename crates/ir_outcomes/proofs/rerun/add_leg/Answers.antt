@@ -6,7 +6,7 @@ use Rattle.ir_outcomes.proofs.rerun.add_leg.Goals as goal
 
 pub returns : goal.returns
 returns c = λ setup before again.
-    subst (λ z. IsAgain setup (turns_of_items z) (before ++ replicate c.args.leg.steps c.args.leg.thread) c.take_leg.new.state)
+    subst (λ z. IsAgain setup (turns_of_items z) (before ++ replicate c.args.leg.steps (c.args.leg.thread, c.args.leg.refused)) c.take_leg.new.state)
     (sym c.in_ok-push.ensures.items)
     (is_again_after_turns_noted setup c.args.items.now.items _ before c.args.state.now c.take_leg.new.state c.args.leg.steps again
     c.in_ok-count.ensures)
