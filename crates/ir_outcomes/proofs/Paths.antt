@@ -4,7 +4,7 @@ use Rattle.std.specs.Prelude.{slice_get, replicate}
 use Rattle.std.proofs.lemmas.List.{at_drop_more, drop_all}
 use Rattle.ir_explore.specs.declared.origin.Origin.{Origin}
 use Rattle.ir_explore.specs.declared.origin.Refusal.{Refusal}
-use Rattle.ir_explore.specs.Origins.{Spells, Refused}
+use Rattle.ir_explore.specs.Origins.{AreWaysUnder, Refused}
 use Rattle.ir_outcomes.specs.Path.{IsPathTo, ways_of}
 
 -- one turn more at the beginning of a path
@@ -27,15 +27,15 @@ ways_with_refusal_pushed (y ∷ refusals) x =
     ∙ append_assoc (replicate x.entries false ++ true ∷ []) (ways_of refusals) (replicate y.entries false ++ true ∷ [])
 
 -- one refused try more of those that the table has under a number
-pub spelled_with_refusal_pushed : (table refusals : List Refusal) (number i : ℕ) (x : Refusal) → slice_get table i ≡ Some x
-    → ((ways : List Bool) → Spells table (suc i) ways → Spells table number (ways ++ ways_of refusals))
-    → (ways : List Bool) → Spells table x.before ways → Spells table number (ways ++ ways_of (refusals ++ x ∷ []))
-spelled_with_refusal_pushed table refusals number i x at found ways spelled =
+pub ways_under_with_refusal_pushed : (table refusals : List Refusal) (number i : ℕ) (x : Refusal) → slice_get table i ≡ Some x
+    → ((ways : List Bool) → AreWaysUnder table (suc i) ways → AreWaysUnder table number (ways ++ ways_of refusals))
+    → (ways : List Bool) → AreWaysUnder table x.before ways → AreWaysUnder table number (ways ++ ways_of (refusals ++ x ∷ []))
+ways_under_with_refusal_pushed table refusals number i x at found ways spelled =
     let one : List Bool = replicate x.entries false ++ true ∷ [] in
     let joined : ((ways ++ replicate x.entries false) ++ true ∷ []) ++ ways_of refusals ≡ ways ++ ways_of (refusals ++ x ∷ []) =
     ap (λ z. z ++ ways_of refusals) (append_assoc ways (replicate x.entries false) (true ∷ []))
     ∙ append_assoc ways one (ways_of refusals) ∙ ap (λ z. ways ++ z) (sym (ways_with_refusal_pushed refusals x)) in
-    subst (Spells table number) joined (found ((ways ++ replicate x.entries false) ++ true ∷ []) (Refused i x ways at spelled))
+    subst (AreWaysUnder table number) joined (found ((ways ++ replicate x.entries false) ++ true ∷ []) (Refused i x ways at spelled))
 
 -- the ways of the last k of these refused tries, of which the last comes first
 abbrev pub last_ways : List Refusal → ℕ → List Bool

@@ -7,6 +7,6 @@ pub returns : goal.returns
 returns c = λ setup before again.
     let t = c.args.thread in
     let n = c.args.refusal.entries in
-    let last = c.add_leg-2.new in
+    let last = c.add_stretch-2.new in
     is_again_after_refused_try setup (turns_of_items last.items.items) before last.state t n
-    (c.in_ok-add_leg-2.ensures setup (before ++ replicate n (t, false)) (c.in_ok-add_leg.ensures setup before again))
+    (c.in_ok-add_stretch-2.ensures setup (before ++ replicate n (t, false)) (c.in_ok-add_stretch.ensures setup before again))

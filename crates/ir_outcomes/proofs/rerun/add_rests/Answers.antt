@@ -4,5 +4,5 @@ use Rattle.ir_outcomes.proofs.rerun.add_rests.Goals as goal
 
 pub loop-thread-preserved : goal.loop-thread-preserved
 loop-thread-preserved c = λ setup ways given.
-    is_again_without_no_way setup (turns_of_items c.add_leg.new.items.items) ways c.add_leg.new.state
-    (c.in_ok-add_leg.ensures setup ways (c.loop-thread.invariant setup ways given))
+    is_again_without_no_way setup (turns_of_items c.add_stretch.new.items.items) ways c.add_stretch.new.state
+    (c.in_ok-add_stretch.ensures setup ways (c.loop-thread.invariant setup ways given))

@@ -36,13 +36,13 @@ returns c = λ setup before again.
     let t = c.args.origin.thread in
     let k = c.loop-k.k in
     let n = c.args.origin.entries in
-    let turns = turns_of_items c.add_leg.new.items.items in
+    let turns = turns_of_items c.add_stretch.new.items.items in
     let all = c.len-k-end.ensures ∙ c.in_ok-refusals.refusals.ok.0 in
     let over : k ≡ length xs = (let a = c.loop-k-test.false in let b = c.loop-k.auto.k-end in omega (arith, a, b, all)) in
     let whole : last_ways xs k ≡ ways_of xs = ap (last_ways xs) over ∙ last_ways-all xs in (
       ways_of xs ++ replicate n false,
       (ways_of xs, c.in_ok-refusals.ensures.ways, refl),
-      subst (λ z. IsAgain setup turns (before ++ ways_by t (z ++ replicate n false)) c.add_leg.new.state) whole
-          (is_again_with_ways_joined setup turns before c.add_leg.new.state t (last_ways xs k) false n
-          (c.in_ok-add_leg.ensures setup (before ++ ways_by t (last_ways xs k)) (c.loop-k.invariant setup before again))),
+      subst (λ z. IsAgain setup turns (before ++ ways_by t (z ++ replicate n false)) c.add_stretch.new.state) whole
+          (is_again_with_ways_joined setup turns before c.add_stretch.new.state t (last_ways xs k) false n
+          (c.in_ok-add_stretch.ensures setup (before ++ ways_by t (last_ways xs k)) (c.loop-k.invariant setup before again))),
     )

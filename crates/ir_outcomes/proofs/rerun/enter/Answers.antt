@@ -23,8 +23,8 @@ returns-clause-alone c =
     let may : MayGo r (ask_of f.code (thread_of f t)) = subst (MayGo r) c.ask-asked.ensures.value answer.has in
     subst (λ z. GoesAlone z w t r c.in_ok-all.all 1) c.state.view_is
     (subst (λ z. GoesAlone (sourced_flat f sources) w t r z 1) (sym c.in_ok-all.ensures)
-    (goes_alone_append (sourced_flat f sources) (sourced_flat g sources) w t r 1 c.in_ok-steps.steps 1 0
+    (goes_alone_append (sourced_flat f sources) (sourced_flat g sources) w t r 1 c.in-Ok.steps 1 0
     (goes_alone_by_entry f g sources t r rests may
     (subst (λ z. Can (machine f) (tables f) (t, z)) answer.result one.admitted)
     (subst (λ z. tables g ≡ after (machine f) (tables f) (t, z)) answer.result one.taken) one.code one.threads one.objects)
-    (c.in_ok-steps.ensures.alone r)))
+    (c.in-Ok.ensures.alone r)))
