@@ -26,7 +26,7 @@ use Rattle.ir_graph.specs.Graph.{IsGraph}
 use Rattle.ir_graph.specs.Nodes.{seen_by, answered_by, Alike, seen_of, AllRest, AreNodes, Stay, LeadsFrom}
 use Rattle.ir_graph.specs.Notes.{noted_by, noted_in}
 use Rattle.ir_graph.specs.Reached.{IsReached, AllReached}
-use Rattle.ir_graph.specs.Plain.{GoesPlain, IsLike, IsNoTry}
+use Rattle.ir_graph.specs.Plain.{GoesPlain, IsLike, MayGo}
 use Rattle.ir_graph.proofs.Found.{refused_leads_nowhere_unless_try}
 use Rattle.ir_graph.proofs.Leads.{begins_by_plain_steps, every_number_rests_if_all_rest}
 use Rattle.ir_graph.proofs.Plain.{like_reflexive}
@@ -51,7 +51,8 @@ profiles_of_start guest from (suc n) zero = refl
 profiles_of_start guest from (suc n) (suc t) = profiles_of_start guest (suc from) n t
 
 -- a thread of the first profile doesn't try
-no_try_in_first_profile : (x : Setup) (s : SourcedFlat) (t : ℕ) → x.profile ≡ One → IsReached x s → IsNoTry (ask_of s.flat.code (thread_of s.flat t))
+no_try_in_first_profile : (x : Setup) (s : SourcedFlat) (t : ℕ) → x.profile ≡ One → IsReached x s
+    → MayGo true (ask_of s.flat.code (thread_of s.flat t)) → ⊥
 no_try_in_first_profile x s t one reached = by (ask_of s.flat.code (thread_of s.flat t)) (ask_of_permitted s.flat.code (thread_of s.flat t))
   where
     first : (thread_of s.flat t).profile ≡ One
@@ -59,17 +60,17 @@ no_try_in_first_profile x s t one reached = by (ask_of s.flat.code (thread_of s.
         ∙ ap (λ z. (slice_index_or (start_threads x.guest most_budget z 0 (length x.guest.entries)) t idle).profile) one
         ∙ profiles_of_start x.guest 0 (length x.guest.entries) t
 
-    by : (q : Ask) → Permits (thread_of s.flat t) q → IsNoTry q
-    by ask.Private p = tt
-    by (ask.Env k) p = tt
-    by (ask.Enter o a) p = tt
-    by (ask.Try o) p = absurd (cc (sym first ∙ p.4))
-    by (ask.Leave o a) p = tt
-    by (ask.Get o i) p = tt
-    by (ask.Put o i v) p = tt
-    by ask.Print p = tt
-    by (ask.End e) p = tt
-    by ask.Done p = tt
+    by : (q : Ask) → Permits (thread_of s.flat t) q → MayGo true q → ⊥
+    by ask.Private p may = may
+    by (ask.Env k) p may = may
+    by (ask.Enter o a) p may = may
+    by (ask.Try o) p may = absurd (cc (sym first ∙ p.4))
+    by (ask.Leave o a) p may = may
+    by (ask.Get o i) p may = may
+    by (ask.Put o i v) p may = may
+    by ask.Print p may = may
+    by (ask.End e) p may = may
+    by ask.Done p may = may
 
 -- so none is refused there
 untried_leads_nowhere : (x : Setup) (flats : List SourcedFlat) (t v : ℕ) → x.profile ≡ One → AreNodes flats

@@ -1,7 +1,7 @@
 //! A thread at a node, by one of its two ways.
 
 ghost use Rattle.std.specs.Prelude.{◌≡◌, true, None, IfSome};
-ghost use Rattle.ir_graph.specs.Plain.{IsNoTry, MayGo, result_by};
+ghost use Rattle.ir_graph.specs.Plain.{MayGo, result_by};
 
 use ir_thread::Ask;
 
@@ -20,7 +20,7 @@ pub struct Way {
 pub fn way_result(refused: bool, asked: Ask) -> Option<u32>
     ensures result { IfSome result (λ r. r ≡ result_by refused) }
     ensures has { IfSome result (λ r. MayGo refused asked) }
-    ensures none { result ≡ None → (refused ≡ true) × IsNoTry asked }
+    ensures none { result ≡ None → (refused ≡ true) × (MayGo true asked → ⊥) }
 {
     match asked {
         Ask::Try(_) if refused => Some(0),
