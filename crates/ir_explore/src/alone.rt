@@ -161,6 +161,10 @@ pub fn go_alone<S: Successors, O: Observer>(
     open(opened, found, first, observer)?;
     'pending: while let Some(here) = found.pending.pop() {
         follow(graph, opened, found, here, false, observer)?;
+        let thread = here.origin.thread as usize;
+        if let Some(None) = graph.known(thread, true, here.node) {
+            continue;
+        }
         follow(graph, opened, found, here, true, observer)?;
     }
     Ok(())

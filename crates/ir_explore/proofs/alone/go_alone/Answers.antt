@@ -1,4 +1,4 @@
-use Rattle.std.proofs.Common.{◌≡◌, ◌++◌, Bool, true, false, [], ◌∷◌, ◌<◌, length, slice_set, refl, sym, ap, ◌∙◌, subst, arith}
+use Rattle.std.proofs.Common.{◌≡◌, ◌++◌, Bool, true, false, Some, None, [], ◌∷◌, ◌<◌, inl, length, slice_set, refl, sym, ap, ◌∙◌, subst, arith}
 use Rattle.ir_explore.specs.declared.found.Pending.{Pending}
 use Rattle.ir_explore.specs.Following.{IsOpen, GoesTo}
 use Rattle.ir_explore.specs.TurnSoFar.{IsTurnSoFar}
@@ -85,6 +85,44 @@ returns-in_err-follow-2-clause-adds g c =
     (subst (λ z. Adds z nodes c.follow-in-Some.new.found.nodes.items) (turn.levels 0 here refl)
     (adds_transitive here.origin.level nodes c.follow.new.found.nodes.items c.follow-in-Some.new.found.nodes.items c.follow.ensures.adds
     c.follow-in-Some.ensures.adds))
+
+pub pending-preserved-in-Some-None : goal.pending-preserved-in-Some-None
+pending-preserved-in-Some-None g c =
+    let start = c.args.start in
+    let noted = g.S.Successors.noted c.pending.graph in
+    let row = c.pending.opened.items in
+    let nodes = c.pending.found.nodes.items in
+    let table = c.pending.found.refusals.items in
+    let here = c.in-Some.here in
+    let turn : IsTurnSoFar noted start.thread start.level row nodes table (here ∷ c.pop.new.self.items) =
+    taken_up noted start.thread start.level row nodes table c.pop.new.self.items here
+    (subst (IsTurnSoFar noted start.thread start.level row nodes table) c.in-Some.ensures.items c.pending.invariant.turn) in
+    let i = c.pending.invariant in
+    let a = c.follow.new in
+    let last = g.S.Successors.noted a.graph in
+    let thread = turn.threads 0 here refl in
+    let level = turn.levels 0 here refl in
+    let none : last here.origin.thread true here.node ≡ Some None =
+    sym c.known.ensures ∙ c.in-Some-None.is ∙ ap Some c.in-Some-None.field-0-is in
+    let both : (refused : Bool) → GoesTo (last here.origin.thread refused) (IsOpen a.opened.items) here.node =
+    both_ways (λ refused. GoesTo (last here.origin.thread refused) (IsOpen a.opened.items) here.node) c.in_ok-follow.ensures.follows (inl none) in
+    record {
+      turn = subst (λ z. IsTurnSoFar last z start.level a.opened.items a.found.nodes.items a.found.refusals.items a.found.pending.items) thread
+          (subst (λ z. IsTurnSoFar last here.origin.thread z a.opened.items a.found.nodes.items a.found.refusals.items a.found.pending.items) level
+          (laid_down last here.origin.thread here.origin.level a.opened.items a.found.nodes.items a.found.refusals.items a.found.pending.items here
+          c.in_ok-follow.ensures.turn both));
+      opens = c.follow.ensures.stays start.from i.opens;
+      stays = λ v is. c.follow.ensures.stays v (i.stays v is);
+      adds = adds_transitive start.level c.args.found.now.nodes.items nodes a.found.nodes.items i.adds
+          (subst (λ z. Adds z nodes a.found.nodes.items) level c.follow.ensures.adds);
+      nodes = c.in_ok-follow.ensures.nodes;
+      kept = λ t refused v next is. c.follow.ensures.kept t refused v next (i.kept t refused v next is);
+      stay = λ v x is. c.follow.ensures.stay v x (i.stay v x is);
+      sound = c.follow.ensures.sound;
+      origin = c.follow.ensures.origin ∙ i.origin;
+      room = c.follow.ensures.room;
+      limit = c.follow.ensures.limit ∙ i.limit;
+    }
 
 pub pending-preserved : goal.pending-preserved
 pending-preserved g c =
