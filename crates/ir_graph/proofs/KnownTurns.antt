@@ -1,6 +1,6 @@
 -- Turns of threads that are known, while the tables grow.
 use Rattle.std.proofs.Common.{◌≡◌, ◌⊎◌, ℕ, ◌<◌, Bool, true, false, Option, Some, None, List, [], ◌∷◌, ◌++◌, length, sym, ap, ◌∙◌, subst, inl, inr}
-use Rattle.std.specs.Prelude.{slice_get, IfSome, IfOk, IfErr, Result, Ok, Err}
+use Rattle.std.specs.Prelude.{slice_get, IfSome, IfErr, Result, Ok, Err}
 use Rattle.std.specs.List.{slice_index_or}
 use Rattle.ir_object.specs.Cell.{Cell}
 use Rattle.ir_sources.specs.Sources.{Source}

@@ -23,7 +23,7 @@ use Rattle.ir_graph.proofs.Full.{answered_run_append, plain_run_is_answered}
 use Rattle.ir_graph.proofs.Leads.{act_by_way}
 use Rattle.ir_graph.proofs.Plain.{step_at_rest, step_at_rest_is_answered_run, rest_ask_is_not_own, TakesStep, fair_step_is_plain_run, private_steps_are_plain_run, like_after_run}
 
-pub replicate_of_sum : {A : Type 0} (x : A) (n k : ℕ) → replicate (n + k) x ≡ replicate n x ++ replicate k x
+replicate_of_sum : {A : Type 0} (x : A) (n k : ℕ) → replicate (n + k) x ≡ replicate n x ++ replicate k x
 replicate_of_sum x zero k = let e : zero + k ≡ k = omega arith in ap (λ z. replicate z x) e
 replicate_of_sum x (suc n) k =
     let e : suc n + k ≡ suc (n + k) = omega arith in
@@ -67,15 +67,13 @@ ways_taken_is_empty_if_goes_ahead m answers s (e ∷ run) ok =
 pub threads_of_ways_taken : {T : Type 0} (m : Machine T) (s : State T) (run : List Step)
     → map (λ (w : ℕ × Bool). w.0) (ways_taken m s run) ≡ entering m s run
 threads_of_ways_taken m s [] = refl
-threads_of_ways_taken m s (e ∷ run) = by (is_own (asked m s e.0))
+threads_of_ways_taken m s (e ∷ run) = by (is_own (asked m s e.0)) (threads_of_ways_taken m (after m s e) run)
   where
-    rest : map (λ (w : ℕ × Bool). w.0) (ways_taken m (after m s e) run) ≡ entering m (after m s e) run
-    rest = threads_of_ways_taken m (after m s e) run
-
-    by : (b : Bool) → map (λ (w : ℕ × Bool). w.0) (cond b (ways_taken m (after m s e) run) ((e.0, is_refusal (act m s e)) ∷ ways_taken m (after m s e) run))
+    by : (b : Bool) → map (λ (w : ℕ × Bool). w.0) (ways_taken m (after m s e) run) ≡ entering m (after m s e) run
+        → map (λ (w : ℕ × Bool). w.0) (cond b (ways_taken m (after m s e) run) ((e.0, is_refusal (act m s e)) ∷ ways_taken m (after m s e) run))
         ≡ cond b (entering m (after m s e) run) (e.0 ∷ entering m (after m s e) run)
-    by true = rest
-    by false = ap (λ z. e.0 ∷ z) rest
+    by true rest = rest
+    by false rest = ap (λ z. e.0 ∷ z) rest
 
 -- ---- a thread alone
 
