@@ -5,7 +5,7 @@ use Rattle.std.proofs.lemmas.Bool.{cases_eq}
 use Rattle.std.proofs.lemmas.Option.{slice_get-get_or, get_or_from_slice_get}
 use Rattle.ir_lemmas.proofs.CallerLemmas.{slice_get_after_push_cases, slice_get_kept_by_append}
 use Rattle.ir_explore.specs.Following.{Leading, BothWays, Keeps, IsOpen, StaysOpen, GoesTo, IsFollowed}
-use Rattle.ir_explore.specs.Going.{left_to_open}
+use Rattle.ir_explore.specs.TurnSoFar.{left_to_open}
 use Rattle.ir_explore.specs.Ways.{shut}
 
 pub shut_less_after_opening : (xs : List Bool) (x : ℕ) (d : Bool) → x < length xs → get_or xs x d ≡ false → shut (slice_set xs x true) < shut xs

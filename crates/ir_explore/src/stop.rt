@@ -16,7 +16,7 @@ pub enum Stop {
     Log(usize),
     /// No order of the threads led to this node once more.
     Order(usize),
-    /// This thread calls the environment.
+    /// This thread calls for the time once more than can be counted.
     World(usize),
     /// Out of memory.
     Memory,

@@ -18,7 +18,7 @@ use Rattle.ir_outcomes.specs.declared.explored.Explored.{Explored}
 use Rattle.ir_outcomes.specs.declared.exploring.Exploring.{Exploring}
 use Rattle.ir_outcomes.proofs.CallerLemmas.{none_explored}
 use Rattle.ir_explore_run.specs.Faults.{StopsPrinting}
-use Rattle.ir_explore_run.specs.Printing.{HasPrinted}
+use Rattle.ir_explore_run.specs.Printed.{HasPrinted}
 use Rattle.ir_explore_run.specs.Texts.{Objects, objects_of, AreTexts, IsPart, AreKnown, known_of, IsEnding, IsAnswerAbout}
 use Rattle.ir_explore_run.specs.declared.fault.ExploreFault.TheVariants.{NoMem, Write}
 use Rattle.ir_explore_run.specs.Plan.{ExplorePlan, setup_of}

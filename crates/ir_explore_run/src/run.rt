@@ -15,8 +15,8 @@ ghost use Rattle.ir_explore_run.specs.Plan.{ExplorePlan};
 
 use crate::answer::{ending_text, stopped_text};
 use crate::fault::ExploreFault;
+use crate::levels::print_levels;
 use crate::plan::ExplorePlan;
-use crate::printing::print_levels;
 use crate::started::Started;
 use ir_explore::{Observer, Stop};
 use ir_files::{ExitStatus, tell};

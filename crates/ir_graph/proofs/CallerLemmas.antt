@@ -6,7 +6,7 @@ pub use Rattle.ir_graph.proofs.Plain.{TakesStep, goes_plain_reflexive, goes_plai
 -- where threads lead
 pub use Rattle.ir_graph.proofs.Leads.{seen_at_rest, no_seen_step_if_no_step, no_seen_step_if_done, way_leads_to_alike_node, begins_by_plain_steps}
 -- a thread that goes on alone
-pub use Rattle.ir_graph.proofs.Turn.{goes_alone_no_steps, goes_alone_append, goes_alone_by_entry, like_after_going_alone, alone_run_in_turns, goes_alone_in_turns, in_turns_of_plain, replicate_of_sum}
+pub use Rattle.ir_graph.proofs.Turn.{ways_taken-append, threads_of_ways_taken, goes_alone_no_steps, goes_alone_append, goes_alone_by_entry, like_after_going_alone, alone_run_in_turns, goes_alone_in_turns, in_turns_of_plain}
 -- runs of a guest from its start
 pub use Rattle.ir_graph.proofs.Reached.{answered_run_is_run, done_answered_run_is_counted, tables_of_reached}
 -- hangs

@@ -10,7 +10,7 @@ use Rattle.ir_thread.specs.State.{ask_of}
 use Rattle.ir_flat.specs.Flat.{tables, machine, thread_of}
 use Rattle.ir_store.specs.Nodes.{SourcedFlat}
 use Rattle.ir_graph.specs.Nodes.{Alike, seen_by, answered_by, seen_of, LookAlike, AllRest, AreNodes, Stay, LeadsFrom, IsStepBy, HasStepBy}
-use Rattle.ir_graph.specs.Plain.{GoesPlain, IsLike, IsNoTry, MayGo, OthersStay, Rests, result_by}
+use Rattle.ir_graph.specs.Plain.{GoesPlain, IsLike, MayGo, OthersStay, Rests, result_by}
 use Rattle.ir_graph.proofs.Leads.{look_alike_reflexive, no_seen_step_if_no_step, no_seen_refusal_unless_try, way_leads_to_alike_node}
 use Rattle.ir_graph.proofs.Plain.{TakesStep, like_reflexive, like_transitive, like_symmetric, like_after_plain_steps, like_after_step, others_stay_after_step}
 
@@ -55,7 +55,7 @@ leads_nowhere_if_no_step states s t refused v nodes at less never u is e same =
 -- only a thread that tries is refused
 pub refused_leads_nowhere_unless_try : (states : List SourcedFlat) (t v : ℕ) → AreNodes states
     → ((s : SourcedFlat) → slice_get states v ≡ Some s
-    → Rests (ask_of s.flat.code (thread_of s.flat t)) × IsNoTry (ask_of s.flat.code (thread_of s.flat t)))
+    → Rests (ask_of s.flat.code (thread_of s.flat t)) × (MayGo true (ask_of s.flat.code (thread_of s.flat t)) → ⊥))
     → LeadsFrom states t true v None
 refused_leads_nowhere_unless_try states t v nodes none s is e same by can =
     let here = none s is in no_seen_refusal_unless_try s t here.0 here.1 e same by

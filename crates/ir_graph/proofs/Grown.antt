@@ -26,7 +26,7 @@ use Rattle.ir_graph.specs.Graph.{IsGraph}
 use Rattle.ir_graph.specs.Nodes.{seen_by, answered_by, Alike, seen_of, AllRest, AreNodes, Stay, LeadsFrom}
 use Rattle.ir_graph.specs.Notes.{noted_by, noted_in}
 use Rattle.ir_graph.specs.Reached.{IsReached, AllReached}
-use Rattle.ir_graph.specs.Plain.{GoesPlain, IsLike, IsNoTry}
+use Rattle.ir_graph.specs.Plain.{GoesPlain, IsLike, MayGo}
 use Rattle.ir_graph.proofs.Found.{refused_leads_nowhere_unless_try}
 use Rattle.ir_graph.proofs.Leads.{begins_by_plain_steps, every_number_rests_if_all_rest}
 use Rattle.ir_graph.proofs.Plain.{like_reflexive}
@@ -51,7 +51,8 @@ profiles_of_start guest from (suc n) zero = refl
 profiles_of_start guest from (suc n) (suc t) = profiles_of_start guest (suc from) n t
 
 -- a thread of the first profile doesn't try
-no_try_in_first_profile : (x : Setup) (s : SourcedFlat) (t : ℕ) → x.profile ≡ One → IsReached x s → IsNoTry (ask_of s.flat.code (thread_of s.flat t))
+no_try_in_first_profile : (x : Setup) (s : SourcedFlat) (t : ℕ) → x.profile ≡ One → IsReached x s
+    → MayGo true (ask_of s.flat.code (thread_of s.flat t)) → ⊥
 no_try_in_first_profile x s t one reached = by (ask_of s.flat.code (thread_of s.flat t)) (ask_of_permitted s.flat.code (thread_of s.flat t))
   where
     first : (thread_of s.flat t).profile ≡ One
@@ -59,17 +60,17 @@ no_try_in_first_profile x s t one reached = by (ask_of s.flat.code (thread_of s.
         ∙ ap (λ z. (slice_index_or (start_threads x.guest most_budget z 0 (length x.guest.entries)) t idle).profile) one
         ∙ profiles_of_start x.guest 0 (length x.guest.entries) t
 
-    by : (q : Ask) → Permits (thread_of s.flat t) q → IsNoTry q
-    by ask.Private p = tt
-    by (ask.Env k) p = tt
-    by (ask.Enter o a) p = tt
-    by (ask.Try o) p = absurd (cc (sym first ∙ p.4))
-    by (ask.Leave o a) p = tt
-    by (ask.Get o i) p = tt
-    by (ask.Put o i v) p = tt
-    by ask.Print p = tt
-    by (ask.End e) p = tt
-    by ask.Done p = tt
+    by : (q : Ask) → Permits (thread_of s.flat t) q → MayGo true q → ⊥
+    by ask.Private p may = may
+    by (ask.Env k) p may = may
+    by (ask.Enter o a) p may = may
+    by (ask.Try o) p may = absurd (cc (sym first ∙ p.4))
+    by (ask.Leave o a) p may = may
+    by (ask.Get o i) p may = may
+    by (ask.Put o i v) p may = may
+    by ask.Print p may = may
+    by (ask.End e) p may = may
+    by ask.Done p may = may
 
 -- so none is refused there
 untried_leads_nowhere : (x : Setup) (flats : List SourcedFlat) (t v : ℕ) → x.profile ≡ One → AreNodes flats
@@ -154,17 +155,17 @@ is_graph_after_note x flats old new threads thread way node to g only fresh insi
     was t refused v a b c = (λ i. old (a i) (b i) (c i)) ∙ fresh
 
 -- so is a graph that has grown, once more is noted of the rows of its ways
-pub is_graph_after_way_noted : (x : Setup) (old flats : List SourcedFlat) (rows refusals new tries : List (Vec (Option (Option ℕ))))
-    (thread : ℕ) (way : Bool) (node : ℕ) (to : Option ℕ) → IsGraph x old (noted_by rows refusals) (length rows) → Stay old flats
+pub is_graph_after_way_noted : (x : Setup) (old flats : List SourcedFlat) (rows refused_rows new tries : List (Vec (Option (Option ℕ))))
+    (thread : ℕ) (way : Bool) (node : ℕ) (to : Option ℕ) → IsGraph x old (noted_by rows refused_rows) (length rows) → Stay old flats
     → AreNodes flats → AllReached x flats → length old ≤ length flats
-    → ((t : ℕ) (refused : Bool) (v : ℕ) → (noted_by new tries t refused v ≡ noted_by rows refusals t refused v)
+    → ((t : ℕ) (refused : Bool) (v : ℕ) → (noted_by new tries t refused v ≡ noted_by rows refused_rows t refused v)
     ⊎ ((t ≡ thread) × (refused ≡ way) × (v ≡ node) × (noted_by new tries t refused v ≡ Some to)))
-    → length new ≡ length rows → noted_by rows refusals thread way node ≡ None → node < length old → ((w : ℕ) → to ≡ Some w → w < length flats)
+    → length new ≡ length rows → noted_by rows refused_rows thread way node ≡ None → node < length old → ((w : ℕ) → to ≡ Some w → w < length flats)
     → LeadsFrom flats thread way node to → IsGraph x flats (noted_by new tries) (length new)
-is_graph_after_way_noted x old flats rows refusals new tries thread way node to g stay nodes reached grown only same fresh inside within leads =
+is_graph_after_way_noted x old flats rows refused_rows new tries thread way node to g stay nodes reached grown only same fresh inside within leads =
     subst (IsGraph x flats (noted_by new tries)) (sym same)
-    (is_graph_after_note x flats (noted_by rows refusals) (noted_by new tries) (length rows) thread way node to
-    (is_graph_after_nodes_added x old flats (noted_by rows refusals) (length rows) g stay nodes reached grown) only fresh
+    (is_graph_after_note x flats (noted_by rows refused_rows) (noted_by new tries) (length rows) thread way node to
+    (is_graph_after_nodes_added x old flats (noted_by rows refused_rows) (length rows) g stay nodes reached grown) only fresh
     (omega (arith, inside, grown)) within leads)
 
 -- each node has all threads
@@ -184,10 +185,10 @@ thread_is_below_if_free x flats noted threads t refused v w f g free is = elim (
 
 -- what is so of rows is so of equal ones
 pub is_graph_of_equal_rows : (x : Setup) (flats : List SourcedFlat) (new tries : List (Vec (Option (Option ℕ))))
-    {rows refusals : List (Vec (Option (Option ℕ)))} → rows ≡ new → refusals ≡ tries
-    → IsGraph x flats (noted_by new tries) (length new) → IsGraph x flats (noted_by rows refusals) (length rows)
-is_graph_of_equal_rows x flats new tries {rows} {refusals} same also g =
-    subst (λ z. IsGraph x flats (noted_by z refusals) (length z)) (sym same)
+    {rows refused_rows : List (Vec (Option (Option ℕ)))} → rows ≡ new → refused_rows ≡ tries
+    → IsGraph x flats (noted_by new tries) (length new) → IsGraph x flats (noted_by rows refused_rows) (length rows)
+is_graph_of_equal_rows x flats new tries {rows} {refused_rows} same also g =
+    subst (λ z. IsGraph x flats (noted_by z refused_rows) (length z)) (sym same)
     (subst (λ z. IsGraph x flats (noted_by new z) (length new)) (sym also) g)
 
 -- each node has the guest's code
@@ -215,15 +216,15 @@ pub data FreeToTry (profile : Profile) (threads : ℕ) (noted : ℕ → BothWays
   Untried : profile ≡ One → ((t v : ℕ) → noted t true v ≡ Some None) → FreeToTry profile threads noted
   Tried : (profile ≡ One → ⊥) → ((t v : ℕ) → t < threads → noted t true v ≡ None) → FreeToTry profile threads noted
 
-pub free_to_try : (profile : Profile) (threads : ℕ) (rows refusals : List (Vec (Option (Option ℕ)))) → (profile ≡ One → refusals ≡ [])
-    → (profile ≡ Two → (t v : ℕ) → t < threads → noted_in refusals t v ≡ None) → FreeToTry profile threads (noted_by rows refusals)
-free_to_try One threads rows refusals none free = Untried refl (λ t v. ap (λ z. noted_in z t v) (none refl))
-free_to_try Two threads rows refusals none free = Tried (λ e. absurd (cc e)) (free refl)
+pub free_to_try : (profile : Profile) (threads : ℕ) (rows refused_rows : List (Vec (Option (Option ℕ)))) → (profile ≡ One → refused_rows ≡ [])
+    → (profile ≡ Two → (t v : ℕ) → t < threads → noted_in refused_rows t v ≡ None) → FreeToTry profile threads (noted_by rows refused_rows)
+free_to_try One threads rows refused_rows none free = Untried refl (λ t v. ap (λ z. noted_in z t v) (none refl))
+free_to_try Two threads rows refused_rows none free = Tried (λ e. absurd (cc e)) (free refl)
 
-pub noted_by_past_threads : (rows refusals : List (Vec (Option (Option ℕ)))) → length refusals ≤ length rows → (t : ℕ) (refused : Bool) (v : ℕ)
-    → length rows ≤ t → noted_by rows refusals t refused v ≡ Some None
-noted_by_past_threads rows refusals less t true v l = noted_in_past_threads refusals t v (omega (arith, less, l))
-noted_by_past_threads rows refusals less t false v l = noted_in_past_threads rows t v l
+pub noted_by_past_threads : (rows refused_rows : List (Vec (Option (Option ℕ)))) → length refused_rows ≤ length rows → (t : ℕ) (refused : Bool) (v : ℕ)
+    → length rows ≤ t → noted_by rows refused_rows t refused v ≡ Some None
+noted_by_past_threads rows refused_rows less t true v l = noted_in_past_threads refused_rows t v (omega (arith, less, l))
+noted_by_past_threads rows refused_rows less t false v l = noted_in_past_threads rows t v l
 
 -- the graph at first
 pub start_is_graph : (x : Setup) (h : SourcedFlat) (noted : ℕ → BothWays) (threads : ℕ)

@@ -18,7 +18,7 @@ use Rattle.ir_seen.proofs.CallerLemmas.{seen_machine_is_view}
 use Rattle.ir_flat.specs.Flat.{Flat, tables, machine, thread_of, idle}
 use Rattle.ir_store.specs.Nodes.{SourcedFlat, source_of}
 use Rattle.ir_graph.specs.Nodes.{seen_by, answered_by, Alike, seen_of, LookAlike, AllRest, IsStepBy, HasStepBy}
-use Rattle.ir_graph.specs.Plain.{full_of, GoesPlain, IsNoTry, MayGo, Rests, result_by}
+use Rattle.ir_graph.specs.Plain.{full_of, GoesPlain, MayGo, Rests, result_by}
 use Rattle.ir_graph.proofs.Alike.{index_past_length_is_default}
 use Rattle.ir_graph.proofs.Full.{seen_state, end_of_live_run_seen, counts_of_live_run_seen, counts_if_seen, plain_run_seen}
 use Rattle.ir_graph.proofs.Plain.{TakesStep, resting_thread_is_live, rest_ask_is_not_own, rest_ask_is_answered, step_at_rest_is_answered_run}
@@ -40,7 +40,7 @@ act_at_rest_by_way (ask.End e) r refused h by may = absurd h
 act_at_rest_by_way ask.Done r refused h by may = refl
 
 -- the step by this way of a thread that has one
-act_by_way : (q : Ask) (refused : Bool) → Rests q → MayGo refused q → is_refusal (act_of (shared_ask q) (result_by refused)) ≡ refused
+pub act_by_way : (q : Ask) (refused : Bool) → Rests q → MayGo refused q → is_refusal (act_of (shared_ask q) (result_by refused)) ≡ refused
 act_by_way ask.Private refused h may = absurd h
 act_by_way (ask.Env k) refused h may = absurd h
 act_by_way (ask.Enter o a) true h may = absurd may
@@ -56,11 +56,11 @@ act_by_way ask.Done true h may = absurd may
 act_by_way ask.Done false h may = refl
 
 -- who doesn't try is never refused
-refusal_is_of_try : (q : Ask) (r : ℕ) → IsNoTry q → is_refusal (act_of (shared_ask q) r) ≡ true → ⊥
+refusal_is_of_try : (q : Ask) (r : ℕ) → (MayGo true q → ⊥) → is_refusal (act_of (shared_ask q) r) ≡ true → ⊥
 refusal_is_of_try ask.Private r h by = absurd (cc by)
 refusal_is_of_try (ask.Env k) r h by = absurd (cc by)
 refusal_is_of_try (ask.Enter o a) r h by = absurd (cc by)
-refusal_is_of_try (ask.Try o) r h by = h
+refusal_is_of_try (ask.Try o) r h by = h tt
 refusal_is_of_try (ask.Leave o a) r h by = absurd (cc by)
 refusal_is_of_try (ask.Get o i) r h by = absurd (cc by)
 refusal_is_of_try (ask.Put o i v) r h by = absurd (cc by)
@@ -124,7 +124,7 @@ no_seen_step_if_no_step s t refused rests never (u, r) same by can =
 
 -- who doesn't try is never seen refused
 pub no_seen_refusal_unless_try : (s : SourcedFlat) (t : ℕ) → Rests (ask_of s.flat.code (thread_of s.flat t))
-    → IsNoTry (ask_of s.flat.code (thread_of s.flat t)) → (e : Step) → e.0 ≡ t → IsStepBy s true e → ⊥
+    → (MayGo true (ask_of s.flat.code (thread_of s.flat t)) → ⊥) → (e : Step) → e.0 ≡ t → IsStepBy s true e → ⊥
 no_seen_refusal_unless_try s t rests none (u, r) same by =
     refusal_is_of_try (ask_of s.flat.code (thread_of s.flat t)) r none
     (ap is_refusal (sym (seen_act_at_rest s t r rests)) ∙ subst (λ z. IsStepBy s true (z, r)) same by)

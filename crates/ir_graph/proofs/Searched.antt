@@ -1,7 +1,7 @@
 -- A search over the graph of a guest, level by level.
 use Rattle.std.proofs.Common.{◌≡◌, ℕ, Bool, Option, List, length, subst}
 use Rattle.std.specs.Global.{Vec}
-use Rattle.std.specs.Prelude.{Result, Ok, Err, OnOk, IfOk, IfErr}
+use Rattle.std.specs.Prelude.{Result, Ok, Err, IfOk, IfErr}
 use Rattle.ir_explore.specs.declared.origin.Origin.{Origin}
 use Rattle.ir_explore.specs.declared.origin.Refusal.{Refusal}
 use Rattle.ir_explore.specs.Levels.{AreAsked, AreGoneOver, Covered}

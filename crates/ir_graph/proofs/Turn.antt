@@ -1,28 +1,29 @@
 -- One thread that goes on alone.
-use Rattle.std.proofs.Common.{◌≡◌, ℕ, zero, suc, ◌+◌, Bool, true, false, cond, List, [], ◌∷◌, ◌++◌, length, length-append, inl, inr, refl, sym, ap, ◌∙◌, subst, arith}
+use Rattle.std.proofs.Common.{◌≡◌, ℕ, zero, suc, ◌+◌, Bool, true, false, cond, List, [], ◌∷◌, ◌++◌, map, length, length-append, inl, inr, refl, sym, ap, ◌∙◌, subst, arith}
 use Rattle.std.specs.Prelude.{replicate}
 use Rattle.std.proofs.lemmas.List.{length-replicate}
 use Rattle.ir_record.specs.Refusing.{Turn, Tries, InTurns}
 use Rattle.ir_runs.specs.Machine as machines
 use Rattle.ir_runs.specs.Machine.{Machine, Admits, target, act_of}
-use Rattle.ir_runs.specs.Run.{State, Step, asked, Can, after, end, IsRun}
+use Rattle.ir_runs.specs.Run.{State, Step, asked, act, Can, after, end, IsRun}
 use Rattle.ir_runs.proofs.CallerLemmas.{end_append}
-use Rattle.ir_states.specs.Counting.{IsAnswered, is_own, GoesAhead, entering}
+use Rattle.ir_states.specs.Counting.{Answers, IsAnswered, is_own, GoesAhead, entering}
 use Rattle.ir_states.specs.Views.{beside}
-use Rattle.ir_states.specs.Orders.{IsAlone}
+use Rattle.ir_states.specs.Orders.{IsAlone, is_refusal}
 use Rattle.ir_states.specs.Sources.{Giving, answer_of, sourced, plain}
-use Rattle.ir_states.proofs.CallerLemmas.{counting_run_is_run, entering_append, goes_ahead_enters_nothing, plain_end}
+use Rattle.ir_states.proofs.CallerLemmas.{counting_run_is_run, plain_end}
 use Rattle.ir_thread.specs.State.{ask_of, shared_ask}
 use Rattle.ir_sources.specs.Sources.{Source, given}
 use Rattle.ir_flat.specs.Alone.{WentAlone}
 use Rattle.ir_flat.specs.Flat.{Flat, tables, machine, thread_of}
 use Rattle.ir_store.specs.Nodes.{SourcedFlat, source_of}
-use Rattle.ir_graph.specs.Plain.{full_by, sources_by, full_of, sourced_flat, IsAnsweredRun, IsPlainRun, IsFair, Rests, IsLike, result_by}
-use Rattle.ir_graph.specs.Turn.{EachTries, GoesAlone}
+use Rattle.ir_graph.specs.Plain.{full_by, sources_by, full_of, sourced_flat, IsAnsweredRun, IsPlainRun, IsFair, MayGo, Rests, IsLike, result_by}
+use Rattle.ir_graph.specs.Turn.{EachTries, GoesAlone, ways_taken}
 use Rattle.ir_graph.proofs.Full.{answered_run_append, plain_run_is_answered}
+use Rattle.ir_graph.proofs.Leads.{act_by_way}
 use Rattle.ir_graph.proofs.Plain.{step_at_rest, step_at_rest_is_answered_run, rest_ask_is_not_own, TakesStep, fair_step_is_plain_run, private_steps_are_plain_run, like_after_run}
 
-pub replicate_of_sum : {A : Type 0} (x : A) (n k : ℕ) → replicate (n + k) x ≡ replicate n x ++ replicate k x
+replicate_of_sum : {A : Type 0} (x : A) (n k : ℕ) → replicate (n + k) x ≡ replicate n x ++ replicate k x
 replicate_of_sum x zero k = let e : zero + k ≡ k = omega arith in ap (λ z. replicate z x) e
 replicate_of_sum x (suc n) k =
     let e : suc n + k ≡ suc (n + k) = omega arith in
@@ -37,6 +38,45 @@ tries_append : {T : Type 0} (m : Machine T) (refused : Bool) (s : State T) (run 
 tries_append m refused s [] more a b = b
 tries_append m refused s (e ∷ run) more a b = (a.0, tries_append m refused (after m s e) run more a.1 b)
 
+-- ---- the ways of a run
+
+pub ways_taken-append : {T : Type 0} (m : Machine T) (s : State T) (run more : List Step)
+    → ways_taken m s (run ++ more) ≡ ways_taken m s run ++ ways_taken m (end m s run) more
+ways_taken-append m s [] more = refl
+ways_taken-append {T} m s (e ∷ run) more =
+    ap (λ z. cond (is_own (asked m s e.0)) z ((e.0, is_refusal (act m s e)) ∷ z)) (ways_taken-append m (after m s e) run more)
+    ∙ join (is_own (asked m s e.0)) (ways_taken m (after m s e) run)
+  where
+    later : List (ℕ × Bool)
+    later = ways_taken m (end m (after m s e) run) more
+
+    join : (b : Bool) (ways : List (ℕ × Bool)) → cond b (ways ++ later) ((e.0, is_refusal (act m s e)) ∷ (ways ++ later))
+        ≡ cond b ways ((e.0, is_refusal (act m s e)) ∷ ways) ++ later
+    join true ways = refl
+    join false ways = refl
+
+-- steps that concern no other thread go no way
+ways_taken_is_empty_if_goes_ahead : {T : Type 0} (m : Machine T) (answers : Answers T) (s : State T) (run : List Step) → GoesAhead m answers s run
+    → ways_taken m s run ≡ []
+ways_taken_is_empty_if_goes_ahead m answers s [] ok = refl
+ways_taken_is_empty_if_goes_ahead m answers s (e ∷ run) ok =
+    ap (λ b. cond b (ways_taken m (after m s e) run) ((e.0, is_refusal (act m s e)) ∷ ways_taken m (after m s e) run)) ok.0
+    ∙ ways_taken_is_empty_if_goes_ahead m answers (after m s e) run ok.2
+
+-- their threads are those that enter
+pub threads_of_ways_taken : {T : Type 0} (m : Machine T) (s : State T) (run : List Step)
+    → map (λ (w : ℕ × Bool). w.0) (ways_taken m s run) ≡ entering m s run
+threads_of_ways_taken m s [] = refl
+threads_of_ways_taken m s (e ∷ run) = by (is_own (asked m s e.0)) (threads_of_ways_taken m (after m s e) run)
+  where
+    by : (b : Bool) → map (λ (w : ℕ × Bool). w.0) (ways_taken m (after m s e) run) ≡ entering m (after m s e) run
+        → map (λ (w : ℕ × Bool). w.0) (cond b (ways_taken m (after m s e) run) ((e.0, is_refusal (act m s e)) ∷ ways_taken m (after m s e) run))
+        ≡ cond b (entering m (after m s e) run) (e.0 ∷ entering m (after m s e) run)
+    by true rest = rest
+    by false rest = ap (λ z. e.0 ∷ z) rest
+
+-- ---- a thread alone
+
 pub goes_alone_no_steps : (s : SourcedFlat) (t : ℕ) (refused : Bool) → GoesAlone s s t refused 0 0
 goes_alone_no_steps s t refused = record {
   run = [];
@@ -45,7 +85,7 @@ goes_alone_no_steps s t refused = record {
   answered = (tt, tt);
   tries = tt;
   ends = refl;
-  enters = refl;
+  ways = refl;
   code = refl;
   threads = refl;
   objects = refl;
@@ -69,10 +109,10 @@ goes_alone_append s u w t refused n k e d a b =
       tries = tries_append (full_by s.flat.code) refused (full_of s) a.run b.run a.tries tries;
       ends = b.ends ∙ ap (λ z. end (full_by z) (full_of u) b.run) a.code ∙ ap (λ z. end (full_by s.flat.code) z b.run) a.ends
           ∙ sym (end_append (full_by s.flat.code) (full_of s) a.run b.run);
-      enters = entering_append (full_by s.flat.code) (full_of s) a.run b.run
-          ∙ (λ i. a.enters i ++ (ap (λ z. entering (full_by s.flat.code) z b.run) (sym a.ends)
-          ∙ ap (λ z. entering (full_by z) (full_of u) b.run) (sym a.code) ∙ b.enters) i)
-          ∙ sym (replicate_of_sum t e d);
+      ways = ways_taken-append (full_by s.flat.code) (full_of s) a.run b.run
+          ∙ (λ i. a.ways i ++ (ap (λ z. ways_taken (full_by s.flat.code) z b.run) (sym a.ends)
+          ∙ ap (λ z. ways_taken (full_by z) (full_of u) b.run) (sym a.code) ∙ b.ways) i)
+          ∙ sym (replicate_of_sum (t, refused) e d);
       code = b.code ∙ a.code;
       threads = b.threads ∙ a.threads;
       objects = b.objects ∙ a.objects;
@@ -99,7 +139,7 @@ goes_alone_by_plain_run s u t refused run plain alone ends code threads objects 
   answered = plain_run_is_answered s.flat.code (full_of s) run plain;
   tries = plain_run_tries_nothing s.flat.code refused (full_of s) run plain.0;
   ends = ends;
-  enters = goes_ahead_enters_nothing (full_by s.flat.code) (sources_by s.flat.code) (full_of s) run plain.0;
+  ways = ways_taken_is_empty_if_goes_ahead (full_by s.flat.code) (sources_by s.flat.code) (full_of s) run plain.0;
   code = code;
   threads = threads;
   objects = objects;
@@ -128,12 +168,13 @@ goes_alone_by_private_steps f g sources t refused n w =
     (goes_alone_by_plain_run (sourced_flat f sources) (sourced_flat g sources) t refused (replicate n (t, 0)) p.0 (repeated_steps_are_alone t 0 n)
     (ap (λ z. beside z (source_of (sourced_flat f sources))) w.ends ∙ sym p.1) w.code w.threads w.objects refl)
 
--- one step of a thread that rests
+-- one step of a thread that rests, by a way that it has
 pub goes_alone_by_entry : (f g : Flat) (sources : List Source) (t : ℕ) (refused : Bool) → Rests (ask_of f.code (thread_of f t))
+    → MayGo refused (ask_of f.code (thread_of f t))
     → Can (machine f) (tables f) (t, result_by refused) → tables g ≡ after (machine f) (tables f) (t, result_by refused) → g.code ≡ f.code
     → length g.threads ≡ length f.threads → length g.objects ≡ length f.objects
     → GoesAlone (sourced_flat f sources) (sourced_flat g sources) t refused 1 1
-goes_alone_by_entry f g sources t refused rests can is code threads objects =
+goes_alone_by_entry f g sources t refused rests may can is code threads objects =
     let s = sourced_flat f sources in
     let u = sourced_flat g sources in
     let step = step_at_rest f g sources t (result_by refused) rests can is code threads objects in record {
@@ -143,7 +184,9 @@ goes_alone_by_entry f g sources t refused rests can is code threads objects =
       answered = step_at_rest_is_answered_run (sourced_flat f sources) (sourced_flat g sources) t (result_by refused) rests step;
       tries = (λ o tries. refl, tt);
       ends = step.is;
-      enters = ap (λ b. cond b [] (t ∷ [])) (rest_ask_is_not_own (ask_of f.code (thread_of f t)) rests);
+      ways = let q = ask_of f.code (thread_of f t) in
+          ap (λ b. cond b [] ((t, is_refusal (act_of (shared_ask q) (result_by refused))) ∷ [])) (rest_ask_is_not_own q rests)
+          ∙ ap (λ b. (t, b) ∷ []) (act_by_way q refused rests may);
       code = code;
       threads = threads;
       objects = objects;

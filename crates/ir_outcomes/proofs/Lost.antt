@@ -5,6 +5,7 @@ use Rattle.std.proofs.lemmas.Bool.{cases_lt}
 use Rattle.std.proofs.lemmas.Option.{same_Some, slice_get_within}
 use Rattle.ir_lemmas.proofs.CallerLemmas.{element_below_length_exists}
 use Rattle.ir_explore.specs.declared.origin.Origin.{Origin}
+use Rattle.ir_explore.specs.declared.origin.Refusal.{Refusal}
 use Rattle.ir_explore.specs.Following.{IsOpen}
 use Rattle.ir_explore.specs.Origins.{AreRising}
 use Rattle.ir_explore.specs.Ways.{shut}
@@ -20,23 +21,23 @@ use Rattle.ir_graph.specs.Plain.{IsLike}
 use Rattle.ir_graph.specs.Reached.{beginning}
 use Rattle.ir_graph.specs.Setup.{Setup}
 use Rattle.ir_graph.proofs.CallerLemmas.{answered_run_is_counting, hang_never_completes, can_end_if_answered_run_can, in_turns_of_plain}
-use Rattle.ir_outcomes.specs.Again.{IsAgainWithin}
+use Rattle.ir_outcomes.specs.Again.{IsAgainBy}
 use Rattle.ir_outcomes.specs.Explored.{AreHangs}
 use Rattle.ir_outcomes.specs.Hang.{IsFirst}
 use Rattle.ir_outcomes.specs.Shown.{switches_by, IsShownAt, IsHangShown}
 use Rattle.ir_outcomes.specs.declared.shown.Shown.{Shown}
 use Rattle.ir_outcomes.proofs.Showing.{switches_again}
 
-pub shown_at_if_again_within : (setup : Setup) (turns : List Turn) (most level : ℕ) (s u : SourcedFlat) → IsAgainWithin setup turns most u
-    → most ≤ suc level → IsLike u.flat s.flat → LookAlike u s → IsShownAt setup s level turns
-shown_at_if_again_within setup turns most level s u w few like looks =
+pub shown_at_if_again : (setup : Setup) (turns : List Turn) (table : List Refusal) (path : List Origin) (level : ℕ) (s u : SourcedFlat)
+    → IsAgainBy setup turns table path u → length path ≤ suc level → IsLike u.flat s.flat → LookAlike u s → IsShownAt setup s level turns
+shown_at_if_again setup turns table path level s u w few like looks =
     let a = w.again in record {
       steps = a.steps;
       counting = answered_run_is_counting setup a.steps a.answered;
       in_turns = in_turns_of_plain (thread_machine setup.guest.code) given (beginning setup) turns a.steps a.in_turns;
       taken = a.taken;
       stands = λ can. can_end_if_answered_run_can setup a.steps s u a.answered a.ends a.like.code like.code looks can;
-      few = let l = w.few in let e = switches_again setup turns most u w in omega (arith, l, e, few);
+      few = let l = switches_again setup turns table path u w in omega (arith, l, few);
     }
 
 hang_shown_if_cannot_end : (setup : Setup) (s : SourcedFlat) (level : ℕ) (turns : List Turn) → IsShownAt setup s level turns

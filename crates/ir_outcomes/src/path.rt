@@ -3,9 +3,11 @@
 ghost use Rattle.std.specs.Prelude.{◌≡◌, ◌⊎◌, ℕ, suc, ◌<◌, ◌≤◌, Some, length, slice_get, IfOk, IfErr};
 ghost use Rattle.ir_explore.specs.declared.stop.Stop.TheVariants.{Memory, Order};
 ghost use Rattle.ir_explore.specs.declared.origin.Origin.{Origin};
-ghost use Rattle.ir_explore.specs.Origins.{Spells};
+ghost use Rattle.ir_explore.specs.Origins.{AreWaysUnder};
 ghost use Rattle.ir_outcomes.specs.Path.{FallInLevel, GoBack, IsPathTo, ways_of};
+ghost use Rattle.ir_outcomes.specs.declared.rerun_error.RerunError.TheVariants.{NoMemory, NoWay};
 
+use crate::rerun_error::RerunError;
 use ir_explore::{Origin, Refusal, Stop};
 use std::alloc::Global;
 
@@ -38,22 +40,26 @@ pub fn path_to(alloc: Global, origins: &[Origin], node: usize) -> Result<Vec<Ori
 /// The refused tries that the table has under a number, the last first.
 ///
 /// # Errors
-/// Out of memory. `Order` where the table has no such number, or some refused try in it has one before it that comes later.
-pub fn refusals_to(alloc: Global, table: &[Refusal], number: usize) -> Result<Vec<Refusal>, Stop>
-    ensures ways { IfOk result (λ refusals. Spells table.now number (ways_of refusals.items)) }
-    ensures refused { IfErr result (λ stop. (stop ≡ Memory) ⊎ ((stop ≡ Order 0) × (GoBack table.now → number ≤ length table.now → ⊥))) }
+/// Out of memory. `NoWay` where the table has no such number, or some refused try in it has one before it that comes later.
+pub fn refusals_to(
+    alloc: Global,
+    table: &[Refusal],
+    number: usize,
+) -> Result<Vec<Refusal>, RerunError>
+    ensures ways { IfOk result (λ refusals. AreWaysUnder table.now number (ways_of refusals.items)) }
+    ensures refused { IfErr result (λ e. (e ≡ NoMemory) ⊎ ((e ≡ NoWay) × (GoBack table.now → number ≤ length table.now → ⊥))) }
 {
     let mut refusals = Vec::new(alloc);
     let mut left = number;
     'back: while left > 0 {
         let place = left - 1;
         if place >= table.len() {
-            return Err(Stop::Order(0));
+            return Err(RerunError::NoWay);
         }
         let refusal = table[place];
         let before = refusal.before as usize;
         if before >= left {
-            return Err(Stop::Order(0));
+            return Err(RerunError::NoWay);
         }
         refusals.push(refusal)?;
         left = before;

@@ -33,7 +33,7 @@ returns-clause-searched g c =
     let threads : length (rows search.opened.items) ≡ length graph.rows.items =
     c.go_over.ensures.threads ∙ c.requires.is.threads ∙ c.requires.is.graph.number ∙ ap (λ z. length z.guest.entries) (sym setup) ∙ sym sound.number in
     on_ok c.go_over.result
-    (λ between. searched_by graph.setup graph.flats.items graph.rows.items graph.refusals.items search.found.nodes.items
+    (λ between. searched_by graph.setup graph.flats.items graph.rows.items graph.refused_rows.items search.found.nodes.items
     search.found.refusals.items (length (rows search.opened.items))
     search.level.number sound threads between.has) c.go_over.ensures.between
 
@@ -45,7 +45,7 @@ returns-clause-part g c =
     let sound = c.go_over.ensures.sound.0 in
     let threads : length (rows search.opened.items) ≡ length graph.rows.items =
     c.go_over.ensures.threads ∙ c.requires.is.threads ∙ c.requires.is.graph.number ∙ ap (λ z. length z.guest.entries) (sym setup) ∙ sym sound.number in
-    searched_by graph.setup graph.flats.items graph.rows.items graph.refusals.items search.found.nodes.items
+    searched_by graph.setup graph.flats.items graph.rows.items graph.refused_rows.items search.found.nodes.items
     search.found.refusals.items (length (rows search.opened.items))
     c.args.self.now.search.level.number sound threads c.go_over.ensures.has
 

@@ -11,11 +11,11 @@ use Rattle.ir_outcomes.specs.Explored.{AreExplored}
 use Rattle.ir_outcomes.specs.Exploring.{levels_left}
 use Rattle.ir_outcomes.proofs.CallerLemmas.{left_less}
 use Rattle.ir_thread.specs.State.{IsAllowed}
-use Rattle.ir_explore_run.specs.Printing.{HasPrinted, EndsEarly}
+use Rattle.ir_explore_run.specs.Printed.{HasPrinted, EndsEarly}
 use Rattle.ir_explore_run.specs.Texts.{Objects, objects_in}
 use Rattle.ir_explore_run.proofs.Joined.{texts_of_no_outcome}
 use Rattle.ir_explore_run.proofs.Printed.{printed_outcomes_are_part, kept_list_is_not_longer, printed_among_more, failed_after_taken_text}
-use Rattle.ir_explore_run.proofs.printing.print_levels.Goals as goal
+use Rattle.ir_explore_run.proofs.levels.print_levels.Goals as goal
 
 pub levels-init : goal.levels-init
 levels-init g c =

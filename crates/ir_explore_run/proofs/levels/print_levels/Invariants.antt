@@ -1,9 +1,9 @@
 use Rattle.std.proofs.Common.{◌≡◌, List, ℕ, ◌-◌, false, suc, length}
 use Rattle.std.specs.Io.KnownBytes.{Appends}
 use Rattle.ir_outcomes.specs.Exploring.{IsExploring, levels_left}
-use Rattle.ir_explore_run.specs.Printing.{HasPrinted}
+use Rattle.ir_explore_run.specs.Printed.{HasPrinted}
 use Rattle.ir_explore_run.specs.Texts.{objects_in}
-use Rattle.ir_explore_run.proofs.printing.print_levels.Given as goal
+use Rattle.ir_explore_run.proofs.levels.print_levels.Given as goal
 
 abbrev pub invariant-levels : goal.invariant-levels
 invariant-levels g l = record {

@@ -13,7 +13,7 @@ HasNode hand v = (i : ℕ) × (p : Pending) × (slice_get hand i ≡ Some p) × 
 
 -- The thread has a turn in this level. Each opened node is followed by both ways, or it is in hand: opened, reached in this turn, and not
 -- followed yet.
-pub record IsGoing (noted : ℕ → BothWays) (thread level : ℕ) (opened : List Bool) (nodes : List Origin) (refusals : List Refusal)
+pub record IsTurnSoFar (noted : ℕ → BothWays) (thread level : ℕ) (opened : List Bool) (nodes : List Origin) (refusals : List Refusal)
     (hand : List Pending) : Type 0 where
   pub wide : length opened ≡ length nodes
   pub reached : AreReached noted refusals nodes
@@ -30,5 +30,5 @@ left_to_open most opened = shut opened + (most - length opened)
 -- How a thread comes to a node by one step more, with its try refused or not: the table was this, and is that then.
 abbrev pub IsAfter : List Refusal → List Refusal → Origin → Bool → Origin → Type 0
 IsAfter old new n false next = (new ≡ old) × (next ≡ record n { entries = suc n.entries })
-IsAfter old new n true next = (new ≡ old ++ record { before = n.refusals; entries = n.entries } ∷ [])
-    × (next ≡ record n { refusals = suc (length old); entries = 0 })
+IsAfter old new n true next = (new ≡ old ++ record { before = n.last_refusal; entries = n.entries } ∷ [])
+    × (next ≡ record n { last_refusal = suc (length old); entries = 0 })

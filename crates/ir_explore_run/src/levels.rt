@@ -7,7 +7,7 @@ ghost use Rattle.ir_store.specs.Nodes.{SourcedFlat};
 ghost use Rattle.ir_outcomes.specs.Exploring.{IsExploring};
 ghost use Rattle.ir_stream.specs.Answers.{AppendsPrefix};
 ghost use Rattle.ir_thread.specs.State.{IsAllowed};
-ghost use Rattle.ir_explore_run.specs.Printing.{HasPrinted, EndsEarly};
+ghost use Rattle.ir_explore_run.specs.Printed.{HasPrinted, EndsEarly};
 ghost use Rattle.ir_explore_run.specs.Texts.{AreTexts, objects_in, objects_of};
 ghost use Rattle.ir_explore_run.specs.declared.fault.ExploreFault.TheVariants.{NoMem, Write};
 

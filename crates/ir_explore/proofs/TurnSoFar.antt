@@ -7,8 +7,8 @@ use Rattle.ir_explore.specs.declared.found.Pending.{Pending}
 use Rattle.ir_explore.specs.declared.origin.Origin.{Origin}
 use Rattle.ir_explore.specs.declared.origin.Refusal.{Refusal}
 use Rattle.ir_explore.specs.Following.{BothWays, Stay, IsOpen, GoesTo, IsFollowed}
-use Rattle.ir_explore.specs.Going.{HasNode, IsGoing, IsAfter}
-use Rattle.ir_explore.specs.Origins.{BeginsAt, Spells, Whole, IsReachedBy, AreReached, Adds}
+use Rattle.ir_explore.specs.TurnSoFar.{HasNode, IsTurnSoFar, IsAfter}
+use Rattle.ir_explore.specs.Origins.{BeginsAt, AreWaysUnder, Whole, IsReachedBy, AreReached, Adds}
 use Rattle.ir_explore.proofs.Opens.{goes_to_if_notes_kept, Opening, shut_place_opened, open_place_added}
 use Rattle.ir_explore.proofs.Reached.{AllKept, place_of_element_is_below_length, reached_by_if_grown, reached_by_after_step, reached_if_notes_kept, reached_after_node_added, table_stays_after_step, after_step_is_in_turn, adds_reflexive, adds_after_node_pushed}
 
@@ -38,7 +38,7 @@ each_with_one_more Q hand p all here i x is = elim (slice_get_after_push_cases h
 -- a turn that hasn't begun
 nothing_in_hand_if_followed : (noted : ℕ → BothWays) (thread level : ℕ) (opened : List Bool) (nodes : List Origin) (refusals : List Refusal)
     → length opened ≡ length nodes → AreReached noted refusals nodes → IsFollowed (noted thread) opened
-    → IsGoing noted thread level opened nodes refusals []
+    → IsTurnSoFar noted thread level opened nodes refusals []
 nothing_in_hand_if_followed noted thread level opened nodes refusals wide reached followed = record {
   wide = wide;
   reached = reached;
@@ -51,21 +51,21 @@ nothing_in_hand_if_followed noted thread level opened nodes refusals wide reache
 
 -- a turn that is over
 pub followed_if_nothing_in_hand : (noted : ℕ → BothWays) (thread level : ℕ) (opened : List Bool) (nodes : List Origin) (refusals : List Refusal)
-    → IsGoing noted thread level opened nodes refusals [] → IsFollowed (noted thread) opened
+    → IsTurnSoFar noted thread level opened nodes refusals [] → IsFollowed (noted thread) opened
 followed_if_nothing_in_hand noted thread level opened nodes refusals g v is = elim (g.followed v is) [
   | inl h ↦ absurd (let e = h.2 in cc e)
   | inr f ↦ f
 ]
 
 -- a thread that went nowhere has come to where its turn began
-turn_begins_reached : (noted : ℕ → BothWays) (refusals : List Refusal) (nodes : List Origin) (start : Origin) → (start.refusals ≡ 0) × (start.entries ≡ 0)
+turn_begins_reached : (noted : ℕ → BothWays) (refusals : List Refusal) (nodes : List Origin) (start : Origin) → (start.last_refusal ≡ 0) × (start.entries ≡ 0)
     → BeginsAt nodes start.level start.from → IsReachedBy noted refusals nodes start.from start
 turn_begins_reached noted refusals nodes start none begins =
-    (begins, [], ([], subst (λ z. Spells refusals z []) (sym none.0) Whole, subst (λ z. [] ≡ replicate z false) (sym none.1) refl), refl)
+    (begins, [], ([], subst (λ z. AreWaysUnder refusals z []) (sym none.0) Whole, subst (λ z. [] ≡ replicate z false) (sym none.1) refl), refl)
 
 -- the last in hand is taken up
 pub taken_up : (noted : ℕ → BothWays) (thread level : ℕ) (opened : List Bool) (nodes : List Origin) (refusals : List Refusal) (hand : List Pending)
-    (p : Pending) → IsGoing noted thread level opened nodes refusals (hand ++ p ∷ []) → IsGoing noted thread level opened nodes refusals (p ∷ hand)
+    (p : Pending) → IsTurnSoFar noted thread level opened nodes refusals (hand ++ p ∷ []) → IsTurnSoFar noted thread level opened nodes refusals (p ∷ hand)
 taken_up noted thread level opened nodes refusals hand p g = record {
   wide = g.wide;
   reached = g.reached;
@@ -89,8 +89,8 @@ taken_up noted thread level opened nodes refusals hand p g = record {
 
 -- the first in hand is followed by both ways, and laid down
 pub laid_down : (noted : ℕ → BothWays) (thread level : ℕ) (opened : List Bool) (nodes : List Origin) (refusals : List Refusal) (hand : List Pending)
-    (p : Pending) → IsGoing noted thread level opened nodes refusals (p ∷ hand)
-    → ((refused : Bool) → GoesTo (noted thread refused) (IsOpen opened) p.node) → IsGoing noted thread level opened nodes refusals hand
+    (p : Pending) → IsTurnSoFar noted thread level opened nodes refusals (p ∷ hand)
+    → ((refused : Bool) → GoesTo (noted thread refused) (IsOpen opened) p.node) → IsTurnSoFar noted thread level opened nodes refusals hand
 laid_down noted thread level opened nodes refusals hand p g ways = record {
   wide = g.wide;
   reached = g.reached;
@@ -108,10 +108,10 @@ laid_down noted thread level opened nodes refusals hand p g ways = record {
     without v (suc i) x is at = inl (i, x, is, at)
 
 -- a turn that goes on as it did, where what was noted stays
-pub going_if_notes_kept : (noted more : ℕ → BothWays) (thread level : ℕ) (opened : List Bool) (nodes : List Origin) (refusals : List Refusal)
-    (hand : List Pending) → AllKept noted more → IsGoing noted thread level opened nodes refusals hand
-    → IsGoing more thread level opened nodes refusals hand
-going_if_notes_kept noted more thread level opened nodes refusals hand kept g = record {
+pub turn_so_far_if_notes_kept : (noted more : ℕ → BothWays) (thread level : ℕ) (opened : List Bool) (nodes : List Origin) (refusals : List Refusal)
+    (hand : List Pending) → AllKept noted more → IsTurnSoFar noted thread level opened nodes refusals hand
+    → IsTurnSoFar more thread level opened nodes refusals hand
+turn_so_far_if_notes_kept noted more thread level opened nodes refusals hand kept g = record {
   wide = g.wide;
   reached = reached_if_notes_kept noted more refusals refusals nodes kept (λ v x is. is) g.reached;
   followed = λ v is. elim (g.followed v is) [
@@ -127,12 +127,12 @@ going_if_notes_kept noted more thread level opened nodes refusals hand kept g = 
 }
 
 -- One node more is opened, and is in hand as the last: what was known of the nodes and of the table stays.
-going_after_opening : (noted more : ℕ → BothWays) (thread level : ℕ) (opened row : List Bool) (nodes new : List Origin) (refusals table : List Refusal)
-    (hand : List Pending) (next : Pending) → IsGoing noted thread level opened nodes refusals hand → AllKept noted more → Stay nodes new
+turn_so_far_after_opening : (noted more : ℕ → BothWays) (thread level : ℕ) (opened row : List Bool) (nodes new : List Origin) (refusals table : List Refusal)
+    (hand : List Pending) (next : Pending) → IsTurnSoFar noted thread level opened nodes refusals hand → AllKept noted more → Stay nodes new
     → length nodes ≤ length new → Stay refusals table → length row ≡ length new → Opening opened row next.node → AreReached more table new
     → IsReachedBy more table new next.node next.origin → next.origin.thread ≡ thread → next.origin.level ≡ level
-    → IsGoing more thread level row new table (hand ++ next ∷ [])
-going_after_opening noted more thread level opened row nodes new refusals table hand next g kept stays longer stay wide o reached comes own
+    → IsTurnSoFar more thread level row new table (hand ++ next ∷ [])
+turn_so_far_after_opening noted more thread level opened row nodes new refusals table hand next g kept stays longer stay wide o reached comes own
     same = record {
       wide = wide;
       reached = reached;
@@ -154,10 +154,10 @@ going_after_opening noted more thread level opened row nodes new refusals table 
 -- a turn begins: its first node is opened, and is in hand
 pub turn_begins : (noted : ℕ → BothWays) (start : Origin) (opened : List Bool) (nodes : List Origin) (refusals : List Refusal) (d : Bool)
     → IsFollowed (noted start.thread) opened → AreReached noted refusals nodes → BeginsAt nodes start.level start.from
-    → (start.refusals ≡ 0) × (start.entries ≡ 0) → start.from < length opened → length opened ≡ length nodes → get_or opened start.from d ≡ false
-    → IsGoing noted start.thread start.level (slice_set opened start.from true) nodes refusals (record { node = start.from; origin = start } ∷ [])
+    → (start.last_refusal ≡ 0) × (start.entries ≡ 0) → start.from < length opened → length opened ≡ length nodes → get_or opened start.from d ≡ false
+    → IsTurnSoFar noted start.thread start.level (slice_set opened start.from true) nodes refusals (record { node = start.from; origin = start } ∷ [])
 turn_begins noted start opened nodes refusals d followed reached begins none less wide unopened =
-    going_after_opening noted noted start.thread start.level opened (slice_set opened start.from true) nodes nodes refusals refusals []
+    turn_so_far_after_opening noted noted start.thread start.level opened (slice_set opened start.from true) nodes nodes refusals refusals []
     (record { node = start.from; origin = start })
     (nothing_in_hand_if_followed noted start.thread start.level opened nodes refusals wide reached followed) (λ t refused v next is. is) (λ v x is. is)
     (omega arith) (λ v x is. is) (length-set opened start.from true ∙ wide) (shut_place_opened opened start.from d less unopened) reached
@@ -224,7 +224,7 @@ node_is_no_later size more next o either less = elim either [
 -- A thread goes on by one way from a node to another, which may be one more.
 module _ (noted more : ℕ → BothWays) (opened : List Bool) (nodes new : List Origin) (refusals table : List Refusal) (here : Pending) (pending : List Pending)
     (refused : Bool) (next : Pending)
-    (g : IsGoing noted here.origin.thread here.origin.level opened nodes refusals (here ∷ pending)) (kept : AllKept noted more)
+    (g : IsTurnSoFar noted here.origin.thread here.origin.level opened nodes refusals (here ∷ pending)) (kept : AllKept noted more)
     (after : IsAfter refusals table here.origin refused next.origin) (is : more here.origin.thread refused here.node ≡ Some (Some next.node))
     (j : Joined nodes new next) where
   comes_there : next.node < length new → IsReachedBy more table new next.node next.origin
@@ -255,10 +255,10 @@ module _ (noted more : ℕ → BothWays) (opened : List Bool) (nodes new : List 
 
   -- once it is opened, it is in hand
   pub going_after_going_on : (row : List Bool) → Opening opened row next.node → length row ≡ length new
-      → IsGoing more here.origin.thread here.origin.level row new table (here ∷ pending ++ next ∷ [])
+      → IsTurnSoFar more here.origin.thread here.origin.level row new table (here ∷ pending ++ next ∷ [])
   going_after_going_on row o wide =
       let t = after_step_is_in_turn refusals table here.origin refused next.origin after in
-      going_after_opening noted more here.origin.thread here.origin.level opened row nodes new refusals table (here ∷ pending) next
+      turn_so_far_after_opening noted more here.origin.thread here.origin.level opened row nodes new refusals table (here ∷ pending) next
       g kept (joined_nodes_stay nodes new next j) (joined_nodes_are_no_fewer nodes new next j)
       (table_stays_after_step refusals table here.origin refused next.origin after) wide o reached_after_going_on
       (comes_there (let a = place_of_element_is_below_length row next.node true o.opens in omega (arith, a, wide)))

@@ -1,15 +1,15 @@
 use Rattle.std.proofs.Common.{◌+◌, sym, subst, arith}
 use Rattle.ir_graph.specs.Turn.{GoesAlone}
 use Rattle.ir_graph.proofs.CallerLemmas.{goes_alone_append}
-use Rattle.ir_outcomes.proofs.rerun.take_leg.Goals as goal
+use Rattle.ir_outcomes.proofs.rerun.take_stretch.Goals as goal
 
 pub loop-preserved : goal.loop-preserved
 loop-preserved c =
     let one = c.in_ok-more.ensures.alone in
-    let leg = c.args.leg in
+    let stretch = c.args.stretch in
     record {
-      alone = subst (λ z. GoesAlone c.args.state.now c.enter.new.state leg.thread leg.refused z (c.loop.counter + 1)) (sym c.in_ok-steps-2.ensures)
-          (goes_alone_append c.args.state.now c.loop.state c.enter.new.state leg.thread leg.refused c.loop.steps c.in_ok-more.more c.loop.counter 1
+      alone = subst (λ z. GoesAlone c.args.state.now c.enter.new.state stretch.thread stretch.refused z (c.loop.counter + 1)) (sym c.in_ok-steps-2.ensures)
+          (goes_alone_append c.args.state.now c.loop.state c.enter.new.state stretch.thread stretch.refused c.loop.steps c.in_ok-more.more c.loop.counter 1
           c.loop.invariant.alone one);
       rests = c.in_ok-more.ensures.rests;
       thread = let a = one.threads in let b = c.loop.invariant.thread in omega (arith, a, b);
