@@ -42,7 +42,7 @@ picked_permuted_if_thread_has_more o a (suc n) t f g more l here others = elim (
       let is : picked o a (of_threads n f ++ f n) ++ picked o a more ≡ picked o a (of_threads n g ++ g n) =
       sym (ap (picked o a) all ∙ picked_append o a (of_threads n f ++ f n) more) in
       subst (IsPermutation (picked o a (of_threads n f ++ f n) ++ picked o a more)) is
-          (IsPermutation-refl (picked o a (of_threads n f ++ f n) ++ picked o a more))
+      (IsPermutation-refl (picked o a (of_threads n f ++ f n) ++ picked o a more))
   | inr ne ↦
       let x = picked o a (of_threads n f) in
       let y = picked o a (f n) in
@@ -56,7 +56,7 @@ picked_permuted_if_thread_has_more o a (suc n) t f g more l here others = elim (
       let moved : IsPermutation (x ++ (y ++ m)) ((x ++ m) ++ y) = subst (IsPermutation (x ++ (y ++ m))) (sym (append_assoc x m y))
       (IsPermutation-append_right x (y ++ m) (m ++ y) (IsPermutation-append_comm y m)) in
       subst (λ ps. IsPermutation ps (picked o a (of_threads n g ++ g n))) (sym old) (subst (IsPermutation (x ++ (y ++ m))) (sym new)
-          (IsPermutation-trans (x ++ (y ++ m)) ((x ++ m) ++ y) (z ++ y) moved (IsPermutation-append_left y (x ++ m) z shorter)))
+      (IsPermutation-trans (x ++ (y ++ m)) ((x ++ m) ++ y) (z ++ y) moved (IsPermutation-append_left y (x ++ m) z shorter)))
 ]
 
 -- ---- the visits of one thread
@@ -117,8 +117,8 @@ all_visits_if_counted run counts counted =
     let ks : ℕ → List ℕ = λ t. (placed_at run.places.now t).entries in
     let ls : ℕ → List Leave = λ t. (placed_at run.places.now t).leaves in
     of_threads_same_if_each_same n (λ t. first_visits run t (get_or counts t 0))
-        (λ t. by_kind run.kind (entered_by t (es t) (ks t)) (left_by t (ls t)))
-        (λ t l. all_by_kind_if_counted run.kind t (get_or counts t 0) (es t) (ks t) (ls t) (counted t l))
+    (λ t. by_kind run.kind (entered_by t (es t) (ks t)) (left_by t (ls t)))
+    (λ t l. all_by_kind_if_counted run.kind t (get_or counts t 0) (es t) (ks t) (ls t) (counted t l))
     ∙ of_threads_by_kind run.kind n (λ t. entered_by t (es t) (ks t)) (λ t. left_by t (ls t))
 
 -- ---- what is listed
