@@ -55,7 +55,7 @@ impl ListedVisits {
         })
     }
 
-    // Lists what thread t has up to its first `count` events, or leaves, or all if it has fewer.
+    // Lists the first `count` events of thread t, or leaves, or all if it has fewer. What is listed isn't listed again.
     fn list_to(&mut self, run: &RunVisits<'_>, t: usize, count: usize) -> Result<(), AllocError>
         requires thread { t < length run.now.places.now }
         requires listed { AreListed run.now self.old.counts.items self.old.visits }
@@ -99,8 +99,8 @@ impl ListedVisits {
     }
 }
 
-// All visits of the run. They are added in the order of its stretches, so that the lists are in the order of versions, or
-// nearly, before they are sorted. Which stretches there are matters for nothing but that.
+// All visits of the run. They are added in the order of its stretches, in which the versions of each object rise. So the sort
+// has nothing to move, unless stretches are missing. What is listed doesn't depend on them.
 fn list_visits(
     alloc: Global,
     run: &RunVisits<'_>,

@@ -78,8 +78,8 @@ impl Follower<'_> {
         let mut taken = 0u64;
         'steps: loop {
             let ahead = self.steps_left(t);
-            let stretch = self.stretch(t, ahead, pause);
-            let (steps, asked) = self.flat.run_to_ask(t, stretch);
+            let limit = self.step_limit(t, ahead, pause);
+            let (steps, asked) = self.flat.run_to_ask(t, limit);
             // With the step that it takes then.
             taken = taken.saturating_add(steps).saturating_add(1);
             if let Some(look) = self.follow_ask(t, asked) {
