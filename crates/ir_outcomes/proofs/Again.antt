@@ -180,14 +180,14 @@ switches_of_ways_back table (n ∷ path) ways (before, back, own, are, is) =
     let same : map (λ (w : ℕ × Bool). w.0) ways ≡ us ++ replicate (length own) t =
     ap (map (λ (w : ℕ × Bool). w.0)) is ∙ map-append (λ (w : ℕ × Bool). w.0) before (ways_by t own)
     ∙ ap (λ z. us ++ z) (threads_of_ways_by t own) in
-    subst (λ z. switches z ≤ length path) (sym same) (by path back)
+    let few : switches (map (λ (w : ℕ × Bool). w.0) ways) ≤ length path =
+    subst (λ z. switches z ≤ length path) (sym same) (by path back (switches_of_ways_back table path before back)) in omega (arith, few)
   where
-    by : (rest : List Origin) → AreWaysBack table rest before
+    by : (rest : List Origin) → AreWaysBack table rest before → switches (map (λ (w : ℕ × Bool). w.0) before) ≤ length rest - 1
         → switches (map (λ (w : ℕ × Bool). w.0) before ++ replicate (length own) n.thread) ≤ length rest
-    by [] none =
+    by [] none l =
         subst (λ z. switches (map (λ (w : ℕ × Bool). w.0) z ++ replicate (length own) n.thread) ≤ 0) (sym none)
         (switches_of_replicated_thread n.thread (length own))
-    by (m ∷ rest) some =
-        let l = switches_of_ways_back table (m ∷ rest) before some in
+    by (m ∷ rest) some l =
         let k = switches_after_repeated_turn (map (λ (w : ℕ × Bool). w.0) before) n.thread (length own) in
         omega (arith, l, k)

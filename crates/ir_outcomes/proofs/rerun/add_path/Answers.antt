@@ -1,4 +1,6 @@
-use Rattle.std.proofs.Common.{◌≡◌, ◌+◌, ◌-◌, ◌<◌, [], ◌∷◌, length, get_or, refl, sym, ap, ◌∙◌, subst, arith}
+use Rattle.std.proofs.Common.{◌≡◌, ◌+◌, ◌-◌, [], ◌∷◌, length, get_or, refl, sym, ap, ◌∙◌, subst, arith}
+use Rattle.ir_explore.specs.declared.origin.Origin.{Origin}
+use Rattle.ir_explore.specs.Origins.{first_origin}
 use Rattle.ir_record.specs.Recording.{turns_of_items}
 use Rattle.ir_outcomes.specs.Again.{IsAgainBy}
 use Rattle.ir_outcomes.proofs.Again.{again_by_turn_more}
@@ -14,11 +16,8 @@ pub loop-k-preserved : goal.loop-k-preserved
 loop-k-preserved c = λ setup again.
     let path = c.args.path.now in
     let k = c.loop-k.k in
-    let n = c.index-origin.result.now in
-    let less : k < length path = c.loop-k-test.true in
-    let at : get_or path (length path - 1 - k) n ≡ n = sym c.index-origin.ensures in
-    let next : last_turns path (k + 1) ≡ n ∷ last_turns path k =
-    last_turns-next path k n less ∙ ap (λ y. y ∷ last_turns path k) at in
+    let n : Origin = get_or path (length path - 1 - k) first_origin in
+    let next : last_turns path (k + 1) ≡ n ∷ last_turns path k = last_turns-next path k first_origin c.loop-k-test.true in
     subst (λ z. IsAgainBy setup (turns_of_items c.add_turn.new.items.items) c.args.table.now z c.add_turn.new.state) (sym next)
     (again_by_turn_more setup (turns_of_items c.loop-k.items.items) (turns_of_items c.add_turn.new.items.items) c.args.table.now n (last_turns path k)
     c.loop-k.state c.add_turn.new.state (c.loop-k.invariant setup again) (c.in_ok-add_turn.ensures setup))

@@ -16,7 +16,7 @@ returns-clause-alone c =
     let w = c.run_to_rest.new.state in
     let t = c.args.thread in
     let r = c.args.refused in
-    let one = c.in_default.ensures in
+    let one = c.in_default-take.ensures in
     let answer = c.in-Some.ensures in
     let rests : Rests (ask_of f.code (thread_of f t)) =
     subst (λ (z : SourcedFlat). Rests (ask_of z.flat.code (thread_of z.flat t))) (sym c.state.view_is) c.requires.rests in

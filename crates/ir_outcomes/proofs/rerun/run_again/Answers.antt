@@ -1,6 +1,6 @@
 use Rattle.std.proofs.Common.{[], sym, subst}
 use Rattle.ir_record.specs.Recording.{turns_of_items}
-use Rattle.ir_outcomes.specs.Again.{IsAgain}
+use Rattle.ir_outcomes.specs.Again.{IsAgain, AreWaysBack}
 use Rattle.ir_outcomes.proofs.rerun.run_again.Goals as goal
 use Rattle.ir_outcomes.proofs.Again.{start_is_run_again}
 
@@ -13,6 +13,6 @@ returns c =
     (subst (IsAgain setup [] []) (sym c.in_ok-state.ensures) (start_is_run_again setup))) in
     record {
       ways = by.ways;
-      back = by.back;
+      back = subst (λ z. AreWaysBack z c.args.path.now by.ways) c.as_slice-table.ensures.value by.back;
       again = c.in_ok-add_rests.ensures setup by.ways by.again;
     }

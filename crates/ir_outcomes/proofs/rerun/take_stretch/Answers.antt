@@ -8,7 +8,7 @@ loop-preserved c =
     let one = c.in_ok-more.ensures.alone in
     let stretch = c.args.stretch in
     record {
-      alone = subst (λ z. GoesAlone c.args.state.now c.enter.new.state stretch.thread stretch.refused z (c.loop.counter + 1)) (sym c.in_ok-steps-2.ensures)
+      alone = subst (λ z. GoesAlone c.args.state.now c.enter.new.state stretch.thread stretch.refused z (c.loop.counter + 1)) (sym c.in_ok-steps.ensures)
           (goes_alone_append c.args.state.now c.loop.state c.enter.new.state stretch.thread stretch.refused c.loop.steps c.in_ok-more.more c.loop.counter 1
           c.loop.invariant.alone one);
       rests = c.in_ok-more.ensures.rests;
