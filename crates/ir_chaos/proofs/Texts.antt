@@ -47,6 +47,11 @@ word_length_of_drop_step [] index l = absurd (omega (arith, l))
 word_length_of_drop_step (b ∷ text) zero l = refl
 word_length_of_drop_step (b ∷ text) (suc index) l = word_length_of_drop_step text index (omega (arith, l))
 
+read : (xs : List ℕ) (i x : ℕ) → i < length xs → x ≡ get_or xs i x → x ≡ get_or xs i 0
+read [] i x l e = absurd (omega (arith, l))
+read (y ∷ xs) zero x l e = e
+read (y ∷ xs) (suc i) x l e = read xs i x (omega (arith, l)) e
+
 pub word_length_at_space : (text : List ℕ) (index b : ℕ) → index < length text → b ≡ get_or text index b → b ≡ 32
     → index + word_length (drop index text) ≡ word_length text → index ≡ word_length text
 word_length_at_space text index b l e is h =
@@ -54,11 +59,6 @@ word_length_at_space text index b l e is h =
     let none : word_length (drop index text) ≡ 0 = word_length_of_drop_step text index l
     ∙ ap (λ z. if z then 0 else suc (word_length (drop (suc index) text))) (eq-eqb (get_or text index 0) 32 here) in
     omega (arith, none, h)
-  where
-    read : (xs : List ℕ) (i x : ℕ) → i < length xs → x ≡ get_or xs i x → x ≡ get_or xs i 0
-    read [] i x l e = absurd (omega (arith, l))
-    read (y ∷ xs) zero x l e = e
-    read (y ∷ xs) (suc i) x l e = read xs i x (omega (arith, l)) e
 
 pub word_length_step : (text : List ℕ) (index b : ℕ) → index < length text → b ≡ get_or text index b → b ≢ 32
     → index + word_length (drop index text) ≡ word_length text → index + 1 + word_length (drop (index + 1) text) ≡ word_length text
@@ -69,11 +69,6 @@ word_length_step text index b l e ne h =
     let same : word_length (drop (index + 1) text) ≡ word_length (drop (suc index) text) =
     ap (λ k. word_length (drop k text)) (let k : index + 1 ≡ suc index = omega arith in k) in
     omega (arith, more, same, h)
-  where
-    read : (xs : List ℕ) (i x : ℕ) → i < length xs → x ≡ get_or xs i x → x ≡ get_or xs i 0
-    read [] i x l e = absurd (omega (arith, l))
-    read (y ∷ xs) zero x l e = e
-    read (y ∷ xs) (suc i) x l e = read xs i x (omega (arith, l)) e
 
 pub word_length_at_text_end : (text : List ℕ) (index : ℕ) → length text ≤ index → index ≤ length text
     → index + word_length (drop index text) ≡ word_length text → length text ≡ word_length text
@@ -88,11 +83,6 @@ marks_of_drop_step : (text : List ℕ) (index : ℕ) → index < length text
 marks_of_drop_step [] index l = absurd (omega (arith, l))
 marks_of_drop_step (b ∷ text) zero l = refl
 marks_of_drop_step (b ∷ text) (suc index) l = marks_of_drop_step text index (omega (arith, l))
-
-read : (xs : List ℕ) (i x : ℕ) → i < length xs → x ≡ get_or xs i x → x ≡ get_or xs i 0
-read [] i x l e = absurd (omega (arith, l))
-read (y ∷ xs) zero x l e = e
-read (y ∷ xs) (suc i) x l e = read xs i x (omega (arith, l)) e
 
 pub marks_at_other_byte : (text : List ℕ) (index b : ℕ) → index < length text → b ≡ get_or text index b → b ≢ 33
     → index + marks (drop index text) ≡ marks text → index ≡ marks text
