@@ -57,12 +57,12 @@ length_of_read_all form place (t ∷ texts) xs e =
     let d = parts_of_ok_bind (read_all form (place + 1) texts) _ xs b.2 in
     ap length (sym (ok_is_injective _ xs d.2)) ∙ ap suc (length_of_read_all form (place + 1) texts d.0 d.1)
 
-length_of_values : (bits : ℕ) (xs : List Operand) → length (values bits xs) ≤ length xs
-length_of_values bits [] = omega arith
-length_of_values bits (Integer z ∷ xs) = omega (arith, length_of_values bits xs)
-length_of_values bits (Index r ∷ xs) = omega (arith, length_of_values bits xs)
-length_of_values bits (Offset z r ∷ xs) = omega (arith, length_of_values bits xs)
-length_of_values bits (Symbol label ∷ xs) = omega (arith, length_of_values bits xs)
+values_not_longer_than_operands : (bits : ℕ) (xs : List Operand) → length (values bits xs) ≤ length xs
+values_not_longer_than_operands bits [] = omega arith
+values_not_longer_than_operands bits (Integer z ∷ xs) = omega (arith, values_not_longer_than_operands bits xs)
+values_not_longer_than_operands bits (Index r ∷ xs) = omega (arith, values_not_longer_than_operands bits xs)
+values_not_longer_than_operands bits (Offset z r ∷ xs) = omega (arith, values_not_longer_than_operands bits xs)
+values_not_longer_than_operands bits (Symbol label ∷ xs) = omega (arith, values_not_longer_than_operands bits xs)
 
 -- an object has no more first words than words
 object_words_within_limit : (image : ImageForm) (texts : List (List ℕ)) (z : ℤ) (xs : List Operand) → operands_of (Object image) texts ≡ Ok (Integer z ∷ xs)
@@ -73,11 +73,11 @@ object_words_within_limit image texts z xs e =
     let most : length texts ≤ 1 + (limits_of image).words = leb-true (length texts) (1 + (limits_of image).words)
     (right_of_true_and (nat_le 2 (length texts)) _ (left_of_true_and (takes (Object image) (length texts)) _ u.0)) in
     let count : suc (length xs) ≡ length texts = length_of_read_all (Object image) 0 texts (Integer z ∷ xs) u.1 in
-    omega (arith, most, count, length_of_values 32 xs)
+    omega (arith, most, count, values_not_longer_than_operands 32 xs)
 
 -- a number within limits
-low_bits_of_bounded_number : (high : ℕ) (text : List ℕ) (z : ℤ) → number_in (pos 0) (pos high) text ≡ Ok z → high < 2 ^ 32 → low_bits 32 z ≤ high
-low_bits_of_bounded_number high text z e small =
+low_bits_of_bounded_number_within_bound : (high : ℕ) (text : List ℕ) (z : ℤ) → number_in (pos 0) (pos high) text ≡ Ok z → high < 2 ^ 32 → low_bits 32 z ≤ high
+low_bits_of_bounded_number_within_bound high text z e small =
     let b = parts_of_ok_bind (or_cause BadNumber (number text)) _ z e in
     let t = test_and_value_of_ok_unless (int_le (pos 0) b.0 && int_le b.0 (pos high)) BadNumber b.0 z b.2 in
     subst (λ y. low_bits 32 y ≤ high) t.1 (by_sign b.0 (left_of_true_and _ _ t.0) (right_of_true_and (int_le (pos 0) b.0) _ t.0) small)
@@ -105,7 +105,7 @@ object_count_within_limit image (t ∷ texts) z e =
     let n = parts_of_ok_bind (number_in (pos 0) (pos most) t) _ _ b.1 in
     let same : n.0 ≡ z = ap (λ x. first_number (x ∷ d.0)) (ok_is_injective _ _ n.2) ∙ ap first_number (ok_is_injective _ _ d.2) in
     let small : most < 2 ^ 32 = let all = objects_of_form_at_most_limit image in omega (arith, all) in
-    subst (λ y. low_bits 32 y ≤ most) same (low_bits_of_bounded_number most t n.0 n.1 small)
+    subst (λ y. low_bits 32 y ≤ most) same (low_bits_of_bounded_number_within_bound most t n.0 n.1 small)
 
 item_of_form_may_stand : (image : ImageForm) (section : Section) (form : Form) (texts : List (List ℕ)) (xs : List Operand)
     → may_stand (stands_in form) section ≡ true → operands_of (in_image image form) texts ≡ Ok xs
@@ -272,13 +272,13 @@ sound_once_begun s h = record {
 }
 
 -- what is few in any form is few in a large one
-few_words_in_large_image : (image : ImageForm) (item : Item) → HasFewWords image item → HasFewWords Large item
-few_words_in_large_image image (First object words) h = let most = words_of_form_at_most_limit image in omega (arith, most, h)
-few_words_in_large_image image item h = tt
+few_words_in_large_image_if_in_any : (image : ImageForm) (item : Item) → HasFewWords image item → HasFewWords Large item
+few_words_in_large_image_if_in_any image (First object words) h = let most = words_of_form_at_most_limit image in omega (arith, most, h)
+few_words_in_large_image_if_in_any image item h = tt
 
-all_few_words_in_large_image : (image : ImageForm) (xs : List Placed) → HaveFewWords image xs → HaveFewWords Large xs
-all_few_words_in_large_image image [] h = tt
-all_few_words_in_large_image image (x ∷ xs) h = (few_words_in_large_image image x.item h.0, all_few_words_in_large_image image xs h.1)
+all_few_words_in_large_image_if_in_any : (image : ImageForm) (xs : List Placed) → HaveFewWords image xs → HaveFewWords Large xs
+all_few_words_in_large_image_if_in_any image [] h = tt
+all_few_words_in_large_image_if_in_any image (x ∷ xs) h = (few_words_in_large_image_if_in_any image x.item h.0, all_few_words_in_large_image_if_in_any image xs h.1)
 
 -- a large image
 sound_after_large : (s : Seen) (c d : ℕ) → IsSound s → c ≡ s.code → d ≡ s.filled
@@ -293,7 +293,7 @@ sound_after_large s c d h is_code is_data = record {
   few_threads = let most = threads_of_form_at_most_limit (stated s.form) in let few = h.few_threads in omega (arith, most, few);
   few_objects = let most = objects_of_form_at_most_limit (stated s.form) in let few = h.few_objects in omega (arith, most, few);
   labels = h.labels;
-  few = all_few_words_in_large_image (stated s.form) s.placed h.few;
+  few = all_few_words_in_large_image_if_in_any (stated s.form) s.placed h.few;
 }
 
 -- an item of text

@@ -16,7 +16,7 @@ use Rattle.ir_trace.specs.Recorded.{recorded_thread}
 use Rattle.ir_trace.specs.Bounds.{IsRecorded, IsEvent}
 use Rattle.ir_fit.specs.Fit.{FittedTrace, HasRun, IsRunOf}
 use Rattle.ir_fit.specs.Growing.{places_of, leaves_of}
-use Rattle.ir_fit.proofs.CallerLemmas.{guest_start_is_start, idle_thread_has_empty_trail, emitting_thread_is_guest_thread, get_or_of_at, at_place_of_get_or, entry_step_is_of_event}
+use Rattle.ir_fit.proofs.CallerLemmas.{guest_start_is_start, idle_thread_has_empty_trail, emitting_thread_is_guest_thread, get_or_is_item_if_at_index, get_or_is_at_index_if_below_length, entry_step_is_of_event}
 use Rattle.ir_coherence.proofs.CallerLemmas.{recorded_thread_at_number_is_recorded}
 use Rattle.ir_cut.specs.Positions.{machine_of, start_of}
 
@@ -43,7 +43,7 @@ emitting_thread_exists f h run is t i k emitted = emitting_thread_is_guest_threa
 -- and one of those that it takes
 pub emitting_step_below_count : (f : FittedTrace) (run : List Step) (t i : ℕ) (k : Label) → Emits (machine_of f) (start_of f) run t i k
     → i < count (machine_of f) (start_of f) run t
-emitting_step_below_count f run t i k emitted = (get_or_of_at (trail (machine_of f) (start_of f) run t) i (emitted.0, k) emitted.1).0
+emitting_step_below_count f run t i k emitted = (get_or_is_item_if_at_index (trail (machine_of f) (start_of f) run t) i (emitted.0, k) emitted.1).0
 
 -- ---- what is reported by an entry is in the trace
 
@@ -69,4 +69,4 @@ entered_version_is_word f h recorded run is t i o a v l emitted =
     let e = entry_step_is_of_event f (has_run_from_any_run f h run is) t i o a v l emitted in
     let d : Event = Read 0 0 in
     listed_event_version_is_word f.recorded.profile f.recorded.objects es (recorded_thread_at_number_is_recorded f.recorded recorded t (let same = is.0.threads in omega (arith, same, there))).events_fit
-    e.0 (slice_index_or es e.0 d) o a v l (at_place_of_get_or es e.0 d e.1) (e.3 d)
+    e.0 (slice_index_or es e.0 d) o a v l (get_or_is_at_index_if_below_length es e.0 d e.1) (e.3 d)

@@ -24,10 +24,10 @@ AreNeedsOfFirstInside f qs t n = (e : ℕ) (x : Event) → e < n → slice_get (
     → EachRun f (λ run. AreInside f run (NeededBy (label_of x)) (cut_of qs))
 
 -- it is closed, where all events in the cut are among them
-closed_if_events_in_cut_met : (f : FittedTrace) → IsFitted f → (qs : List ℕ) (t n : ℕ) → AreNeedsOfFirstInside f qs t n
+closed_if_events_in_cut_are_among_first : (f : FittedTrace) → IsFitted f → (qs : List ℕ) (t n : ℕ) → AreNeedsOfFirstInside f qs t n
     → ((e i : ℕ) → slice_get (placed_at (placed_of f) t).entries e ≡ Some i → i < cut_of qs t → e < n)
     → EachRun f (λ run. IsClosed f run (cut_of qs) t)
-closed_if_events_in_cut_met f fit qs t n met first run is i k emits inside w j b at need =
+closed_if_events_in_cut_are_among_first f fit qs t n met first run is i k emits inside w j b at need =
     let x = needing_label_is_entry b k need in
     let e = (run_of_trace_is_listed f fit.run run is).entry t i x.object x.access x.version x.left
     (subst (Emits (machine_of f) (start_of f) run t i) x.is emits) in
@@ -37,7 +37,7 @@ closed_if_events_in_cut_met f fit qs t n met first run is i k emits inside w j b
 pub closed_at_end_of_log : (f : FittedTrace) → IsFitted f → (qs ks : List ℕ) (t n : ℕ) → ks ≡ (placed_at (placed_of f) t).entries → length ks ≤ n
     → AreNeedsOfFirstInside f qs t n → IsTrue true ↔ EachRun f (λ run. IsClosed f run (cut_of qs) t)
 closed_at_end_of_log f fit qs ks t n list over met = (
-  (λ _. closed_if_events_in_cut_met f fit qs t n met (λ e i at _. let l = slice_get_within (placed_at (placed_of f) t).entries e i at in
+  (λ _. closed_if_events_in_cut_are_among_first f fit qs t n met (λ e i at _. let l = slice_get_within (placed_at (placed_of f) t).entries e i at in
       let same : length ks ≡ length (placed_at (placed_of f) t).entries = ap length list in omega (arith, l, same, over))),
   (λ _. refl),
 )
@@ -47,7 +47,7 @@ pub closed_if_next_event_outside : (f : FittedTrace) → IsFitted f → (qs ks :
     → ks ≡ (placed_at (placed_of f) t).entries → n < length ks → k ≡ slice_index_or ks n 0 → cut_of qs t ≤ k → AreNeedsOfFirstInside f qs t n
     → IsTrue true ↔ EachRun f (λ run. IsClosed f run (cut_of qs) t)
 closed_if_next_event_outside f fit qs ks t n k there list l read past met = (
-  (λ _. closed_if_events_in_cut_met f fit qs t n met (λ e i at inside. elim (cases_lt e n) [
+  (λ _. closed_if_events_in_cut_are_among_first f fit qs t n met (λ e i at inside. elim (cases_lt e n) [
     | inl less ↦ less
     | inr behind ↦
         let here : slice_get (placed_at (placed_of f) t).entries n ≡ Some k = ap (λ z. slice_get z n) (sym list) ∙ slice_get-get_or ks n 0 l
@@ -138,10 +138,10 @@ inconsistent_if_thread_not_closed f fit qs n b there test is = (
   (λ h. absurd (cc (is, test.1 (threads_of_consistent_cut_closed f fit qs h n there)))),
 )
 
-pub closed_and_within_steps : (f : FittedTrace) (qs : List ℕ) (t n : ℕ) (b : Bool) → n ≡ (recorded_thread f.recorded t).steps → cut_of qs t ≤ n
+pub test_of_closed_tells_closed_and_within_steps : (f : FittedTrace) (qs : List ℕ) (t n : ℕ) (b : Bool) → n ≡ (recorded_thread f.recorded t).steps → cut_of qs t ≤ n
     → IsTrue b ↔ EachRun f (λ run. IsClosed f run (cut_of qs) t)
     → IsTrue b ↔ (cut_of qs t ≤ (recorded_thread f.recorded t).steps) × EachRun f (λ run. IsClosed f run (cut_of qs) t)
-closed_and_within_steps f qs t n b steps l test = (
+test_of_closed_tells_closed_and_within_steps f qs t n b steps l test = (
   (λ is. ((let a : cut_of qs t ≤ (recorded_thread f.recorded t).steps = omega (arith, l, steps) in a), test.0 is)),
   (λ h. test.1 h.1),
 )

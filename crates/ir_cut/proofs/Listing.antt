@@ -6,7 +6,7 @@ use Rattle.std.proofs.lemmas.List.{get_or_past}
 use Rattle.std.proofs.lemmas.Option.{slice_get_within, slice_get-get_or, get_or_from_slice_get}
 use Rattle.ir_log.specs.declared.event.Event.TheVariants.{Read}
 use Rattle.ir_fit.proofs.CallerLemmas as kept
-use Rattle.ir_fit.proofs.CallerLemmas.{length_of_placed_is_threads, emitting_thread_is_guest_thread, entries_as_many_as_events, step_of_entry_emits_event, entry_step_is_of_event, step_of_leave_emits_leave, leave_step_is_kept}
+use Rattle.ir_fit.proofs.CallerLemmas.{length_of_placed_is_threads, emitting_thread_is_guest_thread, event_positions_are_as_many_as_events, step_at_event_position_emits_event, entry_step_is_of_event, step_of_leave_emits_leave, leave_step_is_kept}
 use Rattle.ir_cut.proofs.Again.{has_run_from_any_run}
 use Rattle.std.specs.Prelude.{slice_get}
 use Rattle.ir_runs.specs.Machine.{In, Out}
@@ -43,19 +43,19 @@ unfolding has_run_from_any_run
 run_of_trace_is_listed f h run is =
     let k : HasRun f = has_run_from_any_run f h run is in
     record {
-      sizes = λ t there. entries_as_many_as_events f k t there;
+      sizes = λ t there. event_positions_are_as_many_as_events f k t there;
       event = λ t e i x there at place.
           let inside = slice_get_within (recorded_thread f.recorded t).events e x at in
           subst (λ m. Emits (machine_of f) (start_of f) run t i (label_of m))
           (get_or_from_slice_get (recorded_thread f.recorded t).events e x x at)
           (subst (λ j. Emits (machine_of f) (start_of f) run t j (label_of (slice_index_or (recorded_thread f.recorded t).events e x)))
-          (get_or_from_slice_get (placed_at (placed_of f) t).entries e i 0 place) (step_of_entry_emits_event f k t there e x inside));
+          (get_or_from_slice_get (placed_at (placed_of f) t).entries e i 0 place) (step_at_event_position_emits_event f k t there e x inside));
       entry = λ t i o a v l emitted.
           let there = emitting_thread_is_guest_thread f k t i (In o a v l) emitted in
           let d : Event = Read 0 0 in
           let e = entry_step_is_of_event f k t i o a v l emitted in
           let inside = e.1 in
-          let size = entries_as_many_as_events f k t there in (
+          let size = event_positions_are_as_many_as_events f k t there in (
             e.0,
             slice_index_or (recorded_thread f.recorded t).events e.0 d,
             slice_get-get_or (placed_at (placed_of f) t).entries e.0 0
@@ -64,7 +64,7 @@ run_of_trace_is_listed f h run is =
             e.3 d,
           );
       rise = λ t e d i j there less first second.
-          let up = kept.entry_positions_rise f k t there e d less (slice_get_within (placed_at (placed_of f) t).entries d j second) in
+          let up = kept.event_positions_rise f k t there e d less (slice_get_within (placed_at (placed_of f) t).entries d j second) in
           let low = get_or_from_slice_get (placed_at (placed_of f) t).entries e i 0 first in
           let high = get_or_from_slice_get (placed_at (placed_of f) t).entries d j 0 second in
           omega (arith, up, low, high);

@@ -26,16 +26,16 @@ use Rattle.ir_cut.proofs.Searched.{rising_step, falling_step, elements_at_equal_
 -- ---- sums
 
 -- one of the numbers is less, and the others are the same
-sum_below_if_one_less : (n : ℕ) (f g : ℕ → ℕ) (u : ℕ) → u < n → f u < g u → ((t : ℕ) → t ≢ u → f t ≡ g t) → sum_below n f < sum_below n g
-sum_below_if_one_less n f g u l less rest = sum_below_less_if_one_less n u f g l less (λ t. elim (cases_eq t u) [
+sum_below_is_less_if_one_is_less : (n : ℕ) (f g : ℕ → ℕ) (u : ℕ) → u < n → f u < g u → ((t : ℕ) → t ≢ u → f t ≡ g t) → sum_below n f < sum_below n g
+sum_below_is_less_if_one_is_less n f g u l less rest = sum_below_less_if_one_less n u f g l less (λ t. elim (cases_eq t u) [
   | inl same ↦ subst (λ z. f z ≤ g z) (sym same) (omega (arith, less))
   | inr ne ↦ let e = rest t ne in omega (arith, e)
 ])
 
 -- ---- a number of each thread that is changed for one
 
-pub cut_position_is_read_number : (xs : List ℕ) (t v : ℕ) → t < length xs → v ≡ slice_index_or xs t v → cut_of xs t ≡ v
-cut_position_is_read_number xs t v l e = sym (e ∙ get_or_default_zero xs t v l)
+pub cut_position_is_indexed_number : (xs : List ℕ) (t v : ℕ) → t < length xs → v ≡ slice_index_or xs t v → cut_of xs t ≡ v
+cut_position_is_indexed_number xs t v l e = sym (e ∙ get_or_default_zero xs t v l)
 
 pub cut_position_after_set : (xs : List ℕ) (t v : ℕ) → t < length xs → cut_of (set xs t v) t ≡ v
 cut_position_after_set xs t v l = get_or-set_same xs t v 0 l
@@ -45,9 +45,9 @@ other_cut_position_after_set xs t v u ne = get_or-set_other xs t u v 0 ne
 
 -- ---- an event is taken
 
-pub next_entry_within_entries : (f : FittedTrace) (qs next : List ℕ) (t i : ℕ) → HasBelow f qs next t → cut_of next t ≡ i
+pub next_event_position_is_within_positions : (f : FittedTrace) (qs next : List ℕ) (t i : ℕ) → HasBelow f qs next t → cut_of next t ≡ i
     → i < length (placed_at (placed_of f) t).entries
-next_entry_within_entries f qs next t i below same = subst (λ z. z < length (placed_at (placed_of f) t).entries) same
+next_event_position_is_within_positions f qs next t i below same = subst (λ z. z < length (placed_at (placed_of f) t).entries) same
     (slice_get_within (placed_at (placed_of f) t).entries (cut_of next t) below.0 below.1)
 
 pub rising_after_event_taken : (f : FittedTrace) → IsFitted f → (qs qs' next : List ℕ) (t i : ℕ) (es : List Event) (d : Event)
@@ -57,8 +57,8 @@ pub rising_after_event_taken : (f : FittedTrace) → IsFitted f → (qs qs' next
     → (ps : List ℕ) (u k : ℕ) → EachRun f (Rising f ps u k qs next) → EachRun f (Rising f ps u k qs' (set next t (i + 1)))
 rising_after_event_taken f fit qs qs' next t i es d size there below read log sizes raised ps u k rising run is =
     let inside : t < length next = omega (arith, there, size) in
-    let at : cut_of next t ≡ i = cut_position_is_read_number next t i inside read in
-    let l : i < length es = (let a = next_entry_within_entries f qs next t i below at in omega (arith, a, sizes)) in
+    let at : cut_of next t ≡ i = cut_position_is_indexed_number next t i inside read in
+    let l : i < length es = (let a = next_event_position_is_within_positions f qs next t i below at in omega (arith, a, sizes)) in
     let event : slice_get (recorded_thread f.recorded t).events (cut_of next t) ≡ Some (slice_index_or es i d) =
     ap (slice_get (recorded_thread f.recorded t).events) at ∙ ap (λ z. slice_get z i) (sym log) ∙ slice_get-get_or es i d l in
     rising_step f run (run_of_trace_is_listed f fit.run run is) ps qs qs' next (set next t (i + 1)) u k t (slice_index_or es i d) (rising run is) there
@@ -69,19 +69,19 @@ pub fewer_events_left_after_event : (f : FittedTrace) (qs next : List ℕ) (t i 
     → HasBelow f qs next t → i ≡ slice_index_or next t i → events_left f (set next t (i + 1)) < events_left f next
 fewer_events_left_after_event f qs next t i size there below read =
     let inside : t < length next = omega (arith, there, size) in
-    let at : cut_of next t ≡ i = cut_position_is_read_number next t i inside read in
-    let l : i < length (placed_at (placed_of f) t).entries = next_entry_within_entries f qs next t i below at in
-    sum_below_if_one_less (length f.guest.entries) _ _ t there (let own = cut_position_after_set next t (i + 1) inside in omega (arith, own, at, l))
+    let at : cut_of next t ≡ i = cut_position_is_indexed_number next t i inside read in
+    let l : i < length (placed_at (placed_of f) t).entries = next_event_position_is_within_positions f qs next t i below at in
+    sum_below_is_less_if_one_is_less (length f.guest.entries) _ _ t there (let own = cut_position_after_set next t (i + 1) inside in omega (arith, own, at, l))
     (λ u ne. ap (λ z. length (placed_at (placed_of f) u).entries - z) (other_cut_position_after_set next t (i + 1) u ne))
 
 -- ---- a leave is taken
 
 -- the last of the leaves counted by next
-last_leave_place_by_count : (f : FittedTrace) (qs next : List ℕ) (t i : ℕ) → AreLeaves f next → t < length f.guest.entries → HasAbove f qs next t
+leave_count_is_positive_if_has_above : (f : FittedTrace) (qs next : List ℕ) (t i : ℕ) → AreLeaves f next → t < length f.guest.entries → HasAbove f qs next t
     → i ≡ slice_index_or next t i → (cut_of next t ≡ i - 1 + 1) × (t < length next)
-last_leave_place_by_count f qs next t i are there above read =
+leave_count_is_positive_if_has_above f qs next t i are there above read =
     let inside : t < length next = (let e = are.each in omega (arith, there, e)) in
-    let at : cut_of next t ≡ i = cut_position_is_read_number next t i inside read in
+    let at : cut_of next t ≡ i = cut_position_is_indexed_number next t i inside read in
     let some = above.2 in
     ((let e : cut_of next t ≡ i - 1 + 1 = omega (arith, at, some) in e), inside)
 
@@ -90,7 +90,7 @@ pub falling_after_leave_taken : (f : FittedTrace) → IsFitted f → (qs qs' nex
     → ls ≡ (placed_at (placed_of f) t).leaves → EachRun f (λ run. LoweredFor f run (Needing (slice_index_or ls (i - 1) d)) qs qs')
     → (ps : List ℕ) (u k : ℕ) → EachRun f (Falling f ps u k qs next) → EachRun f (Falling f ps u k qs' (set next t (i - 1)))
 falling_after_leave_taken f fit qs qs' next t i ls d are there above read list lowered ps u k falling run is =
-    let last = last_leave_place_by_count f qs next t i are there above read in
+    let last = leave_count_is_positive_if_has_above f qs next t i are there above read in
     let within : i - 1 < length ls = (let a = are.some t there in let b : length ls ≡ length (placed_at (placed_of f) t).leaves =
     ap length list in omega (arith, last.0, a, b)) in
     let x : Leave = slice_index_or ls (i - 1) d in
@@ -105,16 +105,16 @@ falling_after_leave_taken f fit qs qs' next t i ls d are there above read list l
 pub fewer_leaves_left_after_leave : (f : FittedTrace) (qs next : List ℕ) (t i : ℕ) → AreLeaves f next → t < length f.guest.entries → HasAbove f qs next t
     → i ≡ slice_index_or next t i → leaves_left (set next t (i - 1)) < leaves_left next
 fewer_leaves_left_after_leave f qs next t i are there above read =
-    let last = last_leave_place_by_count f qs next t i are there above read in
+    let last = leave_count_is_positive_if_has_above f qs next t i are there above read in
     subst (λ n. sum_below n (cut_of (set next t (i - 1))) < leaves_left next) (sym (length-set next t (i - 1)))
-    (sum_below_if_one_less (length next) (cut_of (set next t (i - 1))) (cut_of next) t last.1
+    (sum_below_is_less_if_one_is_less (length next) (cut_of (set next t (i - 1))) (cut_of next) t last.1
     (let own = cut_position_after_set next t (i - 1) last.1 in let at = last.0 in omega (arith, own, at))
     (λ u ne. other_cut_position_after_set next t (i - 1) u ne))
 
 pub leaves_counted_after_leave_taken : (f : FittedTrace) (qs next : List ℕ) (t i : ℕ) → AreLeaves f next → t < length f.guest.entries → HasAbove f qs next t
     → i ≡ slice_index_or next t i → AreLeaves f (set next t (i - 1))
 leaves_counted_after_leave_taken f qs next t i are there above read =
-    let last = last_leave_place_by_count f qs next t i are there above read in
+    let last = leave_count_is_positive_if_has_above f qs next t i are there above read in
     record {
       each = length-set next t (i - 1) ∙ are.each;
       some = λ u l. elim (cases_eq u t) [
@@ -138,9 +138,9 @@ none_above_if_last_leave_inside f fit qs next t last x there at is_leave below e
 
 -- ---- what the code reads of the trace
 
-pub event_count_is_entry_count : (f : FittedTrace) → IsFitted f → (t : ℕ) (es : List Event) → t < length f.guest.entries
+pub event_count_is_position_count : (f : FittedTrace) → IsFitted f → (t : ℕ) (es : List Event) → t < length f.guest.entries
     → es ≡ (recorded_thread f.recorded t).events → length es ≡ length (placed_at (placed_of f) t).entries
-event_count_is_entry_count f fit t es there log = ap length log ∙ sym ((run_of_trace_is_listed f fit.run fit.run.run fit.run.whole).sizes t there)
+event_count_is_position_count f fit t es there log = ap length log ∙ sym ((run_of_trace_is_listed f fit.run fit.run.run fit.run.whole).sizes t there)
 
 -- there are as many threads in the trace
 pub thread_within_recorded_threads : (f : FittedTrace) → HasRun f → (r : Recorded) (ts : List RecordedThread) (t : ℕ) → r ≡ f.recorded → ts ≡ r.threads
@@ -148,18 +148,18 @@ pub thread_within_recorded_threads : (f : FittedTrace) → HasRun f → (r : Rec
 thread_within_recorded_threads f h r ts t same is l = let a = h.whole.0.threads in let b : length ts ≡ length f.recorded.threads =
     ap length (is ∙ ap (λ z. z.threads) same) in omega (arith, l, a, b)
 
-pub read_events_are_recorded_events : (f : FittedTrace) → HasRun f → (r : Recorded) (ts : List RecordedThread) (t : ℕ) (x : RecordedThread) (es : List Event)
+pub copied_events_are_recorded_events : (f : FittedTrace) → HasRun f → (r : Recorded) (ts : List RecordedThread) (t : ℕ) (x : RecordedThread) (es : List Event)
     → r ≡ f.recorded → ts ≡ r.threads → t < length f.guest.entries → x ≡ slice_index_or ts t x → es ≡ x.events
     → es ≡ (recorded_thread f.recorded t).events
-read_events_are_recorded_events f h r ts t x es same is l read events =
+copied_events_are_recorded_events f h r ts t x es same is l read events =
     events ∙ ap (λ z. z.events) (read ∙ get_or_default ts t x absent (thread_within_recorded_threads f h r ts t same is l)
     ∙ ap (λ z. slice_index_or z t absent) (is ∙ ap (λ z. z.threads) same))
 
 -- ---- positions rise
 
-pub entry_positions_rise : (f : FittedTrace) → IsFitted f → (t : ℕ) (xs : List ℕ) → t < length f.guest.entries → xs ≡ (placed_at (placed_of f) t).entries
+pub event_positions_are_non_decreasing : (f : FittedTrace) → IsFitted f → (t : ℕ) (xs : List ℕ) → t < length f.guest.entries → xs ≡ (placed_at (placed_of f) t).entries
     → IsNonDecreasingBy (λ (i : ℕ). i) xs
-entry_positions_rise f fit t xs there is i j d le l = subst (λ z. (j < length z) → slice_index_or z i d ≤ slice_index_or z j d) (sym is)
+event_positions_are_non_decreasing f fit t xs there is i j d le l = subst (λ z. (j < length z) → slice_index_or z i d ≤ slice_index_or z j d) (sym is)
     (λ inside. elim (cases_lt i j) [
       | inl less ↦
           let low : i < length (placed_at (placed_of f) t).entries = omega (arith, less, inside) in
@@ -173,9 +173,9 @@ entry_positions_rise f fit t xs there is i j d le l = subst (λ z. (j < length z
     list : IsListed f fit.run.run
     list = run_of_trace_is_listed f fit.run fit.run.run fit.run.whole
 
-pub leave_positions_rise : (f : FittedTrace) → IsFitted f → (t : ℕ) (xs : List Leave) → t < length f.guest.entries
+pub leave_positions_are_non_decreasing : (f : FittedTrace) → IsFitted f → (t : ℕ) (xs : List Leave) → t < length f.guest.entries
     → xs ≡ (placed_at (placed_of f) t).leaves → IsNonDecreasingBy (λ (l : Leave). l.position) xs
-leave_positions_rise f fit t xs there is i j d le l = subst (λ z. (j < length z) → (slice_index_or z i d).position ≤ (slice_index_or z j d).position)
+leave_positions_are_non_decreasing f fit t xs there is i j d le l = subst (λ z. (j < length z) → (slice_index_or z i d).position ≤ (slice_index_or z j d).position)
     (sym is) (λ inside. elim (cases_lt i j) [
       | inl less ↦
           let low : i < length (placed_at (placed_of f) t).leaves = omega (arith, less, inside) in
@@ -191,9 +191,9 @@ leave_positions_rise f fit t xs there is i j d le l = subst (λ z. (j < length z
 
 -- ---- where a search ends
 
-pub entries_before_partition_below_position : (xs : List ℕ) (n position : ℕ) → IsPartitionPoint (λ (i : ℕ). ltb i position ≡ true) (λ i. ltb i position ≡ false) xs n
+pub positions_before_partition_below_position : (xs : List ℕ) (n position : ℕ) → IsPartitionPoint (λ (i : ℕ). ltb i position ≡ true) (λ i. ltb i position ≡ false) xs n
     → (e i : ℕ) → e < n → slice_get xs e ≡ Some i → i < position
-entries_before_partition_below_position xs n position parted e i l is = ltb-true i position
+positions_before_partition_below_position xs n position parted e i l is = ltb-true i position
     (subst (λ z. ltb z position ≡ true) (get_or_from_slice_get xs e i i is) (parted.0 e i (omega arith) l))
 
 pub leaves_after_partition_not_below_position : (xs : List Leave) (n position : ℕ)
@@ -203,10 +203,10 @@ leaves_after_partition_not_below_position xs n position parted e l past is = ltb
     (subst (λ z. ltb z.position position ≡ false) (get_or_from_slice_get xs e l l is) (parted.1 e l past (slice_get_within xs e l is)))
 
 -- no leave counted by next is outside if the last isn't
-pub none_above_by_read_last_leave : (f : FittedTrace) → IsFitted f → (qs next : List ℕ) (t last : ℕ) (ls : List Leave) (d : Leave) → AreLeaves f next
+pub none_above_if_indexed_last_leave_inside : (f : FittedTrace) → IsFitted f → (qs next : List ℕ) (t last : ℕ) (ls : List Leave) (d : Leave) → AreLeaves f next
     → t < length f.guest.entries → (1 ≤ slice_index_or next t 0) × (last ≡ slice_index_or next t 0 - 1) → ls ≡ (placed_at (placed_of f) t).leaves
     → leb (slice_index_or qs t 0) (slice_index_or ls last d).position ≡ false → NoneAbove f qs next t
-none_above_by_read_last_leave f fit qs next t last ls d are there is list out =
+none_above_if_indexed_last_leave_inside f fit qs next t last ls d are there is list out =
     let at : cut_of next t ≡ last + 1 = (let some = is.0 in let less = is.1 in omega (arith, some, less)) in
     let within : last < length ls = (let a = are.some t there in let b : length ls ≡ length (placed_at (placed_of f) t).leaves =
     ap length list in omega (arith, at, a, b)) in
@@ -214,9 +214,9 @@ none_above_by_read_last_leave f fit qs next t last ls d are there is list out =
     (ap (λ z. slice_get z last) (sym list) ∙ slice_get-get_or ls last d within)
     (leb-false (slice_index_or qs t 0) (slice_index_or ls last d).position out)
 
-pub read_steps_are_recorded_steps : (f : FittedTrace) → HasRun f → (r : Recorded) (ts : List RecordedThread) (t : ℕ) (x : RecordedThread) (n : ℕ)
+pub copied_steps_are_recorded_steps : (f : FittedTrace) → HasRun f → (r : Recorded) (ts : List RecordedThread) (t : ℕ) (x : RecordedThread) (n : ℕ)
     → r ≡ f.recorded → ts ≡ r.threads → t < length f.guest.entries → x ≡ slice_index_or ts t x → n ≡ x.steps
     → n ≡ (recorded_thread f.recorded t).steps
-read_steps_are_recorded_steps f h r ts t x n same is l read steps =
+copied_steps_are_recorded_steps f h r ts t x n same is l read steps =
     steps ∙ ap (λ z. z.steps) (read ∙ get_or_default ts t x absent (thread_within_recorded_threads f h r ts t same is l)
     ∙ ap (λ z. slice_index_or z t absent) (is ∙ ap (λ z. z.threads) same))

@@ -79,17 +79,17 @@ address_in_guest_is_low g size address short =
 pub number_of_permitted_load_is_kept : (d : Desk) (n : ℕ) → refusal_of d (command.Keeping (Load n)) ≡ None → is_some (kept_cut d.kept n) ≡ true
 number_of_permitted_load_is_kept d n none = (permitted_command_passes_tests d (command.Keeping (Load n)) none).number
 
-both_below : (i m j n : ℕ) → nat_lt i m && nat_lt j n ≡ true → (i < m) × (j < n)
-both_below i m j n e = (ltb-true i m (left_of_true_and (nat_lt i m) (nat_lt j n) e), ltb-true j n (right_of_true_and (nat_lt i m) (nat_lt j n) e))
+both_below_if_conjunction_is_true : (i m j n : ℕ) → nat_lt i m && nat_lt j n ≡ true → (i < m) × (j < n)
+both_below_if_conjunction_is_true i m j n e = (ltb-true i m (left_of_true_and (nat_lt i m) (nat_lt j n) e), ltb-true j n (right_of_true_and (nat_lt i m) (nat_lt j n) e))
 
 -- there is place for one more, and a number
-pub kept_room : (d : Desk) → refusal_of d (command.Keeping Keep) ≡ None → (length d.kept < most_kept + 1) × (d.last_kept < most_number)
-kept_room d none = both_below _ _ _ _ (permitted_command_passes_tests d (command.Keeping Keep) none).place
+pub kept_cuts_have_room_if_keep_permitted : (d : Desk) → refusal_of d (command.Keeping Keep) ≡ None → (length d.kept < most_kept + 1) × (d.last_kept < most_number)
+kept_cuts_have_room_if_keep_permitted d none = both_below_if_conjunction_is_true _ _ _ _ (permitted_command_passes_tests d (command.Keeping Keep) none).place
 
 -- ---- points
 
-pub point_room : (d : Desk) (p : Point) → refusal_of d (command.Set p) ≡ None → (length d.points < most_points) × (d.last_point < most_number)
-point_room d p none = both_below _ _ _ _ (permitted_command_passes_tests d (command.Set p) none).place
+pub points_have_room_if_set_permitted : (d : Desk) (p : Point) → refusal_of d (command.Set p) ≡ None → (length d.points < most_points) × (d.last_point < most_number)
+points_have_room_if_set_permitted d p none = both_below_if_conjunction_is_true _ _ _ _ (permitted_command_passes_tests d (command.Set p) none).place
 
 aligned_address_is_memory_word : (address : ℕ) → (address % 4 == 0) && lies_in_memory 4 address ≡ true → IsMemoryWord address
 aligned_address_is_memory_word address test =

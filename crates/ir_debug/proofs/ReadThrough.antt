@@ -14,7 +14,7 @@ use Rattle.ir_stream.proofs.CallerLemmas.{IsSessionAt, feed_failed, finish_ended
 use Rattle.ir_debug.specs.declared.ended.Ended.TheVariants as ended
 use Rattle.ir_debug.specs.Machine.{Desk, Replies, quits}
 use Rattle.ir_debug.specs.Session.{ReadsThrough, ended_by}
-use Rattle.ir_debug.proofs.LongLines.{long_replies, long_quits}
+use Rattle.ir_debug.proofs.LongLines.{replies_to_line_if_to_kept_bytes, quits_of_kept_bytes_is_quits_of_line}
 use Rattle.ir_debug.proofs.Openings.{reads_of_implied}
 
 -- an answer that was written whole is a prefix of itself
@@ -55,7 +55,7 @@ module _ (s0 : Desk) (input w0 left left' written : Option (List ℕ)) (s : Desk
   pub read_through_line_that_quits : (next : Desk) (written' : Option (List ℕ)) → Consumes left left' (10 ∷ []) → Replied Replies s line next written written'
       → ReadsUpTo limit input left' (ReadsThrough ended.Quit left')
   read_through_line_that_quits next written' took p = reads_of_implied limit input left' _ (ReadsThrough ended.Quit left') (λ consumed h. (h.0, h.1))
-      (feed_failed Replies quits long_replies long_quits s0 input w0 left left' written s line n at limit below written' took
+      (feed_failed Replies quits replies_to_line_if_to_kept_bytes quits_of_kept_bytes_is_quits_of_line s0 input w0 left left' written s line n at limit below written' took
       (reply_is_prefix_of_itself Replies s next line written written' p))
 
   -- the input ended, and what it ended in was answered
@@ -66,11 +66,11 @@ module _ (s0 : Desk) (input w0 left left' written : Option (List ℕ)) (s : Desk
   read_through_end took gone (Ok Quit) written' p served =
       let some : line ≡ [] → ⊥ = nonempty_if_last_line_quits line served in
       reads_of_implied limit input left' _ (ReadsThrough ended.Quit left') (λ consumed h. (h.0, h.1))
-      (finish_failed Replies quits long_replies long_quits s0 input w0 left left' written s line n at limit below took (Err Write) written' gone refl some
+      (finish_failed Replies quits replies_to_line_if_to_kept_bytes quits_of_kept_bytes_is_quits_of_line s0 input w0 left left' written s line n at limit below took (Err Write) written' gone refl some
       (last_reply_is_prefix_of_itself Replies s line written written' some p))
   read_through_end took gone (Ok InputEnd) written' p served = reads_of_implied limit input left' _ (ReadsThrough ended.InputEnd left')
       (λ consumed h. gone)
-      (finish_ended Replies quits long_replies long_quits s0 input w0 left left' written s line n at limit below took (Ok InputEnd) written' p served tt)
+      (finish_ended Replies quits replies_to_line_if_to_kept_bytes quits_of_kept_bytes_is_quits_of_line s0 input w0 left left' written s line n at limit below took (Ok InputEnd) written' p served tt)
   read_through_end took gone (Err Read) written' p served = tt
   read_through_end took gone (Err Write) written' p served = tt
   read_through_end took gone (Err TooLong) written' p served = tt

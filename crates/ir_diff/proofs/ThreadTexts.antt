@@ -16,7 +16,7 @@ use Rattle.ir_past.specs.Naming.{maker_text}
 use Rattle.ir_past.specs.Tables.{maker_in}
 use Rattle.ir_past.specs.declared.place.Place.{Place}
 use Rattle.ir_past.specs.declared.makers.Makers.{Makers}
-use Rattle.ir_past.proofs.CallerLemmas.{at_of_mapped_label, entered_version_was_made}
+use Rattle.ir_past.proofs.CallerLemmas.{label_of_event_is_at_its_place, entered_version_was_made}
 use Rattle.ir_diff.specs.Progress.{counts_of, AreMakersOf}
 use Rattle.ir_diff.specs.Lines.{common_line, budget_line, IsMakerOf, IsThreadText}
 use Rattle.ir_diff.proofs.Told.{no_write_if_none_noted}
@@ -39,14 +39,14 @@ pub maker_text_of_read_entry : (r : Recorded) (e : Event) (o v : ℕ) (made : Op
     → ((t i l : ℕ) (a : Access) → At ((trace_of r).logs t) i (In o a v l) → IsMadeBy r o v made)
     → text ≡ codes " by " ++ maker_text made → (t i : ℕ) → event_at r t i ≡ Some e → IsMakerOf r e text
 maker_text_of_read_entry r e o v made text is by said t i = subst (λ (x : Event). event_at r t i ≡ Some x → IsMakerOf r x text) (sym is)
-    (λ there. (made, by t i 0 Reading (at_of_mapped_label (recorded_thread r t).events i (variant.Read o v) there), said))
+    (λ there. (made, by t i 0 Reading (label_of_event_is_at_its_place (recorded_thread r t).events i (variant.Read o v) there), said))
 
 -- what made the version that a write entry found
 pub maker_text_of_write_entry : (r : Recorded) (e : Event) (o v l : ℕ) (made : Option Place) (text : List ℕ) → e ≡ variant.Write o v l
     → ((t i k : ℕ) (a : Access) → At ((trace_of r).logs t) i (In o a v k) → IsMadeBy r o v made)
     → text ≡ codes " by " ++ maker_text made → (t i : ℕ) → event_at r t i ≡ Some e → IsMakerOf r e text
 maker_text_of_write_entry r e o v l made text is by said t i = subst (λ (x : Event). event_at r t i ≡ Some x → IsMakerOf r x text) (sym is)
-    (λ there. (made, by t i l Writing (at_of_mapped_label (recorded_thread r t).events i (variant.Write o v l) there), said))
+    (λ there. (made, by t i l Writing (label_of_event_is_at_its_place (recorded_thread r t).events i (variant.Write o v l) there), said))
 
 -- the texts of the first n threads were put after the first lines
 pub record AreTexts (a b : Recorded) (c : List ℕ) (n : ℕ) (text : List ℕ) : Type 0 where

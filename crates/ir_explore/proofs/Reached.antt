@@ -100,11 +100,11 @@ ways_after_step refusals table n true next a ways (before, spelled, is) =
       ap (λ z. z ++ true ∷ []) is ∙ sym (append-nil all),
     )
 
-pub after_step_is_in_turn : (refusals table : List Refusal) (n : Origin) (refused : Bool) (next : Origin) → IsAfter refusals table n refused next
+pub step_keeps_from_thread_and_level : (refusals table : List Refusal) (n : Origin) (refused : Bool) (next : Origin) → IsAfter refusals table n refused next
     → (next.from ≡ n.from) × (next.thread ≡ n.thread) × (next.level ≡ n.level)
-after_step_is_in_turn refusals table n false next a =
+step_keeps_from_thread_and_level refusals table n false next a =
     (ap (λ z. z.from) a.1, ap (λ z. z.thread) a.1, ap (λ z. z.level) a.1)
-after_step_is_in_turn refusals table n true next a =
+step_keeps_from_thread_and_level refusals table n true next a =
     (ap (λ z. z.from) a.1, ap (λ z. z.thread) a.1, ap (λ z. z.level) a.1)
 
 -- by one step more
@@ -112,7 +112,7 @@ pub reached_by_after_step : (noted more : ℕ → BothWays) (refusals table : Li
     → Stay nodes new → length nodes ≤ length new → (v w : ℕ) (n : Origin) (refused : Bool) (next : Origin) → IsAfter refusals table n refused next
     → IsReachedBy noted refusals nodes v n → more n.thread refused v ≡ Some (Some w) → w < length new → IsReachedBy more table new w next
 reached_by_after_step noted more refusals table nodes new kept stays longer v w n refused next after r is less =
-    let t = after_step_is_in_turn refusals table n refused next after in
+    let t = step_keeps_from_thread_and_level refusals table n refused next after in
     let goes : Goes (more n.thread) (length new) n.from (r.1 ++ refused ∷ []) w =
     goes_one_step_further (more n.thread) (length new) r.1 refused n.from v w
     (goes_if_notes_kept (noted n.thread) (more n.thread) (length nodes) (length new) (kept n.thread) longer r.1 n.from v r.3) is less in (

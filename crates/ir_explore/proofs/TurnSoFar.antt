@@ -9,8 +9,8 @@ use Rattle.ir_explore.specs.declared.origin.Refusal.{Refusal}
 use Rattle.ir_explore.specs.Following.{BothWays, Stay, IsOpen, GoesTo, IsFollowed}
 use Rattle.ir_explore.specs.TurnSoFar.{HasNode, IsTurnSoFar, IsAfter}
 use Rattle.ir_explore.specs.Origins.{BeginsAt, AreWaysUnder, Whole, IsReachedBy, AreReached, Adds}
-use Rattle.ir_explore.proofs.Opens.{goes_to_if_notes_kept, Opening, shut_place_opened, open_place_added}
-use Rattle.ir_explore.proofs.Reached.{AllKept, place_of_element_is_below_length, reached_by_if_grown, reached_by_after_step, reached_if_notes_kept, reached_after_node_added, table_stays_after_step, after_step_is_in_turn, adds_reflexive, adds_after_node_pushed}
+use Rattle.ir_explore.proofs.Opens.{goes_to_if_notes_kept, Opening, setting_shut_place_is_opening, adding_open_place_is_opening}
+use Rattle.ir_explore.proofs.Reached.{AllKept, place_of_element_is_below_length, reached_by_if_grown, reached_by_after_step, reached_if_notes_kept, reached_after_node_added, table_stays_after_step, step_keeps_from_thread_and_level, adds_reflexive, adds_after_node_pushed}
 
 -- what is so of either way
 pub both_ways : (Q : Bool → Type 0) → Q false → Q true → (refused : Bool) → Q refused
@@ -160,7 +160,7 @@ turn_begins noted start opened nodes refusals d followed reached begins none les
     turn_so_far_after_opening noted noted start.thread start.level opened (slice_set opened start.from true) nodes nodes refusals refusals []
     (record { node = start.from; origin = start })
     (nothing_in_hand_if_followed noted start.thread start.level opened nodes refusals wide reached followed) (λ t refused v next is. is) (λ v x is. is)
-    (omega arith) (λ v x is. is) (length-set opened start.from true ∙ wide) (shut_place_opened opened start.from d less unopened) reached
+    (omega arith) (λ v x is. is) (length-set opened start.from true ∙ wide) (setting_shut_place_is_opening opened start.from d less unopened) reached
     (turn_begins_reached noted refusals nodes start none begins) refl refl
 
 -- The nodes, once one was opened: as they were, or with this one at the end.
@@ -195,7 +195,7 @@ opened_and_joined opened row nodes new next wide within shut_there old fresh = e
   | inl p ↦
       let is = old p.1 in
       let a = ap length is.0 in let b = length-set opened next.node true in let c = ap length is.1 in (
-        subst (λ z. Opening opened z next.node) (sym is.0) (shut_place_opened opened next.node p.0 p.1 p.2),
+        subst (λ z. Opening opened z next.node) (sym is.0) (setting_shut_place_is_opening opened next.node p.0 p.1 p.2),
         omega (arith, a, b, c, wide),
       )
   | inr late ↦
@@ -203,7 +203,7 @@ opened_and_joined opened row nodes new next wide within shut_there old fresh = e
       let is = fresh here in
       let a = ap length is.0 in let b = length-append opened (true ∷ []) in
       let c = ap length is.1 in let d = length-append nodes (next.origin ∷ []) in (
-        subst (λ z. Opening opened z next.node) (sym is.0) (subst (Opening opened (opened ++ true ∷ [])) (sym here) (open_place_added opened)),
+        subst (λ z. Opening opened z next.node) (sym is.0) (subst (Opening opened (opened ++ true ∷ [])) (sym here) (adding_open_place_is_opening opened)),
         omega (arith, a, b, c, d, wide),
       )
 ]
@@ -251,13 +251,13 @@ module _ (noted more : ℕ → BothWays) (opened : List Bool) (nodes new : List 
 
   pub adds_after_going_on : Adds here.origin.level nodes new
   adds_after_going_on =
-      adds_after_joined nodes new next here.origin.level j (after_step_is_in_turn refusals table here.origin refused next.origin after).2
+      adds_after_joined nodes new next here.origin.level j (step_keeps_from_thread_and_level refusals table here.origin refused next.origin after).2
 
   -- once it is opened, it is in hand
   pub going_after_going_on : (row : List Bool) → Opening opened row next.node → length row ≡ length new
       → IsTurnSoFar more here.origin.thread here.origin.level row new table (here ∷ pending ++ next ∷ [])
   going_after_going_on row o wide =
-      let t = after_step_is_in_turn refusals table here.origin refused next.origin after in
+      let t = step_keeps_from_thread_and_level refusals table here.origin refused next.origin after in
       turn_so_far_after_opening noted more here.origin.thread here.origin.level opened row nodes new refusals table (here ∷ pending) next
       g kept (joined_nodes_stay nodes new next j) (joined_nodes_are_no_fewer nodes new next j)
       (table_stays_after_step refusals table here.origin refused next.origin after) wide o reached_after_going_on

@@ -10,7 +10,7 @@ use Rattle.ir_flat.specs.Flat.{start_flat, tables}
 use Rattle.ir_graph.specs.Outcomes.{outcome_of}
 use Rattle.ir_graph.specs.Setup.{Setup}
 use Rattle.ir_image.specs.Guest.{Guest, guest_at}
-use Rattle.ir_order.proofs.CallerLemmas.{complete_runs_have_steps, recordings_in_turns}
+use Rattle.ir_order.proofs.CallerLemmas.{complete_runs_have_steps, recordings_by_list_are_of_the_run}
 use Rattle.ir_order.specs.Spelling.{SpellsTurns}
 use Rattle.ir_outcomes.specs.Again.{TakesEach}
 use Rattle.ir_outcomes.specs.Explored.{IsAt, AreExplored}
@@ -92,6 +92,6 @@ recording_of_hit_is_finding image plan cs list text trace outputs guest is found
   guest = guest;
   is = is;
   found = found;
-  recorded = recordings_in_turns image guest (recording plan (Some list)) list found.hit.turns found.hit.run trace outputs is refl found.hit.spelled
+  recorded = recordings_by_list_are_of_the_run image guest (recording plan (Some list)) list found.hit.turns found.hit.run trace outputs is refl found.hit.spelled
       found.hit.planned r;
 }

@@ -69,12 +69,12 @@ get_below_length_is_some (v ∷ vs) zero l = (v, refl)
 get_below_length_is_some (v ∷ vs) (suc t) l = get_below_length_is_some vs t (omega (arith, l))
 
 -- the run goes furthest, and what is said of the threads is how they are at its end
-pub standing_threads_give_verdicts : (g : Guest) (r : Recorded) → IsRecorded r → HasHeader g r → IsCoherent (length g.entries) (trace_of r) → (run : List Step)
+pub goes_furthest_with_verdicts_if_threads_stand : (g : Guest) (r : Recorded) → IsRecorded r → HasHeader g r → IsCoherent (length g.entries) (trace_of r) → (run : List Step)
     → following.Follows (following.closing (thread_machine g.code) (trace_of r)) (thread_machine g.code) (tables (start_flat g r.budget r.profile))
     (trace_of r) run → (vs : List ThreadVerdict) → length vs ≡ length g.entries
     → ((t : ℕ) (v : ThreadVerdict) → slice_get vs t ≡ Some v
     → StandsAs (thread_machine g.code) (tables (start_flat g r.budget r.profile)) (trace_of r) run t v) → GoesFurthest g r run × AreVerdicts g r vs
-standing_threads_give_verdicts g r is header co run f vs each stands =
+goes_furthest_with_verdicts_if_threads_stand g r is header co run f vs each stands =
     let m = thread_machine g.code in
     let s = tables (start_flat g r.budget r.profile) in
     let tr = trace_of r in
@@ -169,5 +169,5 @@ pub differing_thread_refuses_trace : (g : Guest) (r : Recorded) → IsRecorded r
     × ((run : List Step) → IsRunOf g r run → ⊥)
 differing_thread_refuses_trace g r is header co f ps followed vs each stand t v at ne =
     let k = followed.follower in
-    let both = standing_threads_give_verdicts g r is header co k.run k.follows vs (each ∙ k.threads) (stand g k) in
+    let both = goes_furthest_with_verdicts_if_threads_stand g r is header co k.run k.follows vs (each ∙ k.threads) (stand g k) in
     ((header, coherent_trace_is_unbroken (length g.entries) (trace_of r) co, both.1), no_run_if_thread_differs g r co k.run both.0 t v (stand g k t v at) ne)

@@ -15,7 +15,7 @@ use Rattle.ir_fit.specs.declared.leave.Leave.{Leave}
 use Rattle.ir_fit.specs.declared.visit_kind.VisitKind.{VisitKind}
 use Rattle.ir_fit.specs.declared.visit_kind.VisitKind.TheVariants.{Entries, Leaves}
 use Rattle.ir_fit.specs.declared.run_visits.RunVisits.{RunVisits}
-use Rattle.ir_fit.proofs.ByVersion.{picked_append, enter_if_of_append, none_listed_is_empty, listed_is_in_order}
+use Rattle.ir_fit.proofs.ByVersion.{picked_append, enter_if_commutes_with_append, none_listed_is_empty, listed_is_sorted_permutation_if_in_order}
 
 -- ---- of all threads
 
@@ -70,7 +70,7 @@ entered_by-take-drop t [] ks (suc i) (suc j) (suc m) sum l = refl
 entered_by-take-drop t (e ∷ es) [] (suc i) (suc j) m sum l = absurd (omega (arith, l))
 entered_by-take-drop t (e ∷ es) (k ∷ ks) (suc i) (suc j) m sum l =
     ap (enter_if t e k) (entered_by-take-drop t es ks i j m (omega (arith, sum)) (omega (arith, l)))
-    ∙ enter_if_of_append t e k (entered_by t (take i es) ks) (entered_by t (take m (drop i es)) (drop i ks))
+    ∙ enter_if_commutes_with_append t e k (entered_by t (take i es) ks) (entered_by t (take m (drop i es)) (drop i ks))
 
 left_by-take-drop : (t : ℕ) (ls : List Leave) (i m : ℕ) → left_by t (take (i + m) ls) ≡ left_by t (take i ls) ++ left_by t (take m (drop i ls))
 left_by-take-drop t ls i m = ap (left_by t) (take-add i m ls) ∙ map-append _ (take i ls) (take m (drop i ls))
@@ -161,6 +161,6 @@ pub listing_if_counted_and_ordered : (run : RunVisits) (counts : List ℕ) (x y 
 listing_if_counted_and_ordered run counts x y h counted sorted = record {
   same = λ o a. IsPermutation-trans (picked o a (all_visits run)) (listed x o a) (listed y o a)
       (subst (λ vs. IsPermutation (picked o a vs) (listed x o a)) (all_visits_if_counted run counts counted) (h.same o a))
-      (listed_is_in_order x y sorted o a).0;
-  sorted = λ o a. (listed_is_in_order x y sorted o a).1;
+      (listed_is_sorted_permutation_if_in_order x y sorted o a).0;
+  sorted = λ o a. (listed_is_sorted_permutation_if_in_order x y sorted o a).1;
 }

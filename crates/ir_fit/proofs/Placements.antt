@@ -94,13 +94,13 @@ placed_of_trace_are_of_run f h = record {
   leaves = λ t l. ap (λ p. p.leaves) (placed_of_thread_is_of_run f h t l);
 }
 
-pub placed_entries : (f : FittedTrace) (h : HasRun f) (t : ℕ) → t < length f.guest.entries
+pub placed_entries_are_places_of_run : (f : FittedTrace) (h : HasRun f) (t : ℕ) → t < length f.guest.entries
     → (placed_at (placed_of f) t).entries ≡ places_from 0 (steps_in f h.run t)
-placed_entries f h t l = (placed_of_trace_are_of_run f h).entries t l
+placed_entries_are_places_of_run f h t l = (placed_of_trace_are_of_run f h).entries t l
 
-pub placed_leaves : (f : FittedTrace) (h : HasRun f) (t : ℕ) → t < length f.guest.entries
+pub placed_leaves_are_leaves_of_run : (f : FittedTrace) (h : HasRun f) (t : ℕ) → t < length f.guest.entries
     → (placed_at (placed_of f) t).leaves ≡ leaves_from 0 (steps_in f h.run t)
-placed_leaves f h t l = (placed_of_trace_are_of_run f h).leaves t l
+placed_leaves_are_leaves_of_run f h t l = (placed_of_trace_are_of_run f h).leaves t l
 
 placed_equal_if_each_equal : (ps qs : List Placed) → length ps ≡ length qs
     → ((t : ℕ) → t < length ps → ((placed_at ps t).entries ≡ (placed_at qs t).entries) × ((placed_at ps t).leaves ≡ (placed_at qs t).leaves)) → ps ≡ qs
@@ -128,11 +128,11 @@ placed_at_of_grown (x ∷ xs) zero = refl
 placed_at_of_grown (x ∷ xs) (suc t) = placed_at_of_grown xs t
 
 -- a complete run has the trace, and what was kept on the way is of it
-pub same_threads_give_run : (g : Guest) (r : Recorded) → HasHeader g r → (f : Flat) (ps : List Growing) → IsFollowed g r f ps
+pub has_run_if_all_threads_same : (g : Guest) (r : Recorded) → HasHeader g r → (f : Flat) (ps : List Growing) → IsFollowed g r f ps
     → length ps ≡ length f.threads → (vs : List ThreadVerdict) → length vs ≡ length f.threads → AreStanding r f ps vs
     → ((t : ℕ) (v : ThreadVerdict) → slice_get vs t ≡ Some v → v ≡ Same)
     → HasRun (record { guest = g; recorded = r }) × (map grown ps ≡ placed_of (record { guest = g; recorded = r }))
-same_threads_give_run g r header f ps followed placed vs each stand same =
+has_run_if_all_threads_same g r header f ps followed placed vs each stand same =
     let k = followed.follower in
     let fitted : FittedTrace = record { guest = g; recorded = r } in
     let has : HasRun fitted = record {
@@ -151,12 +151,12 @@ same_threads_give_run g r header f ps followed placed vs each stand same =
     )
 
 -- the same of the parts that are put together
-pub fitted_parts_have_run : (g : Guest) (r other : Recorded) → HasHeader g r → (f : Flat) (ps more : List Growing) → IsFollowed g r f ps
+pub parts_have_run_if_all_threads_same : (g : Guest) (r other : Recorded) → HasHeader g r → (f : Flat) (ps more : List Growing) → IsFollowed g r f ps
     → length ps ≡ length f.threads → (vs : List ThreadVerdict) → length vs ≡ length f.threads → AreStanding r f ps vs
     → ((t : ℕ) (v : ThreadVerdict) → slice_get vs t ≡ Some v → v ≡ Same) → other ≡ r → more ≡ ps → (places : List Placed) → places ≡ map grown more
     → HasRun (record { guest = g; recorded = other }) × (places ≡ placed_of (record { guest = g; recorded = other }))
-fitted_parts_have_run g r other header f ps more followed placed vs each stand same e kept places gathered =
-    let both = same_threads_give_run g r header f ps followed placed vs each stand same in (
+parts_have_run_if_all_threads_same g r other header f ps more followed placed vs each stand same e kept places gathered =
+    let both = has_run_if_all_threads_same g r header f ps followed placed vs each stand same in (
       subst (λ z. HasRun (record { guest = g; recorded = z })) (sym e) both.0,
       gathered ∙ ap (map grown) kept ∙ both.1 ∙ ap (λ z. placed_of (record { guest = g; recorded = z })) (sym e),
     )

@@ -9,12 +9,12 @@ use Rattle.ir_runs.specs.declared.access.Access.TheVariants.{Reading, Writing}
 use Rattle.ir_freeze.specs.Frozen.{word, held_byte, change, changes}
 
 -- lists that begin with as many bytes are equal in two parts
-pub append_parts_equal : (a b c d : List ℕ) → length a ≡ length b → a ++ c ≡ b ++ d → (a ≡ b) × (c ≡ d)
-append_parts_equal [] [] c d l e = (refl, e)
-append_parts_equal [] (y ∷ b) c d l e = absurd (cc l)
-append_parts_equal (x ∷ a) [] c d l e = absurd (cc l)
-append_parts_equal (x ∷ a) (y ∷ b) c d l e =
-    let r = append_parts_equal a b c d (omega (arith, l)) (same_tail x y (a ++ c) (b ++ d) e) in
+pub parts_equal_if_appends_equal : (a b c d : List ℕ) → length a ≡ length b → a ++ c ≡ b ++ d → (a ≡ b) × (c ≡ d)
+parts_equal_if_appends_equal [] [] c d l e = (refl, e)
+parts_equal_if_appends_equal [] (y ∷ b) c d l e = absurd (cc l)
+parts_equal_if_appends_equal (x ∷ a) [] c d l e = absurd (cc l)
+parts_equal_if_appends_equal (x ∷ a) (y ∷ b) c d l e =
+    let r = parts_equal_if_appends_equal a b c d (omega (arith, l)) (same_tail x y (a ++ c) (b ++ d) e) in
     ((λ i. same_head x y (a ++ c) (b ++ d) e i ∷ r.0 i), r.1)
 
 pub word_bytes_injective : (x y : ℕ) → x < 2 ^ 32 → y < 2 ^ 32 → word x ≡ word y → x ≡ y
@@ -26,7 +26,7 @@ flat_words_injective [] [] l a b e = refl
 flat_words_injective [] (y ∷ ys) l a b e = absurd (cc l)
 flat_words_injective (x ∷ xs) [] l a b e = absurd (cc l)
 flat_words_injective (x ∷ xs) (y ∷ ys) l a b e =
-    let s = append_parts_equal (word x) (word y) (flat_map word xs) (flat_map word ys) refl e in
+    let s = parts_equal_if_appends_equal (word x) (word y) (flat_map word xs) (flat_map word ys) refl e in
     let r = flat_words_injective xs ys (omega (arith, l)) (λ i. a (suc i)) (λ i. b (suc i)) s.1 in
     (λ i. word_bytes_injective x y (a 0) (b 0) s.0 i ∷ r i)
 
@@ -77,7 +77,7 @@ changed_place_is_no_earlier place p (x ∷ start) (y ∷ memory) new rest room f
       (sym (ap (λ l. l ++ changes (suc place) start memory) same.1) ∙ e) in
       omega (arith, n)
   | inr other ↦
-      let s = append_parts_equal (to_le_bytes w16 place) (to_le_bytes w16 p) (y ∷ changes (suc place) start memory) (new ∷ rest) refl
+      let s = parts_equal_if_appends_equal (to_le_bytes w16 place) (to_le_bytes w16 p) (y ∷ changes (suc place) start memory) (new ∷ rest) refl
       (sym (ap (λ l. l ++ changes (suc place) start memory) other) ∙ e) in
       let q = place_bytes_injective place p (omega (arith, room)) fits s.0 in
       omega (arith, q)
@@ -110,7 +110,7 @@ changes_injective place (o ∷ start) (x ∷ a) (y ∷ b) la lb room e =
         | inl q ↦ absurd (changes_never_begin_before_place place start b x (changes (suc place) start a) more
             (sym (ap (λ l. l ++ changes (suc place) start b) q.1) ∙ sym e ∙ ap (λ l. l ++ changes (suc place) start a) p))
         | inr q ↦
-            let s = append_parts_equal (to_le_bytes w16 place) (to_le_bytes w16 place) (x ∷ changes (suc place) start a) (y ∷ changes (suc place) start b) refl
+            let s = parts_equal_if_appends_equal (to_le_bytes w16 place) (to_le_bytes w16 place) (x ∷ changes (suc place) start a) (y ∷ changes (suc place) start b) refl
             (sym (ap (λ l. l ++ changes (suc place) start a) p) ∙ e ∙ ap (λ l. l ++ changes (suc place) start b) q) in
             let r = changes_injective (suc place) start a b (omega (arith, la)) (omega (arith, lb)) more
             (same_tail x y (changes (suc place) start a) (changes (suc place) start b) s.1) in

@@ -84,11 +84,11 @@ module _ (states : List SourcedFlat) (s u w : SourcedFlat) (t r v : ℕ) (nodes 
         (subst (λ z. Rests (ask_of s.flat.code z)) (sym stays) (nodes.rest v s at p (omega (arith, few, size, threads))))
   ]
 
-pub reached_leads : (states : List SourcedFlat) (s u w : SourcedFlat) (t : ℕ) (refused : Bool) (v : ℕ) → AreNodes states → slice_get states v ≡ Some s
+pub leads_to_node_if_reached_state_looks_alike : (states : List SourcedFlat) (s u w : SourcedFlat) (t : ℕ) (refused : Bool) (v : ℕ) → AreNodes states → slice_get states v ≡ Some s
     → t < length s.flat.threads → MayGo refused (ask_of s.flat.code (thread_of s.flat t)) → TakesStep s u t (result_by refused) → GoesPlain u w
     → (new : List SourcedFlat) (p : ℕ) → Stay states new → ((k : SourcedFlat) → slice_get new p ≡ Some k → LookAlike w k)
     → LeadsFrom new t refused v (Some p)
-reached_leads states s u w t refused v nodes at less may step goes new p stay alike s' k here there =
+leads_to_node_if_reached_state_looks_alike states s u w t refused v nodes at less may step goes new p stay alike s' k here there =
     subst (λ z. HasStepBy z t refused
     × ((e : Step) → e.0 ≡ t → IsStepBy z refused e → Can (seen_by z.flat.code) (seen_of z) e
     → LeadsTo (seen_by z.flat.code) (answered_by z.flat.code) (Alike z.flat.code) (seen_of z) e (seen_of k)))

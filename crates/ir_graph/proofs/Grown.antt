@@ -45,10 +45,10 @@ leads_from_after_nodes_added flats new t refused v (Some w) stay l within h = λ
     h f g (old_node_is_unchanged flats new v f stay l is) (old_node_is_unchanged flats new w g stay (within w refl) there)
 
 -- the threads of a start have its profile
-profiles_of_start : (guest : Guest) (from n t : ℕ) → (slice_index_or (start_threads guest most_budget One from n) t idle).profile ≡ One
-profiles_of_start guest from zero t = refl
-profiles_of_start guest from (suc n) zero = refl
-profiles_of_start guest from (suc n) (suc t) = profiles_of_start guest (suc from) n t
+start_thread_has_first_profile : (guest : Guest) (from n t : ℕ) → (slice_index_or (start_threads guest most_budget One from n) t idle).profile ≡ One
+start_thread_has_first_profile guest from zero t = refl
+start_thread_has_first_profile guest from (suc n) zero = refl
+start_thread_has_first_profile guest from (suc n) (suc t) = start_thread_has_first_profile guest (suc from) n t
 
 -- a thread of the first profile doesn't try
 no_try_in_first_profile : (x : Setup) (s : SourcedFlat) (t : ℕ) → x.profile ≡ One → IsReached x s
@@ -58,7 +58,7 @@ no_try_in_first_profile x s t one reached = by (ask_of s.flat.code (thread_of s.
     first : (thread_of s.flat t).profile ≡ One
     first = sym (reached.like.twins t).profile
         ∙ ap (λ z. (slice_index_or (start_threads x.guest most_budget z 0 (length x.guest.entries)) t idle).profile) one
-        ∙ profiles_of_start x.guest 0 (length x.guest.entries) t
+        ∙ start_thread_has_first_profile x.guest 0 (length x.guest.entries) t
 
     by : (q : Ask) → Permits (thread_of s.flat t) q → MayGo true q → ⊥
     by ask.Private p may = may
@@ -73,9 +73,9 @@ no_try_in_first_profile x s t one reached = by (ask_of s.flat.code (thread_of s.
     by ask.Done p may = may
 
 -- so none is refused there
-untried_leads_nowhere : (x : Setup) (flats : List SourcedFlat) (t v : ℕ) → x.profile ≡ One → AreNodes flats
+refused_leads_nowhere_in_first_profile : (x : Setup) (flats : List SourcedFlat) (t v : ℕ) → x.profile ≡ One → AreNodes flats
     → AllReached x flats → LeadsFrom flats t true v None
-untried_leads_nowhere x flats t v one nodes reached = refused_leads_nowhere_unless_try flats t v nodes (λ f is. (
+refused_leads_nowhere_in_first_profile x flats t v one nodes reached = refused_leads_nowhere_unless_try flats t v nodes (λ f is. (
   every_number_rests_if_all_rest f.flat (nodes.rest v f is) t,
   no_try_in_first_profile x f t one (reached v f is),
 ))
@@ -107,7 +107,7 @@ is_graph_after_nodes_added x flats new noted threads g stay nodes reached more =
         let none : None ≡ next =
         same_Some None next (sym (g.untried first.0 t v) ∙ subst (λ z. noted t z v ≡ Some next) first.1 is) in
         subst (LeadsFrom new t refused v) none
-        (subst (λ z. LeadsFrom new t z v None) (sym first.1) (untried_leads_nowhere x new t v first.0 nodes reached))
+        (subst (λ z. LeadsFrom new t z v None) (sym first.1) (refused_leads_nowhere_in_first_profile x new t v first.0 nodes reached))
   ];
 }
 
@@ -176,9 +176,9 @@ thread_count_of_node x flats noted threads v f g is =
     (g.nodes.like 0 v first.0 f first.1 is).threads ∙ g.many first.0 first.1
 
 -- where nothing is noted of it, a number is a thread's
-pub thread_is_below_if_free : (x : Setup) (flats : List SourcedFlat) (noted : ℕ → BothWays) (threads t : ℕ) (refused : Bool)
+pub thread_exists_if_nothing_is_noted : (x : Setup) (flats : List SourcedFlat) (noted : ℕ → BothWays) (threads t : ℕ) (refused : Bool)
     (v w : ℕ) (f : SourcedFlat) → IsGraph x flats noted threads → noted t refused v ≡ None → slice_get flats w ≡ Some f → t < length f.flat.threads
-thread_is_below_if_free x flats noted threads t refused v w f g free is = elim (cases_lt t threads) [
+thread_exists_if_nothing_is_noted x flats noted threads t refused v w f g free is = elim (cases_lt t threads) [
   | inl l ↦ subst (λ n. t < n) (sym (thread_count_of_node x flats noted threads w f g is)) l
   | inr l ↦ absurd (cc (sym free ∙ g.past t refused v l))
 ]
@@ -199,16 +199,16 @@ code_of_node x flats noted threads v f g is =
     (g.nodes.like 0 v first.0 f first.1 is).code ∙ g.code first.0 first.1
 
 -- a number that is no thread's leads nowhere, as far as it is noted
-pub noted_in_past_threads : (rows : List (Vec (Option (Option ℕ)))) (t v : ℕ) → length rows ≤ t → noted_in rows t v ≡ Some None
-noted_in_past_threads [] t v l = refl
-noted_in_past_threads (row ∷ rows) zero v l = absurd (omega (arith, l))
-noted_in_past_threads (row ∷ rows) (suc t) v l = noted_in_past_threads rows t v (omega (arith, l))
+pub noted_in_past_threads_leads_nowhere : (rows : List (Vec (Option (Option ℕ)))) (t v : ℕ) → length rows ≤ t → noted_in rows t v ≡ Some None
+noted_in_past_threads_leads_nowhere [] t v l = refl
+noted_in_past_threads_leads_nowhere (row ∷ rows) zero v l = absurd (omega (arith, l))
+noted_in_past_threads_leads_nowhere (row ∷ rows) (suc t) v l = noted_in_past_threads_leads_nowhere rows t v (omega (arith, l))
 
 -- so where nothing is noted it is a thread's
-pub noted_row_exists_if_free : (rows : List (Vec (Option (Option ℕ)))) (t v : ℕ) → noted_in rows t v ≡ None → t < length rows
-noted_row_exists_if_free rows t v free = elim (cases_lt t (length rows)) [
+pub noted_row_exists_if_nothing_is_noted : (rows : List (Vec (Option (Option ℕ)))) (t v : ℕ) → noted_in rows t v ≡ None → t < length rows
+noted_row_exists_if_nothing_is_noted rows t v free = elim (cases_lt t (length rows)) [
   | inl l ↦ l
-  | inr l ↦ absurd (cc (sym free ∙ noted_in_past_threads rows t v l))
+  | inr l ↦ absurd (cc (sym free ∙ noted_in_past_threads_leads_nowhere rows t v l))
 ]
 
 -- nothing is noted of the refused way: in the first profile that it leads nowhere, and in the second it is free
@@ -216,15 +216,15 @@ pub data FreeToTry (profile : Profile) (threads : ℕ) (noted : ℕ → BothWays
   Untried : profile ≡ One → ((t v : ℕ) → noted t true v ≡ Some None) → FreeToTry profile threads noted
   Tried : (profile ≡ One → ⊥) → ((t v : ℕ) → t < threads → noted t true v ≡ None) → FreeToTry profile threads noted
 
-pub free_to_try : (profile : Profile) (threads : ℕ) (rows refused_rows : List (Vec (Option (Option ℕ)))) → (profile ≡ One → refused_rows ≡ [])
+pub free_to_try_if_no_refusals_noted : (profile : Profile) (threads : ℕ) (rows refused_rows : List (Vec (Option (Option ℕ)))) → (profile ≡ One → refused_rows ≡ [])
     → (profile ≡ Two → (t v : ℕ) → t < threads → noted_in refused_rows t v ≡ None) → FreeToTry profile threads (noted_by rows refused_rows)
-free_to_try One threads rows refused_rows none free = Untried refl (λ t v. ap (λ z. noted_in z t v) (none refl))
-free_to_try Two threads rows refused_rows none free = Tried (λ e. absurd (cc e)) (free refl)
+free_to_try_if_no_refusals_noted One threads rows refused_rows none free = Untried refl (λ t v. ap (λ z. noted_in z t v) (none refl))
+free_to_try_if_no_refusals_noted Two threads rows refused_rows none free = Tried (λ e. absurd (cc e)) (free refl)
 
-pub noted_by_past_threads : (rows refused_rows : List (Vec (Option (Option ℕ)))) → length refused_rows ≤ length rows → (t : ℕ) (refused : Bool) (v : ℕ)
+pub noted_by_past_threads_leads_nowhere : (rows refused_rows : List (Vec (Option (Option ℕ)))) → length refused_rows ≤ length rows → (t : ℕ) (refused : Bool) (v : ℕ)
     → length rows ≤ t → noted_by rows refused_rows t refused v ≡ Some None
-noted_by_past_threads rows refused_rows less t true v l = noted_in_past_threads refused_rows t v (omega (arith, less, l))
-noted_by_past_threads rows refused_rows less t false v l = noted_in_past_threads rows t v l
+noted_by_past_threads_leads_nowhere rows refused_rows less t true v l = noted_in_past_threads_leads_nowhere refused_rows t v (omega (arith, less, l))
+noted_by_past_threads_leads_nowhere rows refused_rows less t false v l = noted_in_past_threads_leads_nowhere rows t v l
 
 -- the graph at first
 pub start_is_graph : (x : Setup) (h : SourcedFlat) (noted : ℕ → BothWays) (threads : ℕ)
@@ -254,7 +254,7 @@ start_is_graph x h noted threads goes rest sourced many number free tries past =
           let one = first tries t refused v next few is in
           subst (LeadsFrom (h ∷ []) t refused v)
           (same_Some None next (sym (untried tries one.0 t v) ∙ subst (λ z. noted t z v ≡ Some next) one.1 is))
-          (subst (λ z. LeadsFrom (h ∷ []) t z v None) (sym one.1) (untried_leads_nowhere x (h ∷ []) t v one.0 nodes each));
+          (subst (λ z. LeadsFrom (h ∷ []) t z v None) (sym one.1) (refused_leads_nowhere_in_first_profile x (h ∷ []) t v one.0 nodes each));
     }
   where
     only : (v : ℕ) (s : SourcedFlat) → slice_get (h ∷ []) v ≡ Some s → h ≡ s

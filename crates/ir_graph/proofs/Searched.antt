@@ -49,11 +49,11 @@ module _ (x : Setup) (flats : List SourcedFlat) (rows tries : List (Vec (Option 
         are_marked x flats (noted_by rows tries) (length rows) graph origins refusals has.reached all asked_each marks ways
 
 -- what follows from what is so of an error
-pub if_err : {A E : Type 0} {P Q : E → Type 0} (r : Result A E) → ((e : E) → P e → Q e) → IfErr r P → IfErr r Q
-if_err (Ok x) f p = tt
-if_err (Err e) f p = f e p
+pub if_err_of_implied : {A E : Type 0} {P Q : E → Type 0} (r : Result A E) → ((e : E) → P e → Q e) → IfErr r P → IfErr r Q
+if_err_of_implied (Ok x) f p = tt
+if_err_of_implied (Err e) f p = f e p
 
 -- what follows from what is so of a value
-pub if_ok : {A E : Type 0} {P Q : A → Type 0} (r : Result A E) → ((x : A) → P x → Q x) → IfOk r P → IfOk r Q
-if_ok (Ok x) f p = f x p
-if_ok (Err e) f p = tt
+pub if_ok_of_implied : {A E : Type 0} {P Q : A → Type 0} (r : Result A E) → ((x : A) → P x → Q x) → IfOk r P → IfOk r Q
+if_ok_of_implied (Ok x) f p = f x p
+if_ok_of_implied (Err e) f p = tt

@@ -20,8 +20,8 @@ use Rattle.ir_store.specs.Nodes.{SourcedFlat, source_of}
 use Rattle.ir_graph.specs.Plain.{full_by, sources_by, full_of, sourced_flat, IsAnsweredRun, IsPlainRun, IsFair, MayGo, Rests, IsLike, result_by}
 use Rattle.ir_graph.specs.Turn.{EachTries, GoesAlone, ways_taken}
 use Rattle.ir_graph.proofs.Full.{answered_run_append, plain_run_is_answered}
-use Rattle.ir_graph.proofs.Leads.{act_by_way}
-use Rattle.ir_graph.proofs.Plain.{step_at_rest, step_at_rest_is_answered_run, rest_ask_is_not_own, TakesStep, fair_step_is_plain_run, private_steps_are_plain_run, like_after_run}
+use Rattle.ir_graph.proofs.Leads.{is_refusal_of_act_equals_its_way}
+use Rattle.ir_graph.proofs.Plain.{takes_step_at_rest, step_at_rest_is_answered_run, rest_ask_is_not_own, TakesStep, fair_step_is_plain_run, private_steps_are_plain_run, like_after_run}
 
 replicate_of_sum : {A : Type 0} (x : A) (n k : ℕ) → replicate (n + k) x ≡ replicate n x ++ replicate k x
 replicate_of_sum x zero k = let e : zero + k ≡ k = omega arith in ap (λ z. replicate z x) e
@@ -177,7 +177,7 @@ pub goes_alone_by_entry : (f g : Flat) (sources : List Source) (t : ℕ) (refuse
 goes_alone_by_entry f g sources t refused rests may can is code threads objects =
     let s = sourced_flat f sources in
     let u = sourced_flat g sources in
-    let step = step_at_rest f g sources t (result_by refused) rests can is code threads objects in record {
+    let step = takes_step_at_rest f g sources t (result_by refused) rests can is code threads objects in record {
       run = (t, result_by refused) ∷ [];
       many = refl;
       alone = (refl, tt);
@@ -186,7 +186,7 @@ goes_alone_by_entry f g sources t refused rests may can is code threads objects 
       ends = step.is;
       ways = let q = ask_of f.code (thread_of f t) in
           ap (λ b. cond b [] ((t, is_refusal (act_of (shared_ask q) (result_by refused))) ∷ [])) (rest_ask_is_not_own q rests)
-          ∙ ap (λ b. (t, b) ∷ []) (act_by_way q refused rests may);
+          ∙ ap (λ b. (t, b) ∷ []) (is_refusal_of_act_equals_its_way q refused rests may);
       code = code;
       threads = threads;
       objects = objects;
@@ -199,10 +199,10 @@ like_after_going_alone s u t refused n e a = like_after_run s u a.run a.ends a.c
 
 -- ---- turns
 
-tries_of_turn : {T : Type 0} (m : Machine T) (s : State T) (refused : Bool) (e : Step)
+tries_if_result_is_by_way : {T : Type 0} (m : Machine T) (s : State T) (refused : Bool) (e : Step)
     → ((o : ℕ) → asked m s e.0 ≡ machines.Try o → e.1 ≡ result_by refused) → Tries m s refused e
-tries_of_turn m s true e tries = tries
-tries_of_turn m s false e tries = λ o is enters. tries o is
+tries_if_result_is_by_way m s true e tries = tries
+tries_if_result_is_by_way m s false e tries = λ o is enters. tries o is
 
 -- a run of one thread goes by its turns
 pub alone_run_in_turns : {T : Type 0} (m : Machine T) (s : State T) (t : ℕ) (refused : Bool) (run : List Step) → IsRun m s run → IsAlone t run
@@ -213,7 +213,7 @@ alone_run_in_turns m s t refused ((u, r) ∷ run) ok alone tries = inr (
   run,
   (λ i. (sym alone.0 i, r) ∷ run),
   subst (λ z. Can m s (z, r)) (sym alone.0) ok.0,
-  tries_of_turn m s refused (t, r) (subst (λ z. (o : ℕ) → asked m s z ≡ machines.Try o → r ≡ result_by refused) (sym alone.0) tries.0),
+  tries_if_result_is_by_way m s refused (t, r) (subst (λ z. (o : ℕ) → asked m s z ≡ machines.Try o → r ≡ result_by refused) (sym alone.0) tries.0),
   subst (λ z. InTurns m (after m s (z, r)) (replicate (length run) (t, refused)) run) (sym alone.0)
       (alone_run_in_turns m (after m s (u, r)) t refused run ok.1 alone.1 tries.1),
 )
@@ -225,22 +225,22 @@ goes_alone_in_turns s u t refused n e a =
     (alone_run_in_turns (full_by s.flat.code) (full_of s) t refused a.run
     (counting_run_is_run (full_by s.flat.code) (sources_by s.flat.code) (full_of s) a.run a.answered.0) a.alone a.tries)
 
-tries_of_plain : {T S : Type 0} (m : Machine T) (giving : Giving S) (s : State (T × S)) (refused : Bool) (e : Step)
+plain_tries_if_sourced_tries : {T S : Type 0} (m : Machine T) (giving : Giving S) (s : State (T × S)) (refused : Bool) (e : Step)
     → Tries (sourced m giving) s refused e → Tries m (plain s) refused e
-tries_of_plain m giving s true e h = h
-tries_of_plain m giving s false e h = h
+plain_tries_if_sourced_tries m giving s true e h = h
+plain_tries_if_sourced_tries m giving s false e h = h
 
 -- turns of threads beside their sources are turns of the threads
-pub in_turns_of_plain : {T S : Type 0} (m : Machine T) (giving : Giving S) (s : State (T × S)) (turns : List Turn) (run : List Step)
+pub plain_in_turns_if_sourced_in_turns : {T S : Type 0} (m : Machine T) (giving : Giving S) (s : State (T × S)) (turns : List Turn) (run : List Step)
     → InTurns (sourced m giving) s turns run → InTurns m (plain s) turns run
-in_turns_of_plain m giving s [] run is = is
-in_turns_of_plain m giving s ((t, refused) ∷ turns) run (inl none) = inl (none.0, in_turns_of_plain m giving s turns run none.1)
-in_turns_of_plain m giving s ((t, refused) ∷ turns) run (inr some) = inr (
+plain_in_turns_if_sourced_in_turns m giving s [] run is = is
+plain_in_turns_if_sourced_in_turns m giving s ((t, refused) ∷ turns) run (inl none) = inl (none.0, plain_in_turns_if_sourced_in_turns m giving s turns run none.1)
+plain_in_turns_if_sourced_in_turns m giving s ((t, refused) ∷ turns) run (inr some) = inr (
   some.0,
   some.1,
   some.2,
   some.3,
-  tries_of_plain m giving s refused (t, some.0) some.4,
+  plain_tries_if_sourced_tries m giving s refused (t, some.0) some.4,
   subst (λ z. InTurns m z turns some.1) (plain_end m giving s ((t, some.0) ∷ []))
-      (in_turns_of_plain m giving (after (sourced m giving) s (t, some.0)) turns some.1 some.5),
+      (plain_in_turns_if_sourced_in_turns m giving (after (sourced m giving) s (t, some.0)) turns some.1 some.5),
 )

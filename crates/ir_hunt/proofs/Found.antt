@@ -15,7 +15,7 @@ use Rattle.ir_record_run.specs.Plan.{Plan}
 use Rattle.ir_record_run.specs.Recording.{IsRecordedOf}
 use Rattle.ir_order.specs.Recording.{IsPlanned}
 use Rattle.ir_order.specs.Spelling.{Spells}
-use Rattle.ir_order.proofs.CallerLemmas.{complete_runs_have_steps, recordings_are_of_the_run}
+use Rattle.ir_order.proofs.CallerLemmas.{complete_runs_have_steps, recordings_by_plain_list_are_of_the_run}
 use Rattle.ir_chaos.proofs.CallerLemmas.{schedules_are_orders, schedules_are_of_threads}
 use Rattle.ir_chaos.specs.Conditions.{Condition, fulfils, outcome_of}
 use Rattle.ir_chaos.specs.Moments.{Moment}
@@ -110,6 +110,6 @@ recording_of_found_is_finding image plan way seed conditions wanted list trace o
   guest = found.guest;
   is = found.is;
   found = found.found;
-  recorded = recordings_are_of_the_run image found.guest (by_list plan list) list found.found.order found.found.run trace outputs found.is refl
+  recorded = recordings_by_plain_list_are_of_the_run image found.guest (by_list plan list) list found.found.order found.found.run trace outputs found.is refl
       found.found.spelled found.found.planned r;
 }

@@ -63,7 +63,7 @@ stale_by_order_if_trace_rests guest plan order trace f has by of_guest of_trace 
 }
 
 -- the same, where that was found out
-pub stale_result_by_trace : {E : Type 0} (guest : Guest) (plan : Plan) (order : List ℕ) (trace : Recorded) (f : FittedTrace) (r : Result Bool E)
+pub result_says_stale_by_order_if_trace_rests : {E : Type 0} (guest : Guest) (plan : Plan) (order : List ℕ) (trace : Recorded) (f : FittedTrace) (r : Result Bool E)
     → IsTraceBy guest plan order trace → f.guest ≡ guest → f.recorded ≡ trace → HasRun f → IfOk r (HasRests f) → IfOk r (HasStaleBy guest plan order)
-stale_result_by_trace guest plan order trace f (Ok has) by of_guest of_trace fits rests = stale_by_order_if_trace_rests guest plan order trace f has by of_guest of_trace fits rests
-stale_result_by_trace guest plan order trace f (Err e) by of_guest of_trace fits rests = tt
+result_says_stale_by_order_if_trace_rests guest plan order trace f (Ok has) by of_guest of_trace fits rests = stale_by_order_if_trace_rests guest plan order trace f has by of_guest of_trace fits rests
+result_says_stale_by_order_if_trace_rests guest plan order trace f (Err e) by of_guest of_trace fits rests = tt

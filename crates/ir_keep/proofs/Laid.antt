@@ -8,16 +8,16 @@ use Rattle.ir_keep.specs.Store.{Page, Entry, blank, newer, laid, in_force, chang
 
 -- ---- an entry is dropped, and hands its pages on
 
-newer_of_first_of : (own given : Option Page) (old : Page) → newer (first_of own given) old ≡ newer own (newer given old)
-newer_of_first_of None given old = refl
-newer_of_first_of (Some page) given old = refl
+newer_of_first_of_is_newer_twice : (own given : Option Page) (old : Page) → newer (first_of own given) old ≡ newer own (newer given old)
+newer_of_first_of_is_newer_twice None given old = refl
+newer_of_first_of_is_newer_twice (Some page) given old = refl
 
 -- the newer entry's pages stay what they are
-pub laid_of_handed_pages : (own given : List (Option Page)) (old : List Page) → length own ≡ length given → laid (handed own given) old ≡ laid own (laid given old)
-laid_of_handed_pages [] given old same = refl
-laid_of_handed_pages (x ∷ own) [] old same = absurd (omega (arith, same))
-laid_of_handed_pages (x ∷ own) (y ∷ given) [] same = λ i. newer_of_first_of x y blank i ∷ laid_of_handed_pages own given [] (omega (arith, same)) i
-laid_of_handed_pages (x ∷ own) (y ∷ given) (q ∷ old) same = λ i. newer_of_first_of x y q i ∷ laid_of_handed_pages own given old (omega (arith, same)) i
+pub laid_of_handed_is_laid_twice : (own given : List (Option Page)) (old : List Page) → length own ≡ length given → laid (handed own given) old ≡ laid own (laid given old)
+laid_of_handed_is_laid_twice [] given old same = refl
+laid_of_handed_is_laid_twice (x ∷ own) [] old same = absurd (omega (arith, same))
+laid_of_handed_is_laid_twice (x ∷ own) (y ∷ given) [] same = λ i. newer_of_first_of_is_newer_twice x y blank i ∷ laid_of_handed_is_laid_twice own given [] (omega (arith, same)) i
+laid_of_handed_is_laid_twice (x ∷ own) (y ∷ given) (q ∷ old) same = λ i. newer_of_first_of_is_newer_twice x y q i ∷ laid_of_handed_is_laid_twice own given old (omega (arith, same)) i
 
 pub length_of_laid : (pages : List (Option Page)) (old : List Page) → length (laid pages old) ≡ length pages
 length_of_laid [] old = refl
@@ -55,11 +55,11 @@ bytes_of_laid_changed_pages n (bytes ∷ news) [] = λ i. bytes_of_newer_changed
 bytes_of_laid_changed_pages n (bytes ∷ news) (q ∷ old) = λ i. bytes_of_newer_changed_page n bytes q (same_bytes bytes q.bytes) refl i ∷ bytes_of_laid_changed_pages n news old i
 
 -- and their sources are those of the rule
-pub sources_of_laid_changed_pages : (n : ℕ) (news : List (List ℕ)) (old : List Page) → length news ≡ length old
+pub sources_of_laid_changed_are_next_sources : (n : ℕ) (news : List (List ℕ)) (old : List Page) → length news ≡ length old
     → map (λ (p : Page). p.source) (laid (changed n news old) old) ≡ next_sources n news (map (λ (p : Page). p.bytes) old) (map (λ (p : Page). p.source) old)
-sources_of_laid_changed_pages n [] old same = refl
-sources_of_laid_changed_pages n (bytes ∷ news) [] same = absurd (omega (arith, same))
-sources_of_laid_changed_pages n (bytes ∷ news) (q ∷ old) same = λ i. source_of_newer_changed_page n bytes q (same_bytes bytes q.bytes) i ∷ sources_of_laid_changed_pages n news old (omega (arith, same)) i
+sources_of_laid_changed_are_next_sources n [] old same = refl
+sources_of_laid_changed_are_next_sources n (bytes ∷ news) [] same = absurd (omega (arith, same))
+sources_of_laid_changed_are_next_sources n (bytes ∷ news) (q ∷ old) same = λ i. source_of_newer_changed_page n bytes q (same_bytes bytes q.bytes) i ∷ sources_of_laid_changed_are_next_sources n news old (omega (arith, same)) i
 
 -- ---- pages at a place
 

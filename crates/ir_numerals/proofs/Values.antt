@@ -21,8 +21,8 @@ value_with_digit_below_power v r d i small radix digit =
     let most : v * r ≤ v * 16 = mul-le-mul_left v radix in
     rw more (omega arith)
 
-pub value_with_digit_fits : (v r d i : ℕ) → v < 16 ^ i → r ≤ 16 → d < r → i < 20 → v * r + d < 2 ^ 128
-value_with_digit_fits v r d i small radix digit short =
+pub value_with_digit_below_two_to_128 : (v r d i : ℕ) → v < 16 ^ i → r ≤ 16 → d < r → i < 20 → v * r + d < 2 ^ 128
+value_with_digit_below_two_to_128 v r d i small radix digit short =
     let next = value_with_digit_below_power v r d i small radix digit in
     let most : 16 ^ (i + 1) ≤ 16 ^ 20 = pow-le-pow_right {n = 16} (omega arith) {i = i + 1} {j = 20} (omega arith) in
     omega arith
@@ -55,14 +55,14 @@ value_of_prefix_step r i v d byte ds lt is digit radix so_far = record {
 }
 
 -- more digits write no less at most
-power_of_16_rises : (v i j : ℕ) → v < 16 ^ i → i ≤ j → v < 16 ^ j
-power_of_16_rises v i j small more =
+number_below_greater_power_of_16 : (v i j : ℕ) → v < 16 ^ i → i ≤ j → v < 16 ^ j
+number_below_greater_power_of_16 v i j small more =
     let most : 16 ^ i ≤ 16 ^ j = pow-le-pow_right {n = 16} (omega arith) {i = i} {j = j} more in
     omega (arith, small, most)
 
 pub found_value_below_greater_power : (found : Option ℕ) (i j : ℕ) → i ≤ j → IfSome found (λ v. v < 16 ^ i) → IfSome found (λ v. v < 16 ^ j)
 found_value_below_greater_power None i j more small = small
-found_value_below_greater_power (Some v) i j more small = power_of_16_rises v i j small more
+found_value_below_greater_power (Some v) i j more small = number_below_greater_power_of_16 v i j small more
 
-pub found_value_of_ten_digits_fits : (found : Option ℕ) (i : ℕ) → i ≤ 10 → IfSome found (λ v. v < 16 ^ i) → IfSome found (λ v. v < 2 ^ 40)
-found_value_of_ten_digits_fits found i few small = found_value_below_greater_power found i 10 few small
+pub found_value_of_ten_digits_below_two_to_40 : (found : Option ℕ) (i : ℕ) → i ≤ 10 → IfSome found (λ v. v < 16 ^ i) → IfSome found (λ v. v < 2 ^ 40)
+found_value_of_ten_digits_below_two_to_40 found i few small = found_value_below_greater_power found i 10 few small

@@ -14,7 +14,7 @@ use Rattle.ir_graph.proofs.CallerLemmas.{ways_taken-append, like_reflexive, like
 use Rattle.ir_explore.specs.declared.origin.Origin.{Origin}
 use Rattle.ir_explore.specs.declared.origin.Refusal.{Refusal}
 use Rattle.ir_explore.specs.Origins.{AreWaysOf}
-use Rattle.ir_explore.proofs.CallerLemmas.{switches_after_repeated_turn, switches_of_replicated_thread}
+use Rattle.ir_explore.proofs.CallerLemmas.{repeated_turn_adds_one_switch_at_most, switches_of_replicated_thread}
 use Rattle.ir_record.specs.Recording.{turns_of_items}
 use Rattle.ir_record.specs.Refusing.{Turn, InTurns}
 use Rattle.ir_record.specs.declared.item.Item.{Item}
@@ -189,5 +189,5 @@ switches_of_ways_back table (n ∷ path) ways (before, back, own, are, is) =
         subst (λ z. switches (map (λ (w : ℕ × Bool). w.0) z ++ replicate (length own) n.thread) ≤ 0) (sym none)
         (switches_of_replicated_thread n.thread (length own))
     by (m ∷ rest) some l =
-        let k = switches_after_repeated_turn (map (λ (w : ℕ × Bool). w.0) before) n.thread (length own) in
+        let k = repeated_turn_adds_one_switch_at_most (map (λ (w : ℕ × Bool). w.0) before) n.thread (length own) in
         omega (arith, l, k)

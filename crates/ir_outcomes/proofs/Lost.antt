@@ -20,7 +20,7 @@ use Rattle.ir_graph.specs.Nodes.{LookAlike}
 use Rattle.ir_graph.specs.Plain.{IsLike}
 use Rattle.ir_graph.specs.Reached.{beginning}
 use Rattle.ir_graph.specs.Setup.{Setup}
-use Rattle.ir_graph.proofs.CallerLemmas.{answered_run_is_counting, hang_never_completes, can_end_if_answered_run_can, in_turns_of_plain}
+use Rattle.ir_graph.proofs.CallerLemmas.{answered_run_is_counting, hang_never_completes, can_end_if_answered_run_can, plain_in_turns_if_sourced_in_turns}
 use Rattle.ir_outcomes.specs.Again.{IsAgainBy}
 use Rattle.ir_outcomes.specs.Explored.{AreHangs}
 use Rattle.ir_outcomes.specs.Hang.{IsFirst}
@@ -34,7 +34,7 @@ shown_at_if_again setup turns table path level s u w few like looks =
     let a = w.again in record {
       steps = a.steps;
       counting = answered_run_is_counting setup a.steps a.answered;
-      in_turns = in_turns_of_plain (thread_machine setup.guest.code) given (beginning setup) turns a.steps a.in_turns;
+      in_turns = plain_in_turns_if_sourced_in_turns (thread_machine setup.guest.code) given (beginning setup) turns a.steps a.in_turns;
       taken = a.taken;
       stands = λ can. can_end_if_answered_run_can setup a.steps s u a.answered a.ends a.like.code like.code looks can;
       few = let l = switches_again setup turns table path u w in omega (arith, l, few);
@@ -67,23 +67,23 @@ shut_is_positive_if_some_closed (true ∷ marks) (suc v) is = shut_is_positive_i
 shut_is_positive_if_some_closed (false ∷ marks) v is = omega arith
 
 -- of the first nodes, with one more
-pub shut_up_to_marked_node : (marks : List Bool) (v : ℕ) (d : Bool) → v < length marks → get_or marks v d ≡ true
+pub shut_count_kept_by_marked_node : (marks : List Bool) (v : ℕ) (d : Bool) → v < length marks → get_or marks v d ≡ true
     → shut (take (suc v) marks) ≡ shut (take v marks)
 unfolding shut
-shut_up_to_marked_node [] v d l is = absurd (omega (arith, l))
-shut_up_to_marked_node (true ∷ marks) zero d l is = refl
-shut_up_to_marked_node (false ∷ marks) zero d l is = absurd (true≢false (sym is))
-shut_up_to_marked_node (true ∷ marks) (suc v) d l is = shut_up_to_marked_node marks v d (omega (arith, l)) is
-shut_up_to_marked_node (false ∷ marks) (suc v) d l is = ap suc (shut_up_to_marked_node marks v d (omega (arith, l)) is)
+shut_count_kept_by_marked_node [] v d l is = absurd (omega (arith, l))
+shut_count_kept_by_marked_node (true ∷ marks) zero d l is = refl
+shut_count_kept_by_marked_node (false ∷ marks) zero d l is = absurd (true≢false (sym is))
+shut_count_kept_by_marked_node (true ∷ marks) (suc v) d l is = shut_count_kept_by_marked_node marks v d (omega (arith, l)) is
+shut_count_kept_by_marked_node (false ∷ marks) (suc v) d l is = ap suc (shut_count_kept_by_marked_node marks v d (omega (arith, l)) is)
 
-pub shut_up_to_unmarked_node : (marks : List Bool) (v : ℕ) (d : Bool) → v < length marks → get_or marks v d ≡ false
+pub shut_count_increased_by_unmarked_node : (marks : List Bool) (v : ℕ) (d : Bool) → v < length marks → get_or marks v d ≡ false
     → shut (take (suc v) marks) ≡ suc (shut (take v marks))
 unfolding shut
-shut_up_to_unmarked_node [] v d l is = absurd (omega (arith, l))
-shut_up_to_unmarked_node (true ∷ marks) zero d l is = absurd (true≢false is)
-shut_up_to_unmarked_node (false ∷ marks) zero d l is = refl
-shut_up_to_unmarked_node (true ∷ marks) (suc v) d l is = shut_up_to_unmarked_node marks v d (omega (arith, l)) is
-shut_up_to_unmarked_node (false ∷ marks) (suc v) d l is = ap suc (shut_up_to_unmarked_node marks v d (omega (arith, l)) is)
+shut_count_increased_by_unmarked_node [] v d l is = absurd (omega (arith, l))
+shut_count_increased_by_unmarked_node (true ∷ marks) zero d l is = absurd (true≢false is)
+shut_count_increased_by_unmarked_node (false ∷ marks) zero d l is = refl
+shut_count_increased_by_unmarked_node (true ∷ marks) (suc v) d l is = shut_count_increased_by_unmarked_node marks v d (omega (arith, l)) is
+shut_count_increased_by_unmarked_node (false ∷ marks) (suc v) d l is = ap suc (shut_count_increased_by_unmarked_node marks v d (omega (arith, l)) is)
 
 pub shut_of_empty : 0 ≡ shut []
 unfolding shut

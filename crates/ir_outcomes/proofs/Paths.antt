@@ -20,10 +20,10 @@ pub path_with_origin_pushed : (origins : List Origin) (node v : ℕ) (n : Origin
 path_with_origin_pushed origins node v n found at path more rest =
     subst (IsPathTo origins node) (sym (append_assoc found (n ∷ []) more)) (path (n ∷ more) (path_through_origin origins v n more at rest))
 
-ways_with_refusal_pushed : (refusals : List Refusal) (x : Refusal) → ways_of (refusals ++ x ∷ []) ≡ (replicate x.entries false ++ true ∷ []) ++ ways_of refusals
-ways_with_refusal_pushed [] x = sym (append-nil (replicate x.entries false ++ true ∷ []))
-ways_with_refusal_pushed (y ∷ refusals) x =
-    ap (λ z. z ++ (replicate y.entries false ++ true ∷ [])) (ways_with_refusal_pushed refusals x)
+pushed_refusal_comes_first_in_ways : (refusals : List Refusal) (x : Refusal) → ways_of (refusals ++ x ∷ []) ≡ (replicate x.entries false ++ true ∷ []) ++ ways_of refusals
+pushed_refusal_comes_first_in_ways [] x = sym (append-nil (replicate x.entries false ++ true ∷ []))
+pushed_refusal_comes_first_in_ways (y ∷ refusals) x =
+    ap (λ z. z ++ (replicate y.entries false ++ true ∷ [])) (pushed_refusal_comes_first_in_ways refusals x)
     ∙ append_assoc (replicate x.entries false ++ true ∷ []) (ways_of refusals) (replicate y.entries false ++ true ∷ [])
 
 -- one refused try more of those that the table has under a number
@@ -34,7 +34,7 @@ ways_under_with_refusal_pushed table refusals number i x at found ways spelled =
     let one : List Bool = replicate x.entries false ++ true ∷ [] in
     let joined : ((ways ++ replicate x.entries false) ++ true ∷ []) ++ ways_of refusals ≡ ways ++ ways_of (refusals ++ x ∷ []) =
     ap (λ z. z ++ ways_of refusals) (append_assoc ways (replicate x.entries false) (true ∷ []))
-    ∙ append_assoc ways one (ways_of refusals) ∙ ap (λ z. ways ++ z) (sym (ways_with_refusal_pushed refusals x)) in
+    ∙ append_assoc ways one (ways_of refusals) ∙ ap (λ z. ways ++ z) (sym (pushed_refusal_comes_first_in_ways refusals x)) in
     subst (AreWaysUnder table number) joined (found ((ways ++ replicate x.entries false) ++ true ∷ []) (Refused i x ways at spelled))
 
 -- the ways of the last k of these refused tries, of which the last comes first

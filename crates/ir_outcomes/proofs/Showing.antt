@@ -16,7 +16,7 @@ use Rattle.ir_graph.specs.Outcomes.{outcome_of}
 use Rattle.ir_graph.specs.Plain.{full_by}
 use Rattle.ir_graph.specs.Reached.{beginning}
 use Rattle.ir_graph.specs.Setup.{Setup}
-use Rattle.ir_graph.proofs.CallerLemmas.{done_answered_run_is_counted, in_turns_of_plain, threads_of_ways_taken}
+use Rattle.ir_graph.proofs.CallerLemmas.{done_answered_run_is_counted, plain_in_turns_if_sourced_in_turns, threads_of_ways_taken}
 use Rattle.ir_outcomes.specs.Again.{IsAgainBy}
 use Rattle.ir_outcomes.specs.Shown.{switches_by, IsShown}
 use Rattle.ir_outcomes.proofs.Again.{switches_of_ways_back}
@@ -47,7 +47,7 @@ module _ (setup : Setup) (turns : List Turn) (table : List Refusal) (path : List
         by_turns = record {
           count = 0;
           in_turns = subst (λ z. InTurns (thread_machine code) first z a.steps) (sym (append-nil turns))
-              (in_turns_of_plain (thread_machine code) given (beginning setup) turns a.steps a.in_turns);
+              (plain_in_turns_if_sourced_in_turns (thread_machine code) given (beginning setup) turns a.steps a.in_turns);
           done = really;
         };
         taken = a.taken;

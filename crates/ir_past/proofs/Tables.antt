@@ -20,10 +20,10 @@ get_or_after_resize old new n longer all same more v = elim (cases_lt v (length 
   ]
 ]
 
-pub get_or_of_empty_table : {X : Type 0} (n o : ℕ) → get_or (replicate {A = Option X} n None) o None ≡ None
-get_or_of_empty_table zero o = refl
-get_or_of_empty_table (suc n) zero = refl
-get_or_of_empty_table (suc n) (suc o) = get_or_of_empty_table n o
+pub get_or_of_replicate_none : {X : Type 0} (n o : ℕ) → get_or (replicate {A = Option X} n None) o None ≡ None
+get_or_of_replicate_none zero o = refl
+get_or_of_replicate_none (suc n) zero = refl
+get_or_of_replicate_none (suc n) (suc o) = get_or_of_replicate_none n o
 
 -- ---- a list that grows at its end
 
@@ -61,10 +61,10 @@ mapped_get_after_set_elsewhere f (y ∷ ys) (suc i) zero w ne = refl
 mapped_get_after_set_elsewhere f (y ∷ ys) (suc i) (suc o) w ne = mapped_get_after_set_elsewhere f ys i o w (λ e. ne (ap suc e))
 
 -- one of the tables notes p at w, and the others are as they were
-pub mapped_get_after_noted : {X Y : Type 0} (f : ℕ → X → Option Y) (xs : List X) (i w : ℕ) (x new : X) (p : Y) → i < length xs → get_or xs i x ≡ x
+pub mapped_get_after_set_at_pair : {X Y : Type 0} (f : ℕ → X → Option Y) (xs : List X) (i w : ℕ) (x new : X) (p : Y) → i < length xs → get_or xs i x ≡ x
     → ((v : ℕ) → f v new ≡ (if v == w then Some p else f v x)) → (o v : ℕ)
     → mapped_get_or_none (f v) (slice_set xs i new) o ≡ (if (o == i) && (v == w) then Some p else mapped_get_or_none (f v) xs o)
-mapped_get_after_noted {X} {Y} f xs i w x new p within is noted o v = elim (cases_eq o i) [
+mapped_get_after_set_at_pair {X} {Y} f xs i w x new p within is noted o v = elim (cases_eq o i) [
   | inl here ↦ subst (λ z. mapped_get_or_none (f v) (slice_set xs i new) z ≡ (if (z == i) && (v == w) then Some p else mapped_get_or_none (f v) xs z)) (sym here)
       (mapped_get_after_set (f v) xs i new within ∙ noted v
       ∙ ap {B = Option Y} (λ (z : Option Y). if v == w then Some p else z) (sym (mapped_get_within (f v) xs i x within is))

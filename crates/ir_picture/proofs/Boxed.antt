@@ -24,9 +24,9 @@ before_next_event_cases u j t n (inr here) = elim (cases_lt j n) [
   | inr not ↦ inr (here.0, omega (arith, here.1, not))
 ]
 
-ends_by_next_event : (b : EventBox) (t n : ℕ) → EndsBy b t n → EndsBy b t (n + 1)
-ends_by_next_event b t n (inl less) = inl less
-ends_by_next_event b t n (inr here) = inr (here.0, omega (arith, here.1))
+box_still_ends_by_next_event : (b : EventBox) (t n : ℕ) → EndsBy b t n → EndsBy b t (n + 1)
+box_still_ends_by_next_event b t n (inl less) = inl less
+box_still_ends_by_next_event b t n (inr here) = inr (here.0, omega (arith, here.1))
 
 nothing_before_first_event : (u j : ℕ) → IsBefore u j 0 0 → ⊥
 nothing_before_first_event u j (inl less) = omega (arith, less)
@@ -58,7 +58,7 @@ boxed_before_step_for_new_box r t n boxes new thread event count there within fo
     })
   ];
   before = λ k b is. elim (slice_get_after_push_cases boxes new k b is) [
-    | inl old ↦ ends_by_next_event b t n (h.before k b old)
+    | inl old ↦ box_still_ends_by_next_event b t n (h.before k b old)
     | inr now ↦ subst (λ (x : EventBox). EndsBy x t (n + 1)) now.1 (inr (thread, omega (arith, event, count)))
   ];
   all = λ u i inside b. elim (before_next_event_cases u i t n b) [
@@ -156,7 +156,7 @@ boxed_before_step_for_joined_box r t n k boxes b new long at thread ends thread_
   ];
   before = λ m a is. elim (slice_get_after_set_cases boxes k m new a inside is) [
     | inl now ↦ subst (λ (x : EventBox). EndsBy x t (n + 1)) now.1 (inr (thread_new ∙ thread, omega (arith, event_new, count_new, ends)))
-    | inr old ↦ ends_by_next_event a t n (h.before m a old.1)
+    | inr old ↦ box_still_ends_by_next_event a t n (h.before m a old.1)
   ];
   all = λ u i there b4. elim (before_next_event_cases u i t n b4) [
     | inl less ↦ has_more u i (h.all u i there less)
@@ -304,10 +304,10 @@ pub box_count_within_limit : (r : Recorded) (n : ℕ) (boxes : List EventBox) �
 box_count_within_limit r n boxes all h = subst (λ z. length boxes ≤ z * most_events) all (omega (arith, h.few))
 
 -- the same by the length of the list
-pub boxed_before_step_for_last_box : (r : Recorded) (t n long : ℕ) (boxes : List EventBox) (own : EventBox) → long ≡ length boxes → own ≡ get_or boxes (long - 1) own
+pub boxed_before_step_for_joined_last_box : (r : Recorded) (t n long : ℕ) (boxes : List EventBox) (own : EventBox) → long ≡ length boxes → own ≡ get_or boxes (long - 1) own
     → n < length (recorded_thread r t).events → IsFold (recorded_thread r t).events n true → BoxedBefore r t n boxes
     → BoxedBefore r t (n + 1) (slice_set boxes (long - 1) (record { thread = own.thread; event = own.event; count = own.count + 1 }))
-boxed_before_step_for_last_box r t n long boxes own all is within fold h =
+boxed_before_step_for_joined_last_box r t n long boxes own all is within fold h =
     let last = last_box_ends_at_folded_event r t n boxes fold h in
     let place : last.0 ≡ long - 1 = omega (arith, all, last.2) in
     let at : slice_get boxes (long - 1) ≡ Some own = slice_get_read boxes long (long - 1) own all (omega (arith, all, last.2)) is in

@@ -8,10 +8,10 @@ use Rattle.std.proofs.lemmas.Option.{same_Some, none-some}
 use Rattle.ir_lemmas.proofs.CallerLemmas.{get_or_after_set, get_or_after_set_elsewhere}
 
 -- what is at a place, by a read that has a default
-pub slice_get_if_own_default : {X : Type 0} (xs : List X) (i : ℕ) (x : X) → i < length xs → get_or xs i x ≡ x → slice_get xs i ≡ Some x
-slice_get_if_own_default [] i x l e = absurd (omega arith)
-slice_get_if_own_default (y ∷ ys) zero x l e = ap Some e
-slice_get_if_own_default (y ∷ ys) (suc i) x l e = slice_get_if_own_default ys i x (omega arith) e
+pub slice_get_from_get_or_with_own_default : {X : Type 0} (xs : List X) (i : ℕ) (x : X) → i < length xs → get_or xs i x ≡ x → slice_get xs i ≡ Some x
+slice_get_from_get_or_with_own_default [] i x l e = absurd (omega arith)
+slice_get_from_get_or_with_own_default (y ∷ ys) zero x l e = ap Some e
+slice_get_from_get_or_with_own_default (y ∷ ys) (suc i) x l e = slice_get_from_get_or_with_own_default ys i x (omega arith) e
 
 pub slice_get_after_set : {X : Type 0} (xs : List X) (i : ℕ) (y : X) → i < length xs → slice_get (slice_set xs i y) i ≡ Some y
 slice_get_after_set [] i y l = absurd (omega arith)
@@ -102,10 +102,10 @@ mapped_get_or_after_set_elsewhere f d (y ∷ ys) (suc i) zero w ne = refl
 mapped_get_or_after_set_elsewhere f d (y ∷ ys) (suc i) (suc o) w ne = mapped_get_or_after_set_elsewhere f d ys i o w (λ e. ne (ap suc e))
 
 -- one of the tables notes p at w, and the others are as they were
-pub mapped_get_or_after_noted : {X Y : Type 0} (f : ℕ → X → Y) (d : Y) (xs : List X) (i w : ℕ) (x new : X) (p : Y) → i < length xs → get_or xs i x ≡ x
+pub mapped_get_or_after_set_at_pair : {X Y : Type 0} (f : ℕ → X → Y) (d : Y) (xs : List X) (i w : ℕ) (x new : X) (p : Y) → i < length xs → get_or xs i x ≡ x
     → ((v : ℕ) → f v new ≡ (if v == w then p else f v x)) → (o v : ℕ)
     → mapped_get_or (f v) d (slice_set xs i new) o ≡ (if (o == i) && (v == w) then p else mapped_get_or (f v) d xs o)
-mapped_get_or_after_noted {X} {Y} f d xs i w x new p within is noted o v = elim (cases_eq o i) [
+mapped_get_or_after_set_at_pair {X} {Y} f d xs i w x new p within is noted o v = elim (cases_eq o i) [
   | inl here ↦ subst (λ z. mapped_get_or (f v) d (slice_set xs i new) z ≡ (if (z == i) && (v == w) then p else mapped_get_or (f v) d xs z)) (sym here)
       (mapped_get_or_after_set (f v) d xs i new within ∙ noted v
       ∙ ap {B = Y} (λ (z : Y). if v == w then p else z) (sym (mapped_get_or_within (f v) d xs i x within is))

@@ -154,23 +154,23 @@ flat_map_past_end f n xs all = at_drop_all (flat_map f) xs n all
 -- ---- data in a frame
 
 -- its four parts
-pub four_parts_of_framed_data : (a b c d before head after : List ℕ) → a ≡ before ++ head → d ≡ after → ((a ++ b) ++ c) ++ d ≡ before ++ ((head ++ (b ++ c)) ++ after)
-four_parts_of_framed_data a b c d before head after begins ends = ap (λ (x : List ℕ). ((x ++ b) ++ c) ++ d) begins ∙ regroup before head b c d
+pub four_parts_are_framed_text : (a b c d before head after : List ℕ) → a ≡ before ++ head → d ≡ after → ((a ++ b) ++ c) ++ d ≡ before ++ ((head ++ (b ++ c)) ++ after)
+four_parts_are_framed_text a b c d before head after begins ends = ap (λ (x : List ℕ). ((x ++ b) ++ c) ++ d) begins ∙ regroup before head b c d
     ∙ ap (λ (x : List ℕ). before ++ ((head ++ (b ++ c)) ++ x)) ends
   where
     regroup : (p h b c d : List ℕ) → (((p ++ h) ++ b) ++ c) ++ d ≡ p ++ ((h ++ (b ++ c)) ++ d)
     regroup p h b c d = simp append_assoc
 
 -- with its end
-pub data_parts_with_end : (start threads name boxes end middle stale last : List ℕ)
+pub data_parts_regroup_with_end : (start threads name boxes end middle stale last : List ℕ)
     → ((start ++ (threads ++ name)) ++ (boxes ++ ((end ++ middle) ++ stale))) ++ (end ++ last)
     ≡ start ++ (threads ++ ((name ++ (boxes ++ end)) ++ ((middle ++ (stale ++ end)) ++ last)))
-data_parts_with_end start threads name boxes end middle stale last = simp append_assoc
+data_parts_regroup_with_end start threads name boxes end middle stale last = simp append_assoc
 
 -- and a text after it
-pub data_parts_before_last_text : (start threads boxes stale end last : List ℕ)
+pub data_parts_regroup_before_last_text : (start threads boxes stale end last : List ℕ)
     → start ++ (threads ++ (boxes ++ (stale ++ (end ++ last)))) ≡ (start ++ (threads ++ (boxes ++ (stale ++ end)))) ++ last
-data_parts_before_last_text start threads boxes stale end last = sym (regroup start threads boxes stale end last)
+data_parts_regroup_before_last_text start threads boxes stale end last = sym (regroup start threads boxes stale end last)
   where
     regroup : (a b c d e f : List ℕ) → (a ++ (b ++ (c ++ (d ++ e)))) ++ f ≡ a ++ (b ++ (c ++ (d ++ (e ++ f))))
     regroup a b c d e f = simp append_assoc
@@ -178,10 +178,10 @@ data_parts_before_last_text start threads boxes stale end last = sym (regroup st
 -- ---- the events for other viewers
 
 -- their four parts
-pub four_parts_of_chrome_text : (r : Recorded) (p : Picture) (sights : List Sight) (n : ℕ) (first last : List ℕ) (boxes : List PlacedBox) (stale : List StaleWrite)
+pub four_parts_are_chrome_text : (r : Recorded) (p : Picture) (sights : List Sight) (n : ℕ) (first last : List ℕ) (boxes : List PlacedBox) (stale : List StaleWrite)
     → first ≡ chrome_start n → n ≡ length r.threads → boxes ≡ p.boxes.items → stale ≡ p.stale.items → last ≡ chrome_end
     → ((first ++ flat_map (box_line r stale) boxes) ++ all_arrows 0 sights) ++ last ≡ chrome_text r p sights
-four_parts_of_chrome_text r p sights n first last boxes stale begins count same_boxes same_stale ends =
+four_parts_are_chrome_text r p sights n first last boxes stale begins count same_boxes same_stale ends =
     append_assoc (first ++ flat_map (box_line r stale) boxes) (all_arrows 0 sights) last
     ∙ append_assoc first (flat_map (box_line r stale) boxes) (all_arrows 0 sights ++ last)
     ∙ ap (λ (x : List ℕ). x ++ (flat_map (box_line r stale) boxes ++ (all_arrows 0 sights ++ last))) (begins ∙ ap chrome_start count)

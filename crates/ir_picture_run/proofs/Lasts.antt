@@ -34,8 +34,8 @@ pub record AreDrawnTo (f : FittedTrace) (boxes : List PlacedBox) (n : ℕ) (draw
   pub size : length drawn ≡ n
   pub each : (k : ℕ) (b : PlacedBox) (d : Drawn) → slice_get boxes k ≡ Some b → slice_get drawn k ≡ Some d → IsDrawn f b d
 
-pub drawn_to_none : (f : FittedTrace) (boxes : List PlacedBox) → AreDrawnTo f boxes 0 []
-drawn_to_none f boxes = record { size = refl; each = λ k b d at there. absurd (none-some d there) }
+pub drawn_to_no_box : (f : FittedTrace) (boxes : List PlacedBox) → AreDrawnTo f boxes 0 []
+drawn_to_no_box f boxes = record { size = refl; each = λ k b d at there. absurd (none-some d there) }
 
 pub drawn_to_next_box : (f : FittedTrace) (boxes : List PlacedBox) (n : ℕ) (old new : List Drawn) (b : PlacedBox) (d : Drawn) → AreDrawnTo f boxes n old
     → slice_get boxes n ≡ Some b → IsDrawn f b d → new ≡ old ++ d ∷ [] → AreDrawnTo f boxes (n + 1) new

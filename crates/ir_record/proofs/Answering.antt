@@ -13,7 +13,7 @@ use Rattle.ir_log.specs.Logged.{Logged}
 use Rattle.ir_log.specs.declared.event.Event.TheVariants as event
 use Rattle.ir_record.specs.Progress.{TookIf, HasLogs, log_at, labels_at}
 use Rattle.ir_record.specs.Worlds.{answers_at, Answered}
-use Rattle.ir_record.proofs.Steps.{turn_taken_by_step, ask_not_try_enters_if_free}
+use Rattle.ir_record.proofs.Steps.{turn_taken_by_step, enters_if_free_unless_ask_is_try}
 use Rattle.ir_record.proofs.Running.{hold_few_objects_if_flat}
 use Rattle.ir_record.proofs.Logs.{has_logs_after_event_pushed, labels_after_event_pushed, labels_of_other_thread_after_set}
 
@@ -23,8 +23,8 @@ pub environment_call_can_step : (f : Flat) (t value : ℕ) (kind : EnvKind) → 
 environment_call_can_step f t value kind is fits = subst (λ q. Admits (machine f) (act_of (shared_ask q) value)
     ((tables f).objects (target (act_of (shared_ask q) value)))) (sym is) fits
 
-pub room_to_log_answer : (f : Flat) (t : ℕ) (kind : EnvKind) → ask_of f.code (thread_of f t) ≡ Env kind → (thread_of f t).events < most_events
-room_to_log_answer f t kind is = (subst (Permits (thread_of f t)) is (ask_of_permitted f.code (thread_of f t))).1
+pub event_count_is_below_limit_at_call : (f : Flat) (t : ℕ) (kind : EnvKind) → ask_of f.code (thread_of f t) ≡ Env kind → (thread_of f t).events < most_events
+event_count_is_below_limit_at_call f t kind is = (subst (Permits (thread_of f t)) is (ask_of_permitted f.code (thread_of f t))).1
 
 -- an answer was logged, and it is its world's
 pub record AnswerLogged (f g : Flat) (logs more : List Logged) (t value : ℕ) (kind : EnvKind) : Type 0 where
@@ -66,4 +66,4 @@ turn_taken_by_answer f g logs more t value kind a answers given l e =
       own_answers = ap (λ z. answers_at z t) e ∙ get_or-set_same answers t (answers_at answers t ++ (kind, value) ∷ []) [] l;
       other_logs = λ u ne. subst (λ z. labels_at z u ≡ labels_at logs u) (sym a.logged) (labels_of_other_thread_after_set logs t u a.new ne);
       other_answers = λ u ne. ap (λ z. answers_at z u) e ∙ get_or-set_other answers t u (answers_at answers t ++ (kind, value) ∷ []) [] ne;
-    }) (ask_not_try_enters_if_free f t value (Env kind) a.asked (λ o e. cc e))
+    }) (enters_if_free_unless_ask_is_try f t value (Env kind) a.asked (λ o e. cc e))

@@ -65,8 +65,8 @@ take_of_empty : (k : ℕ) → take {A = ℕ} k [] ≡ []
 take_of_empty zero = refl
 take_of_empty (suc k) = refl
 
-missing_object_has_zero_words : (g : Guest) (o j : ℕ) → IsGuest g → object_count g ≤ o → get_or (first_words g o) j 0 ≡ 0
-missing_object_has_zero_words g o j guest past = element_of_padded (take (object_words g) (drop (object_words g * o) g.words)) j
+first_words_of_missing_object_are_zero : (g : Guest) (o j : ℕ) → IsGuest g → object_count g ≤ o → get_or (first_words g o) j 0 ≡ 0
+first_words_of_missing_object_are_zero g o j guest past = element_of_padded (take (object_words g) (drop (object_words g * o) g.words)) j
     ∙ ap (λ ws. get_or (take (object_words g) ws) j 0)
     (drop_past_length_is_empty (object_words g * o) g.words (words_end_before_missing_object g.form (length g.words) o guest.whole_objects past))
     ∙ ap (λ ws. get_or ws j 0) (take_of_empty (object_words g))
@@ -84,7 +84,7 @@ start_tables_have_start_objects g budget profile guest = fun_ext (λ o. λ i. re
       | inl l ↦ ap (λ ws. get_or ws j 0) (start_cell_has_first_words g 0 (object_count g) o l ∙ ap (first_words g) (let e : 0 + o ≡ o = omega arith in e))
       | inr past ↦ ap (λ c. get_or c.words j 0) (get_or_past (start_cells g 0 (object_count g)) o empty
           (let n = length_of_start_cells g 0 (object_count g) in omega (arith, n, past)))
-          ∙ sym (missing_object_has_zero_words g o j guest past)
+          ∙ sym (first_words_of_missing_object_are_zero g o j guest past)
     ]
 
 -- ---- the workers at the end

@@ -168,11 +168,11 @@ module _ {W O : Type 0} (answers : W → List Answered) (broken : W → Bool) (o
   origins_end (v ∷ vs) [] p = absurd p
   origins_end (v ∷ vs) (w ∷ ws) p = λ i. p.0.same_origin i ∷ origins_end vs ws p.1 i
 
-answers_at_are_of_work : {W : Type 0} (answers : W → List Answered) (ws : List (Worker W)) (t : ℕ)
+answers_at_are_answers_of_work : {W : Type 0} (answers : W → List Answered) (ws : List (Worker W)) (t : ℕ)
     → answers_at (map answers (map (λ w. w.world) ws)) t ≡ (work_at (map (work_of answers) ws) t).answers
-answers_at_are_of_work answers [] t = refl
-answers_at_are_of_work answers (w ∷ ws) zero = refl
-answers_at_are_of_work answers (w ∷ ws) (suc t) = answers_at_are_of_work answers ws t
+answers_at_are_answers_of_work answers [] t = refl
+answers_at_are_answers_of_work answers (w ∷ ws) zero = refl
+answers_at_are_answers_of_work answers (w ∷ ws) (suc t) = answers_at_are_answers_of_work answers ws t
 
 -- the workers of a guest with these worlds, before their first step and after their last
 pub record HaveRun {W O : Type 0} (answers : W → List Answered) (broken : W → Bool) (origin : W → O) (g : Guest) (budget : ℕ)
@@ -265,7 +265,7 @@ module _ {W O : Type 0} {answers : W → List Answered} {broken : W → Bool} {o
           (answers_at (map answers (map (λ w. w.world) ws)) t)
       by false e =
           let r = end_of t l (ap (λ z. get_or z t false) (sym (map_map broken (λ w. w.world) ws)) ∙ e) in
-          went_on t (work_at (map (work_of answers) ws) t) _ _ r.0 (λ f. r.1) (λ f. absurd (cc (e, f))) (answers_at_are_of_work answers ws t)
+          went_on t (work_at (map (work_of answers) ws) t) _ _ r.0 (λ f. r.1) (λ f. absurd (cc (e, f))) (answers_at_are_answers_of_work answers ws t)
       by true e =
           let r = stop_of t l (ap (λ z. get_or z t false) (sym (map_map broken (λ w. w.world) ws)) ∙ e) in
           went_on t r.0 _ _ r.1 (λ f. absurd (cc (e, f))) (λ f. r.2) r.3
@@ -275,10 +275,10 @@ pub views_are_tracks_of_work : {W : Type 0} (answers : W → List Answered) (ws 
 views_are_tracks_of_work answers [] = refl
 views_are_tracks_of_work answers (w ∷ ws) = ap (λ z. w.seat.me.0 ++ z) (views_are_tracks_of_work answers ws)
 
-pub trace_at_worker_place : {W : Type 0} (answers : W → List Answered) (ws : List (Worker W)) (rs : List RecordedThread) → AreTraces ws rs → (t : ℕ)
+pub trace_at_place_is_of_its_worker : {W : Type 0} (answers : W → List Answered) (ws : List (Worker W)) (rs : List RecordedThread) → AreTraces ws rs → (t : ℕ)
     → t < length ws → IsThreadTrace (work_at (map (work_of answers) ws) t).thread (work_at (map (work_of answers) ws) t).log
     (get_or rs t absent)
-trace_at_worker_place answers [] rs h t l = absurd (omega arith)
-trace_at_worker_place answers (w ∷ ws) [] h t l = absurd h
-trace_at_worker_place answers (w ∷ ws) (r ∷ rs) h zero l = h.0
-trace_at_worker_place answers (w ∷ ws) (r ∷ rs) h (suc t) l = trace_at_worker_place answers ws rs h.1 t (omega (arith, l))
+trace_at_place_is_of_its_worker answers [] rs h t l = absurd (omega arith)
+trace_at_place_is_of_its_worker answers (w ∷ ws) [] h t l = absurd h
+trace_at_place_is_of_its_worker answers (w ∷ ws) (r ∷ rs) h zero l = h.0
+trace_at_place_is_of_its_worker answers (w ∷ ws) (r ∷ rs) h (suc t) l = trace_at_place_is_of_its_worker answers ws rs h.1 t (omega (arith, l))

@@ -27,7 +27,7 @@ use Rattle.ir_record.specs.Refusing.{Turn, plain_turns}
 use Rattle.ir_record.specs.Worlds.{answers_at, Answered, NoneFailed}
 use Rattle.ir_record.specs.Recordings.{IsRecordingByTurns}
 use Rattle.ir_record.proofs.Profiles.{profile_after_run, profile_of_start_thread}
-use Rattle.ir_record.proofs.Refusing.{in_turns-run}
+use Rattle.ir_record.proofs.Refusing.{is_run_if_in_turns}
 use Rattle.ir_record.proofs.Telling.{StandAtEnd, emitted_there, printed_there, answered_there}
 
 -- ---- the start
@@ -62,15 +62,15 @@ recording_start_is_ready guest budget profile answers failed size works =
 
 -- ---- the end
 
-done_is_decidable : (q : machine.Ask) → (q ≡ machine.Done) ⊎ (q ≢ machine.Done)
-done_is_decidable machine.Private = inr (λ e. cc e)
-done_is_decidable (machine.Env k) = inr (λ e. cc e)
-done_is_decidable (machine.Enter o a) = inr (λ e. cc e)
-done_is_decidable (machine.Try o) = inr (λ e. cc e)
-done_is_decidable (machine.Leave o a) = inr (λ e. cc e)
-done_is_decidable (machine.Get o i) = inr (λ e. cc e)
-done_is_decidable (machine.Put o i w) = inr (λ e. cc e)
-done_is_decidable machine.Done = inl refl
+ask_is_done_or_not : (q : machine.Ask) → (q ≡ machine.Done) ⊎ (q ≢ machine.Done)
+ask_is_done_or_not machine.Private = inr (λ e. cc e)
+ask_is_done_or_not (machine.Env k) = inr (λ e. cc e)
+ask_is_done_or_not (machine.Enter o a) = inr (λ e. cc e)
+ask_is_done_or_not (machine.Try o) = inr (λ e. cc e)
+ask_is_done_or_not (machine.Leave o a) = inr (λ e. cc e)
+ask_is_done_or_not (machine.Get o i) = inr (λ e. cc e)
+ask_is_done_or_not (machine.Put o i w) = inr (λ e. cc e)
+ask_is_done_or_not machine.Done = inl refl
 
 -- where none of the guest's threads has a step, all threads are done
 done_if_no_thread_has_step : (guest : Guest) (budget : ℕ) (profile : Profile) (run : List Step) → IsRun (thread_machine guest.code) (tables (start_flat guest budget profile)) run
@@ -79,7 +79,7 @@ done_if_no_thread_has_step : (guest : Guest) (budget : ℕ) (profile : Profile) 
     → IsDone (thread_machine guest.code) (end (thread_machine guest.code) (tables (start_flat guest budget profile)) run)
 done_if_no_thread_has_step guest budget profile run ok none t =
     let s : State thread.ThreadState = end (thread_machine guest.code) (tables (start_flat guest budget profile)) run in
-    elim (done_is_decidable (asked (thread_machine guest.code) s t)) [
+    elim (ask_is_done_or_not (asked (thread_machine guest.code) s t)) [
       | inl e ↦ e
       | inr ne ↦ absurd (stuck (nothing_is_stuck guest budget profile run ok t ne))
     ]
@@ -119,7 +119,7 @@ module _ {guest : Guest} {budget : ℕ} {profile : Profile} {turns : List Turn} 
       ∙ profile_of_start_thread guest budget profile 0 (length guest.entries) t (let n = threads_there in omega (arith, l, n))
 
   run_of_it : IsRun (thread_machine guest.code) (tables (start_flat guest budget profile)) o.took.run
-  run_of_it = in_turns-run (thread_machine guest.code) (tables (start_flat guest budget profile))
+  run_of_it = is_run_if_in_turns (thread_machine guest.code) (tables (start_flat guest budget profile))
       (turns ++ plain_turns (rounds (length guest.entries) o.count)) o.took.run o.took.in_turns
 
   done_there : IsDone (thread_machine guest.code) (end (thread_machine guest.code) (tables (start_flat guest budget profile)) o.took.run)

@@ -10,11 +10,11 @@ pub plain_turns-append : (xs ys : List ℕ) → plain_turns (xs ++ ys) ≡ plain
 plain_turns-append xs ys = map-append (λ t. (t, false)) xs ys
 
 -- turns make a run
-pub in_turns-run : {T : Type 0} (m : Machine T) (s : State T) (turns : List Turn) (run : List Step) → InTurns m s turns run → IsRun m s run
-in_turns-run m s [] run e = subst (IsRun m s) (sym e) tt
-in_turns-run m s ((t, refused) ∷ turns) run (inl none) = in_turns-run m s turns run none.1
-in_turns-run m s ((t, refused) ∷ turns) run (inr some) =
-    subst (IsRun m s) (sym some.2) (some.3, in_turns-run m (after m s (t, some.0)) turns some.1 some.5)
+pub is_run_if_in_turns : {T : Type 0} (m : Machine T) (s : State T) (turns : List Turn) (run : List Step) → InTurns m s turns run → IsRun m s run
+is_run_if_in_turns m s [] run e = subst (IsRun m s) (sym e) tt
+is_run_if_in_turns m s ((t, refused) ∷ turns) run (inl none) = is_run_if_in_turns m s turns run none.1
+is_run_if_in_turns m s ((t, refused) ∷ turns) run (inr some) =
+    subst (IsRun m s) (sym some.2) (some.3, is_run_if_in_turns m (after m s (t, some.0)) turns some.1 some.5)
 
 -- turns, and then others
 pub in_turns-append : {T : Type 0} (m : Machine T) (s : State T) (turns more : List Turn) (run rest : List Step) → InTurns m s turns run
@@ -32,34 +32,34 @@ in_turns-append m s ((t, refused) ∷ turns) more run rest (inr some) h = inr (
 
 -- ---- turns in which no try is refused that may enter
 
-pub in_turn-plain_turns : {T : Type 0} (m : Machine T) (s : State T) (order : List ℕ) (run : List Step) → InTurn m s order run
+pub in_plain_turns_if_in_turn : {T : Type 0} (m : Machine T) (s : State T) (order : List ℕ) (run : List Step) → InTurn m s order run
     → InTurns m s (plain_turns order) run
-in_turn-plain_turns m s [] run e = e
-in_turn-plain_turns m s (t ∷ order) run (inl none) = inl (none.0, in_turn-plain_turns m s order run none.1)
-in_turn-plain_turns m s (t ∷ order) run (inr some) =
-    inr (some.0, some.1, some.2, some.3, some.4, in_turn-plain_turns m (after m s (t, some.0)) order some.1 some.5)
+in_plain_turns_if_in_turn m s [] run e = e
+in_plain_turns_if_in_turn m s (t ∷ order) run (inl none) = inl (none.0, in_plain_turns_if_in_turn m s order run none.1)
+in_plain_turns_if_in_turn m s (t ∷ order) run (inr some) =
+    inr (some.0, some.1, some.2, some.3, some.4, in_plain_turns_if_in_turn m (after m s (t, some.0)) order some.1 some.5)
 
-pub plain_turns-in_turn : {T : Type 0} (m : Machine T) (s : State T) (order : List ℕ) (run : List Step) → InTurns m s (plain_turns order) run
+pub in_turn_if_in_plain_turns : {T : Type 0} (m : Machine T) (s : State T) (order : List ℕ) (run : List Step) → InTurns m s (plain_turns order) run
     → InTurn m s order run
-plain_turns-in_turn m s [] run e = e
-plain_turns-in_turn m s (t ∷ order) run (inl none) = inl (none.0, plain_turns-in_turn m s order run none.1)
-plain_turns-in_turn m s (t ∷ order) run (inr some) =
-    inr (some.0, some.1, some.2, some.3, some.4, plain_turns-in_turn m (after m s (t, some.0)) order some.1 some.5)
+in_turn_if_in_plain_turns m s [] run e = e
+in_turn_if_in_plain_turns m s (t ∷ order) run (inl none) = inl (none.0, in_turn_if_in_plain_turns m s order run none.1)
+in_turn_if_in_plain_turns m s (t ∷ order) run (inr some) =
+    inr (some.0, some.1, some.2, some.3, some.4, in_turn_if_in_plain_turns m (after m s (t, some.0)) order some.1 some.5)
 
-pub by_order-plain_turns : {T : Type 0} (m : Machine T) (s : State T) (n : ℕ) (order : List ℕ) (run : List Step) → IsByOrder m s n order run
+pub by_plain_turns_if_by_order : {T : Type 0} (m : Machine T) (s : State T) (n : ℕ) (order : List ℕ) (run : List Step) → IsByOrder m s n order run
     → IsByTurns m s n (plain_turns order) run
-by_order-plain_turns m s n order run h = record {
+by_plain_turns_if_by_order m s n order run h = record {
   count = h.count;
   in_turns = subst (λ z. InTurns m s z run) (plain_turns-append order (rounds n h.count))
-      (in_turn-plain_turns m s (order ++ rounds n h.count) run h.turns);
+      (in_plain_turns_if_in_turn m s (order ++ rounds n h.count) run h.turns);
   done = h.done;
 }
 
-pub plain_turns-by_order : {T : Type 0} (m : Machine T) (s : State T) (n : ℕ) (order : List ℕ) (run : List Step) → IsByTurns m s n (plain_turns order) run
+pub by_order_if_by_plain_turns : {T : Type 0} (m : Machine T) (s : State T) (n : ℕ) (order : List ℕ) (run : List Step) → IsByTurns m s n (plain_turns order) run
     → IsByOrder m s n order run
-plain_turns-by_order m s n order run h = record {
+by_order_if_by_plain_turns m s n order run h = record {
   count = h.count;
-  turns = plain_turns-in_turn m s (order ++ rounds n h.count) run
+  turns = in_turn_if_in_plain_turns m s (order ++ rounds n h.count) run
       (subst (λ z. InTurns m s z run) (sym (plain_turns-append order (rounds n h.count))) h.in_turns);
   done = h.done;
 }

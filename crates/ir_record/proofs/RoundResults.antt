@@ -29,15 +29,15 @@ no_step_after_changeless_turn : (u : ℕ) (f g : Flat) → g.code ≡ f.code →
 no_step_after_changeless_turn u f g code same none = subst (λ s. HasNone (machine g) s u) (sym same)
     (subst (λ k. HasNone (thread_machine k) (tables f) u) (sym code) none)
 
-skips_after_changeless_turn : (u k j : ℕ) (c d : List ℕ) (f g : Flat) → g.code ≡ f.code → tables g ≡ tables f → j ≤ k → lead d u ≡ lead c u → (k ≤ lead c u)
+thread_can_skip_after_changeless_turn : (u k j : ℕ) (c d : List ℕ) (f g : Flat) → g.code ≡ f.code → tables g ≡ tables f → j ≤ k → lead d u ≡ lead c u → (k ≤ lead c u)
     ⊎ HasNone (machine f) (tables f) u → (j ≤ lead d u) ⊎ HasNone (machine g) (tables g) u
-skips_after_changeless_turn u k j c d f g code same less is some =
+thread_can_skip_after_changeless_turn u k j c d f g code same less is some =
     elim some [ inl enough ↦ inl (omega (arith, less, is, enough)) | inr none ↦ inr (no_step_after_changeless_turn u f g code same none) ]
 
 -- where each thread bounds the rounds, and one more
-bound_of_leads_with_one_added : (t j k : ℕ) (c d : List ℕ) → ((u : ℕ) → u ≢ t → lead d u ≡ lead c u) → j ≡ min k (lead d t) → ((u : ℕ) → u < t → k ≤ lead c u)
+bound_is_at_most_each_lead_step : (t j k : ℕ) (c d : List ℕ) → ((u : ℕ) → u ≢ t → lead d u ≡ lead c u) → j ≡ min k (lead d t) → ((u : ℕ) → u < t → k ≤ lead c u)
     → (u : ℕ) → u < t + 1 → j ≤ lead d u
-bound_of_leads_with_one_added t j k c d others is before u l = elim (cases_eq u t) [
+bound_is_at_most_each_lead_step t j k c d others is before u l = elim (cases_eq u t) [
   | inl e ↦ subst (λ z. j ≤ lead d z) (sym e) (let own = min-le_right k (lead d t) in omega (arith, is, own))
   | inr ne ↦ let same = others u ne in let was = before u (omega (arith, l, ne)) in let less = min-le_left k (lead d t) in
       omega (arith, same, was, less, is)
@@ -46,26 +46,26 @@ bound_of_leads_with_one_added t j k c d others is before u l = elim (cases_eq u 
 pub round_after_turn : (outcome : Outcome) (t : ℕ) (old new : RoundResult) (c d : List ℕ) (f g : Flat) → RoundAfterTurns t old c f → IsTurn outcome t c d f g
     → Noted outcome (lead d t) old new → RoundAfterTurns (t + 1) new d g
 round_after_turn Spent t old new c d f g p q noted = record {
-  all = λ w. bound_of_leads_with_one_added t new.free old.free c d q.others noted.2 (p.all (sym noted.1 ∙ w));
+  all = λ w. bound_is_at_most_each_lead_step t new.free old.free c d q.others noted.2 (p.all (sym noted.1 ∙ w));
   each = λ u l. elim (cases_eq u t) [
     | inl e ↦ inl (subst (λ z. new.free ≤ lead d z) (sym e) (let own = min-le_right old.free (lead d t) in omega (arith, noted.2, own)))
-    | inr ne ↦ skips_after_changeless_turn u old.free new.free c d f g q.code (q.rests (λ is. cc is))
+    | inr ne ↦ thread_can_skip_after_changeless_turn u old.free new.free c d f g q.code (q.rests (λ is. cc is))
         (let less = min-le_left old.free (lead d t) in omega (arith, noted.2, less)) (q.others u ne) (p.each u (omega (arith, l, ne)))
   ];
 }
 round_after_turn Stepped t old new c d f g p q noted = record {
-  all = λ w. bound_of_leads_with_one_added t new.free old.free c d q.others (noted.3 (sym noted.1 ∙ w)) (p.all (sym noted.1 ∙ w));
+  all = λ w. bound_is_at_most_each_lead_step t new.free old.free c d q.others (noted.3 (sym noted.1 ∙ w)) (p.all (sym noted.1 ∙ w));
   each = λ u l. by_waited old.waited refl u l;
 }
   where
     by_waited : (b : Bool) → old.waited ≡ b → (u : ℕ) → u < t + 1 → (new.free ≤ lead d u) ⊎ HasNone (machine g) (tables g) u
     by_waited true e u l = inl (let zeros = noted.2 e in omega (arith, zeros))
-    by_waited false e u l = inl (bound_of_leads_with_one_added t new.free old.free c d q.others (noted.3 e) (p.all e) u l)
+    by_waited false e u l = inl (bound_is_at_most_each_lead_step t new.free old.free c d q.others (noted.3 e) (p.all e) u l)
 round_after_turn Waited t old new c d f g p q noted = record {
   all = λ w. absurd (cc (w, noted.1));
   each = λ u l. elim (cases_eq u t) [
     | inl e ↦ inr (subst (HasNone (machine g) (tables g)) (sym e) (q.waits refl))
-    | inr ne ↦ skips_after_changeless_turn u old.free new.free c d f g q.code (q.rests (λ is. cc is)) (omega (arith, noted.2)) (q.others u ne)
+    | inr ne ↦ thread_can_skip_after_changeless_turn u old.free new.free c d f g q.code (q.rests (λ is. cc is)) (omega (arith, noted.2)) (q.others u ne)
         (p.each u (omega (arith, l, ne)))
   ];
 }

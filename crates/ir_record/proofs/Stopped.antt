@@ -22,7 +22,7 @@ use Rattle.ir_record.specs.Worlds.{answers_at, Answered, answers_in}
 use Rattle.ir_record.specs.Recording.{StoppedInTurns}
 use Rattle.ir_record.proofs.Ended.{start, made_recording_is_start, new_log}
 use Rattle.ir_record.proofs.Going.{reached, range_from_zero_with_last}
-use Rattle.ir_record.proofs.Refusing.{plain_turns-append, in_turns-append, in_turn-plain_turns}
+use Rattle.ir_record.proofs.Refusing.{plain_turns-append, in_turns-append, in_plain_turns_if_in_turn}
 use Rattle.ir_record.proofs.Steps.{log_same_on_first_machine, answers_in_append}
 
 -- the error that a `?` hands on
@@ -117,24 +117,24 @@ range_splits_at_number t n l = ap (λ z. z ++ range_with_len (t + 1) (n - (t + 1
     ∙ range_splits_in_two 0 (t + 1) (n - (t + 1)) ∙ ap (range_with_len 0) (let e : t + 1 + (n - (t + 1)) ≡ n = omega (arith, l) in e)
 
 -- the turns of one thread before the last one that was taken, that one, and those after it
-pub turns_split_at_last_taken : (t count left ran : ℕ) → left ≤ count → 0 < left → ran ≤ left - 1
+pub replicate_splits_around_later_element : (t count left ran : ℕ) → left ≤ count → 0 < left → ran ≤ left - 1
     → (replicate (count - left + ran) t ++ t ∷ []) ++ replicate (left - (ran + 1)) t ≡ replicate count t
-turns_split_at_last_taken t count left ran l some few = ap (λ z. z ++ replicate (left - (ran + 1)) t) (replicate-append-replicate (count - left + ran) 1 t)
+replicate_splits_around_later_element t count left ran l some few = ap (λ z. z ++ replicate (left - (ran + 1)) t) (replicate-append-replicate (count - left + ran) 1 t)
     ∙ replicate-append-replicate (count - left + ran + 1) (left - (ran + 1)) t
     ∙ ap (λ k. replicate k t) (let e : count - left + ran + 1 + (left - (ran + 1)) ≡ count = omega (arith, l, some, few) in e)
 
 -- ---- turns in which tries may be refused
 
 -- turns in which no try is refused that may enter
-pub plain_stopped : (order : List ℕ) (p : Progress) (named : ℕ) (answers : List (List Answered)) → StoppedAt order (tables p.flat) p named answers
+pub stopped_in_plain_turns_if_in_order : (order : List ℕ) (p : Progress) (named : ℕ) (answers : List (List Answered)) → StoppedAt order (tables p.flat) p named answers
     → StoppedTurns (plain_turns order) p named answers
-plain_stopped order p named answers h = record {
+stopped_in_plain_turns_if_in_order order p named answers h = record {
   taken = plain_turns h.taken;
   refused = false;
   left = plain_turns h.left;
   so_far = ap plain_turns h.so_far ∙ plain_turns-append h.taken (named ∷ h.left);
   run = h.run;
-  in_turns = in_turn-plain_turns (machine p.flat) (tables p.flat) h.taken h.run h.turns;
+  in_turns = in_plain_turns_if_in_turn (machine p.flat) (tables p.flat) h.taken h.run h.turns;
   kind = h.kind;
   asks = h.asks;
   worlds = h.worlds;
@@ -142,9 +142,9 @@ plain_stopped order p named answers h = record {
 }
 
 -- a turn in which the thread asks its world
-pub turn_stopped : (t : ℕ) (refused : Bool) (p : Progress) (named : ℕ) (answers : List (List Answered)) (failed : List Bool) → IsReady p failed
+pub stopped_turns_at_own_turn : (t : ℕ) (refused : Bool) (p : Progress) (named : ℕ) (answers : List (List Answered)) (failed : List Bool) → IsReady p failed
     → IsUnanswered t p named answers → StoppedTurns ((t, refused) ∷ []) p named answers
-turn_stopped t refused p named answers failed ready h =
+stopped_turns_at_own_turn t refused p named answers failed ready h =
     let s : StoppedAt (t ∷ []) (tables p.flat) p named answers = stopped_at_own_turn t (tables p.flat) p named answers failed ready refl h in
     record {
       taken = [];
@@ -160,9 +160,9 @@ turn_stopped t refused p named answers failed ready h =
     }
 
 -- more turns
-pub turns_stopped_within : (turns more whole : List Turn) (p : Progress) (named : ℕ) (answers : List (List Answered)) → turns ++ more ≡ whole
+pub stopped_in_longer_turns : (turns more whole : List Turn) (p : Progress) (named : ℕ) (answers : List (List Answered)) → turns ++ more ≡ whole
     → StoppedTurns turns p named answers → StoppedTurns whole p named answers
-turns_stopped_within turns more whole p named answers e h = record {
+stopped_in_longer_turns turns more whole p named answers e h = record {
   taken = h.taken;
   refused = h.refused;
   left = h.left ++ more;
@@ -176,9 +176,9 @@ turns_stopped_within turns more whole p named answers e h = record {
 }
 
 -- turns, and then others
-pub turns_stopped_after : (turns more : List Turn) (a b : Progress) (named : ℕ) (answers : List (List Answered)) → TookTurns turns a b
+pub stopped_turns_after_turns : (turns more : List Turn) (a b : Progress) (named : ℕ) (answers : List (List Answered)) → TookTurns turns a b
     → StoppedTurns more b named answers → StoppedTurns (turns ++ more) a named answers
-turns_stopped_after turns more a b named answers p h =
+stopped_turns_after_turns turns more a b named answers p h =
     let both : (t : ℕ) → log (machine a.flat) (tables a.flat) (p.run ++ h.run) t ≡ log (machine a.flat) (tables a.flat) p.run t
     ++ log (machine b.flat) (tables b.flat) h.run t =
     λ t. log_append (machine a.flat) (tables a.flat) p.run h.run t

@@ -27,16 +27,16 @@ alone_after_with_reply_added : {T : Type 0} (m : Machine T) (x : T) (vs : List �
 alone_after_with_reply_added m x [] v = refl
 alone_after_with_reply_added m x (u ∷ vs) v = alone_after_with_reply_added m (m.take x u) vs v
 
-keep_if_of_append : {A : Type 0} (b : Bool) (x : A) (xs ys : List A) → keep_if b x (xs ++ ys) ≡ keep_if b x xs ++ ys
-keep_if_of_append true x xs ys = refl
-keep_if_of_append false x xs ys = refl
+keep_if_prepends_to_first_of_append : {A : Type 0} (b : Bool) (x : A) (xs ys : List A) → keep_if b x (xs ++ ys) ≡ keep_if b x xs ++ ys
+keep_if_prepends_to_first_of_append true x xs ys = refl
+keep_if_prepends_to_first_of_append false x xs ys = refl
 
 shared_steps_with_reply_added : {T : Type 0} (m : Machine T) (x : T) (vs : List ℕ) (v : ℕ)
     → shared_steps m x (vs ++ v ∷ []) ≡ shared_steps m x vs ++ keep_if (is_shared (act_of (m.ask (alone_after m x vs)) v))
     (act_of (m.ask (alone_after m x vs)) v, v) []
 shared_steps_with_reply_added m x [] v = refl
 shared_steps_with_reply_added m x (u ∷ vs) v = ap (keep_if (is_shared (act_of (m.ask x) u)) (act_of (m.ask x) u, u)) (shared_steps_with_reply_added m (m.take x u) vs v)
-    ∙ keep_if_of_append (is_shared (act_of (m.ask x) u)) (act_of (m.ask x) u, u) (shared_steps m (m.take x u) vs) _
+    ∙ keep_if_prepends_to_first_of_append (is_shared (act_of (m.ask x) u)) (act_of (m.ask x) u, u) (shared_steps m (m.take x u) vs) _
 
 own_act_label_ignores_labels : (q : Act) (ks ls : List Label) → is_shared q ≡ false → alone_label q ks ≡ alone_label q ls
 own_act_label_ignores_labels Silent ks ls e = refl

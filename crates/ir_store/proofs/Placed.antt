@@ -19,8 +19,8 @@ part_at_end xs more = ap (take (length more)) (drop-append_seam xs more) ∙ tak
 abbrev pub Extends : {X : Type 0} → List X → List X → Type 0
 Extends {X} old new = (more : List X) × (new ≡ old ++ more)
 
-longer_after_growth : {X : Type 0} (old new : List X) → Extends old new → length old ≤ length new
-longer_after_growth old new grows = let e = ap length grows.1 in let k = length-append old grows.0 in omega (arith, e, k)
+extended_list_is_no_shorter : {X : Type 0} (old new : List X) → Extends old new → length old ≤ length new
+extended_list_is_no_shorter old new grows = let e = ap length grows.1 in let k = length-append old grows.0 in omega (arith, e, k)
 
 module _ (threads threads' : List ℕ) (objects objects' : List Spot) (more : Extends threads threads') (also : Extends objects objects') where
   node_after_growth : (place : Place) → IsPlaced (length threads) (length objects) place → node_at threads' objects' place ≡ node_at threads objects place
@@ -39,8 +39,8 @@ module _ (threads threads' : List ℕ) (objects objects' : List Spot) (more : Ex
       → AllByRecursion (IsPlaced (length threads') (length objects')) places
   placed_after_growth places all = all_by_recursion_weaker (IsPlaced (length threads) (length objects)) (IsPlaced (length threads') (length objects')) places
       (λ place is. record {
-        threads = let a = is.threads in let b = longer_after_growth threads threads' more in omega (arith, a, b);
-        objects = let a = is.objects in let b = longer_after_growth objects objects' also in omega (arith, a, b);
+        threads = let a = is.threads in let b = extended_list_is_no_shorter threads threads' more in omega (arith, a, b);
+        objects = let a = is.objects in let b = extended_list_is_no_shorter objects objects' also in omega (arith, a, b);
       }) all
 
 -- the last state, whose numbers come after all others

@@ -11,9 +11,9 @@ use Rattle.ir_thread.specs.State.{ThreadState}
 use Rattle.ir_store.specs.Table.{Keeps, LooksLike, AreLooks}
 use Rattle.ir_store.proofs.Lists.{keeps_after_push}
 
-pub read_row_is_mapped_element : {R X : Type 0} (f : R → X) (rows : List R) (row : R) (n : ℕ) (x : X) → n < length (map f rows) → row ≡ get_or rows n row
+pub looked_up_row_is_element_of_mapped_rows : {R X : Type 0} (f : R → X) (rows : List R) (row : R) (n : ℕ) (x : X) → n < length (map f rows) → row ≡ get_or rows n row
     → x ≡ f row → slice_get (map f rows) n ≡ Some x
-read_row_is_mapped_element f rows row n x lt at is =
+looked_up_row_is_element_of_mapped_rows f rows row n x lt at is =
     slice_get-map f rows n
     ∙ ap (option_map f) (slice_get_read rows (length rows) n row refl (subst (λ k. n < k) (length_of_map f rows) lt) at)
     ∙ ap Some (sym is)
@@ -68,7 +68,7 @@ looks_after_row_put f g start rows new row all is either = elim either [
 ]
 
 -- the element of the row that is read
-pub read_row_is_element_or : {R X : Type 0} (f : R → X) (rows : List R) (row : R) (n : ℕ) (d : X) → n < length (map f rows) → row ≡ get_or rows n row
+pub looked_up_row_is_get_or_of_mapped_rows : {R X : Type 0} (f : R → X) (rows : List R) (row : R) (n : ℕ) (d : X) → n < length (map f rows) → row ≡ get_or rows n row
     → f row ≡ get_or (map f rows) n d
-read_row_is_element_or f rows row n d lt at =
-    sym (get_or_from_slice_get (map f rows) n (f row) d (read_row_is_mapped_element f rows row n (f row) lt at refl))
+looked_up_row_is_get_or_of_mapped_rows f rows row n d lt at =
+    sym (get_or_from_slice_get (map f rows) n (f row) d (looked_up_row_is_element_of_mapped_rows f rows row n (f row) lt at refl))

@@ -2,7 +2,7 @@
 use Rattle.std.proofs.Common.{◌≡◌, ℕ, List, [], ◌++◌, Option, Bool, Result, Ok, Err, refl, sym, ap, ◌∙◌, subst, append_assoc, append-nil}
 use Rattle.std.specs.Io.KnownBytes.{Appends}
 use Rattle.std.proofs.KnownBytes.{Appends-nil, Appends-trans}
-use Rattle.ir_stream.proofs.CallerLemmas.{prefix_after_whole_text, prefix_of_longer_text, all_written, part_written}
+use Rattle.ir_stream.proofs.CallerLemmas.{prefix_after_whole_text, prefix_of_longer_text, writes_or_fails_if_all_written, writes_or_fails_if_part_written}
 use Rattle.ir_stream.specs.Answers.{AppendsPrefix}
 use Rattle.ir_stream.specs.Writing.{WritesText}
 use Rattle.ir_text.specs.Buffered.{Buffered}
@@ -72,9 +72,9 @@ prefix_written_if_line_fails a b c left line more text f e prefix =
 pub writes_text_by_last_buffer : {D A E : Type 0} (written : D → Option (List ℕ)) {broken : D → Bool} {a b c : D} (buffer left text slice : List ℕ)
     (r : Result A E) → Buffered (written a) (written b) (buffer ++ left) text → left ≡ [] → slice ≡ buffer → broken b ≡ broken a
     → WritesText written broken b c slice r → WritesText written broken a c text r
-writes_text_by_last_buffer written {broken} {a} {b} {c} buffer left text slice (Ok x) f none same stays w = all_written
+writes_text_by_last_buffer written {broken} {a} {b} {c} buffer left text slice (Ok x) f none same stays w = writes_or_fails_if_all_written
     (text_written_after_last_write (written a) (written b) (written c) buffer left text f (subst (Appends (written b) (written c)) same w.ok) none)
     (w.stays ∙ stays)
-writes_text_by_last_buffer written {broken} {a} {b} {c} buffer left text slice (Err e) f none same stays w = part_written
+writes_text_by_last_buffer written {broken} {a} {b} {c} buffer left text slice (Err e) f none same stays w = writes_or_fails_if_part_written
     (prefix_written_if_write_fails (written a) (written b) (written c) buffer left text f
     (subst (AppendsPrefix (written b) (written c)) same w.prefix)) w.err

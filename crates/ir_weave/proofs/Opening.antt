@@ -272,8 +272,8 @@ pub dealt_view_is_first_thread : (k : Plan) (l m : ℕ) (me w : M) → me ≡ (t
     → w ≡ (progress k l (opened_at k l) false (first_met k) ∷ [], [])
 dealt_view_is_first_thread k l m me w is emitted = emitted ∙ (λ i. (first_alone (is i).0, []))
 
-pub tracks_by_successor : (k : Plan) (l m n : ℕ) (me : M) → me ≡ (tracks_from k l m, []) → m ≡ suc n → me ≡ (tracks_from k l (suc n), [])
-tracks_by_successor k l m n me is e = is ∙ (λ i. (tracks_from k l (e i), []))
+pub view_is_tracks_of_successor : (k : Plan) (l m n : ℕ) (me : M) → me ≡ (tracks_from k l m, []) → m ≡ suc n → me ≡ (tracks_from k l (suc n), [])
+view_is_tracks_of_successor k l m n me is e = is ∙ (λ i. (tracks_from k l (e i), []))
 
 -- ---- closing
 
@@ -380,9 +380,9 @@ guest_has_thread f s ts g guest is same size = let some = guest.some_thread in l
 
 -- ---- the objects at the end
 
-pub words_read_with_word_set : (ws : List ℕ) (from : ℕ) (xs : List ℕ) (n w : ℕ) → AreRead ws from xs n → n < most_object_words → w ≡ get_or ws (from + n) 0
+pub are_read_step : (ws : List ℕ) (from : ℕ) (xs : List ℕ) (n w : ℕ) → AreRead ws from xs n → n < most_object_words → w ≡ get_or ws (from + n) 0
     → AreRead ws from (set xs n w) (n + 1)
-words_read_with_word_set ws from xs n w h inside is = record {
+are_read_step ws from xs n w h inside is = record {
   size = length-set xs n w ∙ h.size;
   each = λ i l. elim (cases_eq i n) [
     | inl here ↦ subst (λ z. get_or (set xs n w) z 0 ≡ get_or ws (from + z) 0) (sym here)
@@ -409,9 +409,9 @@ pub record AreObjects (cells xs : List Cell) (n : ℕ) : Type 0 where
   pub size : length xs ≡ length cells
   pub each : (o : ℕ) → o < n → object_in xs o ≡ object_in cells o
 
-pub objects_with_one_set : (cells xs : List Cell) (n : ℕ) (c : Cell) → AreObjects cells xs n → n < length xs → c ≡ object_in cells n
+pub are_objects_step : (cells xs : List Cell) (n : ℕ) (c : Cell) → AreObjects cells xs n → n < length xs → c ≡ object_in cells n
     → AreObjects cells (set xs n c) (n + 1)
-objects_with_one_set cells xs n c h inside is = record {
+are_objects_step cells xs n c h inside is = record {
   size = length-set xs n c ∙ h.size;
   each = λ o l. elim (cases_eq o n) [
     | inl here ↦ subst (λ z. object_in (set xs n c) z ≡ object_in cells z) (sym here) (get_or-set_same xs n c empty inside ∙ is)
@@ -419,19 +419,19 @@ objects_with_one_set cells xs n c h inside is = record {
   ];
 }
 
-pub full_objects_are_cells : (cells xs : List Cell) (n : ℕ) → AreObjects cells xs n → length xs ≤ n → xs ≡ cells
-full_objects_are_cells cells xs n h all = ext_get_or empty xs cells h.size (λ o l. h.each o (omega (arith, l, all)))
+pub objects_are_cells_if_count_reaches_length : (cells xs : List Cell) (n : ℕ) → AreObjects cells xs n → length xs ≤ n → xs ≡ cells
+objects_are_cells_if_count_reaches_length cells xs n h all = ext_get_or empty xs cells h.size (λ o l. h.each o (omega (arith, l, all)))
 
 pub end_cells_count_guest_objects : (k : Plan) (v : View) (ws : List ℕ) (e : IsEnd k v ws) → length e.cells ≡ object_count (trace_in k).guest
 end_cells_count_guest_objects k v ws e = ap (λ (cs : List Cell). length cs) e.closed.objects ∙ e.closed.at.objects
 
-pub no_objects_are_read : (k : Plan) (v : View) (ws : List ℕ) (e : IsEnd k v ws) (xs : List Cell) → length xs ≡ object_count (trace_in k).guest
+pub are_objects_at_zero : (k : Plan) (v : View) (ws : List ℕ) (e : IsEnd k v ws) (xs : List Cell) → length xs ≡ object_count (trace_in k).guest
     → AreObjects e.cells xs 0
-no_objects_are_read k v ws e xs room = record { size = room ∙ sym (end_cells_count_guest_objects k v ws e); each = λ o l. absurd (omega (arith, l)) }
+are_objects_at_zero k v ws e xs room = record { size = room ∙ sym (end_cells_count_guest_objects k v ws e); each = λ o l. absurd (omega (arith, l)) }
 
-pub read_objects_close_table : (k : Plan) (v : View) (ws : List ℕ) (e : IsEnd k v ws) (xs : List Cell) (n : ℕ) → AreObjects e.cells xs n → length xs ≤ n
+pub objects_are_closed_if_count_reaches_length : (k : Plan) (v : View) (ws : List ℕ) (e : IsEnd k v ws) (xs : List Cell) (n : ℕ) → AreObjects e.cells xs n → length xs ≤ n
     → IsClosed k v xs
-read_objects_close_table k v ws e xs n h all = subst (IsClosed k v) (sym (full_objects_are_cells e.cells xs n h all)) e.closed
+objects_are_closed_if_count_reaches_length k v ws e xs n h all = subst (IsClosed k v) (sym (objects_are_cells_if_count_reaches_length e.cells xs n h all)) e.closed
 
 -- a guest with a trace has no more threads and objects than the trace's profile allows
 pub fitted_guest_is_allowed : (f : FittedTrace) (p : Profile) (g : Guest) → IsFitted f → p ≡ f.recorded.profile → g ≡ f.guest → IsAllowed p g

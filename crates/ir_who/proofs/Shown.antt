@@ -9,8 +9,8 @@ use Rattle.ir_who.specs.declared.dated.Dated.{Dated}
 use Rattle.ir_who.specs.declared.version.Version.{Version}
 
 -- of what is left to put, the first line was put
-pub text_grown_by_line : (so_far line left more text : List ℕ) → so_far ++ left ≡ text → left ≡ line ++ more → so_far ++ (line ++ more) ≡ text
-text_grown_by_line so_far line left more text e first = ap (λ (x : List ℕ). so_far ++ x) (sym first) ∙ e
+pub text_split_at_next_line : (so_far line left more text : List ℕ) → so_far ++ left ≡ text → left ≡ line ++ more → so_far ++ (line ++ more) ≡ text
+text_split_at_next_line so_far line left more text e first = ap (λ (x : List ℕ). so_far ++ x) (sym first) ∙ e
 
 version_lines_of_drop_step : (k n : ℕ) (xs : List Version) (x : Version) → n < length xs
     → version_lines k (drop n xs) ≡ version_line k (get_or xs n x) ++ version_lines (suc k) (drop (n + 1) xs)

@@ -10,7 +10,7 @@ use Rattle.ir_log.specs.Logging.{label_of}
 use Rattle.ir_trace.specs.Recorded.{Recorded, RecordedThread, recorded_thread}
 use Rattle.ir_trace.specs.Absent.{absent}
 use Rattle.ir_fit.specs.Fit.{FittedTrace, HasRun}
-use Rattle.ir_fit.proofs.CallerLemmas.{entries_as_many_as_events, guest_start_is_start}
+use Rattle.ir_fit.proofs.CallerLemmas.{event_positions_are_as_many_as_events, guest_start_is_start}
 use Rattle.ir_cut.specs.Positions.{cut_of, start_of, IsConsistentCut}
 use Rattle.ir_cut.proofs.CallerLemmas.{no_trail_of_missing_thread}
 use Rattle.ir_past.specs.declared.place.Place.{Place}
@@ -31,7 +31,7 @@ pub trace_event_is_inside : (f : FittedTrace) → HasRun f → (t i : ℕ) → t
     → IsInside f t i
 trace_event_is_inside f h t i a b =
     let l : t < length f.guest.entries = let n = h.whole.0.threads in omega (arith, a, n) in
-    record { thread = l; event = let long = entries_as_many_as_events f h t l in omega (arith, long, b) }
+    record { thread = l; event = let long = event_positions_are_as_many_as_events f h t l in omega (arith, long, b) }
 
 pub trace_events_are_inside : (f : FittedTrace) → HasRun f → (places : List Place) → AreThere f.recorded places → AreInside f places
 trace_events_are_inside f h places there k p is = let own = there k p is in trace_event_is_inside f h p.thread p.event own.0 own.1
@@ -41,7 +41,7 @@ pub inside_event_is_of_trace : (f : FittedTrace) → HasRun f → (t i : ℕ) �
     → (t < length f.recorded.threads) × (i < length (recorded_thread f.recorded t).events)
 inside_event_is_of_trace f h t i inside = (
   (let a = inside.thread in let n = h.whole.0.threads in omega (arith, a, n)),
-  (let b = inside.event in let long = entries_as_many_as_events f h t inside.thread in omega (arith, b, long)),
+  (let b = inside.event in let long = event_positions_are_as_many_as_events f h t inside.thread in omega (arith, b, long)),
 )
 
 -- the events of a chain

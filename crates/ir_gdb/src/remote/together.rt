@@ -85,7 +85,7 @@ impl Remote {
     }
 
     // Whether no other thread than this one has a hit on its way to a cut.
-    #[tactic(auto, using(crate::proofs::Together::is_free_of_no_threads, crate::proofs::Together::is_free_if_next_passes, crate::proofs::Together::not_free_if_thread_fails))]
+    #[tactic(auto, using(crate::proofs::Together::is_free_of_no_threads, crate::proofs::Together::is_free_if_next_passes, crate::proofs::Together::not_free_if_thread_does_not_pass))]
     fn is_free(&self, direction: Direction, each: &[Stopped], cut: &Cut, thread: u32) -> bool
         requires count { length each.now ≡ threads_of self.now.stub.desk.fitted }
         requires cut { length cut.now ≡ threads_of self.now.stub.desk.fitted }

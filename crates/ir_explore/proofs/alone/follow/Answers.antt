@@ -2,7 +2,7 @@ use Rattle.std.proofs.Common.{◌≡◌, ◌⊎◌, Bool, false, true, Some, [],
 use Rattle.ir_explore.specs.declared.found.Pending.{Pending}
 use Rattle.ir_explore.specs.TurnSoFar.{IsTurnSoFar, IsAfter}
 use Rattle.ir_explore.specs.Origins.{AreReached}
-use Rattle.ir_explore.proofs.Opens.{Opening, opened_counts_less, open_if_element_true}
+use Rattle.ir_explore.proofs.Opens.{Opening, opening_leaves_fewer_to_open, open_if_element_true}
 use Rattle.ir_explore.proofs.Reached.{reached_if_notes_kept, adds_reflexive, place_of_element_is_below_length}
 use Rattle.ir_explore.proofs.TurnSoFar.{turn_so_far_if_notes_kept, opened_and_joined, joined_if_added, node_is_no_later, reached_after_going_on, adds_after_going_on, going_after_going_on}
 use Rattle.ir_explore.proofs.alone.follow.Goals as goal
@@ -204,7 +204,7 @@ returns-clause-less g c =
           let add = length-append c.args.opened.now.items (true ∷ []) in
           let inside = c.in_ok-node.ensures.within c.in-Some.node c.in-Some.is in omega (arith, size, wide, most, rows, add, at, inside)
     ]) in
-    let less = opened_counts_less (g.S.Successors.most c.next.new.self) c.args.opened.now.items c.open.new.opened.items next.node both.0 room in
+    let less = opening_leaves_fewer_to_open (g.S.Successors.most c.next.new.self) c.args.opened.now.items c.open.new.opened.items next.node both.0 room in
     let limit = c.next.ensures.limit in
     let more = ap length c.in_ok-open.ensures.pending in
     let one = length-append c.args.found.now.pending.items (next ∷ []) in

@@ -9,12 +9,12 @@ use Rattle.ir_graph.specs.Setup.{Setup}
 use Rattle.ir_image.specs.Guest.{object_count}
 use Rattle.ir_outcomes.specs.Explored.{AreExplored}
 use Rattle.ir_outcomes.specs.Exploring.{levels_left}
-use Rattle.ir_outcomes.proofs.CallerLemmas.{left_less}
+use Rattle.ir_outcomes.proofs.CallerLemmas.{fewer_levels_left_after_one_is_gone_over}
 use Rattle.ir_thread.specs.State.{IsAllowed}
 use Rattle.ir_explore_run.specs.Printed.{HasPrinted, EndsEarly}
 use Rattle.ir_explore_run.specs.Texts.{Objects, objects_in}
 use Rattle.ir_explore_run.proofs.Joined.{texts_of_no_outcome}
-use Rattle.ir_explore_run.proofs.Printed.{printed_outcomes_are_part, kept_list_is_not_longer, printed_among_more, failed_after_taken_text}
+use Rattle.ir_explore_run.proofs.Printed.{printed_outcomes_are_part, kept_list_is_not_longer, printed_kept_among_more_outcomes, failed_after_taken_text}
 use Rattle.ir_explore_run.proofs.levels.print_levels.Goals as goal
 
 pub levels-init : goal.levels-init
@@ -59,7 +59,7 @@ levels-preserved g c =
     let before = c.levels.invariant.printed in
     let size = old.list.outcomes.ok.0 in
     let same = c.len-printed.ensures in
-    let kept = printed_among_more o old new c.len-printed.result before.0 (omega (arith, same, size)) c.levels.invariant.is.explored.nodes
+    let kept = printed_kept_among_more_outcomes o old new c.len-printed.result before.0 (omega (arith, same, size)) c.levels.invariant.is.explored.nodes
     c.go_over.ensures.stay c.go_over.ensures.outcomes before.1 in
     let more = c.in_ok-print_from.ensures.printed before.0 kept in
     record {
@@ -83,7 +83,7 @@ levels-smaller g c =
     let none = c.goes_on.ensures.stop c.levels-test.true in
     subst (λ z. levels_left new.stop (suc new.most - new.states.search.level.number) < levels_left z (suc old.most - old.states.search.level.number)) (sym none)
     (subst (λ m. levels_left new.stop (suc m - new.states.search.level.number) < levels_left None (suc old.most - old.states.search.level.number)) (sym c.go_over.ensures.most)
-    (left_less new.stop old.states.search.level.number new.states.search.level.number old.most (c.goes_on.ensures.wanted c.levels-test.true)
+    (fewer_levels_left_after_one_is_gone_over new.stop old.states.search.level.number new.states.search.level.number old.most (c.goes_on.ensures.wanted c.levels-test.true)
     c.go_over.ensures.next))
 
 pub returns-in_err-print_from-clause-failed : goal.returns-in_err-print_from-clause-failed
@@ -97,7 +97,7 @@ returns-in_err-print_from-clause-failed g c =
     let before = c.levels.invariant.printed in
     let size = old.list.outcomes.ok.0 in
     let same = c.len-printed.ensures in
-    let kept = printed_among_more o old new c.len-printed.result before.0 (omega (arith, same, size)) c.levels.invariant.is.explored.nodes
+    let kept = printed_kept_among_more_outcomes o old new c.len-printed.result before.0 (omega (arith, same, size)) c.levels.invariant.is.explored.nodes
     c.go_over.ensures.stay c.go_over.ensures.outcomes before.1 in
     let explored = subst (λ z. AreExplored z old.states.graph.flats.items old.list.levels old.list.outcomes.items) c.levels.invariant.setup
     c.levels.invariant.is.explored in

@@ -1,7 +1,7 @@
 use Rattle.std.proofs.Common.{◌≡◌, ◌++◌, List, ℕ, [], ◌∷◌, sym, ap, ◌∙◌, append_assoc}
 use Rattle.std.proofs.KnownBytes.{Appends-trans}
 use Rattle.ir_files.specs.Shown.{shown}
-use Rattle.ir_stream.proofs.CallerLemmas.{fails_with_handed_on_error}
+use Rattle.ir_stream.proofs.CallerLemmas.{writes_or_fails_with_handed_on_error}
 use Rattle.ir_files.proofs.Shown.{part_prefix_is_whole_prefix}
 use Rattle.ir_files.proofs.telling.put_each.Goals as goal
 
@@ -11,7 +11,7 @@ one_more whole done rest after byte e f = e ∙ ap (λ z. done ++ z) f ∙ sym (
 
 pub returns-in_err-write_all : goal.returns-in_err-write_all
 returns-in_err-write_all g c =
-    fails_with_handed_on_error _ c.from_residual.result c.from_residual.ensures.1
+    writes_or_fails_with_handed_on_error _ c.from_residual.result c.from_residual.ensures.1
     (part_prefix_is_whole_prefix (g.E.Sink.written c.args.faults.now) (g.E.Sink.written c.bytes.faults) (g.E.Sink.written c.write_all.new.writer)
     c.bytes.invariant.0 (c.in-Some.byte ∷ []) (shown c.in-Some.after.now) (shown c.args.text.now)
     (one_more (shown c.args.text.now) c.bytes.invariant.0 (shown c.bytes.rest.now) (shown c.in-Some.after.now) c.in-Some.byte

@@ -1,12 +1,12 @@
 use Rattle.std.proofs.Common.{rules, ◌≡◌, ◌<◌, ◌∙◌, length}
-use Rattle.ir_stream.proofs.CallerLemmas.{fails_with_handed_on_error}
+use Rattle.ir_stream.proofs.CallerLemmas.{writes_or_fails_with_handed_on_error}
 use Rattle.ir_text.proofs.Buffers.{buffered_after_line_put, prefix_written_if_write_fails, writes_text_by_last_buffer}
 use Rattle.ir_text.proofs.Lines.{output_lines_step, output_lines_of_nothing}
 use Rattle.ir_text.proofs.bytes.write_output.Goals as goal
 
 pub returns-in_err-make_room : goal.returns-in_err-make_room
 returns-in_err-make_room g c =
-    fails_with_handed_on_error _ c.from_residual.result c.from_residual.ensures.1
+    writes_or_fails_with_handed_on_error _ c.from_residual.result c.from_residual.ensures.1
     (prefix_written_if_write_fails _ _ _ _ _ _ c.loop-rest.invariant.text c.in_err-make_room.ensures.writes.prefix) c.in_err-make_room.ensures.writes.err
 
 pub loop-rest-preserved : goal.loop-rest-preserved

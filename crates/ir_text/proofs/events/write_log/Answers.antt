@@ -1,14 +1,14 @@
 use Rattle.std.proofs.Common.{rules, ◌≤◌, ◌∙◌, length, map}
 use Rattle.ir_log.specs.Logging.{label_of}
 use Rattle.ir_text.specs.Texts.{log_text}
-use Rattle.ir_stream.proofs.CallerLemmas.{fails_with_handed_on_error}
+use Rattle.ir_stream.proofs.CallerLemmas.{writes_or_fails_with_handed_on_error}
 use Rattle.ir_text.proofs.Buffers.{buffered_after_line_put, prefix_written_if_write_fails, writes_text_by_last_buffer}
 use Rattle.ir_text.proofs.Lines.{event_lines_step, event_lines_at_end}
 use Rattle.ir_text.proofs.events.write_log.Goals as goal
 
 pub returns-in_err-make_room : goal.returns-in_err-make_room
 returns-in_err-make_room g c =
-    fails_with_handed_on_error _ c.from_residual.result c.from_residual.ensures.1
+    writes_or_fails_with_handed_on_error _ c.from_residual.result c.from_residual.ensures.1
     (prefix_written_if_write_fails _ _ _ _ _ _ c.loop-index.invariant.text c.in_err-make_room.ensures.writes.prefix) c.in_err-make_room.ensures.writes.err
 
 pub loop-index-preserved : goal.loop-index-preserved

@@ -2,7 +2,7 @@ use Rattle.std.proofs.Common.{◌≡◌, ◌<◌, ◌≤◌, ℕ, List, length, 
 use Rattle.ir_trace.specs.Recorded.{recorded_thread}
 use Rattle.ir_fit.specs.Fit.{FittedTrace, HasRun}
 use Rattle.ir_fit.specs.Placed.{Placed, placed_at, placed_of}
-use Rattle.ir_fit.proofs.Listed.{entries_as_many_as_events}
+use Rattle.ir_fit.proofs.Listed.{event_positions_are_as_many_as_events}
 use Rattle.ir_fit.proofs.Placements.{length_of_placed_is_threads}
 use Rattle.ir_fit.proofs.fitted.Fitted.new.Goals as goal
 
@@ -13,7 +13,7 @@ events_not_above_positions : (f : FittedTrace) (ps : List Placed) → HasRun f �
     → length (recorded_thread f.recorded t).events ≤ length (placed_at ps t).entries
 events_not_above_positions f ps run placed t l =
     let within : t < length f.guest.entries = omega (arith, l, ap length placed, length_of_placed_is_threads f) in
-    let same = entries_as_many_as_events f run t within in
+    let same = event_positions_are_as_many_as_events f run t within in
     subst (λ (qs : List Placed). length (recorded_thread f.recorded t).events ≤ length (placed_at qs t).entries) (sym placed) (omega (arith, same))
 
 pub entered-requires-clause-each : goal.entered-requires-clause-each

@@ -4,8 +4,8 @@ use Rattle.ir_stream.specs.Answers.{AppendsPrefix}
 use Rattle.ir_packet.specs.Requests.{console_line}
 use Rattle.ir_debug.specs.Machine.{quits}
 use Rattle.ir_gdb.specs.Connection.{answer_text}
-use Rattle.ir_stream.proofs.CallerLemmas.{fails_with_handed_on_error, writes_or_fails_after_call, writes_or_fails_weaker}
-use Rattle.ir_gdb.proofs.Answering.{sent_answer_to_line, sent_answer_to_quitting_line, sent_no_memory_reply, sent_part_of_answer_to_line, sent_part_of_closing_packet, sent_part_to_quitting_line, sent_part_of_no_memory_reply}
+use Rattle.ir_stream.proofs.CallerLemmas.{writes_or_fails_with_handed_on_error, writes_or_fails_after_call, writes_or_fails_weaker}
+use Rattle.ir_gdb.proofs.Answering.{sent_answer_to_line, sent_answer_to_quitting_line, sent_no_memory_reply, sent_part_of_answer_to_line, sent_part_of_done_packet_after_answer, sent_part_of_answer_to_quitting_line, sent_part_of_no_memory_reply}
 use Rattle.ir_gdb.proofs.Lines.{some_consulted, none_consulted, err_consulted}
 use Rattle.ir_gdb.proofs.connection.Connection.answer_line.Goals as goal
 
@@ -13,7 +13,7 @@ pub returns-in_err-send_answer-in-Ok-Some-clause-writes : goal.returns-in_err-se
 returns-in_err-send_answer-in-Ok-Some-clause-writes g c =
     let some = some_consulted c.args.self.now.link c.answer_of.new.self.link (console_line c.args.self.now.reading.payload) c.answer_of.result
     c.answer_of.ensures.answer c.in-Ok-Some.answered (c.in-Ok-Some.is ∙ ap Ok c.in-Ok-Some.field-0-is) in
-    fails_with_handed_on_error _ c.from_residual.result c.from_residual.ensures.1 (sent_part_of_answer_to_line (quits (console_line c.args.self.now.reading.payload)) c.args.self.now.link
+    writes_or_fails_with_handed_on_error _ c.from_residual.result c.from_residual.ensures.1 (sent_part_of_answer_to_line (quits (console_line c.args.self.now.reading.payload)) c.args.self.now.link
     (console_line c.args.self.now.reading.payload) some.1.0 c.in-Ok-Some.answered.bytes.items _ _ some.0 some.1.1
     (subst (λ (xs : List ℕ). AppendsPrefix (g.W.Sink.written c.args.writer.now) (g.W.Sink.written c.send_answer.new.writer) (answer_text xs))
     c.as_slice.ensures c.in_err-send_answer-in-Ok-Some.ensures.writes.prefix))
@@ -31,7 +31,7 @@ returns-in_ok-send_answer-in-Ok-Some-clause-writes g c =
     (console_line c.args.self.now.reading.payload) some.1.0 c.in-Ok-Some.answered.bytes.items c.answer_of.new.self.link
     c.send_answer.new.self.link c.send_reply.new.self.link _ (g.W.Sink.written c.send_answer.new.writer) _ some.0 some.1.1 some.1.2
     c.in_ok-send_answer-in-Ok-Some.ensures.link c.send_reply.ensures.link first last)
-    (λ last. sent_part_of_closing_packet (quits (console_line c.args.self.now.reading.payload)) c.args.self.now.link
+    (λ last. sent_part_of_done_packet_after_answer (quits (console_line c.args.self.now.reading.payload)) c.args.self.now.link
     (console_line c.args.self.now.reading.payload) some.1.0 c.in-Ok-Some.answered.bytes.items _ (g.W.Sink.written c.send_answer.new.writer) _
     some.0 some.1.1 first last)
     c.send_reply.ensures.writes
@@ -44,7 +44,7 @@ returns-in-Ok-None-clause-writes g c =
     (λ all. sent_answer_to_quitting_line (quits (console_line c.args.self.now.reading.payload)) c.args.self.now.link
     (console_line c.args.self.now.reading.payload) c.answer_of.new.self.link c.send_reply-in-Ok-None.new.self.link _ _ none.0 none.1
     c.send_reply-in-Ok-None.ensures.link all)
-    (λ last. sent_part_to_quitting_line (quits (console_line c.args.self.now.reading.payload)) c.args.self.now.link
+    (λ last. sent_part_of_answer_to_quitting_line (quits (console_line c.args.self.now.reading.payload)) c.args.self.now.link
     (console_line c.args.self.now.reading.payload) _ _ none.0 last)
     c.send_reply-in-Ok-None.ensures.writes
 

@@ -2,12 +2,12 @@ use Rattle.std.proofs.Common.{◌∙◌, refl, sym, ap}
 use Rattle.ir_stream.specs.Endings.{flow_after}
 use Rattle.ir_packet.specs.Reading.{item_found}
 use Rattle.ir_gdb.specs.Connection.{before_reply}
-use Rattle.ir_stream.proofs.CallerLemmas.{all_written, writes_or_fails_weaker}
+use Rattle.ir_stream.proofs.CallerLemmas.{writes_or_fails_if_all_written, writes_or_fails_weaker}
 use Rattle.ir_gdb.proofs.Arms.{copy_dropped, copy_ends_no_connection, new_sent, new_part, flow_after_new_item}
 use Rattle.ir_gdb.proofs.connection.Connection.take.Goals as goal
 
 pub returns-then-is_copy-clause-writes : goal.returns-then-is_copy-clause-writes
-returns-then-is_copy-clause-writes g c = all_written (copy_dropped c.args.self.now.link (item_found c.args.found c.args.self.now.reading.payload)
+returns-then-is_copy-clause-writes g c = writes_or_fails_if_all_written (copy_dropped c.args.self.now.link (item_found c.args.found c.args.self.now.reading.payload)
     (g.W.Sink.written c.args.writer.now) (sym (c.is_copy.ensures c.args.self.now.reading.payload) ∙ c.if-is_copy.true)) refl
 
 pub returns-then-is_copy-clause-flow : goal.returns-then-is_copy-clause-flow

@@ -6,12 +6,12 @@ use Rattle.ir_debug.specs.Debugging.{IsAnswer}
 use Rattle.ir_gdb.specs.Stub.{Stub}
 use Rattle.ir_gdb.specs.Serving.{Serving, debugging_of}
 use Rattle.ir_gdb.specs.Connection.{Responds, with_desk}
-use Rattle.ir_stream.proofs.CallerLemmas.{all_written, writes_or_fails_weaker}
+use Rattle.ir_stream.proofs.CallerLemmas.{writes_or_fails_if_all_written, writes_or_fails_weaker}
 use Rattle.ir_gdb.proofs.Lines.{responds_by_session_answer, responds_nothing_without_words}
 use Rattle.ir_gdb.proofs.remote.Remote.respond.Goals as goal
 
 pub returns-in_default : goal.returns-in_default
-returns-in_default g c = all_written (let none = c.in_default.ensures.none in
+returns-in_default g c = writes_or_fails_if_all_written (let none = c.in_default.ensures.none in
     subst (λ (s : Stub). Responds c.args.self.now.stub c.args.line.now s (Appends (g.W.Sink.written c.args.writer.now) (g.W.Sink.written c.args.writer.now)))
     (sym (ap (λ (x : Serving). x.stub) none.1))
     (responds_nothing_without_words c.parse_line-asked.result c.args.line.now c.args.self.now.stub

@@ -1,7 +1,7 @@
 use Rattle.std.proofs.Common.{◌≡◌, inl, inr, length, sym, ap, ◌∙◌}
 use Rattle.ir_lemmas.proofs.CallerLemmas.{on_ok}
 use Rattle.ir_explore.specs.Levels.{rows}
-use Rattle.ir_graph.proofs.Searched.{searched_by, if_err}
+use Rattle.ir_graph.proofs.Searched.{searched_by, if_err_of_implied}
 use Rattle.ir_graph.proofs.Stops.{may_stop_by_memory}
 use Rattle.ir_graph.proofs.states.States.go_over.Goals as goal
 
@@ -52,7 +52,7 @@ returns-clause-part g c =
 pub returns-clause-stopped : goal.returns-clause-stopped
 returns-clause-stopped g c =
     let graph = c.go_over.new.graph in
-    if_err c.go_over.result (λ stop why. elim why [
+    if_err_of_implied c.go_over.result (λ stop why. elim why [
       | inl e ↦ may_stop_by_memory graph.setup graph.flats.items graph.bounds.nodes graph.bounds.private stop e
       | inr may ↦ may
     ]) c.go_over.ensures.stopped

@@ -7,7 +7,7 @@ use Rattle.ir_thread.specs.State.{most_output}
 use Rattle.ir_trace.specs.Bounds.{IsRecordedThread}
 use Rattle.ir_record.specs.Threads.{IsEmptyFor, IsOver, AreTraces}
 use Rattle.ir_record.proofs.Gathering.{split_moves_past_item, length_of_rest_is_one_less, map_with_item_added}
-use Rattle.ir_record.proofs.Manning.{worker_traces_with_one_added, traces_count_workers, all_holds_of_middle_item, map_with_last_added, empty_if_length_zero, length_with_item_added}
+use Rattle.ir_record.proofs.Manning.{worker_traces_with_one_added, traces_are_as_many_as_workers, middle_element_has_property_of_all, map_with_last_added, empty_if_length_zero, length_with_item_added}
 use Rattle.ir_record.proofs.by_threads.results.gathered.Goals as goal
 
 pub filled-bytes-requires : goal.filled-bytes-requires
@@ -30,7 +30,7 @@ loop-worker-preserved g c =
     let parts : at.yielded ++ x ∷ rest ≡ c.args.workers.items = ap (λ z. at.yielded ++ z) (sym c.in-Some.ensures.steps.0)
     ∙ at.invariant.parts in
     let less : length old ≡ suc (length rest) = ap (λ z. length z) c.in-Some.ensures.steps.0 in
-    let over : IsOver c.args.profile c.args.objects x = all_holds_of_middle_item (IsOver c.args.profile c.args.objects) at.yielded rest x
+    let over : IsOver c.args.profile c.args.objects x = middle_element_has_property_of_all (IsOver c.args.profile c.args.objects) at.yielded rest x
     (subst (AllByRecursion (IsOver c.args.profile c.args.objects)) (sym parts) c.requires.over) in
     let rooms : at.rooms.items ≡ c.pop.new.self.items ++ c.unwrap.result ∷ [] = c.pop.ensures.items
     ∙ ap (λ z. c.pop.new.self.items ++ option_to_list z) c.unwrap.ensures in
@@ -75,7 +75,7 @@ new-requires g c =
     empty_if_length_zero (into_iter_items at.worker-iterator) (into_iter_len at.worker-iterator) at.invariant.size c.in-None.ensures.steps.0 in
     let all : at.yielded ≡ c.args.workers.items = sym (append-nil at.yielded) ∙ ap (λ z. at.yielded ++ z) (sym empty)
     ∙ at.invariant.parts in
-    let count : length at.traces.items ≡ length c.args.workers.items = traces_count_workers at.yielded at.traces.items at.invariant.traces
+    let count : length at.traces.items ≡ length c.args.workers.items = traces_are_as_many_as_workers at.yielded at.traces.items at.invariant.traces
     ∙ ap (λ z. length z) all in
     let some = c.requires.some in
     let few = c.requires.few in

@@ -5,7 +5,7 @@ use Rattle.ir_thread.specs.State as thread
 use Rattle.ir_crew.specs.Ends.{AreSeats}
 use Rattle.ir_record.specs.Threads.{AreNew}
 use Rattle.ir_record.proofs.Gathering.{split_place_below_length, split_moves_past_item, length_of_rest_is_one_less, map_with_item_added}
-use Rattle.ir_record.proofs.Manning.{new_workers_with_one_added, first_seat_and_rest, rest_of_seats_is_one_shorter, length_with_item_added}
+use Rattle.ir_record.proofs.Manning.{new_workers_with_one_added, first_seat_is_new_and_rest_are_seats, rest_of_seats_is_one_shorter, length_with_item_added}
 use Rattle.ir_record.proofs.by_threads.workers.new_workers.Goals as goal
 
 pub loop-world-preserved : goal.loop-world-preserved
@@ -35,7 +35,7 @@ loop-world-preserved g c =
       left = omega (arith, fewer, long, left);
       new = λ id h.
           let z = at.invariant.new id h in
-          let q = first_seat_and_rest id (length at.made.items) at.seats.items c.remove-seat.new.self.items c.remove-seat.result some
+          let q = first_seat_is_new_and_rest_are_seats id (length at.made.items) at.seats.items c.remove-seat.new.self.items c.remove-seat.result some
           c.remove-seat.ensures.value seats z.0 in (
             subst (λ n. AreSeats id n c.remove-seat.new.self.items) (sym long) q.1,
             subst (AreNew c.args.image.now c.args.budget c.args.profile id 0) (sym c.in_ok-push.ensures.items)

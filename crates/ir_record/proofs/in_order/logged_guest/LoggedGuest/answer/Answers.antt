@@ -5,14 +5,14 @@ use Rattle.ir_runs.specs.Run.{Can}
 use Rattle.ir_log.specs.Logged.{Logged}
 use Rattle.ir_log.specs.declared.event.Event.TheVariants as event
 use Rattle.ir_record.proofs.Logs.{log_has_room_for_event, found_log_is_log_at}
-use Rattle.ir_record.proofs.Answering.{AnswerLogged, environment_call_can_step, room_to_log_answer, has_logs_after_answer, turn_taken_by_answer}
+use Rattle.ir_record.proofs.Answering.{AnswerLogged, environment_call_can_step, event_count_is_below_limit_at_call, has_logs_after_answer, turn_taken_by_answer}
 use Rattle.ir_record.proofs.in_order.logged_guest.LoggedGuest.answer.Goals as goal
 
 pub push-requires : goal.push-requires
 push-requires c = log_has_room_for_event c.args.self.now.flat c.args.self.now.logs.items c.args.t c.index_mut.result.now c.requires.has_logs c.requires.thread
     (found_log_is_log_at c.args.self.now.flat c.args.self.now.logs.items c.args.t c.index_mut.result.now c.requires.has_logs c.requires.thread
     c.index_mut.ensures.value)
-    (room_to_log_answer c.args.self.now.flat c.args.t c.args.kind c.requires.asked)
+    (event_count_is_below_limit_at_call c.args.self.now.flat c.args.t c.args.kind c.requires.asked)
 
 answering : (c : goal.After-self-1) → AnswerLogged c.args.self.now.flat c.take.new.self c.args.self.now.logs.items
     (set c.args.self.now.logs.items c.args.t c.push.new.self) c.args.t c.args.value c.args.kind

@@ -1,6 +1,6 @@
 use Rattle.std.proofs.Common.{sym, subst}
 use Rattle.ir_record.specs.Progress.{IsQuiet}
-use Rattle.ir_record.proofs.Entering.{QuietTurn, quiet_turn_by_result, on_err_holds_if_not_ok}
+use Rattle.ir_record.proofs.Entering.{QuietTurn, quiet_turn_by_result, error_fact_if_is_ok_is_false}
 use Rattle.ir_record.proofs.in_order.logged_guest.LoggedGuest.go.Goals as goal
 
 all : (c : goal.After-is_ok) → QuietTurn c.args.self.now.flat c.take.new.self c.args.self.now.logs.items c.args.t c.is_ok.result
@@ -16,4 +16,4 @@ pub returns-clause-has_logs : goal.returns-clause-has_logs
 returns-clause-has_logs c = (all c).has_logs
 
 pub returns-clause-none : goal.returns-clause-none
-returns-clause-none c = λ none. on_err_holds_if_not_ok c.take.result c.is_ok.result _ c.is_ok.ensures.value none c.take.ensures.unchanged
+returns-clause-none c = λ none. error_fact_if_is_ok_is_false c.take.result c.is_ok.result _ c.is_ok.ensures.value none c.take.ensures.unchanged

@@ -7,15 +7,15 @@ use Rattle.ir_log.specs.Logged.{Logged}
 use Rattle.ir_log.specs.declared.event.Event.TheVariants as event
 use Rattle.ir_record.specs.Progress.{progress}
 use Rattle.ir_record.proofs.Logs.{log_has_room_for_event, found_log_is_log_at}
-use Rattle.ir_record.proofs.Entering.{OneEventLogged, event_step, has_logs_after_logged_event}
-use Rattle.ir_record.proofs.Steps.{took_refused}
-use Rattle.ir_record.proofs.Trying.{room_to_log_try, refused_try_can_be_taken, refused_try_logs_one_event}
+use Rattle.ir_record.proofs.Entering.{OneEventLogged, one_step_if_one_event_logged, has_logs_after_logged_event}
+use Rattle.ir_record.proofs.Steps.{took_refused_turn_by_step}
+use Rattle.ir_record.proofs.Trying.{event_count_is_below_limit_at_try, refused_try_can_be_taken, refused_try_logs_one_event}
 use Rattle.ir_record.proofs.in_order.logged_guest.LoggedGuest.refuse.Goals as goal
 
 pub push-requires : goal.push-requires
 push-requires c = log_has_room_for_event c.args.self.now.flat c.args.self.now.logs.items c.args.t c.index_mut.result.now c.requires.has_logs c.requires.thread
     (found_log_is_log_at c.args.self.now.flat c.args.self.now.logs.items c.args.t c.index_mut.result.now c.requires.has_logs c.requires.thread
-    c.index_mut.ensures.value) (room_to_log_try c.args.self.now.flat c.args.t c.args.object c.requires.asked)
+    c.index_mut.ensures.value) (event_count_is_below_limit_at_try c.args.self.now.flat c.args.t c.args.object c.requires.asked)
 
 refused : (c : goal.After-self-1) → OneEventLogged c.args.self.now.flat c.take.new.self c.args.self.now.logs.items
     (set c.args.self.now.logs.items c.args.t c.push.new.self) c.args.t 0 (Refused c.args.object) (event.Try c.args.object)
@@ -40,9 +40,9 @@ refused c =
     })
 
 pub returns-clause-took : goal.returns-clause-took
-returns-clause-took c = λ answers. took_refused c.args.t (Refused c.args.object) (progress c.args.self.now answers)
+returns-clause-took c = λ answers. took_refused_turn_by_step c.args.t (Refused c.args.object) (progress c.args.self.now answers)
     (record { flat = c.take.new.self; logs = set c.args.self.now.logs.items c.args.t c.push.new.self; answers = answers })
-    (event_step c.args.self.now.flat c.take.new.self c.args.self.now.logs.items (set c.args.self.now.logs.items c.args.t c.push.new.self)
+    (one_step_if_one_event_logged c.args.self.now.flat c.take.new.self c.args.self.now.logs.items (set c.args.self.now.logs.items c.args.t c.push.new.self)
     c.args.t 0 (Refused c.args.object) (event.Try c.args.object) (refused c) answers)
 
 pub returns-clause-has_logs : goal.returns-clause-has_logs

@@ -10,7 +10,7 @@ use Rattle.ir_log.specs.Logged.{Logged}
 use Rattle.ir_log.specs.declared.event.Event.TheVariants as event
 use Rattle.ir_record.proofs.Logs.{log_has_room_for_event, found_log_is_log_at}
 use Rattle.ir_record.proofs.Entering.{turn_taken_by_logged_event, has_logs_after_logged_event}
-use Rattle.ir_record.proofs.Trying.{TryLogged, room_to_log_try, refused_try_can_be_taken, entry_label, entering_try_logs_one_event, refused_try_logs_one_event}
+use Rattle.ir_record.proofs.Trying.{TryLogged, event_count_is_below_limit_at_try, refused_try_can_be_taken, write_entry_label, entering_try_logs_one_event, refused_try_logs_one_event}
 use Rattle.ir_record.proofs.in_order.logged_guest.LoggedGuest.try_to_enter.Goals as goal
 
 pub entry-event-requires : goal.entry-event-requires
@@ -19,7 +19,7 @@ entry-event-requires c = tried_object_is_of_state c.args.self.now.flat c.args.t 
 pub push-requires : goal.push-requires
 push-requires c = log_has_room_for_event c.args.self.now.flat c.args.self.now.logs.items c.args.t c.index_mut.result.now c.requires.has_logs c.requires.thread
     (found_log_is_log_at c.args.self.now.flat c.args.self.now.logs.items c.args.t c.index_mut.result.now c.requires.has_logs c.requires.thread
-    c.index_mut.ensures.value) (room_to_log_try c.args.self.now.flat c.args.t c.args.object c.requires.asked)
+    c.index_mut.ensures.value) (event_count_is_below_limit_at_try c.args.self.now.flat c.args.t c.args.object c.requires.asked)
 
 entered : (c : goal.After-self-1) → TryLogged c.args.self.now.flat c.take.new.self c.args.self.now.logs.items
     (set c.args.self.now.logs.items c.args.t c.push.new.self) c.args.t c.args.object 1 c.entry-event.result
@@ -42,7 +42,7 @@ entered c = record {
 
 pub returns-in-Ok-clause-took : goal.returns-in-Ok-clause-took
 returns-in-Ok-clause-took c = turn_taken_by_logged_event c.args.self.now.flat c.take.new.self c.args.self.now.logs.items
-    (set c.args.self.now.logs.items c.args.t c.push.new.self) c.args.t 1 (entry_label c.args.self.now.flat c.args.object)
+    (set c.args.self.now.logs.items c.args.t c.push.new.self) c.args.t 1 (write_entry_label c.args.self.now.flat c.args.object)
     c.entry-event.result
     (entering_try_logs_one_event c.args.self.now.flat c.take.new.self c.args.self.now.logs.items (set c.args.self.now.logs.items c.args.t c.push.new.self)
     c.args.t c.args.object c.entry-event.result (entered c) c.entry-event.ensures.emitted c.entry-event.ensures.fits)
@@ -50,7 +50,7 @@ returns-in-Ok-clause-took c = turn_taken_by_logged_event c.args.self.now.flat c.
 
 pub returns-in-Ok-clause-has_logs : goal.returns-in-Ok-clause-has_logs
 returns-in-Ok-clause-has_logs c = has_logs_after_logged_event c.args.self.now.flat c.take.new.self c.args.self.now.logs.items
-    (set c.args.self.now.logs.items c.args.t c.push.new.self) c.args.t 1 (entry_label c.args.self.now.flat c.args.object)
+    (set c.args.self.now.logs.items c.args.t c.push.new.self) c.args.t 1 (write_entry_label c.args.self.now.flat c.args.object)
     c.entry-event.result
     (entering_try_logs_one_event c.args.self.now.flat c.take.new.self c.args.self.now.logs.items (set c.args.self.now.logs.items c.args.t c.push.new.self)
     c.args.t c.args.object c.entry-event.result (entered c) c.entry-event.ensures.emitted c.entry-event.ensures.fits)
@@ -59,7 +59,7 @@ pub push-requires-in-Err : goal.push-requires-in-Err
 push-requires-in-Err c = log_has_room_for_event c.args.self.now.flat c.args.self.now.logs.items c.args.t c.index_mut-in-Err.result.now c.requires.has_logs
     c.requires.thread
     (found_log_is_log_at c.args.self.now.flat c.args.self.now.logs.items c.args.t c.index_mut-in-Err.result.now c.requires.has_logs c.requires.thread
-    c.index_mut-in-Err.ensures.value) (room_to_log_try c.args.self.now.flat c.args.t c.args.object c.requires.asked)
+    c.index_mut-in-Err.ensures.value) (event_count_is_below_limit_at_try c.args.self.now.flat c.args.t c.args.object c.requires.asked)
 
 left_out : (c : goal.After-self-in-Err-1) → TryLogged c.args.self.now.flat c.take-in-Err.new.self c.args.self.now.logs.items
     (set c.args.self.now.logs.items c.args.t c.push-in-Err.new.self) c.args.t c.args.object 0 (event.Try c.args.object)

@@ -2,15 +2,15 @@ use Rattle.std.proofs.Common.{◌+◌, ◌++◌, take, drop, refl, ◌∙◌}
 use Rattle.ir_record.specs.Progress.{Progress}
 use Rattle.ir_record.specs.Recorders.{progress_of}
 use Rattle.ir_record.specs.Recording.{turns_of_items}
-use Rattle.ir_record.proofs.Steps.{no_turns}
-use Rattle.ir_record.proofs.Following.{followed_turns_with_item_added, order_of_turns_splits_at_item, all_turns_followed_at_end}
-use Rattle.ir_record.proofs.Stopped.{if_err_holds_of_error, turns_stopped_within, turns_stopped_after}
+use Rattle.ir_record.proofs.Steps.{took_turns_of_empty}
+use Rattle.ir_record.proofs.Following.{followed_turns_with_item_added, turns_of_items_splits_at_item, all_turns_followed_at_end}
+use Rattle.ir_record.proofs.Stopped.{if_err_holds_of_error, stopped_in_longer_turns, stopped_turns_after_turns}
 use Rattle.ir_record.proofs.Ready.{stays_ready_with_handed_on_error}
 use Rattle.ir_record.proofs.in_order.recorder.Recorder.follow.Goals as goal
 
 pub order-init : goal.order-init
 order-init g c = record {
-  took = no_turns (progress_of g.W.World.answers c.args.self.now);
+  took = took_turns_of_empty (progress_of g.W.World.answers c.args.self.now);
   ready =
       c.requires;
   kept = refl;
@@ -37,9 +37,9 @@ returns-in_err-follow_item-clause-stopped g c = if_err_holds_of_error _ c.from_r
     let entry : Progress = progress_of g.W.World.answers c.args.self.now in
     let before : Progress = progress_of g.W.World.answers c.order.self in
     let first = turns_of_items (take c.order.item-index c.args.order.now) in
-    turns_stopped_within (first ++ _) (turns_of_items (drop (c.order.item-index + 1) c.args.order.now)) (turns_of_items c.args.order.now)
-    entry _ _ (order_of_turns_splits_at_item c.args.order.now c.order.item-index _ c.order-test.true)
-    (turns_stopped_after first _ entry before _ _ c.order.invariant.took c.in_err-follow_item.ensures.stopped)
+    stopped_in_longer_turns (first ++ _) (turns_of_items (drop (c.order.item-index + 1) c.args.order.now)) (turns_of_items c.args.order.now)
+    entry _ _ (turns_of_items_splits_at_item c.args.order.now c.order.item-index _ c.order-test.true)
+    (stopped_turns_after_turns first _ entry before _ _ c.order.invariant.took c.in_err-follow_item.ensures.stopped)
     )
 
 pub returns-clause-stays : goal.returns-clause-stays

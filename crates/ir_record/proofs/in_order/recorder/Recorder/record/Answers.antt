@@ -6,8 +6,8 @@ use Rattle.ir_record.specs.Progress.{Progress, Took}
 use Rattle.ir_record.specs.Recorders.{progress_of}
 use Rattle.ir_record.specs.Recording.{turns_of_items}
 use Rattle.ir_record.specs.Refusing.{plain_turns}
-use Rattle.ir_record.proofs.Steps.{turns_both, plain_took}
-use Rattle.ir_record.proofs.Stopped.{if_err_holds_of_error, plain_stopped, turns_stopped_within, turns_stopped_after}
+use Rattle.ir_record.proofs.Steps.{took_turns_of_append, took_plain_turns_if_took_order}
+use Rattle.ir_record.proofs.Stopped.{if_err_holds_of_error, stopped_in_plain_turns_if_in_order, stopped_in_longer_turns, stopped_turns_after_turns}
 use Rattle.ir_record.proofs.Ready.{stays_ready_with_handed_on_error}
 use Rattle.ir_record.proofs.in_order.recorder.Recorder.record.Goals as goal
 
@@ -19,8 +19,8 @@ returns-clause-took g c =
     let n = length c.args.self.now.guest.flat.threads in
     let count = c.in_ok-rounds.ensures.took.0 in (
       count,
-      turns_both (turns_of_items c.args.order.now) (plain_turns (rounds n count)) entry mid new c.in_ok-follow.ensures.took
-          (plain_took (rounds n count) mid new
+      took_turns_of_append (turns_of_items c.args.order.now) (plain_turns (rounds n count)) entry mid new c.in_ok-follow.ensures.took
+          (took_plain_turns_if_took_order (rounds n count) mid new
           (subst (λ k. Took (rounds k count) mid new) c.in_ok-follow.ensures.took.moved.threads c.in_ok-rounds.ensures.took.1)),
     )
 
@@ -34,7 +34,7 @@ pub returns-in_err-follow-clause-stopped : goal.returns-in_err-follow-clause-sto
 returns-in_err-follow-clause-stopped g c = if_err_holds_of_error _ c.from_residual.result c.in_err-follow.field-0.0 c.from_residual.ensures.1 (
     let turns = turns_of_items c.args.order.now in (
       0,
-      turns_stopped_within turns [] (turns ++ plain_turns (rounds (length c.args.self.now.guest.flat.threads) 0))
+      stopped_in_longer_turns turns [] (turns ++ plain_turns (rounds (length c.args.self.now.guest.flat.threads) 0))
           (progress_of g.W.World.answers c.args.self.now) _ _ refl c.in_err-follow.ensures.stopped,
     )
     )
@@ -48,8 +48,8 @@ returns-in_err-rounds-clause-stopped g c = if_err_holds_of_error _ c.from_residu
     let answers = map g.W.World.answers c.rounds.new.self.worlds.items in
     let k = c.in_err-rounds.ensures.stopped in (
       k.0,
-      turns_stopped_after (turns_of_items c.args.order.now) (plain_turns (rounds n k.0)) entry mid failed answers c.in_ok-follow.ensures.took
-          (plain_stopped (rounds n k.0) mid failed answers
+      stopped_turns_after_turns (turns_of_items c.args.order.now) (plain_turns (rounds n k.0)) entry mid failed answers c.in_ok-follow.ensures.took
+          (stopped_in_plain_turns_if_in_order (rounds n k.0) mid failed answers
           (subst (λ i. StoppedAt (rounds i k.0) (tables mid.flat) mid failed answers) c.in_ok-follow.ensures.took.moved.threads k.1)),
     )
     )

@@ -5,7 +5,7 @@ use Rattle.ir_flat.specs.Flat.{tables, machine}
 use Rattle.ir_record.specs.RoundResults.{Noted}
 use Rattle.ir_record.specs.Progress.{Progress}
 use Rattle.ir_record.specs.Recorders.{progress_of}
-use Rattle.ir_record.proofs.Going.{lead_is_read_value, no_turns_take_no_step, reached, ahead_of_reached_state}
+use Rattle.ir_record.proofs.Going.{lead_is_looked_up_element, no_turns_take_no_step, reached, ahead_of_reached_state}
 use Rattle.ir_record.proofs.RoundResults.{round_after_no_turns, round_after_turn, round_with_noted_turn_added}
 use Rattle.ir_record.proofs.Stopped.{if_err_holds_of_error, range_splits_at_number, stopped_in_longer_order, stopped_after_turns_ahead}
 use Rattle.ir_record.proofs.Ready.{stays_ready_with_handed_on_error}
@@ -49,7 +49,7 @@ loop-t-preserved g c = record {
         c.in_ok-outcome.ensures.turn.threads,
         c.loop-t.invariant.threads,
       )) in
-      let here : lead d c.loop-t.t ≡ c.index.result.now = lead_is_read_value d c.loop-t.t c.index.result.now below c.index.ensures in
+      let here : lead d c.loop-t.t ≡ c.index.result.now = lead_is_looked_up_element d c.loop-t.t c.index.result.now below c.index.ensures in
       round_after_turn c.in_ok-outcome.outcome c.loop-t.t c.loop-t.round c.note.new.self c.loop-t.ahead.items d c.loop-t.self.guest.flat
       c.turn_ahead.new.self.guest.flat c.loop-t.invariant.so_far
       c.in_ok-outcome.ensures.turn

@@ -7,10 +7,10 @@ use Rattle.ir_runs.specs.Run.{rounds}
 use Rattle.ir_record.specs.Failures.{StoppedAt}
 use Rattle.ir_record.specs.Progress.{Progress}
 use Rattle.ir_record.specs.Recorders.{progress_of}
-use Rattle.ir_record.proofs.Going.{Rounding, reached, ahead_of_reached_state, no_rounds_change_nothing, one_more_round_after_rounds, caught, all_over}
+use Rattle.ir_record.proofs.Going.{WentRounds, reached, ahead_of_reached_state, no_rounds_change_nothing, one_more_round_after_rounds, caught, all_over}
 use Rattle.ir_record.proofs.Joining.{rounds_with_round_added}
 use Rattle.ir_record.proofs.Skipping.{RoundThenSkips, round_then_skipped_rounds}
-use Rattle.ir_record.proofs.Single.{rounds_taken_alone, rounds_stopped_alone}
+use Rattle.ir_record.proofs.Single.{rounds_taken_if_turns_of_only_thread_taken, rounds_stopped_if_turns_of_only_thread_stopped}
 use Rattle.ir_record.proofs.Ready.{stays_ready_with_handed_on_error}
 use Rattle.ir_record.proofs.in_order.recorder.Recorder.rounds.Given as given
 use Rattle.ir_record.proofs.Stopped.{if_err_holds_of_error, stopped_after_turns_ahead}
@@ -21,7 +21,7 @@ rounds-init g c =
     let n : ℕ = length c.args.self.now.guest.flat.threads in
     let a : Progress = progress_of g.W.World.answers c.args.self.now in
     record {
-      went = subst (Rounding n a a) (sym c.requires.level) (no_rounds_change_nothing n a);
+      went = subst (WentRounds n a a) (sym c.requires.level) (no_rounds_change_nothing n a);
       places = record { leads = ap (λ xs. length xs) c.requires.level ∙ length-replicate {A = ℕ} n 0; asks = c.ask_all.ensures };
       ready = c.requires.ready;
       kept = refl;
@@ -62,7 +62,7 @@ returns-in_err-round-clause-stopped g c = if_err_holds_of_error _ c.from_residua
     let b : Progress = progress_of g.W.World.answers c.rounds.self in
     let failed : ℕ = c.in_err-round.field-0.0.thread in
     let answers = map g.W.World.answers c.round.new.self.worlds.items in
-    let p : Rounding n a b c.rounds.ahead.items = c.rounds.invariant.went in (
+    let p : WentRounds n a b c.rounds.ahead.items = c.rounds.invariant.went in (
       suc p.0,
       subst (λ order. StoppedAt order (tables a.flat) a failed answers) (rounds_with_round_added n p.0)
           (stopped_after_turns_ahead (rounds n p.0) (range_with_len 0 n) (tables a.flat) a b (replicate n 0) c.rounds.ahead.items failed answers p.1
@@ -76,14 +76,14 @@ pub returns-then-threads-eq1-clause-took : goal.returns-then-threads-eq1-clause-
 returns-then-threads-eq1-clause-took g c =
     let e : length c.threads.result.now ≡ length c.args.self.now.guest.flat.threads = ap (λ xs. length xs) c.threads.ensures.value in
     let one : length c.args.self.now.guest.flat.threads ≡ 1 = omega (arith, e, c.if-threads-eq1.true) in
-    rounds_taken_alone c.turns_alone.result (length c.args.self.now.guest.flat.threads) (progress_of g.W.World.answers c.args.self.now)
+    rounds_taken_if_turns_of_only_thread_taken c.turns_alone.result (length c.args.self.now.guest.flat.threads) (progress_of g.W.World.answers c.args.self.now)
     (progress_of g.W.World.answers c.turns_alone.new.self) one c.turns_alone.ensures.took
 
 pub returns-then-threads-eq1-clause-stopped : goal.returns-then-threads-eq1-clause-stopped
 returns-then-threads-eq1-clause-stopped g c =
     let e : length c.threads.result.now ≡ length c.args.self.now.guest.flat.threads = ap (λ xs. length xs) c.threads.ensures.value in
     let one : length c.args.self.now.guest.flat.threads ≡ 1 = omega (arith, e, c.if-threads-eq1.true) in
-    rounds_stopped_alone c.turns_alone.result (length c.args.self.now.guest.flat.threads) (tables c.args.self.now.guest.flat)
+    rounds_stopped_if_turns_of_only_thread_stopped c.turns_alone.result (length c.args.self.now.guest.flat.threads) (tables c.args.self.now.guest.flat)
     (progress_of g.W.World.answers c.args.self.now) (map g.W.World.answers c.turns_alone.new.self.worlds.items) one c.turns_alone.ensures.stopped
 
 pub returns-then-not-round-clause-stays : goal.returns-then-not-round-clause-stays

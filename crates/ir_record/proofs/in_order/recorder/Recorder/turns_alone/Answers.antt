@@ -3,9 +3,9 @@ use Rattle.ir_flat.specs.Flat.{tables}
 use Rattle.ir_record.specs.Failures.{StoppedAt}
 use Rattle.ir_record.specs.Progress.{Progress, progress}
 use Rattle.ir_record.specs.Recorders.{progress_of}
-use Rattle.ir_record.proofs.Single.{turns_of_thread_with_turn, turns_with_last, fewer_left_after_turn_alone}
+use Rattle.ir_record.proofs.Single.{turns_with_private_steps_and_turn_added, replicate_with_one_more, fewer_left_after_turn_alone}
 use Rattle.ir_record.proofs.Steps.{took_no_turns}
-use Rattle.ir_record.proofs.Joining.{ready_after_turns}
+use Rattle.ir_record.proofs.Joining.{ready_after_took_order}
 use Rattle.ir_record.proofs.Following.{no_step_after_passed_turn, turns_of_thread_add_up}
 use Rattle.ir_record.proofs.Stopped.{if_err_holds_of_error, stopped_at_own_turn, stopped_after_turns}
 use Rattle.ir_record.proofs.Ready.{stays_ready_with_handed_on_error}
@@ -21,7 +21,7 @@ turns-init g c = record {
 
 pub turn_by_ask-requires-clause-ready : goal.turn_by_ask-requires-clause-ready
 turn_by_ask-requires-clause-ready g c =
-    ready_after_turns (replicate c.run-ran.result.0 0) (progress_of g.W.World.answers c.turns.self)
+    ready_after_took_order (replicate c.run-ran.result.0 0) (progress_of g.W.World.answers c.turns.self)
     (progress c.run-ran.new.self (map g.W.World.answers c.turns.self.worlds.items)) (map g.W.World.broken c.turns.self.worlds.items)
     c.turns.invariant.ready (c.run-ran.ensures.took (map g.W.World.answers c.turns.self.worlds.items)) c.run-ran.ensures.has_logs refl
 
@@ -36,7 +36,7 @@ returns-then-not-branch-clause-took g c =
     let before : Progress = progress_of g.W.World.answers c.turns.self in
     let ran : Progress = progress c.run-ran.new.self (map g.W.World.answers c.turns.self.worlds.items) in (
       c.turns.invariant.took.0 + c.run-ran.result.0 + 1,
-      turns_of_thread_with_turn 0 c.turns.invariant.took.0 c.run-ran.result.0 (progress_of g.W.World.answers c.args.self.now) before ran
+      turns_with_private_steps_and_turn_added 0 c.turns.invariant.took.0 c.run-ran.result.0 (progress_of g.W.World.answers c.args.self.now) before ran
           (progress_of g.W.World.answers c.turn_by_ask.new.self) c.in_ok-turn_by_ask.field-0 c.turns.invariant.took.1
           (c.run-ran.ensures.took (map g.W.World.answers c.turns.self.worlds.items)) c.in_ok-turn_by_ask.ensures.took,
     )
@@ -54,7 +54,7 @@ turns-preserved g c =
     record {
       took = (
         c.turns.invariant.took.0 + c.run-ran.result.0 + 1,
-        turns_of_thread_with_turn 0 c.turns.invariant.took.0 c.run-ran.result.0 (progress_of g.W.World.answers c.args.self.now) before ran
+        turns_with_private_steps_and_turn_added 0 c.turns.invariant.took.0 c.run-ran.result.0 (progress_of g.W.World.answers c.args.self.now) before ran
             (progress_of g.W.World.answers c.turn_by_ask.new.self) c.in_ok-turn_by_ask.field-0 c.turns.invariant.took.1 took
             c.in_ok-turn_by_ask.ensures.took,
       );
@@ -81,11 +81,11 @@ returns-in_err-turn_by_ask-clause-stopped g c = if_err_holds_of_error _ c.from_r
     let answers = map g.W.World.answers c.turn_by_ask.new.self.worlds.items in
     let taken = c.turns.invariant.took.0 + c.run-ran.result.0 in (
       taken + 1,
-      subst (λ order. StoppedAt order (tables entry.flat) entry named answers) (turns_with_last 0 taken)
+      subst (λ order. StoppedAt order (tables entry.flat) entry named answers) (replicate_with_one_more 0 taken)
           (stopped_after_turns (replicate taken 0) (0 ∷ []) entry ran named answers
           (turns_of_thread_add_up 0 c.turns.invariant.took.0 c.run-ran.result.0 taken entry before ran refl c.turns.invariant.took.1 took)
           (stopped_at_own_turn 0 (tables ran.flat) ran named answers failed
-          (ready_after_turns (replicate c.run-ran.result.0 0) before ran failed c.turns.invariant.ready took c.run-ran.ensures.has_logs refl)
+          (ready_after_took_order (replicate c.run-ran.result.0 0) before ran failed c.turns.invariant.ready took c.run-ran.ensures.has_logs refl)
           refl c.in_err-turn_by_ask.ensures.stopped)),
     )
     )

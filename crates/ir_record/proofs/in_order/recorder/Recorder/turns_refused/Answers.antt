@@ -2,9 +2,9 @@ use Rattle.std.proofs.Common.{◌≡◌, ◌-◌, true, [], ◌∷◌, ◌++◌,
 use Rattle.ir_record.specs.Progress.{Progress, TookTurns}
 use Rattle.ir_record.specs.Recorders.{progress_of}
 use Rattle.ir_record.specs.Refusing.{Turn}
-use Rattle.ir_record.proofs.Following.{turn_more, turns_whole, turns_left_none}
-use Rattle.ir_record.proofs.Steps.{no_turns}
-use Rattle.ir_record.proofs.Stopped.{if_err_holds_of_error, turns_stopped_within, turns_stopped_after}
+use Rattle.ir_record.proofs.Following.{took_repeated_turns_with_one_more, replicate_splits_around_element, took_all_turns_if_no_step_left}
+use Rattle.ir_record.proofs.Steps.{took_turns_of_empty}
+use Rattle.ir_record.proofs.Stopped.{if_err_holds_of_error, stopped_in_longer_turns, stopped_turns_after_turns}
 use Rattle.ir_record.proofs.Ready.{stays_ready_with_handed_on_error}
 use Rattle.ir_record.proofs.in_order.recorder.Recorder.turns_refused.Goals as goal
 
@@ -14,7 +14,7 @@ turns-init g c =
     record {
       few = omega arith;
       took = subst (λ n. TookTurns (replicate n (c.args.t, true)) entry entry) (let e : 0 ≡ c.args.count - c.args.count = omega arith in e)
-          (no_turns entry);
+          (took_turns_of_empty entry);
       ready = c.requires;
       kept = refl;
     }
@@ -24,7 +24,7 @@ turns-preserved g c =
     let few = c.turns.invariant.few in
     record {
       few = omega (arith, few);
-      took = turn_more (c.args.t, true) c.args.count c.turns.left (progress_of g.W.World.answers c.args.self.now)
+      took = took_repeated_turns_with_one_more (c.args.t, true) c.args.count c.turns.left (progress_of g.W.World.answers c.args.self.now)
           (progress_of g.W.World.answers c.turns.self) (progress_of g.W.World.answers c.turn_refused.new.self) few
           (omega (arith, c.turns-test.true)) c.turns.invariant.took c.in_ok-turn_refused.ensures.took;
       ready = c.in_ok-turn_refused.ensures.stays.ready;
@@ -34,9 +34,9 @@ turns-preserved g c =
 pub returns-then-not-branch-clause-took : goal.returns-then-not-branch-clause-took
 returns-then-not-branch-clause-took g c =
     let few = c.turns.invariant.few in
-    turns_left_none c.args.t c.args.count (c.turns.left - 1) true (progress_of g.W.World.answers c.args.self.now)
+    took_all_turns_if_no_step_left c.args.t c.args.count (c.turns.left - 1) true (progress_of g.W.World.answers c.args.self.now)
     (progress_of g.W.World.answers c.turn_refused.new.self) (omega (arith, few))
-    (turn_more (c.args.t, true) c.args.count c.turns.left (progress_of g.W.World.answers c.args.self.now)
+    (took_repeated_turns_with_one_more (c.args.t, true) c.args.count c.turns.left (progress_of g.W.World.answers c.args.self.now)
     (progress_of g.W.World.answers c.turns.self) (progress_of g.W.World.answers c.turn_refused.new.self) few
     (omega (arith, c.turns-test.true)) c.turns.invariant.took c.in_ok-turn_refused.ensures.took)
     (c.in_ok-turn_refused.ensures.none c.if-not-branch.true)
@@ -47,9 +47,9 @@ returns-in_err-turn_refused-clause-stopped g c = if_err_holds_of_error _ c.from_
     let one : Turn = (c.args.t, true) in
     let first = replicate (c.args.count - c.turns.left) one in
     let few = c.turns.invariant.few in
-    turns_stopped_within (first ++ one ∷ []) (replicate (c.turns.left - 1) one) (replicate c.args.count one) entry _ _
-    (turns_whole one c.args.count c.turns.left few (omega (arith, c.turns-test.true)))
-    (turns_stopped_after first (one ∷ []) entry (progress_of g.W.World.answers c.turns.self) _ _ c.turns.invariant.took
+    stopped_in_longer_turns (first ++ one ∷ []) (replicate (c.turns.left - 1) one) (replicate c.args.count one) entry _ _
+    (replicate_splits_around_element one c.args.count c.turns.left few (omega (arith, c.turns-test.true)))
+    (stopped_turns_after_turns first (one ∷ []) entry (progress_of g.W.World.answers c.turns.self) _ _ c.turns.invariant.took
     c.in_err-turn_refused.ensures.stopped)
     )
 
